@@ -12,7 +12,8 @@ const MANY: usize = 8192;
 /// Once so many were read, none waits from the next wait on.
 const PATIENCE: usize = 131_072;
 
-/// Whether short frames wait. One that waits isn't taken, and is made anew when the link is told ready for writing: an acknowledgement then acknowledges all that was read meanwhile, so that one goes out for many segments.
+/// Whether short frames wait. One that waits isn't taken, and is made anew when the link is told ready for writing: an acknowledgement then acknowledges all
+/// that was read meanwhile, so that one goes out for many segments.
 #[derive(Drop)]
 pub struct Pace {
     /// How many octets were read since a short frame went out, or since none waits.

@@ -32,7 +32,8 @@ address_fits p digits dot n small =
     (dotted (decimal (n / 2 ^ 8 % 2 ^ 8)) (decimal (n % 2 ^ 8)) (d (n / 2 ^ 8 % 2 ^ 8) (omega arith)) (d (n % 2 ^ 8) (omega arith))))
 
 -- four parts that were read
-pub address_parts : (text one after_one two after_two three four : List ℕ) (a b c d : ℕ) → text ≡ one ++ 46 ∷ after_one → after_one ≡ two ++ 46 ∷ after_two → after_two ≡ three ++ 46 ∷ four → one ≡ decimal a → two ≡ decimal b → three ≡ decimal c → four ≡ decimal d → a < 256 → b < 256 → c < 256 → d < 256 → text ≡ address_text (a * 16777216 + b * 65536 + (c * 256 + d))
+pub address_parts : (text one after_one two after_two three four : List ℕ) (a b c d : ℕ) → text ≡ one ++ 46 ∷ after_one → after_one ≡ two ++ 46 ∷ after_two → after_two ≡ three
+    ++ 46 ∷ four → one ≡ decimal a → two ≡ decimal b → three ≡ decimal c → four ≡ decimal d → a < 256 → b < 256 → c < 256 → d < 256 → text ≡ address_text (a * 16777216 + b * 65536 + (c * 256 + d))
 address_parts text one after_one two after_two three four a b c d s1 s2 s3 e1 e2 e3 e4 ha hb hc hd =
     let n = a * 16777216 + b * 65536 + (c * 256 + d) in
     let ea : n / 2 ^ 24 ≡ a = omega arith in
@@ -59,13 +60,16 @@ no_dot k small = fit_weaker is_digit (is_other 46) digit_is_no_dot (decimal k) (
 dotted : (text one after tail : List ℕ) (k : ℕ) → k < 2 ^ 64 → text ≡ one ++ 46 ∷ after → list_all (is_other 46) one ≡ true → text ≡ decimal k ++ 46 ∷ tail → (one ≡ decimal k) × (after ≡ tail)
 dotted text one after tail k small split lacks is = parts_once 46 (is_other 46) refl one (decimal k) after tail lacks (no_dot k small) (sym split ∙ is)
 
-pub after_first : (text one after : List ℕ) (n : ℕ) → n < 2 ^ 32 → text ≡ one ++ 46 ∷ after → list_all (is_other 46) one ≡ true → text ≡ address_text n → (one ≡ decimal (n / 2 ^ 24)) × (after ≡ decimal (n / 2 ^ 16 % 2 ^ 8) ++ 46 ∷ (decimal (n / 2 ^ 8 % 2 ^ 8) ++ 46 ∷ decimal (n % 2 ^ 8)))
+pub after_first : (text one after : List ℕ) (n : ℕ) → n < 2 ^ 32 → text ≡ one ++ 46 ∷ after → list_all (is_other 46) one ≡ true → text ≡ address_text n →
+    (one ≡ decimal (n / 2 ^ 24)) × (after ≡ decimal (n / 2 ^ 16 % 2 ^ 8) ++ 46 ∷ (decimal (n / 2 ^ 8 % 2 ^ 8) ++ 46 ∷ decimal (n % 2 ^ 8)))
 after_first text one after n small split lacks is = dotted text one after _ (n / 2 ^ 24) (omega arith) split lacks (is ∙ address_form n)
 
-pub after_second : (text two after : List ℕ) (n : ℕ) → text ≡ two ++ 46 ∷ after → list_all (is_other 46) two ≡ true → text ≡ decimal (n / 2 ^ 16 % 2 ^ 8) ++ 46 ∷ (decimal (n / 2 ^ 8 % 2 ^ 8) ++ 46 ∷ decimal (n % 2 ^ 8)) → (two ≡ decimal (n / 2 ^ 16 % 2 ^ 8)) × (after ≡ decimal (n / 2 ^ 8 % 2 ^ 8) ++ 46 ∷ decimal (n % 2 ^ 8))
+pub after_second : (text two after : List ℕ) (n : ℕ) → text ≡ two ++ 46 ∷ after → list_all (is_other 46) two ≡ true → text ≡ decimal (n / 2 ^ 16 % 2 ^ 8) ++ 46 ∷
+    (decimal (n / 2 ^ 8 % 2 ^ 8) ++ 46 ∷ decimal (n % 2 ^ 8)) → (two ≡ decimal (n / 2 ^ 16 % 2 ^ 8)) × (after ≡ decimal (n / 2 ^ 8 % 2 ^ 8) ++ 46 ∷ decimal (n % 2 ^ 8))
 after_second text two after n split lacks is = dotted text two after _ (n / 2 ^ 16 % 2 ^ 8) (omega arith) split lacks is
 
-pub after_third : (text three four : List ℕ) (n : ℕ) → text ≡ three ++ 46 ∷ four → list_all (is_other 46) three ≡ true → text ≡ decimal (n / 2 ^ 8 % 2 ^ 8) ++ 46 ∷ decimal (n % 2 ^ 8) → (three ≡ decimal (n / 2 ^ 8 % 2 ^ 8)) × (four ≡ decimal (n % 2 ^ 8))
+pub after_third : (text three four : List ℕ) (n : ℕ) → text ≡ three ++ 46 ∷ four → list_all (is_other 46) three ≡ true → text ≡ decimal (n / 2 ^ 8 % 2 ^ 8) ++ 46 ∷ decimal
+    (n % 2 ^ 8) → (three ≡ decimal (n / 2 ^ 8 % 2 ^ 8)) × (four ≡ decimal (n % 2 ^ 8))
 after_third text three four n split lacks is = dotted text three four _ (n / 2 ^ 8 % 2 ^ 8) (omega arith) split lacks is
 
 pub first_under : (n : ℕ) → n < 2 ^ 32 → n / 2 ^ 24 < 256
@@ -75,9 +79,11 @@ pub part_under : (n : ℕ) → n % 2 ^ 8 < 256
 part_under n = omega arith
 
 -- what the parts of an endpoint's text are
-pub endpoint_parts : (text first last : List ℕ) → text ≡ first ++ 58 ∷ last → list_all (is_other 58) first ≡ true → (at : Endpoint) → IsEndpoint at → text ≡ endpoint_text at → (first ≡ address_text at.addr.0) × (last ≡ decimal at.port)
+pub endpoint_parts : (text first last : List ℕ) → text ≡ first ++ 58 ∷ last → list_all (is_other 58) first ≡ true → (at : Endpoint) → IsEndpoint at → text ≡ endpoint_text at →
+    (first ≡ address_text at.addr.0) × (last ≡ decimal at.port)
 endpoint_parts text first last split lacks at h is =
-    let p = parts_once 58 (is_other 58) refl first (address at.addr.0) last (decimal at.port) lacks (address_fits (is_other 58) digit_is_no_colon refl at.addr.0 h.0) (sym split ∙ is ∙ endpoint_form at) in
+    let p = parts_once 58 (is_other 58) refl first (address at.addr.0) last (decimal at.port) lacks (address_fits (is_other 58) digit_is_no_colon refl at.addr.0 h.0)
+    (sym split ∙ is ∙ endpoint_form at) in
     (p.0 ∙ sym (address_form at.addr.0), p.1)
 
 -- each has one text
@@ -88,8 +94,10 @@ pub same_address : (n m : ℕ) → n < 2 ^ 32 → m < 2 ^ 32 → address_text n 
 same_address n m hn hm is =
     let parts : address n ≡ address m = sym (address_form n) ∙ is ∙ address_form m in
     let a = parts_once 46 (is_other 46) refl (decimal (n / 2 ^ 24)) (decimal (m / 2 ^ 24)) _ _ (no_dot (n / 2 ^ 24) (omega arith)) (no_dot (m / 2 ^ 24) (omega arith)) parts in
-    let b = parts_once 46 (is_other 46) refl (decimal (n / 2 ^ 16 % 2 ^ 8)) (decimal (m / 2 ^ 16 % 2 ^ 8)) _ _ (no_dot (n / 2 ^ 16 % 2 ^ 8) (omega arith)) (no_dot (m / 2 ^ 16 % 2 ^ 8) (omega arith)) a.1 in
-    let c = parts_once 46 (is_other 46) refl (decimal (n / 2 ^ 8 % 2 ^ 8)) (decimal (m / 2 ^ 8 % 2 ^ 8)) _ _ (no_dot (n / 2 ^ 8 % 2 ^ 8) (omega arith)) (no_dot (m / 2 ^ 8 % 2 ^ 8) (omega arith)) b.1 in
+    let b = parts_once 46 (is_other 46) refl (decimal (n / 2 ^ 16 % 2 ^ 8)) (decimal (m / 2 ^ 16 % 2 ^ 8)) _ _ (no_dot (n / 2 ^ 16 % 2 ^ 8) (omega arith))
+    (no_dot (m / 2 ^ 16 % 2 ^ 8) (omega arith)) a.1 in
+    let c = parts_once 46 (is_other 46) refl (decimal (n / 2 ^ 8 % 2 ^ 8)) (decimal (m / 2 ^ 8 % 2 ^ 8)) _ _ (no_dot (n / 2 ^ 8 % 2 ^ 8) (omega arith))
+    (no_dot (m / 2 ^ 8 % 2 ^ 8) (omega arith)) b.1 in
     let ea : n / 2 ^ 24 ≡ m / 2 ^ 24 = decimal_injective (n / 2 ^ 24) (m / 2 ^ 24) (omega arith) (omega arith) a.0 in
     let eb : n / 2 ^ 16 % 2 ^ 8 ≡ m / 2 ^ 16 % 2 ^ 8 = decimal_injective (n / 2 ^ 16 % 2 ^ 8) (m / 2 ^ 16 % 2 ^ 8) (omega arith) (omega arith) b.0 in
     let ec : n / 2 ^ 8 % 2 ^ 8 ≡ m / 2 ^ 8 % 2 ^ 8 = decimal_injective (n / 2 ^ 8 % 2 ^ 8) (m / 2 ^ 8 % 2 ^ 8) (omega arith) (omega arith) c.0 in
@@ -98,7 +106,8 @@ same_address n m hn hm is =
 
 pub same_endpoint : (e f : Endpoint) → IsEndpoint e → IsEndpoint f → endpoint_text e ≡ endpoint_text f → e ≡ f
 same_endpoint e f he hf is =
-    let parted = parts_once 58 (is_other 58) refl (address e.addr.0) (address f.addr.0) (decimal e.port) (decimal f.port) (address_fits (is_other 58) digit_is_no_colon refl e.addr.0 he.0) (address_fits (is_other 58) digit_is_no_colon refl f.addr.0 hf.0) (sym (endpoint_form e) ∙ is ∙ endpoint_form f) in
+    let parted = parts_once 58 (is_other 58) refl (address e.addr.0) (address f.addr.0) (decimal e.port) (decimal f.port)
+    (address_fits (is_other 58) digit_is_no_colon refl e.addr.0 he.0) (address_fits (is_other 58) digit_is_no_colon refl f.addr.0 hf.0) (sym (endpoint_form e) ∙ is ∙ endpoint_form f) in
     let address_is = same_address e.addr.0 f.addr.0 he.0 hf.0 (address_form e.addr.0 ∙ parted.0 ∙ sym (address_form f.addr.0)) in
     let port_is = decimal_injective e.port f.port (omega (arith, he.1)) (omega (arith, hf.1)) parted.1 in
     ap (λ n. made_of n e.port) address_is ∙ ap (λ p. made_of f.addr.0 p) port_is

@@ -13,7 +13,8 @@ own : IsNumeralModel (AllDigits 10) (digits_value 10)
 own = numerals_by_value (AllDigits 10) (search rules)
 
 -- digits with no sign and no needless zero are those of their number
-pub number_read : (text : List ℕ) (read : Option ℕ) → IsReadAs text read → 0 < length text → get_or text 0 0 ≢ 43 → (eqb (get_or text 0 0) 48 && ltb 1 (length text) ≡ false) → IfSome read (λ n. text ≡ decimal n)
+pub number_read : (text : List ℕ) (read : Option ℕ) → IsReadAs text read → 0 < length text → get_or text 0 0 ≢ 43 → (eqb (get_or text 0 0) 48 && ltb 1 (length text) ≡ false) →
+    IfSome read (λ n. text ≡ decimal n)
 number_read text (Some n) is some plus needless =
     let alone : get_or text 0 0 ≡ 48 → length text ≡ 1 = λ z. grind (arith, nat_tests, z) in
     let plain : without_leading_plus text ≡ text = grind (arith, nat_tests) in

@@ -1,5 +1,6 @@
 -- Texts that come apart in one way only: octets of a kind, and the first octet that is of another.
-use Rattle.std.proofs.Common.{◌≡◌, ℕ, suc, ◌+◌, ◌-◌, ◌^◌, ◌<◌, ◌≤◌, Bool, true, false, cond, ◌&&◌, eqb, ltb, leb, List, [], ◌∷◌, ◌++◌, length, take, drop, get_or, position, decimal, Some, None, refl, sym, ◌∙◌, ap, subst, arith, length-drop, drop-cons, add-one}
+use Rattle.std.proofs.Common.{◌≡◌, ℕ, suc, ◌+◌, ◌-◌, ◌^◌, ◌<◌, ◌≤◌, Bool, true, false, cond, ◌&&◌, eqb, ltb, leb, List, [], ◌∷◌, ◌++◌, length, take, drop, get_or, position, decimal, Some}
+use Rattle.std.proofs.Common.{None, refl, sym, ◌∙◌, ap, subst, arith, length-drop, drop-cons, add-one}
 use Rattle.std.specs.List.{list_all, position_or_len, prefix_len}
 use Rattle.std.specs.Str.Parse.{AllDigits}
 use Rattle.std.specs.Char.{digit_value}
@@ -116,4 +117,5 @@ first_lacks octet at text is = subst (λ (n : ℕ). list_all (is_other octet) (t
 
 pub text_lacks : (octet : ℕ) (text : List ℕ) → position (λ x. eqb x octet) text ≡ None → list_all (is_other octet) text ≡ true
 text_lacks octet text is =
-    subst (λ (t : List ℕ). list_all (is_other octet) t ≡ true) (take_all (position_or_len (λ x. eqb x octet) text) text (no_place (position_or_len (λ x. eqb x octet) text) (length text) is)) (before_place octet text)
+    subst (λ (t : List ℕ). list_all (is_other octet) t ≡ true) (take_all (position_or_len (λ x. eqb x octet) text) text (no_place (position_or_len (λ x. eqb x octet) text)
+    (length text) is)) (before_place octet text)

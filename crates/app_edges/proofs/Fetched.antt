@@ -6,7 +6,8 @@ use Rattle.world_face.specs.declared.Io.{Io}
 use Rattle.world_face.specs.declared.Io.TheVariants.{End, NotYet, Failed}
 use Rattle.app_edges.specs.Fetching.{Fetched, is_unread, file_length, octets_read}
 
-pub may_read : (name : List ℕ) (whole have asked : ℕ) (octets : List ℕ) (made : List Entry) → Fetched name whole have octets made → have < whole → whole ≤ 67108864 → length octets ≡ whole → asked ≡ min (whole - have) 16384
+pub may_read : (name : List ℕ) (whole have asked : ℕ) (octets : List ℕ) (made : List Entry) → Fetched name whole have octets made → have < whole → whole ≤ 67108864 →
+    length octets ≡ whole → asked ≡ min (whole - have) 16384
     → (have ≡ length (octets_read made)) × IsSomeAnd (file_length made) (λ w. (have < w) × (w ≤ 67108864) × (asked ≡ min (w - have) 16384))
 may_read name whole have asked octets made fetched less few size is =
     let le : have ≤ length octets = omega (arith, less, size) in (
@@ -15,7 +16,8 @@ may_read name whole have asked octets made fetched less few size is =
     )
 
 -- one more read
-pub read_more : (name : List ℕ) (whole have asked : ℕ) (answer : Io) (before after came : List ℕ) (made : List Entry) → Fetched name whole have before made → have < whole → whole ≤ 67108864 → length before ≡ whole → asked ≡ min (whole - have) 16384
+pub read_more : (name : List ℕ) (whole have asked : ℕ) (answer : Io) (before after came : List ℕ) (made : List Entry) → Fetched name whole have before made → have < whole →
+    whole ≤ 67108864 → length before ≡ whole → asked ≡ min (whole - have) 16384
     → take (have + count_of answer) after ≡ take have before ++ came → Fetched name whole (have + count_of answer) after (FileRead name have asked answer came ∷ made)
 read_more name whole have asked answer before after came made fetched less few size is moved =
     let may = may_read name whole have asked before made fetched less few size is in

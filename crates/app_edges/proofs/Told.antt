@@ -1,5 +1,6 @@
 -- Texts that are put in parts.
-use Rattle.std.proofs.Common.{◌≡◌, ℕ, ◌+◌, List, [], ◌∷◌, ◌++◌, length, take, min, nat_lt, get_or, slice_get, Option, Some, None, is_some, IfSome, Bor, inl, inr, refl, sym, ◌∙◌, ap, arith, append_assoc}
+use Rattle.std.proofs.Common.{◌≡◌, ℕ, ◌+◌, List, [], ◌∷◌, ◌++◌, length, take, min, nat_lt, get_or, slice_get, Option, Some, None, is_some, IfSome, Bor, inl, inr, refl, sym, ◌∙◌, ap, arith}
+use Rattle.std.proofs.Common.{append_assoc}
 use Rattle.std.specs.Option.{option_copied, option_map_or}
 use Rattle.std.proofs.lemmas.Bool.Decides.{nat_tests}
 use Rattle.std.proofs.lemmas.Option.{slice_get_past, slice_get_read}
@@ -17,7 +18,8 @@ two_lines first second = simp append_assoc
 pub mistake_told : (words : List (List ℕ)) (stop : Stop) → (mistake_text words stop ++ 10 ∷ []) ++ (usage_text ++ 10 ∷ []) ≡ with_feed (mistake_text words stop ++ 10 ∷ usage_text)
 mistake_told words (AtWord place) = by_word (slice_get words place)
   where
-    by_word : (t : Option (List ℕ)) → (option_map_or (word_text (place + 1)) t missing_text ++ 10 ∷ []) ++ (usage_text ++ 10 ∷ []) ≡ with_feed (option_map_or (word_text (place + 1)) t missing_text ++ 10 ∷ usage_text)
+    by_word : (t : Option (List ℕ)) → (option_map_or (word_text (place + 1)) t missing_text ++ 10 ∷ []) ++ (usage_text ++ 10 ∷ []) ≡ with_feed
+        (option_map_or (word_text (place + 1)) t missing_text ++ 10 ∷ usage_text)
     by_word None = two_lines missing_text usage_text
     by_word (Some word) = two_lines (word_text (place + 1) word) usage_text
 mistake_told words AtEnd = two_lines missing_text usage_text
@@ -30,6 +32,7 @@ cut_at word n most is = elim (cases_lt most (length word)) [
 ]
 
 -- the one at a place, where there is one
-pub forward_at : (forwards : List Forward) (number : ℕ) (found : Option (Bor Forward)) → is_some found ≡ nat_lt number (length forwards) → IfSome found (λ f. f.now ≡ get_or forwards number f.now) → option_copied found ≡ slice_get forwards number
+pub forward_at : (forwards : List Forward) (number : ℕ) (found : Option (Bor Forward)) → is_some found ≡ nat_lt number (length forwards) → IfSome found
+    (λ f. f.now ≡ get_or forwards number f.now) → option_copied found ≡ slice_get forwards number
 forward_at forwards number None past here = sym (slice_get_past forwards number (grind (arith, nat_tests, past)))
 forward_at forwards number (Some f) within here = sym (slice_get_read forwards (length forwards) number f.now refl (grind (arith, nat_tests, within)) here)

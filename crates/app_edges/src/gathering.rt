@@ -79,6 +79,7 @@ pub struct Gathering<K: Sink> {
 }
 
 impl<K: Sink> Gathering<K> {
+    /// A sink over this one, in which nothing is gathered yet.
     pub fn over(sink: K) -> Gathering<K>
         ensures sink { result.sink ≡ sink }
         ensures nothing { result.gathered ≡ [] }

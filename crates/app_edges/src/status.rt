@@ -63,7 +63,8 @@ impl Outcome {
         }
     }
 
-    /// Puts the text that tells it, with a line feed, of these words of the command line, whose settings have these forwards. There is none where all went well or a sink failed.
+    /// Puts the text that tells it, with a line feed, of these words of the command line, whose settings have these forwards. There is none where all
+    /// went well or a sink failed.
     pub fn tell<E: Sink>(
         &self,
         words: &[String],
@@ -110,6 +111,7 @@ impl Outcome {
     }
 }
 
+/// The line that says how the words of the command line are written.
 pub(crate) const USAGE: &[u8] =
     b"usage: slirpd serve --link AT [OPTIONS] [RULE]... | replay FILE [OPTIONS] [RULE]... | drive NUMBER OCTETS\n";
 
@@ -123,7 +125,8 @@ fn tell_usage<E: Sink>(err: &mut E, words: &[String], stop: Stop) -> Result<(), 
 
 // Which port of the host was refused.
 fn tell_refused<E: Sink>(err: &mut E, number: usize, forwards: &[Forward]) -> Result<(), Failed>
-    ensures { Puts (E.holds err.old) (E.holds err.new) (E.faults err.old) (E.faults err.new) (codes "slirpd: forward " ++ decimal number ++ codes " refused" ++ port_text (slice_get forwards.now number) ++ 10 ∷ []) result }
+    ensures { Puts (E.holds err.old) (E.holds err.new) (E.faults err.old) (E.faults err.new)
+        (codes "slirpd: forward " ++ decimal number ++ codes " refused" ++ port_text (slice_get forwards.now number) ++ 10 ∷ []) result }
 {
     tell_number(err, b"slirpd: forward ", number as u64, b" refused")?;
     tell_port(err, forwards.get(number))?;

@@ -1,5 +1,6 @@
 -- The grammar of packets and the reading function say the same.
-use Rattle.std.proofs.Common.{◌≡◌, ℕ, ◌^◌, ◌<◌, ◌≤◌, ◌==◌, nat_le, ◌&&◌, Bool, true, false, List, [], ◌∷◌, ◌++◌, length, take, drop, if◌then◌else◌, Some, None, refl, sym, ◌∙◌, ap, subst, arith, append_assoc}
+use Rattle.std.proofs.Common.{◌≡◌, ℕ, ◌^◌, ◌<◌, ◌≤◌, ◌==◌, nat_le, ◌&&◌, Bool, true, false, List, [], ◌∷◌, ◌++◌, length, take, drop, if◌then◌else◌, Some, None, refl, sym, ◌∙◌, ap, subst}
+use Rattle.std.proofs.Common.{arith, append_assoc}
 use Rattle.std.proofs.lemmas.Bool.Decides.{nat_tests}
 use Rattle.std.proofs.lemmas.Nat.{from_be_bytes-to_be_bytes_4}
 use Rattle.std.proofs.lemmas.Option.{cond_some}
@@ -13,7 +14,8 @@ arp_six : (s t rest : List ℕ) (is_reply : Bool) (sender target : ℕ) → Six 
     → read_arp (arp_octets (record { is_reply = is_reply; sender_mac = s; sender = sender; target_mac = t; target = target }) ++ rest)
     ≡ Some (record { is_reply = is_reply; sender_mac = s; sender = sender; target_mac = t; target = target })
 arp_six s t rest is_reply sender target ss ts sf tf =
-    let P : List ℕ → List ℕ → Type 0 = λ x y. read_arp (arp_octets (record { is_reply = is_reply; sender_mac = x; sender = sender; target_mac = y; target = target }) ++ rest) ≡ Some (record { is_reply = is_reply; sender_mac = x; sender = sender; target_mac = y; target = target }) in
+    let P : List ℕ → List ℕ → Type 0 = λ x y. read_arp (arp_octets (record { is_reply = is_reply; sender_mac = x; sender = sender; target_mac = y; target = target })
+    ++ rest) ≡ Some (record { is_reply = is_reply; sender_mac = x; sender = sender; target_mac = y; target = target }) in
     subst (λ x. P x t) (sym ss.is) (subst (λ y. P (ss.a ∷ ss.b ∷ ss.c ∷ ss.d ∷ ss.e ∷ ss.f ∷ []) y) (sym ts.is) (core is_reply ss.a ss.b ss.c ss.d ss.e ss.f ts.a ts.b ts.c ts.d ts.e ts.f))
   where
     core : (is_reply : Bool) (a b c d e f g h i j k l : ℕ)
@@ -22,19 +24,36 @@ arp_six s t rest is_reply sender target ss ts sf tf =
     core true a b c d e f g h i j k l =
         let octets = arp_octets (record { is_reply = true; sender_mac = a ∷ b ∷ c ∷ d ∷ e ∷ f ∷ []; sender = sender; target_mac = g ∷ h ∷ i ∷ j ∷ k ∷ l ∷ []; target = target }) ++ rest in
         let long : nat_le 28 (length octets) ≡ true = grind (arith, nat_tests) in
-        ap (λ t. if t && true && true && true && true && true then Some (record { is_reply = true; sender_mac = a ∷ b ∷ c ∷ d ∷ e ∷ f ∷ []; sender = four_at octets 14; target_mac = g ∷ h ∷ i ∷ j ∷ k ∷ l ∷ []; target = four_at octets 24 }) else None) long
-        ∙ ap (λ n. Some (record { is_reply = true; sender_mac = a ∷ b ∷ c ∷ d ∷ e ∷ f ∷ []; sender = n; target_mac = g ∷ h ∷ i ∷ j ∷ k ∷ l ∷ []; target = four_at octets 24 })) (from_be_bytes-to_be_bytes_4 sender sf)
-        ∙ ap (λ n. Some (record { is_reply = true; sender_mac = a ∷ b ∷ c ∷ d ∷ e ∷ f ∷ []; sender = sender; target_mac = g ∷ h ∷ i ∷ j ∷ k ∷ l ∷ []; target = n })) (from_be_bytes-to_be_bytes_4 target tf)
+        ap (λ t. if t && true && true && true && true && true then Some (record {
+          is_reply = true;
+          sender_mac = a ∷ b ∷ c ∷ d ∷ e ∷ f ∷ [];
+          sender = four_at octets 14;
+          target_mac = g ∷ h ∷ i ∷ j ∷ k ∷ l ∷ [];
+          target = four_at octets 24;
+        }) else None) long
+        ∙ ap (λ n. Some (record { is_reply = true; sender_mac = a ∷ b ∷ c ∷ d ∷ e ∷ f ∷ []; sender = n; target_mac = g ∷ h ∷ i ∷ j ∷ k ∷ l ∷ []; target = four_at octets 24 }))
+        (from_be_bytes-to_be_bytes_4 sender sf)
+        ∙ ap (λ n. Some (record { is_reply = true; sender_mac = a ∷ b ∷ c ∷ d ∷ e ∷ f ∷ []; sender = sender; target_mac = g ∷ h ∷ i ∷ j ∷ k ∷ l ∷ []; target = n }))
+        (from_be_bytes-to_be_bytes_4 target tf)
     core false a b c d e f g h i j k l =
         let octets = arp_octets (record { is_reply = false; sender_mac = a ∷ b ∷ c ∷ d ∷ e ∷ f ∷ []; sender = sender; target_mac = g ∷ h ∷ i ∷ j ∷ k ∷ l ∷ []; target = target }) ++ rest in
         let long : nat_le 28 (length octets) ≡ true = grind (arith, nat_tests) in
-        ap (λ t. if t && true && true && true && true && true then Some (record { is_reply = false; sender_mac = a ∷ b ∷ c ∷ d ∷ e ∷ f ∷ []; sender = four_at octets 14; target_mac = g ∷ h ∷ i ∷ j ∷ k ∷ l ∷ []; target = four_at octets 24 }) else None) long
-        ∙ ap (λ n. Some (record { is_reply = false; sender_mac = a ∷ b ∷ c ∷ d ∷ e ∷ f ∷ []; sender = n; target_mac = g ∷ h ∷ i ∷ j ∷ k ∷ l ∷ []; target = four_at octets 24 })) (from_be_bytes-to_be_bytes_4 sender sf)
-        ∙ ap (λ n. Some (record { is_reply = false; sender_mac = a ∷ b ∷ c ∷ d ∷ e ∷ f ∷ []; sender = sender; target_mac = g ∷ h ∷ i ∷ j ∷ k ∷ l ∷ []; target = n })) (from_be_bytes-to_be_bytes_4 target tf)
+        ap (λ t. if t && true && true && true && true && true then Some (record {
+          is_reply = false;
+          sender_mac = a ∷ b ∷ c ∷ d ∷ e ∷ f ∷ [];
+          sender = four_at octets 14;
+          target_mac = g ∷ h ∷ i ∷ j ∷ k ∷ l ∷ [];
+          target = four_at octets 24;
+        }) else None) long
+        ∙ ap (λ n. Some (record { is_reply = false; sender_mac = a ∷ b ∷ c ∷ d ∷ e ∷ f ∷ []; sender = n; target_mac = g ∷ h ∷ i ∷ j ∷ k ∷ l ∷ []; target = four_at octets 24 }))
+        (from_be_bytes-to_be_bytes_4 sender sf)
+        ∙ ap (λ n. Some (record { is_reply = false; sender_mac = a ∷ b ∷ c ∷ d ∷ e ∷ f ∷ []; sender = sender; target_mac = g ∷ h ∷ i ∷ j ∷ k ∷ l ∷ []; target = n }))
+        (from_be_bytes-to_be_bytes_4 target tf)
 
 -- what is spelled so is read
 pub reads : (octets : List ℕ) (arp : Arp) → IsArp octets arp → read_arp octets ≡ Some arp
-reads octets arp g = ap read_arp g.is ∙ arp_six arp.sender_mac arp.target_mac g.rest arp.is_reply arp.sender arp.target (six arp.sender_mac g.sender_mac) (six arp.target_mac g.target_mac) g.sender g.target
+reads octets arp g = ap read_arp g.is ∙ arp_six arp.sender_mac arp.target_mac g.rest arp.is_reply arp.sender arp.target (six arp.sender_mac g.sender_mac)
+    (six arp.target_mac g.target_mac) g.sender g.target
 
 regroup : (a b c d e f g h r : List ℕ) → a ++ (b ++ (c ++ (d ++ (e ++ (f ++ (g ++ (h ++ r))))))) ≡ a ++ b ++ (c ++ d) ++ e ++ f ++ g ++ h ++ r
 regroup a b c d e f g h r = simp append_assoc
@@ -64,7 +83,13 @@ tests octets is = record {
 
 -- the parts that are read, one after another, are the octets
 whole : (octets : List ℕ) → IsOctets octets → Tests octets
-    → octets ≡ arp_octets (record { is_reply = two_at octets 6 == 2; sender_mac = part octets 8 6; sender = four_at octets 14; target_mac = part octets 18 6; target = four_at octets 24 }) ++ drop 28 octets
+    → octets ≡ arp_octets (record {
+      is_reply = two_at octets 6 == 2;
+      sender_mac = part octets 8 6;
+      sender = four_at octets 14;
+      target_mac = part octets 18 6;
+      target = four_at octets 24;
+    }) ++ drop 28 octets
 whole octets fits t =
     let long : 28 ≤ length octets = t.long in
     let rest = drop 28 octets in
@@ -74,7 +99,8 @@ whole octets fits t =
     let operation : part octets 6 2 ≡ two (if two_at octets 6 == 2 then 2 else 1) = sym (two-two_at octets 6 fits (omega arith)) ∙ ap two t.operation in
     let sender : part octets 14 4 ≡ four (four_at octets 14) = sym (four-four_at octets 14 fits (omega arith)) in
     let target : part octets 24 4 ≡ four (four_at octets 24) = sym (four-four_at octets 24 fits (omega arith)) in
-    let in_order : octets ≡ part octets 0 2 ++ (part octets 2 2 ++ (part octets 4 2 ++ (part octets 6 2 ++ (part octets 8 6 ++ (part octets 14 4 ++ (part octets 18 6 ++ (part octets 24 4 ++ rest))))))) =
+    let in_order : octets ≡ part octets 0 2 ++ (part octets 2 2 ++
+    (part octets 4 2 ++ (part octets 6 2 ++ (part octets 8 6 ++ (part octets 14 4 ++ (part octets 18 6 ++ (part octets 24 4 ++ rest))))))) =
     parted octets 0 2 2 refl ∙ ap (λ (xs : List ℕ). part octets 0 2 ++ xs)
     (parted octets 2 2 4 refl ∙ ap (λ (xs : List ℕ). part octets 2 2 ++ xs)
     (parted octets 4 2 6 refl ∙ ap (λ (xs : List ℕ). part octets 4 2 ++ xs)
@@ -83,12 +109,19 @@ whole octets fits t =
     (parted octets 14 4 18 refl ∙ ap (λ (xs : List ℕ). part octets 14 4 ++ xs)
     (parted octets 18 6 24 refl ∙ ap (λ (xs : List ℕ). part octets 18 6 ++ xs) (parted octets 24 4 28 refl))))))) in
     in_order ∙ regroup (part octets 0 2) (part octets 2 2) (part octets 4 2) (part octets 6 2) (part octets 8 6) (part octets 14 4) (part octets 18 6) (part octets 24 4) rest
-    ∙ same_parts (part octets 0 2) (part octets 2 2) (part octets 4 2) (part octets 6 2) (part octets 8 6) (part octets 14 4) (part octets 18 6) (part octets 24 4) (two 1) (two ipv4_kind) (6 ∷ 4 ∷ []) (two (if two_at octets 6 == 2 then 2 else 1)) (four (four_at octets 14)) (four (four_at octets 24)) rest hardware protocol lengths operation sender target
+    ∙ same_parts (part octets 0 2) (part octets 2 2) (part octets 4 2) (part octets 6 2) (part octets 8 6) (part octets 14 4) (part octets 18 6) (part octets 24 4) (two 1)
+    (two ipv4_kind) (6 ∷ 4 ∷ []) (two (if two_at octets 6 == 2 then 2 else 1)) (four (four_at octets 14)) (four (four_at octets 24)) rest hardware protocol lengths operation sender target
 
 -- what is read is spelled so
 pub spelled : (octets : List ℕ) (arp : Arp) → IsOctets octets → read_arp octets ≡ Some arp → IsArp octets arp
 spelled octets arp fits is =
-    let found = cond_some (is_arp octets) (record { is_reply = two_at octets 6 == 2; sender_mac = part octets 8 6; sender = four_at octets 14; target_mac = part octets 18 6; target = four_at octets 24 }) arp is in
+    let found = cond_some (is_arp octets) (record {
+      is_reply = two_at octets 6 == 2;
+      sender_mac = part octets 8 6;
+      sender = four_at octets 14;
+      target_mac = part octets 18 6;
+      target = four_at octets 24;
+    }) arp is in
     let t = tests octets found.0 in
     let long : 28 ≤ length octets = t.long in
     subst (λ (a : Arp). IsArp octets a) found.1 (record {
@@ -104,11 +137,13 @@ front_six : (s t rest : List ℕ) (is_reply : Bool) (sender target : ℕ) → Si
     → take 28 (arp_octets (record { is_reply = is_reply; sender_mac = s; sender = sender; target_mac = t; target = target }) ++ rest)
     ≡ arp_octets (record { is_reply = is_reply; sender_mac = s; sender = sender; target_mac = t; target = target }) ++ []
 front_six s t rest is_reply sender target ss ts =
-    let P : List ℕ → List ℕ → Type 0 = λ x y. take 28 (arp_octets (record { is_reply = is_reply; sender_mac = x; sender = sender; target_mac = y; target = target }) ++ rest) ≡ arp_octets (record { is_reply = is_reply; sender_mac = x; sender = sender; target_mac = y; target = target }) ++ [] in
+    let P : List ℕ → List ℕ → Type 0 = λ x y. take 28 (arp_octets (record { is_reply = is_reply; sender_mac = x; sender = sender; target_mac = y; target = target })
+    ++ rest) ≡ arp_octets (record { is_reply = is_reply; sender_mac = x; sender = sender; target_mac = y; target = target }) ++ [] in
     subst (λ x. P x t) (sym ss.is) (subst (λ y. P (ss.a ∷ ss.b ∷ ss.c ∷ ss.d ∷ ss.e ∷ ss.f ∷ []) y) (sym ts.is) refl)
 
 -- octets whose front is written so are in the grammar
-pub written_is : (arp : Arp) (now rest : List ℕ) → length arp.sender_mac ≡ 6 → length arp.target_mac ≡ 6 → arp.sender < 2 ^ 32 → arp.target < 2 ^ 32 → now ≡ arp_octets arp ++ rest → IsArp (take 28 now) arp
+pub written_is : (arp : Arp) (now rest : List ℕ) → length arp.sender_mac ≡ 6 → length arp.target_mac ≡ 6 → arp.sender < 2 ^ 32 → arp.target < 2 ^ 32 → now ≡ arp_octets arp
+    ++ rest → IsArp (take 28 now) arp
 written_is arp now rest s t sf tf is = record {
   sender_mac = s;
   sender = sf;

@@ -29,7 +29,8 @@ use Rattle.connection_follows.proofs.Leaving.{leaves_goes, leaves_kept, leaves_r
 use Rattle.connection_follows.proofs.Quiet.{opened_on, opened_told}
 
 -- numbers are under way as before, where no more was sent
-pub way_same : (past next : Story) (o q : Outward) → Keeps o (host past) → Keeps q (host next) → q.sent ≡ o.sent → q.acked ≡ o.acked → answered (host next) ≡ answered (host past) → syn_is_out next ≡ syn_is_out past
+pub way_same : (past next : Story) (o q : Outward) → Keeps o (host past) → Keeps q (host next) → q.sent ≡ o.sent → q.acked ≡ o.acked → answered (host next) ≡ answered (host past) →
+    syn_is_out next ≡ syn_is_out past
     → is_under_way next ≡ is_under_way past
 way_same past next o q k l sent_is acked_is answered_is out_is =
     ap (λ (b : Bool). if b then nat_lt (acked (host next)) (sent (host next)) else syn_is_out next) answered_is
@@ -83,7 +84,8 @@ module _ (s : Settings) (c : Connection) (up : Upward) (down : Downward) (past :
         window = g.window;
         alone = g.alone;
         resends = subst (λ (b : Bool). Resends after m (timer_of (resending_of c)) (count_of b (resending_of c)) (resending_of c).estimate.wait) (sym way)
-            (bare_goes past seg m refl refl c.transmission.sent 0 place refl now (timer_of (resending_of c)) (count_of (is_under_way past) (resending_of c)) (resending_of c).estimate.wait refl (omega (arith, g.keeps.sent)) on g.resends);
+            (bare_goes past seg m refl refl c.transmission.sent 0 place refl now (timer_of (resending_of c)) (count_of (is_under_way past) (resending_of c))
+            (resending_of c).estimate.wait refl (omega (arith, g.keeps.sent)) on g.resends);
         counts = counts_on past after c.transmission.resend.timer refl refl g.counts;
         steady = g.steady;
         unset = g.unset;
@@ -187,7 +189,8 @@ module _ (s : Settings) (c : Connection) (up : Upward) (down : Downward) (past :
       by true b ack_is prompted_is owed = sym prompted_is ∙ (h.receives known).prompted ack_is
       by false true ack_is prompted_is owed = refl
       by false false ack_is prompted_is owed =
-          absurd (none_owed c.received.ended (ap (λ (told : Option ℕ). not c.received.ended && moves_far told (told_edge c up (our_shift c))) (sym ((h.receives known).updated prompted_is synchronized)) ∙ owed))
+          absurd (none_owed c.received.ended (ap (λ (told : Option ℕ). not c.received.ended && moves_far told (told_edge c up (our_shift c)))
+          (sym ((h.receives known).updated prompted_is synchronized)) ∙ owed))
   is_asked stage.Rests is owed live = absurd cc
   is_asked (stage.Resets seq ack) is owed live = absurd cc
   is_asked stage.Gone is owed live = absurd cc

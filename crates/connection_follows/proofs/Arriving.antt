@@ -1,5 +1,6 @@
 -- A segment of the guest arrives, and is what the order of checks says.
-use Rattle.std.proofs.Common.{refl, ◌≡◌, ℕ, ◌+◌, ◌^◌, ◌%◌, ◌<◌, ◌≤◌, ◌∷◌, Bool, true, false, not, ◌&&◌, ◌||◌, Option, None, Some, is_some, if◌then◌else◌, nat_eq, nat_le, int_le, ℤ, pos, negsuc, ◌+ℤ◌, arith, ap, sym, ◌∙◌, inl, inr, ◌⊎◌}
+use Rattle.std.proofs.Common.{refl, ◌≡◌, ℕ, ◌+◌, ◌^◌, ◌%◌, ◌<◌, ◌≤◌, ◌∷◌, Bool, true, false, not, ◌&&◌, ◌||◌, Option, None, Some, is_some, if◌then◌else◌, nat_eq, nat_le, int_le, ℤ, pos}
+use Rattle.std.proofs.Common.{negsuc, ◌+ℤ◌, arith, ap, sym, ◌∙◌, inl, inr, ◌⊎◌}
 use Rattle.std.proofs.lemmas.Bool.Decides.{nat_tests}
 use Rattle.seq_space.specs.Places.{number_of}
 use Rattle.seq_space.proofs.Numbers.{place_is}
@@ -84,7 +85,8 @@ module _ (s : Settings) (c : Connection) (up : Upward) (down : Downward) (past :
   unsent_quiet known unsent apart = record {
     none = first_none (confirms past seg) (is_acceptable (host past) seg.acknowledgement)
         (and_four seg.ack seg.rst (syn_is_out past) (if is_some (their_number past) then not seg.syn else greets past seg) (inr (inr (inl unsent))));
-    unheeded = heed_none (is_closed past) (is_some (their_number past)) (syn_is_out past) seg.ack seg.syn seg.rst (not_past_sent (host past) seg.acknowledgement) (answered (host past) || nat_eq seg.acknowledgement (number_after (our_number past))) (inl unsent);
+    unheeded = heed_none (is_closed past) (is_some (their_number past)) (syn_is_out past) seg.ack seg.syn seg.rst (not_past_sent (host past) seg.acknowledgement)
+        (answered (host past) || nat_eq seg.acknowledgement (number_after (our_number past))) (inl unsent);
     apart = apart;
     calm = λ is. not_ended known (opening_by (is_opening c.stage) refl) is;
   }
@@ -122,16 +124,19 @@ module _ (s : Settings) (c : Connection) (up : Upward) (down : Downward) (past :
 
       by : (seg.ack ≡ false) ⊎ ((seg.syn ≡ true) ⊎ (seg.rst ≡ true)) → confirms past seg ≡ false
       by (inl is) = and_four seg.ack seg.rst (syn_is_out past) (if is_some (their_number past) then not seg.syn else greets past seg) (inl is)
-      by (inr (inl is)) = and_four seg.ack seg.rst (syn_is_out past) (if is_some (their_number past) then not seg.syn else greets past seg) (inr (inr (inr (if_known (is_some (their_number past)) seg.syn (greets past seg) is_known is))))
+      by (inr (inl is)) = and_four seg.ack seg.rst (syn_is_out past) (if is_some (their_number past) then not seg.syn else greets past seg)
+          (inr (inr (inr (if_known (is_some (their_number past)) seg.syn (greets past seg) is_known is))))
       by (inr (inr is)) = and_four seg.ack seg.rst (syn_is_out past) (if is_some (their_number past) then not seg.syn else greets past seg) (inr (inl is))
 
-      heed : (seg.ack ≡ false) ⊎ ((seg.syn ≡ true) ⊎ (seg.rst ≡ true)) → (syn_is_out past ≡ false) ⊎ ((seg.ack ≡ false) ⊎ ((seg.syn ≡ true) ⊎ ((seg.rst ≡ true) ⊎ ((answered (host past) || nat_eq seg.acknowledgement (number_after (our_number past))) ≡ false))))
+      heed : (seg.ack ≡ false) ⊎ ((seg.syn ≡ true) ⊎ (seg.rst ≡ true)) → (syn_is_out past ≡ false) ⊎
+          ((seg.ack ≡ false) ⊎ ((seg.syn ≡ true) ⊎ ((seg.rst ≡ true) ⊎ ((answered (host past) || nat_eq seg.acknowledgement (number_after (our_number past))) ≡ false))))
       heed (inl is) = inr (inl is)
       heed (inr (inl is)) = inr (inr (inl is))
       heed (inr (inr is)) = inr (inr (inr (inl is)))
 
       by_heed : (seg.ack ≡ false) ⊎ ((seg.syn ≡ true) ⊎ (seg.rst ≡ true)) → is_heeded past seg ≡ false
-      by_heed so = heed_none (is_closed past) (is_some (their_number past)) (syn_is_out past) seg.ack seg.syn seg.rst (not_past_sent (host past) seg.acknowledgement) (answered (host past) || nat_eq seg.acknowledgement (number_after (our_number past))) (heed so)
+      by_heed so = heed_none (is_closed past) (is_some (their_number past)) (syn_is_out past) seg.ack seg.syn seg.rst (not_past_sent (host past) seg.acknowledgement)
+          (answered (host past) || nat_eq seg.acknowledgement (number_after (our_number past))) (heed so)
 
   not_next : is_next c tcp ≡ false → seg.number ≡ next_number c.received → ⊥
   not_next is number = let same = equal_is seg.number (next_number c.received) number in let not_it = sym same ∙ is in absurd cc
@@ -140,7 +145,8 @@ module _ (s : Settings) (c : Connection) (up : Upward) (down : Downward) (past :
   stranger_quiet : c.stage ≡ stage.Answers → tcp.ack < 2 ^ 32 → seg.ack ≡ true → seg.rst ≡ false → acknowledges_syn c tcp ≡ false → Quiet c past seg
   stranger_quiet at fits ack rst other = record {
     none = last_none (confirms past seg) (is_acceptable (host past) tcp.ack) (by (is_acceptable (host past) tcp.ack) refl);
-    unheeded = heed_none (is_closed past) (is_some (their_number past)) (syn_is_out past) seg.ack seg.syn seg.rst (not_past_sent (host past) tcp.ack) (answered (host past) || nat_eq tcp.ack (number_after (our_number past)))
+    unheeded = heed_none (is_closed past) (is_some (their_number past)) (syn_is_out past) seg.ack seg.syn seg.rst (not_past_sent (host past) tcp.ack)
+        (answered (host past) || nat_eq tcp.ack (number_after (our_number past)))
         (inr (inr (inr (inr (either (answered (host past)) (nat_eq tcp.ack (number_after (our_number past))) (h.opened.answered ∙ ap (λ (st : Stage). is_synchronized st) at) different)))));
     apart = λ is. let not_it = sym is ∙ rst in absurd cc;
     calm = λ is. not_ended (ap (λ (st : Stage). is_calls st) at) (ap (λ (st : Stage). is_opening st) at) is;
@@ -179,7 +185,8 @@ module _ (s : Settings) (c : Connection) (up : Upward) (down : Downward) (past :
       by false is = refl
       by true is =
           let at_zero = zero_of (our_place (host past) tcp.ack) (acked (host past)) (sent (host past)) none_acked none_sent is in
-          let same = number_from tcp.ack (our_first (host past)) (sent (host past)) 0 0 (our_place (host past) tcp.ack) (place_is tcp.ack (our_first (host past)) (sent (host past)) fits) (ap (λ (z : ℤ). z +ℤ pos 0) (sym at_zero)) in
+          let same = number_from tcp.ack (our_first (host past)) (sent (host past)) 0 0 (our_place (host past) tcp.ack)
+          (place_is tcp.ack (our_first (host past)) (sent (host past)) fits) (ap (λ (z : ℤ). z +ℤ pos 0) (sym at_zero)) in
           let small : (tcp.ack + 0) % 2 ^ 32 ≡ tcp.ack = omega (arith, fits) in
           let ours : number_of (our_first (host past)) 0 ≡ number_of c.ours 0 = ap (λ (f : ℕ). number_of f 0) (our_first_is past ∙ h.opened.ours) in
           let not_it = sym (equal_is tcp.ack (number_of c.ours 0) (sym small ∙ same ∙ ours)) ∙ not_ours in absurd cc
@@ -188,7 +195,8 @@ module _ (s : Settings) (c : Connection) (up : Upward) (down : Downward) (past :
 
   pub data Means : Type 0 where
     -- the connection stays as it is, but for what it owes
-    rests : (syn_owed ack_owed : Bool) → after_segment c up down tcp m ≡ record c { syn_owed = syn_owed; ack_owed = ack_owed } → up_after_segment c up down tcp ≡ up → down_after_segment c up down tcp ≡ down
+    rests : (syn_owed ack_owed : Bool) → after_segment c up down tcp m ≡ record c { syn_owed = syn_owed; ack_owed = ack_owed } → up_after_segment c up down tcp ≡ up →
+        down_after_segment c up down tcp ≡ down
         → (c.syn_owed ≡ true → syn_owed ≡ true) → (ack_owed ≡ false → c.ack_owed ≡ false) → (is_connects c.stage ≡ true → ack_owed ≡ false) → is_calls c.stage ≡ false → Quiet c past seg → Means
     -- the guest is called on
     waits : after_segment c up down tcp m ≡ c → up_after_segment c up down tcp ≡ up → down_after_segment c up down tcp ≡ down → c.stage ≡ stage.Calls → greets past seg ≡ false → Means
@@ -196,23 +204,28 @@ module _ (s : Settings) (c : Connection) (up : Upward) (down : Downward) (past :
     resets : verdict_of c up tcp ≡ Resets → is_calls c.stage ≡ false → seg.rst ≡ true → seg.number ≡ next_number c.received → Means
     turns_away : verdict_of c up tcp ≡ Resets → is_calls c.stage ≡ true → seg.rst ≡ true → seg.ack ≡ true → seg.acknowledgement ≡ number_of c.ours 0 → Means
     -- the guest's SYN
-    is_greeted : verdict_of c up tcp ≡ Greets → c.stage ≡ stage.Calls → has_gone c.sendings ≡ true → greets past seg ≡ true → seg.rst ≡ false → seg.syn ≡ true → (seg.ack ≡ true → tcp.ack ≡ number_of c.ours 0) → Means
+    is_greeted : verdict_of c up tcp ≡ Greets → c.stage ≡ stage.Calls → has_gone c.sendings ≡ true → greets past seg ≡ true → seg.rst ≡ false → seg.syn ≡ true →
+        (seg.ack ≡ true → tcp.ack ≡ number_of c.ours 0) → Means
     -- the acknowledgement of our SYN
     is_opened : verdict_of c up tcp ≡ Heeded → c.stage ≡ stage.Answers → has_gone c.sendings ≡ true → tcp.ack ≡ number_of c.ours 0 → seg.ack ≡ true → seg.rst ≡ false → seg.syn ≡ false → Means
     -- one of the stream
     is_heard : verdict_of c up tcp ≡ Heeded → c.stage ≡ stage.Synchronized → seg.ack ≡ true → seg.rst ≡ false → seg.syn ≡ false → Means
 
   as_ignored : verdict_of c up tcp ≡ Ignored → is_calls c.stage ≡ false → Quiet c past seg → Means
-  as_ignored is known quiet = rests c.syn_owed c.ack_owed (ap (λ (v : Verdict). conn_by v c up down tcp m) is) (ap (λ (v : Verdict). up_by v c up down tcp) is) (ap (λ (v : Verdict). down_by v c down tcp) is) (λ so. so) (λ so. so) h.opened.quiet known quiet
+  as_ignored is known quiet = rests c.syn_owed c.ack_owed (ap (λ (v : Verdict). conn_by v c up down tcp m) is) (ap (λ (v : Verdict). up_by v c up down tcp) is)
+      (ap (λ (v : Verdict). down_by v c down tcp) is) (λ so. so) (λ so. so) h.opened.quiet known quiet
 
   as_unacceptable : verdict_of c up tcp ≡ Unacceptable → is_calls c.stage ≡ false → Quiet c past seg → Means
-  as_unacceptable is known quiet = rests c.syn_owed c.ack_owed (ap (λ (v : Verdict). conn_by v c up down tcp m) is) (ap (λ (v : Verdict). up_by v c up down tcp) is) (ap (λ (v : Verdict). down_by v c down tcp) is) (λ so. so) (λ so. so) h.opened.quiet known quiet
+  as_unacceptable is known quiet = rests c.syn_owed c.ack_owed (ap (λ (v : Verdict). conn_by v c up down tcp m) is) (ap (λ (v : Verdict). up_by v c up down tcp) is)
+      (ap (λ (v : Verdict). down_by v c down tcp) is) (λ so. so) (λ so. so) h.opened.quiet known quiet
 
   as_repeats : verdict_of c up tcp ≡ Repeats → is_calls c.stage ≡ false → Quiet c past seg → Means
-  as_repeats is known quiet = rests true c.ack_owed (ap (λ (v : Verdict). conn_by v c up down tcp m) is) (ap (λ (v : Verdict). up_by v c up down tcp) is) (ap (λ (v : Verdict). down_by v c down tcp) is) (λ so. refl) (λ so. so) h.opened.quiet known quiet
+  as_repeats is known quiet = rests true c.ack_owed (ap (λ (v : Verdict). conn_by v c up down tcp m) is) (ap (λ (v : Verdict). up_by v c up down tcp) is)
+      (ap (λ (v : Verdict). down_by v c down tcp) is) (λ so. refl) (λ so. so) h.opened.quiet known quiet
 
   as_challenged : verdict_of c up tcp ≡ Challenged → is_connects c.stage ≡ false → is_calls c.stage ≡ false → Quiet c past seg → Means
-  as_challenged is granted known quiet = rests c.syn_owed true (ap (λ (v : Verdict). conn_by v c up down tcp m) is) (ap (λ (v : Verdict). up_by v c up down tcp) is) (ap (λ (v : Verdict). down_by v c down tcp) is) (λ so. so) (λ so. absurd cc) (λ so. let not_it = sym so ∙ granted in absurd cc) known quiet
+  as_challenged is granted known quiet = rests c.syn_owed true (ap (λ (v : Verdict). conn_by v c up down tcp m) is) (ap (λ (v : Verdict). up_by v c up down tcp) is)
+      (ap (λ (v : Verdict). down_by v c down tcp) is) (λ so. so) (λ so. absurd cc) (λ so. let not_it = sym so ∙ granted in absurd cc) known quiet
 
   equals : (a b : ℕ) → nat_eq a b ≡ true → a ≡ b
   equals a b is = grind (arith, nat_tests)
@@ -222,7 +235,8 @@ module _ (s : Settings) (c : Connection) (up : Upward) (down : Downward) (past :
   early_means at known unsent = by (is_rst tcp) (is_next c tcp) refl refl
     where
       by : (a b : Bool) → is_rst tcp ≡ a → is_next c tcp ≡ b → Means
-      by true true rst next = resets (at ∙ ap (λ (x : Bool). if x && is_next c tcp then Resets else Ignored) rst ∙ ap (λ (x : Bool). if true && x then Resets else Ignored) next) known rst (equals tcp.seq (next_number c.received) next)
+      by true true rst next = resets (at ∙ ap (λ (x : Bool). if x && is_next c tcp then Resets else Ignored) rst ∙ ap (λ (x : Bool). if true && x then Resets else Ignored) next)
+          known rst (equals tcp.seq (next_number c.received) next)
       by true false rst next = as_ignored (at ∙ ap (λ (x : Bool). if x && is_next c tcp then Resets else Ignored) rst ∙ ap (λ (x : Bool). if true && x then Resets else Ignored) next) known
           (unsent_quiet known (h.opened.out ∙ unsent) (λ is. not_next next))
       by false b rst next = as_ignored (at ∙ ap (λ (x : Bool). if x && is_next c tcp then Resets else Ignored) rst) known
@@ -241,9 +255,11 @@ module _ (s : Settings) (c : Connection) (up : Upward) (down : Downward) (past :
       by true true d e f a_is b_is d_is e_is f_is = resets (abbrev_is true true d e f a_is b_is d_is e_is f_is) known a_is (equals tcp.seq (next_number c.received) b_is)
       by true false true e f a_is b_is d_is e_is f_is = as_challenged (abbrev_is true false true e f a_is b_is d_is e_is f_is) granted known (flag_quiet known (inr (inr a_is)) (λ is. not_next b_is))
       by true false false e f a_is b_is d_is e_is f_is = as_ignored (abbrev_is true false false e f a_is b_is d_is e_is f_is) known (flag_quiet known (inr (inr a_is)) (λ is. not_next b_is))
-      by false b d true f a_is b_is d_is e_is f_is = as_challenged (abbrev_is false b d true f a_is b_is d_is e_is f_is) granted known (flag_quiet known (inr (inl e_is)) (λ is number. let not_it = sym is ∙ a_is in absurd cc))
+      by false b d true f a_is b_is d_is e_is f_is = as_challenged (abbrev_is false b d true f a_is b_is d_is e_is f_is) granted known
+          (flag_quiet known (inr (inl e_is)) (λ is number. let not_it = sym is ∙ a_is in absurd cc))
       by false b d false true a_is b_is d_is e_is f_is = heeds (abbrev_is false b d false true a_is b_is d_is e_is f_is) f_is a_is e_is
-      by false b d false false a_is b_is d_is e_is f_is = as_ignored (abbrev_is false b d false false a_is b_is d_is e_is f_is) known (flag_quiet known (inl f_is) (λ is number. let not_it = sym is ∙ a_is in absurd cc))
+      by false b d false false a_is b_is d_is e_is f_is = as_ignored (abbrev_is false b d false false a_is b_is d_is e_is f_is) known
+          (flag_quiet known (inl f_is) (λ is number. let not_it = sym is ∙ a_is in absurd cc))
 
   -- ---- by how far it is opened
 
@@ -291,10 +307,13 @@ module _ (s : Settings) (c : Connection) (up : Upward) (down : Downward) (past :
         verdict_is a b d e f a_is b_is d_is e_is f_is = ap (λ (st : Stage). verdict_by st c up tcp) at ∙ rw (a_is, b_is, d_is, e_is, f_is) refl
 
         waiting : (v : Verdict) → verdict_of c up tcp ≡ v → (v ≡ Ignored) ⊎ (v ≡ Unacceptable) → greets past seg ≡ false → Means
-        waiting v is (inl so) none = waits (ap (λ (v : Verdict). conn_by v c up down tcp m) (is ∙ so)) (ap (λ (v : Verdict). up_by v c up down tcp) (is ∙ so)) (ap (λ (v : Verdict). down_by v c down tcp) (is ∙ so)) at none
-        waiting v is (inr so) none = waits (ap (λ (v : Verdict). conn_by v c up down tcp m) (is ∙ so)) (ap (λ (v : Verdict). up_by v c up down tcp) (is ∙ so)) (ap (λ (v : Verdict). down_by v c down tcp) (is ∙ so)) at none
+        waiting v is (inl so) none = waits (ap (λ (v : Verdict). conn_by v c up down tcp m) (is ∙ so)) (ap (λ (v : Verdict). up_by v c up down tcp) (is ∙ so))
+            (ap (λ (v : Verdict). down_by v c down tcp) (is ∙ so)) at none
+        waiting v is (inr so) none = waits (ap (λ (v : Verdict). conn_by v c up down tcp m) (is ∙ so)) (ap (λ (v : Verdict). up_by v c up down tcp) (is ∙ so))
+            (ap (λ (v : Verdict). down_by v c down tcp) (is ∙ so)) at none
 
-        greets_is : (a b d e f : Bool) → is_rst tcp ≡ a → acknowledges_syn c tcp ≡ b → has_gone c.sendings ≡ d → is_ack tcp ≡ e → is_syn tcp ≡ f → greets past seg ≡ (f && not a && d && true && (not e || b))
+        greets_is : (a b d e f : Bool) → is_rst tcp ≡ a → acknowledges_syn c tcp ≡ b → has_gone c.sendings ≡ d → is_ack tcp ≡ e → is_syn tcp ≡ f → greets past seg ≡
+            (f && not a && d && true && (not e || b))
         greets_is a b d e f a_is b_is d_is e_is f_is = greets_by f a d (not e || b) true f_is a_is (h.opened.out ∙ d_is) (ours_by e b e_is b_is)
 
         fin_five : (f a : Bool) → (f && not a && false && true && true) ≡ false
@@ -314,16 +333,22 @@ module _ (s : Settings) (c : Connection) (up : Upward) (down : Downward) (past :
         by true true d e f a_is b_is d_is e_is f_is =
             let two = both_of (is_ack tcp) (nat_eq tcp.ack (number_of c.ours 0)) b_is in
             turns_away (verdict_is true true d e f a_is b_is d_is e_is f_is) calls a_is two.0 (equals tcp.ack (number_of c.ours 0) two.1)
-        by true false d e f a_is b_is d_is e_is f_is = waiting Ignored (verdict_is true false d e f a_is b_is d_is e_is f_is) (inl refl) (greets_is true false d e f a_is b_is d_is e_is f_is ∙ no_syn f true d (not e || false) refl)
-        by false b false e f a_is b_is d_is e_is f_is = waiting Ignored (verdict_is false b false e f a_is b_is d_is e_is f_is) (inl refl) (greets_is false b false e f a_is b_is d_is e_is f_is ∙ not_gone f (not e || b))
-        by false false true true f a_is b_is d_is e_is f_is = waiting Unacceptable (verdict_is false false true true f a_is b_is d_is e_is f_is) (inr refl) (greets_is false false true true f a_is b_is d_is e_is f_is ∙ five f false true)
-        by false true true true false a_is b_is d_is e_is f_is = waiting Ignored (verdict_is false true true true false a_is b_is d_is e_is f_is) (inl refl) (greets_is false true true true false a_is b_is d_is e_is f_is)
-        by false b true false false a_is b_is d_is e_is f_is = waiting Ignored (verdict_is false b true false false a_is b_is d_is e_is f_is) (inl refl) (greets_is false b true false false a_is b_is d_is e_is f_is)
+        by true false d e f a_is b_is d_is e_is f_is = waiting Ignored (verdict_is true false d e f a_is b_is d_is e_is f_is) (inl refl)
+            (greets_is true false d e f a_is b_is d_is e_is f_is ∙ no_syn f true d (not e || false) refl)
+        by false b false e f a_is b_is d_is e_is f_is = waiting Ignored (verdict_is false b false e f a_is b_is d_is e_is f_is) (inl refl)
+            (greets_is false b false e f a_is b_is d_is e_is f_is ∙ not_gone f (not e || b))
+        by false false true true f a_is b_is d_is e_is f_is = waiting Unacceptable (verdict_is false false true true f a_is b_is d_is e_is f_is) (inr refl)
+            (greets_is false false true true f a_is b_is d_is e_is f_is ∙ five f false true)
+        by false true true true false a_is b_is d_is e_is f_is = waiting Ignored (verdict_is false true true true false a_is b_is d_is e_is f_is) (inl refl)
+            (greets_is false true true true false a_is b_is d_is e_is f_is)
+        by false b true false false a_is b_is d_is e_is f_is = waiting Ignored (verdict_is false b true false false a_is b_is d_is e_is f_is) (inl refl)
+            (greets_is false b true false false a_is b_is d_is e_is f_is)
         by false true true true true a_is b_is d_is e_is f_is =
             is_greeted (verdict_is false true true true true a_is b_is d_is e_is f_is) at d_is (greets_is false true true true true a_is b_is d_is e_is f_is) a_is f_is
             (λ so. equals tcp.ack (number_of c.ours 0) (both_of (is_ack tcp) (nat_eq tcp.ack (number_of c.ours 0)) b_is).1)
         by false b true false true a_is b_is d_is e_is f_is =
-            is_greeted (verdict_is false b true false true a_is b_is d_is e_is f_is) at d_is (greets_is false b true false true a_is b_is d_is e_is f_is) a_is f_is (λ so. let not_it = sym so ∙ e_is in absurd cc)
+            is_greeted (verdict_is false b true false true a_is b_is d_is e_is f_is) at d_is (greets_is false b true false true a_is b_is d_is e_is f_is) a_is f_is
+            (λ so. let not_it = sym so ∙ e_is in absurd cc)
 
     answers_means : c.stage ≡ stage.Answers → Means
     answers_means at = by_gone (has_gone c.sendings) refl
@@ -363,9 +388,11 @@ module _ (s : Settings) (c : Connection) (up : Upward) (down : Downward) (past :
         by_gone : (b : Bool) → has_gone c.sendings ≡ b → Means
         by_gone true gone =
             by_same (is_same_syn c tcp) refl gone
-            (at_verdict ∙ ap (λ (b : Bool). if not b then verdict_early c tcp else (if is_same_syn c tcp then Repeats else (if is_ack tcp && not (is_rst tcp) && not (acknowledges_syn c tcp) then Unacceptable else verdict_synchronized c up tcp))) gone)
+            (at_verdict ∙ ap (λ (b : Bool). if not b then verdict_early c tcp else
+            (if is_same_syn c tcp then Repeats else (if is_ack tcp && not (is_rst tcp) && not (acknowledges_syn c tcp) then Unacceptable else verdict_synchronized c up tcp))) gone)
         by_gone false gone =
-            early_means (at_verdict ∙ ap (λ (b : Bool). if not b then verdict_early c tcp else (if is_same_syn c tcp then Repeats else (if is_ack tcp && not (is_rst tcp) && not (acknowledges_syn c tcp) then Unacceptable else verdict_synchronized c up tcp))) gone) known gone
+            early_means (at_verdict ∙ ap (λ (b : Bool). if not b then verdict_early c tcp else
+            (if is_same_syn c tcp then Repeats else (if is_ack tcp && not (is_rst tcp) && not (acknowledges_syn c tcp) then Unacceptable else verdict_synchronized c up tcp))) gone) known gone
 
     -- what a segment is to a live connection
     pub means : Means
@@ -376,12 +403,14 @@ module _ (s : Settings) (c : Connection) (up : Upward) (down : Downward) (past :
         by stage.Calls at live = calls_means at
         by stage.Answers at live = answers_means at
         by stage.Synchronized at live =
-            synchronized_means (ap (λ (st : Stage). verdict_by st c up tcp) at) (ap (λ (st : Stage). is_connects st) at) (ap (λ (st : Stage). is_calls st) at) (λ so ack rst syn. is_heard so at ack rst syn)
+            synchronized_means (ap (λ (st : Stage). verdict_by st c up tcp) at) (ap (λ (st : Stage). is_connects st) at) (ap (λ (st : Stage). is_calls st) at)
+            (λ so ack rst syn. is_heard so at ack rst syn)
         by stage.Rests at live = absurd cc
         by (stage.Resets seq ack) at live = absurd cc
         by stage.Gone at live = absurd cc
 
     -- one after which the connection stays as it is
-    pub rests_holds : (syn_owed ack_owed : Bool) → (c.syn_owed ≡ true → syn_owed ≡ true) → (ack_owed ≡ false → c.ack_owed ≡ false) → (is_connects c.stage ≡ true → ack_owed ≡ false) → is_calls c.stage ≡ false → Quiet c past seg
+    pub rests_holds : (syn_owed ack_owed : Bool) → (c.syn_owed ≡ true → syn_owed ≡ true) → (ack_owed ≡ false → c.ack_owed ≡ false) →
+        (is_connects c.stage ≡ true → ack_owed ≡ false) → is_calls c.stage ≡ false → Quiet c past seg
         → HasBuffers (record c { syn_owed = syn_owed; ack_owed = ack_owed }) up down → Holds s (record c { syn_owed = syn_owed; ack_owed = ack_owed }) up down after m
     rests_holds syn_owed ack_owed keeps only calm known q buffers = stays s c up down past now m seg on h q.none known q.unheeded q.apart syn_owed ack_owed keeps only calm (λ none. q.calm) buffers

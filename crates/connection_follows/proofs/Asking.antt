@@ -38,7 +38,8 @@ module _ (s : Settings) (c : Connection) (up : Upward) (down : Downward) (past :
       (record { ours = refl; connecting = refl; out = refl; accepted = refl; theirs = refl; unasked = refl })
       (record { guest = refl; ended = refl; edge = refl; prompted = refl; answered = refl })
       (record { host = refl; window = refl; fin_out = refl })
-      (does s past now m ConnectsYet AskConnected h.goes on (λ o. o) refl (may_ask s past m h.goes.well h.goes.open_yet (h.opened.connects ∙ joins)) (must_ask s past m h.goes.free) h.goes.open_yet refl refl)
+      (does s past now m ConnectsYet AskConnected h.goes on (λ o. o) refl (may_ask s past m h.goes.well h.goes.open_yet (h.opened.connects ∙ joins))
+      (must_ask s past m h.goes.free) h.goes.open_yet refl refl)
       h
 
   -- a request for the guest's address went out

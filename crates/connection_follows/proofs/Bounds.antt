@@ -64,7 +64,8 @@ not_in_a_second past now k w tm story out open_yet r idle = by_timer tm refl
     way : (a b u x : Bool) → a ≡ true → b ≡ false → (u || x) ≡ true → (a && not b && (u || x)) ≡ true
     way a b u x out_is yet so = rw (out_is, yet, so) refl
 
-    since : (base : ℕ) → tm ≡ timer.Since base → (u : Bool) → is_under_way past ≡ u → ((is_under_way past || nat_lt (sent (host past)) (owned (host past))) ≡ true) × (max (opened_at past) (waits_since past) + 1000 ≤ base + w)
+    since : (base : ℕ) → tm ≡ timer.Since base → (u : Bool) → is_under_way past ≡ u → ((is_under_way past || nat_lt (sent (host past)) (owned (host past))) ≡ true) ×
+        (max (opened_at past) (waits_since past) + 1000 ≤ base + w)
     since base is true under =
         let run = subst (λ (t : Timer). Resends past now (timer_by t w) k w) is r in
         (rw under refl, not_woken past now (base + w) k w run under (opened_by past now (base + w) k w story run under))
@@ -143,4 +144,5 @@ module _ (s : Settings) (c : Connection) (up : Upward) (down : Downward) (past :
         by b yes_ none = rw yes_ none
 
     pub synchronized_from : IsFrom (resend_due t.resend) (wakes past)
-    synchronized_from = not_in_a_second past now (count_of (is_under_way past) t.resend) t.resend.estimate.wait t.resend.timer h.goes.story (h.opened.out ∙ h.opened.sent synchronized) h.goes.open_yet piece_ran waits
+    synchronized_from = not_in_a_second past now (count_of (is_under_way past) t.resend) t.resend.estimate.wait t.resend.timer h.goes.story
+        (h.opened.out ∙ h.opened.sent synchronized) h.goes.open_yet piece_ran waits

@@ -1,5 +1,6 @@
 -- The causes of a close, one by one.
-use Rattle.std.proofs.Common.{refl, ◌≡◌, ℕ, ◌+◌, ◌^◌, ◌%◌, ◌≤◌, [], ◌∷◌, length, Bool, true, false, not, ◌&&◌, ◌||◌, None, Some, if◌then◌else◌, IsTrue, min, nat_eq, take, arith, ap, subst, sym, ◌∙◌, inl, inr}
+use Rattle.std.proofs.Common.{refl, ◌≡◌, ℕ, ◌+◌, ◌^◌, ◌%◌, ◌≤◌, [], ◌∷◌, length, Bool, true, false, not, ◌&&◌, ◌||◌, None, Some, if◌then◌else◌, IsTrue, min, nat_eq, take, arith, ap, subst}
+use Rattle.std.proofs.Common.{sym, ◌∙◌, inl, inr}
 use Rattle.std.proofs.lemmas.Bool.Decides.{nat_tests}
 use Rattle.seq_space.specs.Places.{number_of}
 use Rattle.seq_space.specs.declared.Seq.{Seq}
@@ -135,8 +136,10 @@ module _ (s : Settings) (c : Connection) (up : Upward) (down : Downward) (past :
     write_fails_closes at_end k all =
         let w = wrote s.ring (part_of c up) (guest past) k 0 (omega arith) (omega (arith, all)) (h.receives reached).follows in
         let enough : OffersEnough past (take k up.held) = subst (λ (j : ℕ). OffersEnough past (take j up.held)) (sym all) (offers s past (part_of c up) (h.receives reached).follows) in
-        resets_over s c up down past now m h (At m (WriteFails (take k up.held)) ∷ past) refl refl refl h.gives.keeps (λ n come honest. come (honest_before (At m (WriteFails (take k up.held))) past honest)) false at_end known
-        (fails at_end (WriteFails (take k up.held)) (Write (take k up.held)) (λ none. none) refl (may_write s past m (take k up.held) w.1 w.2 h.goes.well h.goes.open_yet (h.opened.connects ∙ joined)) (must_write s past m (take k up.held) enough h.goes.free) h.goes.open_yet refl)
+        resets_over s c up down past now m h (At m (WriteFails (take k up.held)) ∷ past) refl refl refl h.gives.keeps
+        (λ n come honest. come (honest_before (At m (WriteFails (take k up.held))) past honest)) false at_end known
+        (fails at_end (WriteFails (take k up.held)) (Write (take k up.held)) (λ none. none) refl (may_write s past m (take k up.held) w.1 w.2 h.goes.well h.goes.open_yet
+        (h.opened.connects ∙ joined)) (must_write s past m (take k up.held) enough h.goes.free) h.goes.open_yet refl)
         (failed_owes (At m (WriteFails (take k up.held)) ∷ past) m false at_end known refl (unended_not_done (At m (WriteFails (take k up.held)) ∷ past) not_ended))
 
     pub end_fails_closes : (at_end : Bool) → up.held ≡ [] → c.received.ended ≡ true → IsOver s (reset c) (At m (Closes false at_end known) ∷ At m EndFails ∷ past) m
@@ -166,7 +169,8 @@ module _ (s : Settings) (c : Connection) (up : Upward) (down : Downward) (past :
     is_done_now = done_is past (part_of c up) c.end_acknowledged c.ours_first c.acknowledged (h.receives reached).ends ((h.receives reached).host_ended ∙ four.1) fin_now four.3
 
     pub done_cause : HasCause directly ended known m past
-    done_cause = inl (or_first (is_done past || ended || host_failed past) (finds_no_guest known m past) (or_first (is_done past || ended) (host_failed past) (or_first (is_done past) ended is_done_now)))
+    done_cause = inl (or_first (is_done past || ended || host_failed past) (finds_no_guest known m past) (or_first (is_done past || ended) (host_failed past)
+        (or_first (is_done past) ended is_done_now)))
 
     done_runs : Runs s (At m (Closes directly ended known) ∷ past) m
     done_runs = closes s past now m directly ended known runs on h.goes.open_yet done_cause
@@ -177,7 +181,8 @@ module _ (s : Settings) (c : Connection) (up : Upward) (down : Downward) (past :
     first_now : closes_first c ≡ c.ours_first
     first_now = ap (λ (b : Bool). if b then c.ours_first else is_sent c.transmission.end) (equal (next_number c.received) c.acknowledged ((h.receives reached).sure four.3).1)
 
-    done_over : (st : Stage) → is_live st ≡ false → is_resets st ≡ false → ((seq ack : Seq) → st ≡ stage.Resets seq ack → ⊥) → IsOver s (record c { stage = st }) (At m (Closes directly ended known) ∷ past) m
+    done_over : (st : Stage) → is_live st ≡ false → is_resets st ≡ false → ((seq ack : Seq) → st ≡ stage.Resets seq ack → ⊥) → IsOver s (record c { stage = st })
+        (At m (Closes directly ended known) ∷ past) m
     done_over st dead none never = record {
       runs = done_runs;
       closed = refl;
@@ -205,7 +210,8 @@ module _ (s : Settings) (c : Connection) (up : Upward) (down : Downward) (past :
     pub done_rests : closes_first c ≡ true → IsResting s (record c { stage = stage.Rests }) up down (At m (Closes directly ended known) ∷ past) m m
     done_rests first =
         let r = h.receives reached in
-        let e = quiet_ends past (part_of c up) (part_of (record c { stage = stage.Rests }) up) c.end_acknowledged c.ours_first c.acknowledged m (Closes directly ended known) tt refl (λ i x is. is) r.ends in
+        let e = quiet_ends past (part_of c up) (part_of (record c { stage = stage.Rests }) up) c.end_acknowledged c.ours_first c.acknowledged m
+        (Closes directly ended known) tt refl (λ i x is. is) r.ends in
         record {
           over = done_over stage.Rests refl refl (λ seq ack is. cc);
           at = refl;
@@ -272,7 +278,8 @@ module _ (s : Settings) (c : Connection) (up : Upward) (down : Downward) (past :
   after_ours : (seg : Segment) → seg.acknowledgement ≡ number_of c.ours 0 → seg.acknowledgement ≡ number_after (our_number past)
   after_ours seg number = number ∙ ap (λ (n : ℕ). n % 2 ^ 32) (let more : c.ours + 1 + 0 ≡ c.ours + 1 = omega arith in more) ∙ ap (λ (f : ℕ). number_after f) (sym h.opened.ours)
 
-  pub called_reset_cause : (at_end : Bool) (seg : Segment) → is_calls c.stage ≡ true → seg.rst ≡ true → seg.ack ≡ true → seg.acknowledgement ≡ number_of c.ours 0 → HasCause true at_end known m (At m (Arrives seg) ∷ past)
+  pub called_reset_cause : (at_end : Bool) (seg : Segment) → is_calls c.stage ≡ true → seg.rst ≡ true → seg.ack ≡ true → seg.acknowledgement ≡ number_of c.ours 0 →
+      HasCause true at_end known m (At m (Arrives seg) ∷ past)
   called_reset_cause at_end seg calls rst ack number = reset_turns_away s m past seg rst at_end known m (unknown_yet calls) ack (after_ours seg number)
 
   pub called_reset_closes : (at_end : Bool) (seg : Segment) → is_calls c.stage ≡ true → seg.rst ≡ true → seg.ack ≡ true → seg.acknowledgement ≡ number_of c.ours 0
@@ -284,6 +291,7 @@ module _ (s : Settings) (c : Connection) (up : Upward) (down : Downward) (past :
 
   pub run_closes : Runs s (At m (Closes false true known) ∷ past) m × (owes_reset (At m (Closes false true known) ∷ past) ≡ false)
   run_closes = (
-    closes s past now m false true known runs on h.goes.open_yet (inl (or_first (is_done past || true || host_failed past) (finds_no_guest known m past) (or_first (is_done past || true) (host_failed past) (or_second (is_done past) true refl)))),
+    closes s past now m false true known runs on h.goes.open_yet (inl (or_first (is_done past || true || host_failed past) (finds_no_guest known m past)
+        (or_first (is_done past || true) (host_failed past) (or_second (is_done past) true refl)))),
     run_owes_none past m false true known refl h.goes.well,
   )

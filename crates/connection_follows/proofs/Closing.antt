@@ -30,7 +30,8 @@ pub runs_of : (s : Settings) (past : Story) (now : ℕ) → Goes s past now → 
 runs_of s past now g = record { story = g.story; moment = g.moment; lawful = g.lawful; dutiful = g.dutiful }
 
 -- one thing more was done
-pub runs_on : (s : Settings) (past : Story) (now m : ℕ) (e : Event) (act : Act) → Runs s past now → now ≤ m → (Opens e → ⊥) → act_of e ≡ Some act → May s past m act → Must s past m act → Runs s (At m e ∷ past) m
+pub runs_on : (s : Settings) (past : Story) (now m : ℕ) (e : Event) (act : Act) → Runs s past now → now ≤ m → (Opens e → ⊥) → act_of e ≡ Some act → May s past m act →
+    Must s past m act → Runs s (At m e ∷ past) m
 runs_on s past now m e act r on opens_none is may must = record {
   story = longer past m e opens_none (omega (arith, r.moment, on)) r.story;
   moment = omega arith;
@@ -42,7 +43,8 @@ runs_on s past now m e act r on opens_none is may must = record {
 pub closes : (s : Settings) (past : Story) (now m : ℕ) (directly ended known : Bool) → Runs s past now → now ≤ m → is_closed past ≡ false → HasCause directly ended known m past
     → Runs s (At m (Closes directly ended known) ∷ past) m
 closes s past now m directly ended known r on open_yet cause =
-    runs_on s past now m (Closes directly ended known) (Close directly ended known) r on (λ none. none) refl (may_close s past m directly ended known cause open_yet) (must_close s past m directly ended known)
+    runs_on s past now m (Closes directly ended known) (Close directly ended known) r on (λ none. none) refl (may_close s past m directly ended known cause open_yet)
+    (must_close s past m directly ended known)
 
 -- ---- the reset that is owed has the numbers of the definition
 
@@ -55,7 +57,8 @@ or_is false b is = absurd cc
 
 -- The flow's story goes on from `past` to `last` by at most a call that failed.
 module _ (s : Settings) (c : Connection) (up : Upward) (down : Downward) (past : Story) (now m : ℕ) (h : Holds s c up down past now) (last : Story)
-    (out_is : syn_is_out last ≡ syn_is_out past) (accepted_is : is_accepted last ≡ is_accepted past) (theirs_is : their_number last ≡ their_number past) (keeps : Keeps (outward_of c.transmission down) (host last))
+    (out_is : syn_is_out last ≡ syn_is_out past) (accepted_is : is_accepted last ≡ is_accepted past) (theirs_is : their_number last ≡ their_number past)
+    (keeps : Keeps (outward_of c.transmission down) (host last))
     (comes : (n : ℕ) → (Honest (guest past) → HasCome (guest past) (ackd (Acked n ∷ guest past))) → Honest (guest last) → HasCome (guest last) (ackd (Acked n ∷ guest last)))
     (directly ended known : Bool) where
   abbrev shut : Story
@@ -167,7 +170,8 @@ module _ (s : Settings) (c : Connection) (up : Upward) (down : Downward) (past :
     where
       by : (b : Bool) → has_gone c.sendings ≡ b → is_resets (if b then resets (numbers_sent c) 0 else stage.Gone) ≡ not (is_accepted last && not (syn_is_out last))
       by true gone = sym (silent (is_accepted last) (syn_is_out last) (λ is. out_is ∙ h.opened.out ∙ gone))
-      by false gone = sym (ap (λ (b : Bool). not (b && not (syn_is_out last))) (accepted_is ∙ h.opened.calls (ap (λ (q : Stage). is_calls q) at)) ∙ ap (λ (b : Bool). not (true && not b)) (out_is ∙ h.opened.out ∙ gone))
+      by false gone = sym (ap (λ (b : Bool). not (b && not (syn_is_out last))) (accepted_is ∙ h.opened.calls (ap (λ (q : Stage). is_calls q) at)) ∙ ap
+          (λ (b : Bool). not (true && not b)) (out_is ∙ h.opened.out ∙ gone))
   speaks_at stage.Answers at live =
       let no_call : is_calls c.stage ≡ false = ap (λ (q : Stage). is_calls q) at in
       sym (silent (is_accepted last) (syn_is_out last) (λ is. out_is ∙ h.opened.out ∙ h.opened.called (sym accepted_is ∙ is) no_call))

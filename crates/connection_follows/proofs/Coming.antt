@@ -1,5 +1,7 @@
 -- What the receiver takes of a segment that is heeded.
-use Rattle.std.proofs.Common.{refl, ◌≡◌, ℕ, suc, ◌+◌, ◌-◌, ◌^◌, ◌<◌, ◌≤◌, List, [], ◌∷◌, ◌++◌, length, drop, Bool, true, false, not, ◌&&◌, ◌||◌, Option, Some, if◌then◌else◌, IsTrue, ◌↔◌, min, nat_eq, nat_le, nat_lt, ℤ, pos, negsuc, ◌+ℤ◌, ◌<ℤ◌, arith, ap, subst, sym, ◌∙◌, inl, inr, ◌⊎◌, append_assoc, append-nil, length-append, length-take, slice_get}
+use Rattle.std.proofs.Common.{refl, ◌≡◌, ℕ, suc, ◌+◌, ◌-◌, ◌^◌, ◌<◌, ◌≤◌, List, [], ◌∷◌, ◌++◌, length, drop, Bool, true, false, not, ◌&&◌, ◌||◌, Option, Some, if◌then◌else◌, IsTrue, ◌↔◌}
+use Rattle.std.proofs.Common.{min, nat_eq, nat_le, nat_lt, ℤ, pos, negsuc, ◌+ℤ◌, ◌<ℤ◌, arith, ap, subst, sym, ◌∙◌, inl, inr, ◌⊎◌, append_assoc, append-nil, length-append, length-take}
+use Rattle.std.proofs.Common.{slice_get}
 use Rattle.std.proofs.lemmas.Bool.Decides.{nat_tests}
 use Rattle.std.proofs.lemmas.Int.{ints}
 use Rattle.seq_space.specs.Places.{shifted_place}
@@ -46,7 +48,11 @@ grows r n xs up = by r.ended
 pub sized : (r : Received) (n : ℕ) (xs : List ℕ) (up : Upward) → ((up_after r n xs up).size ≡ up.size) × ((up_after r n xs up).written ≡ up.written)
 sized r n xs up = by r.ended
   where
-    by_none : (b : Bool) (ahead : ℕ) → ((after_join (if b then up else record up { ranges = with_range up.ranges (range_of up ahead xs); kept = octets_with up.kept ahead (within up ahead xs) })).size ≡ up.size)
+    by_none : (b : Bool) (ahead : ℕ) → ((after_join (if b then up else record up {
+      ranges = with_range up.ranges (range_of up ahead xs);
+      kept = octets_with up.kept ahead
+          (within up ahead xs);
+    })).size ≡ up.size)
         × ((after_join (if b then up else record up { ranges = with_range up.ranges (range_of up ahead xs); kept = octets_with up.kept ahead (within up ahead xs) })).written ≡ up.written)
     by_none true ahead = (refl, refl)
     by_none false ahead = (refl, refl)
@@ -56,7 +62,8 @@ sized r n xs up = by r.ended
     by_gap true = by_none (keeps_none up (gap (place_in r n) r.taken) xs) (gap (place_in r n) r.taken)
     by_gap false = (refl, refl)
 
-    by : (b : Bool) → ((if b then up else after_join (placed (place_in r n) r.taken xs up)).size ≡ up.size) × ((if b then up else after_join (placed (place_in r n) r.taken xs up)).written ≡ up.written)
+    by : (b : Bool) → ((if b then up else after_join (placed (place_in r n) r.taken xs up)).size ≡ up.size) ×
+        ((if b then up else after_join (placed (place_in r n) r.taken xs up)).written ≡ up.written)
     by true = (refl, refl)
     by false = by_gap (nat_lt 0 (gap (place_in r n) r.taken))
 
@@ -137,7 +144,8 @@ module _ (r : Received) (n : ℕ) (xs : List ℕ) (up : Upward) (comes : Comes r
           let place_at : r.taken + (length (up_after r n xs up).held - length up.held + (i - q.taken)) ≡ i = omega (arith, is, count_now, high) in
           has_of (kept_at r.taken up.kept) (place_in r n) xs r.taken i x (omega (arith, is, high))
           (subst (λ (j : ℕ). (octet_at up.kept (i - r.taken) ≡ Some x) ⊎ StandsAt (place_in r n) xs j x) place_at
-          (subst (λ (j : ℕ). (octet_at up.kept j ≡ Some x) ⊎ StandsAt (place_in r n) xs (r.taken + (length (up_after r n xs up).held - length up.held + (i - q.taken))) x) offset (comes.kept (i - q.taken) x at)))
+          (subst (λ (j : ℕ). (octet_at up.kept j ≡ Some x) ⊎ StandsAt (place_in r n) xs (r.taken + (length (up_after r n xs up).held - length up.held + (i - q.taken))) x) offset
+          (comes.kept (i - q.taken) x at)))
 
   pub takes_all : r.ended ≡ false → min (length (next_octets (place_in r n) xs r.taken)) (room_of up) ≤ length taken_now
   takes_all open_yet = let low = all_taken r n xs up open_yet in omega (arith, low, count_now)

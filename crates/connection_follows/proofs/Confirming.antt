@@ -1,5 +1,6 @@
 -- An acknowledgement that counts, against the flow's story.
-use Rattle.std.proofs.Common.{refl, ◌≡◌, ℕ, suc, ◌+◌, ◌-◌, ◌^◌, ◌<◌, ◌≤◌, List, ◌∷◌, length, drop, Bool, true, false, not, ◌||◌, Option, None, Some, if◌then◌else◌, min, nat_eq, nat_lt, int_le, ℤ, pos, negsuc, ◌<ℤ◌, arith, ap, subst, sym, ◌∙◌, length-drop}
+use Rattle.std.proofs.Common.{refl, ◌≡◌, ℕ, suc, ◌+◌, ◌-◌, ◌^◌, ◌<◌, ◌≤◌, List, ◌∷◌, length, drop, Bool, true, false, not, ◌||◌, Option, None, Some, if◌then◌else◌, min, nat_eq, nat_lt}
+use Rattle.std.proofs.Common.{int_le, ℤ, pos, negsuc, ◌<ℤ◌, arith, ap, subst, sym, ◌∙◌, length-drop}
 use Rattle.std.proofs.lemmas.Bool.Decides.{nat_tests}
 use Rattle.std.proofs.lemmas.Int.{ints}
 use Rattle.retransmit.specs.Resending.{IsSteady, Resending, after_answered, after_moved, doublings, is_off}
@@ -154,7 +155,14 @@ module _ (s : Settings) (past : Story) (now m : ℕ) (seg : Segment) (t : Transm
           ∙ ap (λ (f : ℕ). record (outward_of t down) { first = f; before = down.first + n; held = drop n down.octets; acked = a }) (sym stays.first)
           ∙ ap (λ (e : End). record (outward_of t down) { first = u.first; before = down.first + n; held = drop n down.octets; ended = not (is_open e); acked = a }) (sym stays.end)
           ∙ ap (λ (e : ℕ). record (outward_of t down) { first = u.first; before = down.first + n; held = drop n down.octets; ended = not (is_open u.end); sent = e; acked = a }) (sym stays.sent)
-          ∙ ap (λ (e : ℕ). record (outward_of t down) { first = u.first; before = down.first + n; held = drop n down.octets; ended = not (is_open u.end); sent = u.sent; acked = e }) (sym (heard_acked t seq w bare m seen))
+          ∙ ap (λ (e : ℕ). record (outward_of t down) {
+            first = u.first;
+            before = down.first + n;
+            held = drop n down.octets;
+            ended = not (is_open u.end);
+            sent = u.sent;
+            acked = e;
+          }) (sym (heard_acked t seq w bare m seen))
 
   pub heard_fin : (b : Bool) → b ≡ nat_eq t.acked (octets_read down + 1) → (b || is_fin_too seen) ≡ nat_eq u.acked (octets_read (without n down) + 1)
   heard_fin b is =
@@ -192,7 +200,8 @@ record Moved (t : Transmission) (a m : ℕ) (r : Resending) : Type 0 where
   measured : Option ℕ
   is : r ≡ after_moved t.resend measured (nat_lt a t.sent) m
 
-moved_to : (t : Transmission) (w : ℕ) (bare : Bool) (seen : AckSeen) (place_ m : ℕ) → Moved t place_ m (after_moved (congested t w bare seen).resend (round_trip (congested t w bare seen).timed place_ m) (nat_lt place_ (congested t w bare seen).sent) m)
+moved_to : (t : Transmission) (w : ℕ) (bare : Bool) (seen : AckSeen) (place_ m : ℕ) → Moved t place_ m
+    (after_moved (congested t w bare seen).resend (round_trip (congested t w bare seen).timed place_ m) (nat_lt place_ (congested t w bare seen).sent) m)
 moved_to t w bare seen place_ m =
     let c = congested_stays t w bare seen in
     record {
@@ -202,9 +211,11 @@ moved_to t w bare seen place_ m =
     }
 
 moved_by : (t : Transmission) (w : ℕ) (bare : Bool) (k place_ m : ℕ) (seen : AckSeen) → (congested t w bare seen).acked + k ≡ place_
-    → Moved t place_ m (after_moved (congested t w bare seen).resend (round_trip (congested t w bare seen).timed ((congested t w bare seen).acked + k) m) (nat_lt ((congested t w bare seen).acked + k) (congested t w bare seen).sent) m)
+    → Moved t place_ m (after_moved (congested t w bare seen).resend (round_trip (congested t w bare seen).timed ((congested t w bare seen).acked + k) m)
+    (nat_lt ((congested t w bare seen).acked + k) (congested t w bare seen).sent) m)
 moved_by t w bare k place_ m seen is =
-    subst (λ (p : ℕ). Moved t place_ m (after_moved (congested t w bare seen).resend (round_trip (congested t w bare seen).timed p m) (nat_lt p (congested t w bare seen).sent) m)) (sym is) (moved_to t w bare seen place_ m)
+    subst (λ (p : ℕ). Moved t place_ m (after_moved (congested t w bare seen).resend (round_trip (congested t w bare seen).timed p m) (nat_lt p (congested t w bare seen).sent) m))
+    (sym is) (moved_to t w bare seen place_ m)
 
 module _ (s : Settings) (past : Story) (now m : ℕ) (seg : Segment) (t : Transmission) (down : Downward) (seq : Seq) (w : ℕ) (bare : Bool) (seen : AckSeen) (feeds : Feeds t down)
     (k : Keeps (outward_of t down) (host past)) (it : confirms past seg ≡ true) (seen_is : IsSeenAs t down (place_acked t seg.acknowledgement) seen) (ok : is_accepted_ack seen ≡ true)
@@ -255,7 +266,8 @@ module _ (s : Settings) (past : Story) (now m : ℕ) (seg : Segment) (t : Transm
         by true less =
             let low : acked_by t seen < t.sent = grind (arith, nat_tests) in
             let run : Resends later_on m (Until (m + r.estimate.wait)) 0 r.estimate.wait =
-            moves_on past seg m it fits (acked_by t seen) stands_at s r.estimate.wait lawful rising newest (omega (arith, more, k.acked)) (omega (arith, low, k.sent)) (steady_second r steady_r) steady_r.longest in
+            moves_on past seg m it fits (acked_by t seen) stands_at s r.estimate.wait lawful rising newest (omega (arith, more, k.acked)) (omega (arith, low, k.sent))
+            (steady_second r steady_r) steady_r.longest in
             by_way r true less
             (subst (λ (q : FlowTimer). Resends later_on m q (doublings r.timer r.resent) r.estimate.wait) (sym (ap (λ (q : Resending). timer_by q.timer r.estimate.wait) (timer_is true less)))
             (subst (λ (j : ℕ). Resends later_on m (Until (m + r.estimate.wait)) j r.estimate.wait) (sym (ap (λ (q : Resending). doublings q.timer q.resent) (timer_is true less))) run))
@@ -292,15 +304,18 @@ module _ (s : Settings) (past : Story) (now m : ℕ) (seg : Segment) (t : Transm
             (subst (λ (b : Bool). Resends past now (timer_of t.resend) (count_of b t.resend) t.resend.estimate.wait) tested ran))
         by false all =
             let end : acked_by t seen ≡ sent (host past) = let high = at_it.high in let tested : t.sent ≤ acked_by t seen = grind (arith, nat_tests) in omega (arith, high, tested, k.sent) in
-            by_way (after_answered t.resend) false all (all_acked past seg m it fits (acked_by t seen) stands_at t.resend.estimate.wait (timer_of (after_answered t.resend)) end low feeds.sound.steady.longest)
+            by_way (after_answered t.resend) false all (all_acked past seg m it fits (acked_by t seen) stands_at t.resend.estimate.wait
+            (timer_of (after_answered t.resend)) end low feeds.sound.steady.longest)
 
     pub heard_runs : Running (heard_by t seq w bare m seen).resend
     heard_runs = subst (λ (r : Resending). Running r) (sym (heard_resend t seq w bare m seen)) (by seen seen_is ok refl)
       where
         fin_moved : (j : ℕ) → seen ≡ FinToo j → Moved t (acked_by t seen) m (acknowledged (congested t w bare (FinToo j)) (FinToo j) m).resend
         fin_moved j same =
-            let at_end : (congested t w bare (FinToo j)).acked + j + 1 ≡ acked_by t seen = ap (λ (x : ℕ). x + j + 1) (congested_stays t w bare (FinToo j)).1 ∙ ap (λ (q : AckSeen). acked_by t q) (sym same) in
-            subst (λ (p : ℕ). Moved t (acked_by t seen) m (after_moved (congested t w bare (FinToo j)).resend (round_trip (congested t w bare (FinToo j)).timed p m) (nat_lt p (congested t w bare (FinToo j)).sent) m)) (sym at_end)
+            let at_end : (congested t w bare (FinToo j)).acked + j + 1 ≡ acked_by t seen = ap (λ (x : ℕ). x + j + 1) (congested_stays t w bare (FinToo j)).1 ∙ ap
+            (λ (q : AckSeen). acked_by t q) (sym same) in
+            subst (λ (p : ℕ). Moved t (acked_by t seen) m (after_moved (congested t w bare (FinToo j)).resend (round_trip (congested t w bare (FinToo j)).timed p m)
+            (nat_lt p (congested t w bare (FinToo j)).sent) m)) (sym at_end)
             (moved_to t w bare (FinToo j) (acked_by t seen) m)
 
         by : (q : AckSeen) → IsSeenAs t down (place_acked t seg.acknowledgement) q → is_accepted_ack q ≡ true → seen ≡ q → Running (acknowledged (congested t w bare seen) seen m).resend

@@ -40,7 +40,8 @@ and_right : (a b : Bool) → (a && b) ≡ false → a ≡ true → b ≡ false
 and_right true b is so = is
 and_right false b is so = absurd cc
 
-pub unmoved_at : (past : Story) (m : ℕ) (seg : Segment) → (confirms past seg && is_acceptable (host past) seg.acknowledgement) ≡ false → acknowledged_at (At m (Arrives seg) ∷ past) ≡ acknowledged_at past
+pub unmoved_at : (past : Story) (m : ℕ) (seg : Segment) → (confirms past seg && is_acceptable (host past) seg.acknowledgement) ≡ false → acknowledged_at
+    (At m (Arrives seg) ∷ past) ≡ acknowledged_at past
 unmoved_at past m seg none =
     if_moved (confirms past seg) (not_past_sent (host past) seg.acknowledgement) (int_lt (pos (acked (host past))) (our_place (host past) seg.acknowledgement))
     (λ it. old_moves (host past) seg.acknowledgement (and_right (confirms past seg) (is_acceptable (host past) seg.acknowledgement) none it))
@@ -79,7 +80,8 @@ sent_counts past r true now new counts = new
 sent_counts past r false now new counts = unless_counts past r.timer now new counts
 
 -- the window is watched
-pub watched_counts : (past : Story) (r : Resending) (waits : Bool) (now : ℕ) → CountsSince past (Since now) → CountsSince past r.timer → CountsSince past (if waits then after_start r now else after_stop r).timer
+pub watched_counts : (past : Story) (r : Resending) (waits : Bool) (now : ℕ) → CountsSince past (Since now) → CountsSince past r.timer → CountsSince past
+    (if waits then after_start r now else after_stop r).timer
 watched_counts past r true now new counts = begun_counts past r.timer now new counts
 watched_counts past r false now new counts = off_counts past
 

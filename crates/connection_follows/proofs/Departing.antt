@@ -95,7 +95,8 @@ module _ (s : Settings) (c : Connection) (up : Upward) (down : Downward) (past :
     where
       by : ((c.syn_owed ≡ true) × (SynAck ≡ what)) ⊎ (Ack ≡ what) → Goes_out what
       by (inl two) = subst (λ (w : Owed). Goes_out w) two.1 (λ buffers. syn_ack_goes s c up down past now m on late h at two.0 buffers)
-      by (inr is) = subst (λ (w : Owed). Goes_out w) is (λ buffers. owed_ack_goes s c up down past now h m on (ap (λ (q : Stage). owed_by q c up down) at ∙ owed ∙ ap (λ (w : Owed). Some w) (sym is)) buffers)
+      by (inr is) = subst (λ (w : Owed). Goes_out w) is (λ buffers. owed_ack_goes s c up down past now h m on (ap (λ (q : Stage). owed_by q c up down) at ∙ owed ∙ ap
+          (λ (w : Owed). Some w) (sym is)) buffers)
   goes_at stage.Synchronized at live what owed = by (if_piece (piece_owed c.transmission down) (c.ack_owed || is_update_owed c up) what owed)
     where
       by : ((q : Piece) × (piece_owed c.transmission down ≡ Some q) × (Data q ≡ what)) ⊎ (Ack ≡ what) → Goes_out what
@@ -104,7 +105,8 @@ module _ (s : Settings) (c : Connection) (up : Upward) (down : Downward) (past :
           subst (λ (w : Owed). Goes_out w) three.2
           (λ buffers. piece_goes s c up down past now m on h (ap (λ (q : Stage). is_calls q) at) (ap (λ (q : Stage). is_opening q) at) (ap (λ (q : Stage). is_synchronized q) at) three.0 numbered.0
           (subst (λ (p : Piece). 0 < numbers p) (sym numbered.0) numbered.1) buffers)
-      by (inr is) = subst (λ (w : Owed). Goes_out w) is (λ buffers. owed_ack_goes s c up down past now h m on (ap (λ (q : Stage). owed_by q c up down) at ∙ owed ∙ ap (λ (w : Owed). Some w) (sym is)) buffers)
+      by (inr is) = subst (λ (w : Owed). Goes_out w) is (λ buffers. owed_ack_goes s c up down past now h m on (ap (λ (q : Stage). owed_by q c up down) at ∙ owed ∙ ap
+          (λ (w : Owed). Some w) (sym is)) buffers)
   goes_at stage.Rests at live what owed = absurd cc
   goes_at (stage.Resets seq ack) at live what owed = absurd cc
   goes_at stage.Gone at live what owed = absurd cc

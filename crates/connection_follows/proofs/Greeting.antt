@@ -69,7 +69,8 @@ module _ (s : Settings) (c : Connection) (up : Upward) (down : Downward) (past :
     none = ap (λ (b : Bool). b && is_acceptable (host past) seg.acknowledgement) unconfirmed
 
     still_unknown : their_syn after ≡ their_syn past
-    still_unknown = ap (λ (o : Option Segment). option_or o (if greets past seg then Some seg else None)) unknown ∙ ap (λ (b : Bool). option_or None (if b then Some seg else None)) not_greeted ∙ sym unknown
+    still_unknown = ap (λ (o : Option Segment). option_or o (if greets past seg then Some seg else None)) unknown ∙ ap
+        (λ (b : Bool). option_or None (if b then Some seg else None)) not_greeted ∙ sym unknown
 
     same_guest : guest after ≡ guest past
     same_guest = guest_unknown m past seg not_known not_greeted
@@ -85,7 +86,8 @@ module _ (s : Settings) (c : Connection) (up : Upward) (down : Downward) (past :
           buffers = buffers;
           within = h.within;
           goes = comes_on s past now m (Arrives seg) h.goes on (λ so. so) refl h.goes.open_yet refl free;
-          opened = opened_on s c past after (record { ours = refl; connecting = refl; out = refl; accepted = refl; theirs = still_unknown; unasked = refl }) (answered_same s c up down past now m seg on h none) h.opened;
+          opened = opened_on s c past after (record { ours = refl; connecting = refl; out = refl; accepted = refl; theirs = still_unknown; unasked = refl })
+              (answered_same s c up down past now m seg on h none) h.opened;
           awaits = λ is. awaits_beside s c c up past after still_unknown same_guest refl refl refl (h.awaits is);
           receives = λ is. let not_it = sym is ∙ calls in absurd cc;
           gives = g;
@@ -151,7 +153,8 @@ module _ (s : Settings) (c : Connection) (up : Upward) (down : Downward) (past :
     -- how far it is opened
     pub most_now : min c.transmission.mss (mss_of tcp.mss) ≡ mss s after
     most_now =
-        let told : mss s after ≡ min (max 64 (unwrap_or tcp.mss 536)) (s.mtu - 40) = ap (λ (o : Option Segment). min (max 64 (unwrap_or (elim o [ None ↦ None | Some syn ↦ syn.mss ]) 536)) (s.mtu - 40)) known_now in
+        let told : mss s after ≡ min (max 64 (unwrap_or tcp.mss 536)) (s.mtu - 40) = ap
+        (λ (o : Option Segment). min (max 64 (unwrap_or (elim o [ None ↦ None | Some syn ↦ syn.mss ]) 536)) (s.mtu - 40)) known_now in
         let ours : c.transmission.mss ≡ s.mtu - 40 = h.opened.calling calls in
         omega (arith, told, ours)
 

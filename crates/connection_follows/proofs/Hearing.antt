@@ -88,7 +88,8 @@ windowed_stays t seq w = by (is_newer t.window seq.0 t.acked)
     by : (b : Bool) → Stays t (if b then record t { window = Some (record { edge = t.acked + w; seq = seq; ack = t.acked }) } else t)
         × ((if b then record t { window = Some (record { edge = t.acked + w; seq = seq; ack = t.acked }) } else t).acked ≡ t.acked)
         × ((if b then record t { window = Some (record { edge = t.acked + w; seq = seq; ack = t.acked }) } else t).resend ≡ t.resend)
-        × ((if b then record t { window = Some (record { edge = t.acked + w; seq = seq; ack = t.acked }) } else t).window ≡ (if b then Some (record { edge = t.acked + w; seq = seq; ack = t.acked }) else t.window))
+        × ((if b then record t { window = Some (record { edge = t.acked + w; seq = seq; ack = t.acked }) } else t).window ≡
+        (if b then Some (record { edge = t.acked + w; seq = seq; ack = t.acked }) else t.window))
     by true = (record { first = refl; mss = refl; sent = refl; end = refl }, refl, refl, refl)
     by false = (record { first = refl; mss = refl; sent = refl; end = refl }, refl, refl, refl)
 
@@ -97,7 +98,8 @@ pub congested_stays : (t : Transmission) (w : ℕ) (bare : Bool) (seen : AckSeen
     × ((congested t w bare seen).timed ≡ t.timed)
 congested_stays t w bare seen = (record { first = refl; mss = refl; sent = refl; end = refl }, refl, refl, refl, refl)
 
-acknowledged_stays : (t : Transmission) (seen : AckSeen) (now : ℕ) → Stays t (acknowledged t seen now) × ((acknowledged t seen now).acked ≡ acked_by t seen) × ((acknowledged t seen now).window ≡ t.window)
+acknowledged_stays : (t : Transmission) (seen : AckSeen) (now : ℕ) → Stays t (acknowledged t seen now) × ((acknowledged t seen now).acked ≡ acked_by t seen) ×
+    ((acknowledged t seen now).window ≡ t.window)
 acknowledged_stays t Old now = (record { first = refl; mss = refl; sent = refl; end = refl }, refl, refl)
 acknowledged_stays t Same now = (record { first = refl; mss = refl; sent = refl; end = refl }, refl, refl)
 acknowledged_stays t (Forward n) now = (record { first = refl; mss = refl; sent = refl; end = refl }, refl, refl)
@@ -134,16 +136,19 @@ module _ (t : Transmission) (seq : Seq) (w : ℕ) (bare : Bool) (now : ℕ) (see
   pub heard_resend : (heard_by t seq w bare now seen).resend ≡ (acknowledged (congested t w bare seen) seen now).resend
   heard_resend = (opened_stays (windowed (acknowledged (congested t w bare seen) seen now) seq w)).3 ∙ (windowed_stays (acknowledged (congested t w bare seen) seen now) seq w).2
 
-  pub heard_window : (heard_by t seq w bare now seen).window ≡ (if is_newer t.window seq.0 (acked_by t seen) then Some (record { edge = acked_by t seen + w; seq = seq; ack = acked_by t seen }) else t.window)
+  pub heard_window : (heard_by t seq w bare now seen).window ≡ (if is_newer t.window seq.0 (acked_by t seen) then Some
+      (record { edge = acked_by t seen + w; seq = seq; ack = acked_by t seen }) else t.window)
   heard_window =
       (opened_stays (windowed (acknowledged (congested t w bare seen) seen now) seq w)).2 ∙ (windowed_stays (acknowledged (congested t w bare seen) seen now) seq w).3
-      ∙ ap (λ (a : ℕ). if is_newer (acknowledged (congested t w bare seen) seen now).window seq.0 a then Some (record { edge = a + w; seq = seq; ack = a }) else (acknowledged (congested t w bare seen) seen now).window) acked_two
+      ∙ ap (λ (a : ℕ). if is_newer (acknowledged (congested t w bare seen) seen now).window seq.0 a then Some (record { edge = a + w; seq = seq; ack = a }) else
+      (acknowledged (congested t w bare seen) seen now).window) acked_two
       ∙ ap (λ (o : Option Window). if is_newer o seq.0 (acked_by t seen) then Some (record { edge = acked_by t seen + w; seq = seq; ack = acked_by t seen }) else o)
       ((acknowledged_stays (congested t w bare seen) seen now).2 ∙ (congested_stays t w bare seen).2)
 
 -- no congestion window comes from none
 pub heard_alone : (t : Transmission) (seq : Seq) (w : ℕ) (bare : Bool) (now : ℕ) (seen : AckSeen) → t.cwnd ≡ None → (heard_by t seq w bare now seen).cwnd ≡ None
-heard_alone t seq w bare now seen none = opened_cwnd (windowed (acknowledged (congested t w bare seen) seen now) seq w) ∙ windowed_cwnd (acknowledged (congested t w bare seen) seen now) ∙ acknowledged_cwnd (congested t w bare seen) seen ∙ first
+heard_alone t seq w bare now seen none = opened_cwnd (windowed (acknowledged (congested t w bare seen) seen now) seq w) ∙ windowed_cwnd
+    (acknowledged (congested t w bare seen) seen now) ∙ acknowledged_cwnd (congested t w bare seen) seen ∙ first
   where
     opened_cwnd : (t : Transmission) → (opened t).cwnd ≡ t.cwnd
     opened_cwnd t = by (t.probing && nat_lt t.acked (edge_of t.window))

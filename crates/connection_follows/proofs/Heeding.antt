@@ -1,5 +1,6 @@
 -- A segment is heeded: its acknowledgement, its window, its octets and its FIN.
-use Rattle.std.proofs.Common.{refl, ◌≡◌, ℕ, ◌+◌, ◌*◌, ◌^◌, ◌<◌, ◌≤◌, List, ◌∷◌, length, Bool, true, false, not, ◌&&◌, ◌||◌, Option, None, Some, is_some, if◌then◌else◌, min, nat_eq, nat_le, nat_lt, int_le, ◌%◌, pos, arith, ap, subst, sym, ◌∙◌, inl, inr, ◌⊎◌, unwrap_or, length-drop}
+use Rattle.std.proofs.Common.{refl, ◌≡◌, ℕ, ◌+◌, ◌*◌, ◌^◌, ◌<◌, ◌≤◌, List, ◌∷◌, length, Bool, true, false, not, ◌&&◌, ◌||◌, Option, None, Some, is_some, if◌then◌else◌, min, nat_eq, nat_le}
+use Rattle.std.proofs.Common.{nat_lt, int_le, ◌%◌, pos, arith, ap, subst, sym, ◌∙◌, inl, inr, ◌⊎◌, unwrap_or, length-drop}
 use Rattle.std.proofs.lemmas.Bool.Decides.{nat_tests}
 use Rattle.std.proofs.lemmas.Int.{ints}
 use Rattle.cwnd.specs.Congestion.{at_first, initial_window}
@@ -83,7 +84,8 @@ congested_feeds c down f = by c.congestion
     }
     by false = f
 
-pub congested_same : (c : Connection) → ((congested c).first ≡ c.transmission.first) × ((congested c).mss ≡ c.transmission.mss) × ((congested c).sent ≡ c.transmission.sent) × ((congested c).acked ≡ c.transmission.acked)
+pub congested_same : (c : Connection) → ((congested c).first ≡ c.transmission.first) × ((congested c).mss ≡ c.transmission.mss) × ((congested c).sent ≡ c.transmission.sent) ×
+    ((congested c).acked ≡ c.transmission.acked)
     × ((congested c).window ≡ c.transmission.window) × ((down : Downward) → outward_of (congested c) down ≡ outward_of c.transmission down) × ((congested c).end ≡ c.transmission.end)
 congested_same c = by c.congestion
   where
@@ -92,7 +94,8 @@ congested_same c = by c.congestion
         × ((if b then record c.transmission { cwnd = Some (at_first c.transmission.mss (has_gone_again c.sendings)) } else c.transmission).sent ≡ c.transmission.sent)
         × ((if b then record c.transmission { cwnd = Some (at_first c.transmission.mss (has_gone_again c.sendings)) } else c.transmission).acked ≡ c.transmission.acked)
         × ((if b then record c.transmission { cwnd = Some (at_first c.transmission.mss (has_gone_again c.sendings)) } else c.transmission).window ≡ c.transmission.window)
-        × ((down : Downward) → outward_of (if b then record c.transmission { cwnd = Some (at_first c.transmission.mss (has_gone_again c.sendings)) } else c.transmission) down ≡ outward_of c.transmission down)
+        × ((down : Downward) → outward_of (if b then record c.transmission { cwnd = Some (at_first c.transmission.mss (has_gone_again c.sendings)) } else c.transmission) down ≡
+        outward_of c.transmission down)
         × ((if b then record c.transmission { cwnd = Some (at_first c.transmission.mss (has_gone_again c.sendings)) } else c.transmission).end ≡ c.transmission.end)
     by true = (refl, refl, refl, refl, refl, (λ down. refl), refl)
     by false = (refl, refl, refl, refl, refl, (λ down. refl), refl)
@@ -232,7 +235,8 @@ module _ (s : Settings) (c : Connection) (up : Upward) (down : Downward) (past :
 
     ran : Resends past now (timer_of t.resend) (count_of (nat_lt t.acked t.sent) t.resend) t.resend.estimate.wait
     ran = subst (λ (b : Bool). Resends past now (timer_of t.resend) (count_of b t.resend) t.resend.estimate.wait) (under_way_is s c down past h.opened h.gives.keeps opening)
-        (subst (λ (b : Bool). Resends past now (timer_of (if b then c.syn else t.resend)) (count_of (is_under_way past) (if b then c.syn else t.resend)) (if b then c.syn else t.resend).estimate.wait) opening h.gives.resends)
+        (subst (λ (b : Bool). Resends past now (timer_of (if b then c.syn else t.resend)) (count_of (is_under_way past) (if b then c.syn else t.resend))
+        (if b then c.syn else t.resend).estimate.wait) opening h.gives.resends)
 
     heard_gives : (owed : Bool) → Gives s (with_all u owed (c.fin_acked || is_fin_too seen)) later_down after m
     heard_gives owed =
@@ -243,8 +247,10 @@ module _ (s : Settings) (c : Connection) (up : Upward) (down : Downward) (past :
           fin_out = g.fin_out ∙ ap (λ e. is_sent e) (sym (heard_stays t seq w (is_bare tcp) m seen).end);
           window = heard_told s past now m seg t down seq w (is_bare tcp) seen h.buffers.feeds g.keeps it seen_is ok g.window refl (window_same s c past tcp h.suits h.opened syn);
           alone = λ is. heard_alone t seq w (is_bare tcp) m seen (g.alone is);
-          resends = subst (λ (b : Bool). Resends after m (timer_of (if b then c.syn else u.resend)) (count_of (is_under_way after) (if b then c.syn else u.resend)) (if b then c.syn else u.resend).estimate.wait) (sym opening)
-              (heard_runs s past now m seg t down seq w (is_bare tcp) seen h.buffers.feeds g.keeps it seen_is ok on late ans h.goes.lawful (rises past h.goes.story) (omega (arith, h.goes.moment, on)) ran);
+          resends = subst (λ (b : Bool). Resends after m (timer_of (if b then c.syn else u.resend)) (count_of (is_under_way after) (if b then c.syn else u.resend))
+              (if b then c.syn else u.resend).estimate.wait) (sym opening)
+              (heard_runs s past now m seg t down seq w (is_bare tcp) seen h.buffers.feeds g.keeps it seen_is ok on late ans h.goes.lawful (rises past h.goes.story)
+              (omega (arith, h.goes.moment, on)) ran);
           counts = heard_counts s past now m seg t down seq w (is_bare tcp) seen h.buffers.feeds g.keeps it seen_is ok on late (rises past h.goes.story) (omega (arith, h.goes.moment, on)) g.counts;
           steady = g.steady;
           unset = g.unset;
@@ -263,8 +269,10 @@ module _ (s : Settings) (c : Connection) (up : Upward) (down : Downward) (past :
     gives_now : (owed : Bool) → Gives s (with_all watched_u owed (c.fin_acked || is_fin_too seen)) later_down after m
     gives_now owed =
         let g = heard_gives owed in
-        gives_watched s (with_all u owed (c.fin_acked || is_fin_too seen)) later_down after m (nat_lt u.sent (places u later_down)) (heard_steady t seq w (is_bare tcp) m seen late h.buffers.feeds.sound.steady) (omega (arith, h.goes.moment, on), rises past h.goes.story)
-        (λ is. under_way_is s (with_all u owed (c.fin_acked || is_fin_too seen)) later_down after (opened_all u owed (c.fin_acked || is_fin_too seen) (heard_stays t seq w (is_bare tcp) m seen).mss u_answered) g.keeps is) g
+        gives_watched s (with_all u owed (c.fin_acked || is_fin_too seen)) later_down after m (nat_lt u.sent (places u later_down))
+        (heard_steady t seq w (is_bare tcp) m seen late h.buffers.feeds.sound.steady) (omega (arith, h.goes.moment, on), rises past h.goes.story)
+        (λ is. under_way_is s (with_all u owed (c.fin_acked || is_fin_too seen)) later_down after (opened_all u owed (c.fin_acked || is_fin_too seen)
+        (heard_stays t seq w (is_bare tcp) m seen).mss u_answered) g.keeps is) g
 
     ack_is : after_ack t later_down seq w (is_bare tcp) m seen ≡ watched_u
     ack_is = ap (λ (b : Bool). if b then watched_over (heard_by t seq w (is_bare tcp) m seen) later_down m else t) ok
@@ -284,14 +292,17 @@ module _ (s : Settings) (c : Connection) (up : Upward) (down : Downward) (past :
         by (inr is) = (old_is t down (host past) tcp.ack h.gives.keeps h.buffers.feeds.sound.order (subst (λ (q : AckSeen). IsSeenAs t down (place_acked t tcp.ack) q) is seen_is)).1
 
     heeded : is_heeded past seg ≡ true
-    heeded = all_heeded (is_closed past) (is_some (their_number past)) (syn_is_out past) seg.ack seg.syn seg.rst (not_past_sent (host past) tcp.ack) (answered (host past) || nat_eq tcp.ack (number_after (our_number past)))
+    heeded = all_heeded (is_closed past) (is_some (their_number past)) (syn_is_out past) seg.ack seg.syn seg.rst (not_past_sent (host past) tcp.ack)
+        (answered (host past) || nat_eq tcp.ack (number_after (our_number past)))
         h.goes.open_yet is_known out_now ack syn rst not_past_now (ap (λ (b : Bool). b || nat_eq tcp.ack (number_after (our_number past))) ans)
 
     taken : (tr : Transmission) (owed fa : Bool) → (owed ≡ false → (c.ack_owed || is_to_acknowledge c.received tcp.seq tcp.body (is_fin tcp)) ≡ false) → Receives s (with_all tr owed fa) later after
-    taken tr owed fa only = taken_receives s c up past m tcp fits few h.goes.open_yet theirs_now (all_plain seg.syn seg.rst seg.ack seg.fin (is_empty seg.octets) syn rst ack) heeded (both_not seg.syn seg.rst syn rst)
+    taken tr owed fa only = taken_receives s c up past m tcp fits few h.goes.open_yet theirs_now
+        (all_plain seg.syn seg.rst seg.ack seg.fin (is_empty seg.octets) syn rst ack) heeded (both_not seg.syn seg.rst syn rst)
         (h.receives known) comes within h.buffers.fills fills_now c.stage tr c.syn c.syn_owed owed fa only
 
-    holds_with : (tr : Transmission) (d : Downward) (owed fa : Bool) → tr.mss ≡ t.mss → answered (host after) ≡ true → length d.octets ≤ s.ring → (owed ≡ false → (c.ack_owed || is_to_acknowledge c.received tcp.seq tcp.body (is_fin tcp)) ≡ false)
+    holds_with : (tr : Transmission) (d : Downward) (owed fa : Bool) → tr.mss ≡ t.mss → answered (host after) ≡ true → length d.octets ≤ s.ring →
+        (owed ≡ false → (c.ack_owed || is_to_acknowledge c.received tcp.seq tcp.body (is_fin tcp)) ≡ false)
         → Gives s (with_all tr owed fa) d after m → HasBuffers (with_all tr owed fa) later d → Holds s (with_all tr owed fa) later d after m
     holds_with tr d owed fa most answered_is size only g buffers = record {
       suits = record { ring = h.suits.ring; congestion = h.suits.congestion; scales = h.suits.scales; few = h.suits.few };
@@ -322,7 +333,8 @@ module _ (s : Settings) (c : Connection) (up : Upward) (down : Downward) (past :
         let d_is : later_down ≡ down = ap (λ (q : AckSeen). without (octets_acked q) down) is ∙ ap (λ (k : ℕ). record down { first = k }) (omega arith) in
         let fa_is : (c.fin_acked || is_fin_too seen) ≡ c.fin_acked = ap (λ (q : AckSeen). c.fin_acked || is_fin_too q) is ∙ or_off c.fin_acked in
         subst (λ (d : Downward). Gives s (with_all t owed_now (c.fin_acked || is_fin_too seen)) d after m) (sym d_is)
-        (gives_as s (record c { syn_owed = c.syn_owed; ack_owed = owed_now }) (with_all t owed_now (c.fin_acked || is_fin_too seen)) down after m refl refl refl refl fa_is (λ owes gone yet. by_arrival past m m seg) (λ so. so) g)
+        (gives_as s (record c { syn_owed = c.syn_owed; ack_owed = owed_now }) (with_all t owed_now (c.fin_acked || is_fin_too seen)) down after m refl refl refl refl fa_is
+        (λ owes gone yet. by_arrival past m m seg) (λ so. so) g)
       where
         and_none : (a b : Bool) → b ≡ false → (a && b) ≡ false
         and_none true b so = so
@@ -340,10 +352,12 @@ module _ (s : Settings) (c : Connection) (up : Upward) (down : Downward) (past :
         by : (is_accepted_ack seen ≡ true) ⊎ (seen ≡ Old) → Holds s (with_all (after_ack t later_down seq w (is_bare tcp) m seen) owed_now (c.fin_acked || is_fin_too seen)) later later_down after m
         by (inl ok) =
             subst (λ (tr : Transmission). Holds s (with_all tr owed_now (c.fin_acked || is_fin_too seen)) later later_down after m) (sym (ack_is ok))
-            (holds_with (watched_u ok) later_down owed_now (c.fin_acked || is_fin_too seen) (watched_mss (u ok) later_down (nat_lt (u ok).sent (places (u ok) later_down)) m ∙ (heard_stays t seq w (is_bare tcp) m seen).mss) (u_answered ok) drop_less only_now
+            (holds_with (watched_u ok) later_down owed_now (c.fin_acked || is_fin_too seen) (watched_mss (u ok) later_down (nat_lt (u ok).sent (places (u ok) later_down)) m ∙
+            (heard_stays t seq w (is_bare tcp) m seen).mss) (u_answered ok) drop_less only_now
             (gives_now ok owed_now) (subst (λ (tr : Transmission). HasBuffers (with_all tr owed_now (c.fin_acked || is_fin_too seen)) later later_down) (ack_is ok) buffers))
         by (inr is) =
-            let old : after_ack t later_down seq w (is_bare tcp) m seen ≡ t = ap (λ (q : AckSeen). if is_accepted_ack q then watched_over (heard_by t seq w (is_bare tcp) m q) later_down m else t) is in
+            let old : after_ack t later_down seq w (is_bare tcp) m seen ≡ t = ap (λ (q : AckSeen). if is_accepted_ack q then watched_over
+            (heard_by t seq w (is_bare tcp) m q) later_down m else t) is in
             let two = old_is t down (host past) tcp.ack h.gives.keeps h.buffers.feeds.sound.order (subst (λ (q : AckSeen). IsSeenAs t down (place_acked t tcp.ack) q) is seen_is) in
             let answered_is : answered (host after) ≡ true = ap (λ (g : List Down). answered g) (host_confirmed m past seg it) ∙ ap (λ (b : Bool). b || answered (host past)) two.0 ∙ ans in
             subst (λ (tr : Transmission). Holds s (with_all tr owed_now (c.fin_acked || is_fin_too seen)) later later_down after m) (sym old)
@@ -356,7 +370,8 @@ module _ (s : Settings) (c : Connection) (up : Upward) (down : Downward) (past :
   heeds_none far buffers =
       subst (λ (x : Connection). Holds s x up later_down after m) (sym same_c)
       (subst (λ (d : Downward). Holds s (record c { syn_owed = c.syn_owed; ack_owed = true }) up d after m) (sym same_d)
-      (stays s c up down past now m seg on h none known unheeded (λ is number. let not_it = sym is ∙ rst in absurd cc) c.syn_owed true (λ is. is) (λ is. absurd cc) (λ is. let not_it = sym (synchronized_connects c.stage synchronized) ∙ is in absurd cc) (λ none. absurd cc)
+      (stays s c up down past now m seg on h none known unheeded (λ is number. let not_it = sym is ∙ rst in absurd cc) c.syn_owed true (λ is. is) (λ is. absurd cc)
+      (λ is. let not_it = sym (synchronized_connects c.stage synchronized) ∙ is in absurd cc) (λ none. absurd cc)
       (subst (λ (d : Downward). HasBuffers (record c { syn_owed = c.syn_owed; ack_owed = true }) up d) same_d (subst (λ (x : Connection). HasBuffers x up later_down) same_c buffers))))
     where
       is_far : seen ≡ TooFar
@@ -382,7 +397,11 @@ module _ (s : Settings) (c : Connection) (up : Upward) (down : Downward) (past :
 
       same_c : acknowledged c down tcp w (is_bare tcp) m ≡ record c { syn_owed = c.syn_owed; ack_owed = true }
       same_c =
-          ap (λ (q : AckSeen). record c { transmission = after_ack t (without (octets_acked q) down) seq w (is_bare tcp) m q; fin_acked = c.fin_acked || is_fin_too q; ack_owed = c.ack_owed || is_too_far q }) is_far
+          ap (λ (q : AckSeen). record c {
+            transmission = after_ack t (without (octets_acked q) down) seq w (is_bare tcp) m q;
+            fin_acked = c.fin_acked || is_fin_too q;
+            ack_owed = c.ack_owed || is_too_far q;
+          }) is_far
           ∙ ap (λ (b : Bool). record c { transmission = t; fin_acked = b; ack_owed = c.ack_owed || true }) (or_off c.fin_acked)
           ∙ ap (λ (b : Bool). record c { ack_owed = b }) (or_on c.ack_owed)
 
@@ -394,7 +413,8 @@ module _ (s : Settings) (c : Connection) (up : Upward) (down : Downward) (past :
       and_last false b is = refl
 
       none : (confirms past seg && is_acceptable (host past) tcp.ack) ≡ false
-      none = and_last (confirms past seg) (is_acceptable (host past) tcp.ack) (and_last (int_le (pos (acked (host past))) (our_place (host past) tcp.ack)) (not_past_sent (host past) tcp.ack) past_sent)
+      none = and_last (confirms past seg) (is_acceptable (host past) tcp.ack) (and_last (int_le (pos (acked (host past))) (our_place (host past) tcp.ack))
+          (not_past_sent (host past) tcp.ack) past_sent)
 
       no_heed : (a b d e f g i j : Bool) → i ≡ false → (a && b && d && e && f && g && i && j) ≡ false
       no_heed a b d e f g i j is = and_first (a && b && d && e && f && g && i) j (and_last (a && b && d && e && f && g) i is)
@@ -403,7 +423,8 @@ module _ (s : Settings) (c : Connection) (up : Upward) (down : Downward) (past :
           and_first a b is = rw is refl
 
       unheeded : is_heeded past seg ≡ false
-      unheeded = no_heed (not (is_closed past)) (is_some (their_number past)) (syn_is_out past) seg.ack (not seg.syn) (not seg.rst) (not_past_sent (host past) tcp.ack) (answered (host past) || nat_eq tcp.ack (number_after (our_number past))) past_sent
+      unheeded = no_heed (not (is_closed past)) (is_some (their_number past)) (syn_is_out past) seg.ack (not seg.syn) (not seg.rst) (not_past_sent (host past) tcp.ack)
+          (answered (host past) || nat_eq tcp.ack (number_after (our_number past))) past_sent
 
 -- ---- our SYN is acknowledged
 
@@ -497,7 +518,15 @@ module _ (s : Settings) (c : Connection) (up : Upward) (down : Downward) (past :
 
   -- the connection that is opened, with all that is taken
   abbrev opened_with : Transmission → (owed fa : Bool) → Connection
-  opened_with tr owed fa = record c { stage = stage.Synchronized; received = received_after c.received tcp.seq tcp.body (is_fin tcp) up; transmission = tr; syn = after_stop c.syn; syn_owed = false; ack_owed = owed; fin_acked = fa }
+  opened_with tr owed fa = record c {
+    stage = stage.Synchronized;
+    received = received_after c.received tcp.seq tcp.body (is_fin tcp) up;
+    transmission = tr;
+    syn = after_stop c.syn;
+    syn_owed = false;
+    ack_owed = owed;
+    fin_acked = fa;
+  }
 
   same_syn0 : their_syn next ≡ their_syn past
   same_syn0 = syn_stays (their_syn past) (if greets past segment then Some segment else None) known0
@@ -530,9 +559,11 @@ module _ (s : Settings) (c : Connection) (up : Upward) (down : Downward) (past :
       let g = h.gives in
       record {
         keeps = heard_keeps s past now m segment t0 down seq0 w0 (is_bare tcp) seen0 feeds0 keeps0 it0 seen_is0 ok0;
-        fin_acked = heard_fin s past now m segment t0 down seq0 w0 (is_bare tcp) seen0 feeds0 keeps0 it0 seen_is0 ok0 c.fin_acked (g.fin_acked ∙ ap (λ (x : ℕ). nat_eq x (octets_read down + 1)) (sym (congested_same c).3));
+        fin_acked = heard_fin s past now m segment t0 down seq0 w0 (is_bare tcp) seen0 feeds0 keeps0 it0 seen_is0 ok0 c.fin_acked
+            (g.fin_acked ∙ ap (λ (x : ℕ). nat_eq x (octets_read down + 1)) (sym (congested_same c).3));
         fin_out = g.fin_out ∙ ap (λ e. is_sent e) (sym ((heard_stays t0 seq0 w0 (is_bare tcp) m seen0).end ∙ (congested_same c).6));
-        window = heard_told s past now m segment t0 down seq0 w0 (is_bare tcp) seen0 feeds0 keeps0 it0 seen_is0 ok0 (g.window ∙ ap (λ o. window_by o) (sym (congested_same c).4)) refl (window_same s c past tcp h.suits h.opened syn);
+        window = heard_told s past now m segment t0 down seq0 w0 (is_bare tcp) seen0 feeds0 keeps0 it0 seen_is0 ok0
+            (g.window ∙ ap (λ o. window_by o) (sym (congested_same c).4)) refl (window_same s c past tcp h.suits h.opened syn);
         alone = λ is. heard_alone t0 seq0 w0 (is_bare tcp) m seen0 (congested_alone c (h.suits.congestion ∙ is) (g.alone is));
         resends = syn_heard_runs s past now m segment t0 down seq0 w0 (is_bare tcp) seen0 feeds0 keeps0 it0 seen_is0 ok0 on late sent0;
         counts = heard_counts s past now m segment t0 down seq0 w0 (is_bare tcp) seen0 feeds0 keeps0 it0 seen_is0 ok0 on late (rises past h.goes.story) (omega (arith, h.goes.moment, on))
@@ -560,12 +591,15 @@ module _ (s : Settings) (c : Connection) (up : Upward) (down : Downward) (past :
   watched_gives : Gives s (opened_with watched0 owed0 fa0) down0 next m
   watched_gives =
       let g = gives0 owed0 in
-      gives_watched s (opened_with u0 owed0 fa0) down0 next m (nat_lt u0.sent (places u0 down0)) (heard_steady t0 seq0 w0 (is_bare tcp) m seen0 late feeds0.sound.steady) (omega (arith, h.goes.moment, on), rises past h.goes.story)
+      gives_watched s (opened_with u0 owed0 fa0) down0 next m (nat_lt u0.sent (places u0 down0)) (heard_steady t0 seq0 w0 (is_bare tcp) m seen0 late feeds0.sound.steady)
+      (omega (arith, h.goes.moment, on), rises past h.goes.story)
       (λ is. under_way_is s (opened_with u0 owed0 fa0) down0 next (opened0 u0 owed0 fa0 mss0) g.keeps is) g
 
   heeded0 : is_heeded past segment ≡ true
-  heeded0 = all_heeded (is_closed past) (is_some (their_number past)) (syn_is_out past) segment.ack segment.syn segment.rst (not_past_sent (host past) tcp.ack) (answered (host past) || nat_eq tcp.ack (number_after (our_number past)))
-      h.goes.open_yet known0 out0 ack syn rst (not_past s past now m segment t0 down seq0 w0 (is_bare tcp) seen0 feeds0 keeps0 it0 seen_is0 ok0) (or_last (answered (host past)) (nat_eq tcp.ack (number_after (our_number past))) same_number)
+  heeded0 = all_heeded (is_closed past) (is_some (their_number past)) (syn_is_out past) segment.ack segment.syn segment.rst (not_past_sent (host past) tcp.ack)
+      (answered (host past) || nat_eq tcp.ack (number_after (our_number past)))
+      h.goes.open_yet known0 out0 ack syn rst (not_past s past now m segment t0 down seq0 w0 (is_bare tcp) seen0 feeds0 keeps0 it0 seen_is0 ok0)
+      (or_last (answered (host past)) (nat_eq tcp.ack (number_after (our_number past))) same_number)
     where
       or_last : (a b : Bool) → b ≡ true → (a || b) ≡ true
       or_last true b is = refl
@@ -575,7 +609,8 @@ module _ (s : Settings) (c : Connection) (up : Upward) (down : Downward) (past :
       equal a b is = grind (arith, nat_tests)
 
       same_number : nat_eq tcp.ack (number_after (our_number past)) ≡ true
-      same_number = equal tcp.ack (number_after (our_number past)) (number ∙ ap (λ (n : ℕ). n % 2 ^ 32) (let more : c.ours + 1 + 0 ≡ c.ours + 1 = omega arith in more) ∙ ap (λ (f : ℕ). number_after f) (sym h.opened.ours))
+      same_number = equal tcp.ack (number_after (our_number past)) (number ∙ ap (λ (n : ℕ). n % 2 ^ 32) (let more : c.ours + 1 + 0 ≡ c.ours + 1 = omega arith in more) ∙ ap
+          (λ (f : ℕ). number_after f) (sym h.opened.ours))
 
   pub opens_now : HasBuffers (arrived (acknowledged (established c) down tcp w0 (is_bare tcp) m) up tcp) (up_after c.received tcp.seq tcp.body up) down0
       → Holds s (arrived (acknowledged (established c) down tcp w0 (is_bare tcp) m) up tcp) (up_after c.received tcp.seq tcp.body up) down0 next m
@@ -588,8 +623,10 @@ module _ (s : Settings) (c : Connection) (up : Upward) (down : Downward) (past :
         goes = comes_on s past now m (Arrives segment) h.goes on (λ none. none) refl h.goes.open_yet refl (nothing_to_close next (ap (λ (b : Bool). if b then Some segment else None) rst));
         opened = opened0 watched0 owed0 fa0 (watched_mss u0 down0 (nat_lt u0.sent (places u0 down0)) m ∙ mss0);
         awaits = λ is. absurd cc;
-        receives = λ is. taken_receives s c up past m tcp fits few h.goes.open_yet theirs0 (all_plain segment.syn segment.rst segment.ack segment.fin (is_empty segment.octets) syn rst ack) heeded0 (both_not segment.syn segment.rst syn rst)
-            (h.receives known) comes within h.buffers.fills fills_now stage.Synchronized watched0 (after_stop c.syn) false owed0 fa0 (owed_parts c.ack_owed (is_too_far seen0) (is_to_acknowledge c.received tcp.seq tcp.body (is_fin tcp)));
+        receives = λ is. taken_receives s c up past m tcp fits few h.goes.open_yet theirs0 (all_plain segment.syn segment.rst segment.ack segment.fin
+            (is_empty segment.octets) syn rst ack) heeded0 (both_not segment.syn segment.rst syn rst)
+            (h.receives known) comes within h.buffers.fills fills_now stage.Synchronized watched0 (after_stop c.syn) false owed0 fa0
+            (owed_parts c.ack_owed (is_too_far seen0) (is_to_acknowledge c.received tcp.seq tcp.body (is_fin tcp)));
         gives = watched_gives;
       })
     where

@@ -1,5 +1,6 @@
 -- A segment without SYN goes out: what is common to an acknowledgement alone and a piece of the host's stream.
-use Rattle.std.proofs.Common.{refl, ◌≡◌, ℕ, ◌+◌, ◌-◌, ◌^◌, ◌<◌, ◌≤◌, List, [], ◌∷◌, length, Bool, true, false, not, ◌&&◌, ◌||◌, None, Some, if◌then◌else◌, IsTrue, MatchBool, max, min, pos, arith, ap, subst, sym, ◌∙◌, take, drop, length-drop}
+use Rattle.std.proofs.Common.{refl, ◌≡◌, ℕ, ◌+◌, ◌-◌, ◌^◌, ◌<◌, ◌≤◌, List, [], ◌∷◌, length, Bool, true, false, not, ◌&&◌, ◌||◌, None, Some, if◌then◌else◌, IsTrue, MatchBool, max, min, pos}
+use Rattle.std.proofs.Common.{arith, ap, subst, sym, ◌∙◌, take, drop, length-drop}
 use Rattle.seq_space.specs.Places.{number_of}
 use Rattle.sock_buffers.specs.Downward.{Downward}
 use Rattle.sock_buffers.specs.Upward.{Upward, room_of}
@@ -94,7 +95,8 @@ module _ (s : Settings) (c : Connection) (up : Upward) (down : Downward) (past :
   pub leaves_received : Receives s (told c up (our_shift c)) up (At m (Departs seg) ∷ past)
   leaves_received = tells s c up past now m seg h.suits h.goes h.opened known h.gives.fin_out (h.receives known) ack rst number (our_shift c) shift_same window (λ is. refl)
 
-  step : (our_place (host past) (number_of c.transmission.first place) ≡ pos place) × (place ≤ sent (host past)) × StandAt (got (host past)) place (take (length seg.octets) (drop (place - down.first) down.octets))
+  step : (our_place (host past) (number_of c.transmission.first place) ≡ pos place) × (place ≤ sent (host past)) × StandAt (got (host past)) place
+      (take (length seg.octets) (drop (place - down.first) down.octets))
   step = sends (outward_of c.transmission down) (host past) place (length seg.octets) seg.fin low joins near h.gives.keeps
 
   pub stands : our_place (host past) seg.number ≡ pos place
@@ -103,8 +105,10 @@ module _ (s : Settings) (c : Connection) (up : Upward) (down : Downward) (past :
   -- the host's stream after it
   pub leaves_kept : Keeps (record (outward_of c.transmission down) { sent = max c.transmission.sent (place + (length seg.octets + (if seg.fin then 1 else 0))) }) (host (At m (Departs seg) ∷ past))
   leaves_kept =
-      subst (λ (g : List Down). Keeps (record (outward_of c.transmission down) { sent = max c.transmission.sent (place + (length seg.octets + (if seg.fin then 1 else 0))) }) g) (sym (host_sent m past seg syn rst))
-      (subst (λ (n : ℕ). Keeps (record (outward_of c.transmission down) { sent = max c.transmission.sent (place + (length seg.octets + (if seg.fin then 1 else 0))) }) (Sent n seg.octets seg.fin ∷ host past)) (sym at)
+      subst (λ (g : List Down). Keeps (record (outward_of c.transmission down) { sent = max c.transmission.sent (place + (length seg.octets + (if seg.fin then 1 else 0))) }) g)
+      (sym (host_sent m past seg syn rst))
+      (subst (λ (n : ℕ). Keeps (record (outward_of c.transmission down) { sent = max c.transmission.sent (place + (length seg.octets + (if seg.fin then 1 else 0))) })
+      (Sent n seg.octets seg.fin ∷ host past)) (sym at)
       (sent_piece (outward_of c.transmission down) (host past) place seg.octets seg.fin joins near h.gives.keeps))
 
   carries : SendsWhatTheHostSent past (Send seg)
@@ -130,7 +134,8 @@ module _ (s : Settings) (c : Connection) (up : Upward) (down : Downward) (past :
       (λ is. granted s c past h.opened h.goes.open_yet unconnecting)
       ((λ is. absurd (and_false (not seg.rst) (syn_is_out past) is (h.opened.out ∙ out))), (λ is. absurd (none_if seg.syn syn (and_left seg.syn (not seg.rst) is)))) header (
         no_mss ∙ sym (ap (λ (b : Bool). if b && not seg.rst then Some (s.mru - 40) else None) syn),
-        no_scale_said ∙ sym (ap (λ (b : Bool). if s.scales && b && not seg.rst && (not seg.ack || is_scaled s past) then Some (least_told s.ring) else None) syn ∙ no_scale s.scales (not seg.rst) (not seg.ack || is_scaled s past) (least_told s.ring)),
+        no_scale_said ∙ sym (ap (λ (b : Bool). if s.scales && b && not seg.rst && (not seg.ack || is_scaled s past) then Some (least_told s.ring) else None) syn ∙ no_scale s.scales
+            (not seg.rst) (not seg.ack || is_scaled s past) (least_told s.ring)),
       )
 
   pub leaves_goes : SendsWithinMss s past (Send seg) → SendsAgainWithReason past m (Send seg) → SendsEndAfterAll past (Send seg) → HasHeaderOf past seg → Goes s (At m (Departs seg) ∷ past) m

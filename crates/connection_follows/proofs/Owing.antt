@@ -36,7 +36,8 @@ module _ (s : Settings) (c : Connection) (up : Upward) (down : Downward) (past :
   may : May s past m (Send seg)
   may = may_send s past m seg (refl, refl) (omega arith) refl (λ is. absurd cc) (λ is. absurd cc) (λ is. h.came seq ack at) h.well
       (reset_may_go past m seg refl refl refl refl owed pays) (λ is. (refl, refl, refl, refl)) (λ is. absurd cc) ((λ is. absurd cc), (λ is. absurd cc))
-      (record { carries = λ is. absurd cc; acknowledges = ((λ is. refl), (λ is. absurd cc)); next = λ is. absurd cc; window = λ is. refl }) (refl, no_scale s.scales false (not true || is_scaled s past) (least_shift s.ring))
+      (record { carries = λ is. absurd cc; acknowledges = ((λ is. refl), (λ is. absurd cc)); next = λ is. absurd cc; window = λ is. refl })
+      (refl, no_scale s.scales false (not true || is_scaled s past) (least_shift s.ring))
 
   none_must : MustClose past → ⊥
   none_must must = let not_it = sym must.2 ∙ h.closed in absurd cc

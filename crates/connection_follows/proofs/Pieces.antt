@@ -1,5 +1,6 @@
 -- A piece of the host's stream goes out.
-use Rattle.std.proofs.Common.{refl, ◌≡◌, ℕ, ◌+◌, ◌-◌, ◌^◌, ◌<◌, ◌≤◌, List, [], ◌∷◌, length, Bool, true, false, not, ◌&&◌, ◌||◌, None, Some, if◌then◌else◌, IsTrue, nat_le, nat_lt, max, min, ℤ, pos, ◌+ℤ◌, int_le, arith, ap, subst, sym, ◌∙◌, drop, take, length-take, length-drop, is_some, inl, inr, ◌⊎◌}
+use Rattle.std.proofs.Common.{refl, ◌≡◌, ℕ, ◌+◌, ◌-◌, ◌^◌, ◌<◌, ◌≤◌, List, [], ◌∷◌, length, Bool, true, false, not, ◌&&◌, ◌||◌, None, Some, if◌then◌else◌, IsTrue, nat_le, nat_lt, max, min}
+use Rattle.std.proofs.Common.{ℤ, pos, ◌+ℤ◌, int_le, arith, ap, subst, sym, ◌∙◌, drop, take, length-take, length-drop, is_some, inl, inr, ◌⊎◌}
 use Rattle.std.proofs.lemmas.Bool.Decides.{nat_tests}
 use Rattle.std.proofs.lemmas.Int.{ints}
 use Rattle.retransmit.specs.Resending.{Resending, after_sent as resend_sent, counted, doublings, is_expired, is_off, set_unless_running}
@@ -292,12 +293,15 @@ module _ (s : Settings) (c : Connection) (up : Upward) (down : Downward) (past :
       subst (λ (b : Bool). Resends past now (timer_of t.resend) (count_of b t.resend) t.resend.estimate.wait) (past_way ∙ tested) ran
 
   counts : (r : Resending) (k : ℕ) → doublings r.timer r.resent ≡ k → Resends after m (timer_of r) k r.estimate.wait → Running r
-  counts r k is running = subst (λ (b : Bool). Resends after m (timer_of r) (count_of b r) r.estimate.wait) (sym after_way) (subst (λ (j : ℕ). Resends after m (timer_of r) j r.estimate.wait) (sym is) running)
+  counts r k is running = subst (λ (b : Bool). Resends after m (timer_of r) (count_of b r) r.estimate.wait) (sym after_way)
+      (subst (λ (j : ℕ). Resends after m (timer_of r) j r.estimate.wait) (sym is) running)
 
-  went_again : (tm : Timer) (k w : ℕ) → is_off tm ≡ false → t.acked < t.sent → p.place ≡ t.acked → Resends past now (timer_by tm w) (doublings tm k) w → Resends after m (Until (m + w)) (counted tm k) w
+  went_again : (tm : Timer) (k w : ℕ) → is_off tm ≡ false → t.acked < t.sent → p.place ≡ t.acked → Resends past now (timer_by tm w) (doublings tm k) w → Resends after m
+      (Until (m + w)) (counted tm k) w
   went_again timer.Off k w off under place r = absurd cc
   went_again (timer.Since base) k w off under place r =
-      oldest_goes_anyway past seg m refl refl p.place (numbers p) at_place whole answered_now (omega (arith, place, h.gives.keeps.acked)) (omega (arith, place, some, h.gives.keeps.acked)) now (base + w) k w
+      oldest_goes_anyway past seg m refl refl p.place (numbers p) at_place whole answered_now (omega (arith, place, h.gives.keeps.acked))
+      (omega (arith, place, some, h.gives.keeps.acked)) now (base + w) k w
       (omega (arith, under, h.gives.keeps.acked, h.gives.keeps.sent)) (rises past h.goes.story) (omega (arith, h.goes.moment, on)) r
   went_again (timer.Expired at) k w off under place r =
       oldest_goes past seg m refl refl p.place (numbers p) at_place whole answered_now (omega (arith, place, h.gives.keeps.acked)) (omega (arith, place, some, h.gives.keeps.acked)) now (k + 1) w
@@ -332,7 +336,8 @@ module _ (s : Settings) (c : Connection) (up : Upward) (down : Downward) (past :
       subst (λ (b : Bool). Running (resend_sent t.resend b m)) (sym (tested_new (omega (arith, place))))
       (counts (resend_sent t.resend false m) 0 (starts_even t.resend.timer t.resend.resent ∙ h.buffers.feeds.sound.begins at)
       (subst (λ (q : FlowTimer). Resends after m q 0 t.resend.estimate.wait) (sym (starts_now t.resend.timer t.resend.estimate.wait off))
-      (first_goes past seg m refl refl p.place (numbers p) at_place whole answered_now (omega (arith, place, at, h.gives.keeps.acked)) (omega (arith, place, at, some, h.gives.keeps.acked)) now (timer_of t.resend) (count_of (is_under_way past) t.resend) t.resend.estimate.wait
+      (first_goes past seg m refl refl p.place (numbers p) at_place whole answered_now (omega (arith, place, at, h.gives.keeps.acked))
+      (omega (arith, place, at, some, h.gives.keeps.acked)) now (timer_of t.resend) (count_of (is_under_way past) t.resend) t.resend.estimate.wait
       (omega (arith, at, h.gives.keeps.acked, h.gives.keeps.sent)) (rises past h.goes.story) (omega (arith, h.goes.moment, on)) ran)))
   runs_on (further under place none) =
       subst (λ (b : Bool). Running (resend_sent t.resend b m)) (sym (tested_new (omega (arith, place))))
@@ -381,8 +386,10 @@ module _ (s : Settings) (c : Connection) (up : Upward) (down : Downward) (past :
     suits = record { ring = h.suits.ring; congestion = h.suits.congestion; scales = h.suits.scales; few = h.suits.few };
     buffers = buffers;
     within = h.within;
-    goes = leaves_goes s c up down past now m seg on h known (h.opened.sent synchronized) refl refl refl refl refl refl refl p.place refl low joins (near kind) cut within (reason kind) end_after header;
-    opened = opened_sending s (told c up (our_shift c)) (after_sent t p m) after refl (opened_told s c up (our_shift c) after (opened_on s c past after (record { ours = refl; connecting = refl; out = refl; accepted = refl; theirs = refl; unasked = refl }) refl h.opened));
+    goes = leaves_goes s c up down past now m seg on h known (h.opened.sent synchronized) refl refl refl refl refl refl refl p.place refl low joins (near kind) cut within
+        (reason kind) end_after header;
+    opened = opened_sending s (told c up (our_shift c)) (after_sent t p m) after refl
+        (opened_told s c up (our_shift c) after (opened_on s c past after (record { ours = refl; connecting = refl; out = refl; accepted = refl; theirs = refl; unasked = refl }) refl h.opened));
     awaits = λ is. let not_it = sym is ∙ known in absurd cc;
     receives = λ is. receives_sending s (told c up (our_shift c)) (after_sent t p m) up after
         (leaves_received s c up down past now m seg on h known (h.opened.sent synchronized) refl refl refl refl refl refl refl p.place refl low joins (near kind) cut);

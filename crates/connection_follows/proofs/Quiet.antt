@@ -81,7 +81,8 @@ receives_on s c up past m e silent accepted same r = record {
 
 -- ---- the host's stream stays
 
-pub gives_on : (s : Settings) (c : Connection) (down : Downward) (past : Story) (now m : ℕ) (e : Event) → IsQuiet e → now ≤ m → syn_is_out (At m e ∷ past) ≡ syn_is_out past → SameHost s past (At m e ∷ past)
+pub gives_on : (s : Settings) (c : Connection) (down : Downward) (past : Story) (now m : ℕ) (e : Event) → IsQuiet e → now ≤ m → syn_is_out (At m e ∷ past) ≡ syn_is_out past →
+    SameHost s past (At m e ∷ past)
     → Gives s c down past now → Gives s c down (At m e ∷ past) m
 gives_on s c down past now m e silent on out same g = record {
   keeps = subst (λ (h : List Down). Keeps (outward_of c.transmission down) h) (sym same.host) g.keeps;
@@ -89,7 +90,8 @@ gives_on s c down past now m e silent on out same g = record {
   fin_out = same.fin_out ∙ g.fin_out;
   window = same.window ∙ g.window;
   alone = g.alone;
-  resends = subst (λ (b : Bool). Resends (At m e ∷ past) m (timer_of (resending_of c)) (count_of b (resending_of c)) (resending_of c).estimate.wait) (sym (same_under_way past (At m e ∷ past) same.host out))
+  resends = subst (λ (b : Bool). Resends (At m e ∷ past) m (timer_of (resending_of c)) (count_of b (resending_of c)) (resending_of c).estimate.wait)
+      (sym (same_under_way past (At m e ∷ past) same.host out))
       (quiet past m e now (timer_of (resending_of c)) (count_of (is_under_way past) (resending_of c)) (resending_of c).estimate.wait silent on g.resends);
   counts = let same = quiet_same past m e silent in counts_on past (At m e ∷ past) c.transmission.resend.timer same.0 same.1 g.counts;
   steady = g.steady;
@@ -185,7 +187,8 @@ opened_beside s c d past first most owed quiet o = record {
 abbrev pub beside : (c d : Connection) → Connection
 beside c d = record c { stage = d.stage; transmission = d.transmission; syn = d.syn; sendings = d.sendings; syn_owed = d.syn_owed }
 
-pub receives_beside : (s : Settings) (c d : Connection) (up : Upward) (past : Story) → (is_synchronized d.stage ≡ true → is_synchronized c.stage ≡ true) → Receives s c up past → Receives s (beside c d) up past
+pub receives_beside : (s : Settings) (c d : Connection) (up : Upward) (past : Story) → (is_synchronized d.stage ≡ true → is_synchronized c.stage ≡ true) → Receives s c up past →
+    Receives s (beside c d) up past
 receives_beside s c d up past still r = record {
   follows = r.follows;
   due = r.due;
@@ -237,7 +240,8 @@ pub opened_told : (s : Settings) (c : Connection) (up : Upward) (shift : ℕ) (p
 opened_told s c up shift past o = opened_beside s c (told c up shift) past refl refl (λ is. is) (λ is. refl) o
 
 -- another size of pieces
-pub gives_most : (s : Settings) (c : Connection) (k : ℕ) (down : Downward) (past : Story) (now : ℕ) → Gives s c down past now → Gives s (record c { transmission = record c.transmission { mss = k } }) down past now
+pub gives_most : (s : Settings) (c : Connection) (k : ℕ) (down : Downward) (past : Story) (now : ℕ) → Gives s c down past now → Gives s
+    (record c { transmission = record c.transmission { mss = k } }) down past now
 gives_most s c k down past now g = record {
   keeps = g.keeps;
   fin_acked = g.fin_acked;

@@ -40,7 +40,8 @@ sent_within our_end.Sent sent octets is all = absurd cc
 not_all : (acked n k : ℕ) → acked ≤ n → n ≤ k → nat_eq acked (k + 1) ≡ nat_eq acked (n + 1)
 not_all acked n k low on = let a : nat_eq acked (k + 1) ≡ false = grind (arith, nat_tests) in let b : nat_eq acked (n + 1) ≡ false = grind (arith, nat_tests) in a ∙ sym b
 
-module _ (s : Settings) (c : Connection) (up : Upward) (down : Downward) (past : Story) (now m : ℕ) (on : now ≤ m) (h : Holds s c up down past now) (yet : is_open c.transmission.end ≡ true) (joined : is_connects c.stage ≡ false) where
+module _ (s : Settings) (c : Connection) (up : Upward) (down : Downward) (past : Story) (now m : ℕ) (on : now ≤ m) (h : Holds s c up down past now)
+    (yet : is_open c.transmission.end ≡ true) (joined : is_connects c.stage ≡ false) where
   none_ended : got_end (host past) ≡ false
   none_ended = sym h.gives.keeps.ended ∙ ap not yet
 
@@ -58,7 +59,8 @@ module _ (s : Settings) (c : Connection) (up : Upward) (down : Downward) (past :
       let low = sent_within c.transmission.end c.transmission.sent (octets_read down) yet feeds.all in
       record {
         keeps = reads_step (outward_of c.transmission down) (host past) xs order none_ended g.keeps;
-        fin_acked = g.fin_acked ∙ sym (not_all c.transmission.acked (octets_read down) (octets_read (with_octets xs)) (omega (arith, low, feeds.sound.order)) (omega (arith, length-append down.octets xs)));
+        fin_acked = g.fin_acked ∙ sym (not_all c.transmission.acked (octets_read down) (octets_read (with_octets xs)) (omega (arith, low, feeds.sound.order))
+            (omega (arith, length-append down.octets xs)));
         fin_out = g.fin_out;
         window = g.window;
         alone = g.alone;
@@ -82,13 +84,17 @@ module _ (s : Settings) (c : Connection) (up : Upward) (down : Downward) (past :
         suits = record { ring = h.suits.ring; congestion = h.suits.congestion; scales = h.suits.scales; few = h.suits.few };
         buffers = buffers;
         within = fits;
-        goes = does s past now m (Reads xs) Read h.goes on (λ none. none) refl (may_read s past m none_ended h.goes.well h.goes.open_yet (h.opened.connects ∙ joined)) (must_read s past m h.goes.free) h.goes.open_yet refl refl;
-        opened = opened_sending s c (watched_over c.transmission (with_octets xs) m) (At m (Reads xs) ∷ past) (watched_mss c.transmission down (nat_lt c.transmission.sent (places c.transmission (with_octets xs))) m) o;
+        goes = does s past now m (Reads xs) Read h.goes on (λ none. none) refl (may_read s past m none_ended h.goes.well h.goes.open_yet (h.opened.connects ∙ joined))
+            (must_read s past m h.goes.free) h.goes.open_yet refl refl;
+        opened = opened_sending s c (watched_over c.transmission (with_octets xs) m) (At m (Reads xs) ∷ past)
+            (watched_mss c.transmission down (nat_lt c.transmission.sent (places c.transmission (with_octets xs))) m) o;
         awaits = λ is. awaits_sending s c (watched_over c.transmission (with_octets xs) m) up (At m (Reads xs) ∷ past)
-            (awaits_on s c up past (At m (Reads xs) ∷ past) (record { ours = refl; connecting = refl; out = refl; accepted = refl; theirs = refl; unasked = refl }) (record { guest = refl; ended = refl; edge = refl; prompted = refl; answered = refl }) (h.awaits is));
+            (awaits_on s c up past (At m (Reads xs) ∷ past) (record { ours = refl; connecting = refl; out = refl; accepted = refl; theirs = refl; unasked = refl })
+            (record { guest = refl; ended = refl; edge = refl; prompted = refl; answered = refl }) (h.awaits is));
         receives = λ is. receives_sending s c (watched_over c.transmission (with_octets xs) m) up (At m (Reads xs) ∷ past)
             (receives_on s c up past m (Reads xs) tt refl (record { guest = refl; ended = refl; edge = refl; prompted = refl; answered = refl }) (h.receives is));
-        gives = gives_watched s c (with_octets xs) (At m (Reads xs) ∷ past) m (nat_lt c.transmission.sent (places c.transmission (with_octets xs))) h.buffers.feeds.sound.steady (omega (arith, h.goes.moment, on), rises past h.goes.story)
+        gives = gives_watched s c (with_octets xs) (At m (Reads xs) ∷ past) m (nat_lt c.transmission.sent (places c.transmission (with_octets xs))) h.buffers.feeds.sound.steady
+            (omega (arith, h.goes.moment, on), rises past h.goes.story)
             (λ is. under_way_is s c (with_octets xs) (At m (Reads xs) ∷ past) o g.keeps is) g;
       }
 
@@ -125,10 +131,12 @@ module _ (s : Settings) (c : Connection) (up : Upward) (down : Downward) (past :
         suits = record { ring = h.suits.ring; congestion = h.suits.congestion; scales = h.suits.scales; few = h.suits.few };
         buffers = buffers;
         within = h.within;
-        goes = does s past now m ReadsEnd Read h.goes on (λ none. none) refl (may_read s past m none_ended h.goes.well h.goes.open_yet (h.opened.connects ∙ joined)) (must_read s past m h.goes.free) h.goes.open_yet refl refl;
+        goes = does s past now m ReadsEnd Read h.goes on (λ none. none) refl (may_read s past m none_ended h.goes.well h.goes.open_yet (h.opened.connects ∙ joined))
+            (must_read s past m h.goes.free) h.goes.open_yet refl refl;
         opened = opened_sending s c (watched unsent_end true m) (At m ReadsEnd ∷ past) (watched_mss unsent_end down true m) o;
         awaits = λ is. awaits_sending s c (watched unsent_end true m) up (At m ReadsEnd ∷ past)
-            (awaits_on s c up past (At m ReadsEnd ∷ past) (record { ours = refl; connecting = refl; out = refl; accepted = refl; theirs = refl; unasked = refl }) (record { guest = refl; ended = refl; edge = refl; prompted = refl; answered = refl }) (h.awaits is));
+            (awaits_on s c up past (At m ReadsEnd ∷ past) (record { ours = refl; connecting = refl; out = refl; accepted = refl; theirs = refl; unasked = refl })
+            (record { guest = refl; ended = refl; edge = refl; prompted = refl; answered = refl }) (h.awaits is));
         receives = λ is. receives_sending s c (watched unsent_end true m) up (At m ReadsEnd ∷ past)
             (receives_on s c up past m ReadsEnd tt refl (record { guest = refl; ended = refl; edge = refl; prompted = refl; answered = refl }) (h.receives is));
         gives = gives_watched s ended_c down (At m ReadsEnd ∷ past) m true h.buffers.feeds.sound.steady (omega (arith, h.goes.moment, on), rises past h.goes.story)

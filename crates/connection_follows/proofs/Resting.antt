@@ -1,5 +1,6 @@
 -- A flow rests: what arrives at it, and what goes out.
-use Rattle.std.proofs.Common.{unwrap_or, refl, ◌≡◌, ℕ, ◌+◌, ◌-◌, ◌≤◌, List, ◌∷◌, length, Bool, true, false, not, ◌&&◌, ◌||◌, Option, None, Some, is_some, if◌then◌else◌, IsTrue, nat_eq, nat_lt, max, ℤ, pos, ◌+ℤ◌, arith, ap, subst, sym, ◌∙◌, inl, inr, ◌⊎◌}
+use Rattle.std.proofs.Common.{unwrap_or, refl, ◌≡◌, ℕ, ◌+◌, ◌-◌, ◌≤◌, List, ◌∷◌, length, Bool, true, false, not, ◌&&◌, ◌||◌, Option, None, Some, is_some, if◌then◌else◌, IsTrue, nat_eq}
+use Rattle.std.proofs.Common.{nat_lt, max, ℤ, pos, ◌+ℤ◌, arith, ap, subst, sym, ◌∙◌, inl, inr, ◌⊎◌}
 use Rattle.seq_space.specs.Places.{number_of}
 use Rattle.sock_buffers.specs.Downward.{Downward}
 use Rattle.sock_buffers.specs.Upward.{Upward, after_join, room_of}
@@ -13,7 +14,8 @@ use Rattle.tcp_transmit.specs.declared.End.{End}
 use Rattle.tcp_guest.specs.Connection.{Connection, closes_first, is_answering, is_synchronized}
 use Rattle.tcp_guest.specs.Checks.{is_ack, is_fin, is_in_window, is_next, is_rst, is_syn, verdict_by, verdict_of}
 use Rattle.tcp_guest.specs.Hosts.{numbers_sent}
-use Rattle.tcp_guest.specs.Segments.{acknowledged, after_segment, arrived, conn_by, established, is_bare, is_end_taken, is_fin_too, is_past, is_to_acknowledge, is_too_far, opened, received_after, seen_of, settled, up_after_segment, up_by}
+use Rattle.tcp_guest.specs.Segments.{acknowledged, after_segment, arrived, conn_by, established, is_bare, is_end_taken, is_fin_too, is_past, is_to_acknowledge, is_too_far, opened}
+use Rattle.tcp_guest.specs.Segments.{received_after, seen_of, settled, up_after_segment, up_by}
 use Rattle.tcp_guest.specs.Owing.{told}
 use Rattle.tcp_guest.specs.Windows.{field, our_shift, window_in}
 use Rattle.tcp_guest.specs.declared.Stage.{Stage}
@@ -103,7 +105,8 @@ module _ (s : Settings) (c : Connection) (up : Upward) (down : Downward) (past :
   may = may_send s past m seg carries (omega arith) (prompted_is seg.rst (not (repeats past seg)) (is_prompted past) (is_overdue m past seg) (h.prompted owed)) (λ is. absurd cc)
       (λ is. (sym is_known, λ yes_ honest. step.1 honest)) (λ is. absurd cc) h.over.well (λ is. absurd cc) (λ is. (refl, refl, refl, ap (λ (o : Option ℕ). is_some o) h.begun)) (λ is. h.granted)
       ((λ is. absurd (none_if (syn_is_out past) h.out is)), (λ is. absurd cc))
-      (record { carries = λ is. absurd cc; acknowledges = ((λ is. refl), (λ is. absurd cc)); next = λ is. at_end; window = λ is. absurd cc }) (refl, no_scale s.scales true (not true || is_scaled s past) (least_shift s.ring))
+      (record { carries = λ is. absurd cc; acknowledges = ((λ is. refl), (λ is. absurd cc)); next = λ is. at_end; window = λ is. absurd cc })
+      (refl, no_scale s.scales true (not true || is_scaled s past) (least_shift s.ring))
 
   none_must : MustClose past → ⊥
   none_must must = let not_it = sym must.2 ∙ h.over.closed in absurd cc
@@ -116,7 +119,8 @@ module _ (s : Settings) (c : Connection) (up : Upward) (down : Downward) (past :
       let e : Ends after (part_of c up) (c.end_acknowledged || c.received.ended) (if nat_eq (next_number c.received) c.acknowledged then c.ours_first else fin_is_out past) (next_number c.received) =
       acknowledges_ends past (part_of c up) c.end_acknowledged c.ours_first c.acknowledged m seg s.ring (opens_once past h.over.runs.story) refl refl h.theirs refl h.follows h.ends in
       let e2 : Ends after (part_of c up) (c.end_acknowledged || c.received.ended) (closes_first c) (next_number c.received) =
-      subst (λ (b : Bool). Ends after (part_of c up) (c.end_acknowledged || c.received.ended) (if nat_eq (next_number c.received) c.acknowledged then c.ours_first else b) (next_number c.received)) h.fin_out e in
+      subst (λ (b : Bool). Ends after (part_of c up) (c.end_acknowledged || c.received.ended) (if nat_eq (next_number c.received) c.acknowledged then c.ours_first else b)
+      (next_number c.received)) h.fin_out e in
       record { low = e2.low; kept_low = e2.kept_low; fin = e2.fin; was_sure = e2.was_sure; is_sure = e2.is_sure; at = e2.at; order = e2.order }
 
   sent_still : sent (host after) ≡ sent (host past)
@@ -181,7 +185,8 @@ module _ (s : Settings) (c : Connection) (up : Upward) (down : Downward) (past :
   no_close must = let not_it = sym must.2 ∙ h.over.closed in absurd cc
 
   -- with what may change of the connection
-  rests_as : (t : Transmission) (owed fa : Bool) → t.first ≡ c.transmission.first → t.sent ≡ c.transmission.sent → t.end ≡ c.transmission.end → (owed ≡ false → (c.ack_owed ≡ false) × (renews came ≡ false))
+  rests_as : (t : Transmission) (owed fa : Bool) → t.first ≡ c.transmission.first → t.sent ≡ c.transmission.sent → t.end ≡ c.transmission.end →
+      (owed ≡ false → (c.ack_owed ≡ false) × (renews came ≡ false))
       → IsResting s (record c { transmission = t; ack_owed = owed; fin_acked = fa }) up down later m (if renews came then m else since)
   rests_as t owed fa first_is sent_is end_is only =
       let e = no_part past (part_of c up) c.end_acknowledged c.ours_first c.acknowledged m came same_guest h.ends in
@@ -205,7 +210,8 @@ module _ (s : Settings) (c : Connection) (up : Upward) (down : Downward) (past :
         theirs = same_number past later same_syn ∙ h.theirs;
         out = h.out;
         shift = ap (λ (o : Option ℕ). if not (s.scales && is_some o) then 0 else least_shift s.ring) (same_scale past later same_syn) ∙ h.shift;
-        follows = subst (λ (g : List Up). Follows s.ring (record (part_of c up) { ack_owed = owed }) g) (sym same_guest) (follows_owed s.ring (part_of c up) owed (guest past) (λ is. (only is).0) h.follows);
+        follows = subst (λ (g : List Up). Follows s.ring (record (part_of c up) { ack_owed = owed }) g) (sym same_guest) (follows_owed s.ring (part_of c up) owed (guest past)
+            (λ is. (only is).0) h.follows);
         ends = record { low = e.low; kept_low = e.kept_low; fin = e.fin; was_sure = e.was_sure; is_sure = e.is_sure; at = e.at; order = e.order };
         next = h.next;
         ended = h.ended;
@@ -230,7 +236,8 @@ module _ (s : Settings) (c : Connection) (up : Upward) (down : Downward) (past :
         taken = c.received.taken + (length u.held - length up.held);
         ended = c.received.ended || is_end_taken c.received tcp.seq tcp.body (is_fin tcp) (c.received.taken + (length u.held - length up.held));
       }) up_still
-      ∙ ap (λ (k : ℕ). record c.received { taken = k; ended = c.received.ended || is_end_taken c.received tcp.seq tcp.body (is_fin tcp) k }) (let same : c.received.taken + (length up.held - length up.held) ≡ c.received.taken = omega arith in same)
+      ∙ ap (λ (k : ℕ). record c.received { taken = k; ended = c.received.ended || is_end_taken c.received tcp.seq tcp.body (is_fin tcp) k })
+      (let same : c.received.taken + (length up.held - length up.held) ≡ c.received.taken = omega arith in same)
       ∙ ap (λ (b : Bool). record c.received { ended = b }) (by c.received.ended (is_end_taken c.received tcp.seq tcp.body (is_fin tcp) c.received.taken) h.ended)
     where
       by : (a b : Bool) → a ≡ true → (a || b) ≡ a
@@ -239,7 +246,8 @@ module _ (s : Settings) (c : Connection) (up : Upward) (down : Downward) (past :
 
   -- the sending half after an acknowledgement
   acked_first : (w : ℕ) (bare : Bool) (seen : AckSeen) (d : Downward) → ((after_ack c.transmission d (record { 0 = tcp.seq }) w bare m seen).first ≡ c.transmission.first)
-      × ((after_ack c.transmission d (record { 0 = tcp.seq }) w bare m seen).sent ≡ c.transmission.sent) × ((after_ack c.transmission d (record { 0 = tcp.seq }) w bare m seen).end ≡ c.transmission.end)
+      × ((after_ack c.transmission d (record { 0 = tcp.seq }) w bare m seen).sent ≡ c.transmission.sent) ×
+      ((after_ack c.transmission d (record { 0 = tcp.seq }) w bare m seen).end ≡ c.transmission.end)
   acked_first w bare seen d = by (is_accepted_ack seen)
     where
       u : Transmission
@@ -250,10 +258,12 @@ module _ (s : Settings) (c : Connection) (up : Upward) (down : Downward) (past :
           × ((if b then watched_over (heard_by c.transmission (record { 0 = tcp.seq }) w bare m seen) d m else c.transmission).end ≡ c.transmission.end)
       by true =
           let stays = heard_stays c.transmission (record { 0 = tcp.seq }) w bare m seen in
-          let same = watched_outward (heard_by c.transmission (record { 0 = tcp.seq }) w bare m seen) d (nat_lt (heard_by c.transmission (record { 0 = tcp.seq }) w bare m seen).sent (places (heard_by c.transmission (record { 0 = tcp.seq }) w bare m seen) d)) m in (
+          let same = watched_outward (heard_by c.transmission (record { 0 = tcp.seq }) w bare m seen) d
+          (nat_lt (heard_by c.transmission (record { 0 = tcp.seq }) w bare m seen).sent (places (heard_by c.transmission (record { 0 = tcp.seq }) w bare m seen) d)) m in (
             ap (λ (o : Outward). o.first) same ∙ stays.first,
             ap (λ (o : Outward). o.sent) same ∙ stays.sent,
-            watched_end (heard_by c.transmission (record { 0 = tcp.seq }) w bare m seen) d (nat_lt (heard_by c.transmission (record { 0 = tcp.seq }) w bare m seen).sent (places (heard_by c.transmission (record { 0 = tcp.seq }) w bare m seen) d)) m ∙ stays.end,
+            watched_end (heard_by c.transmission (record { 0 = tcp.seq }) w bare m seen) d (nat_lt (heard_by c.transmission (record { 0 = tcp.seq }) w bare m seen).sent
+                (places (heard_by c.transmission (record { 0 = tcp.seq }) w bare m seen) d)) m ∙ stays.end,
           )
       by false = (refl, refl, refl)
 
@@ -307,7 +317,8 @@ module _ (s : Settings) (c : Connection) (up : Upward) (down : Downward) (past :
   as_heeded : verdict_of c up tcp ≡ Heeded → Result
   as_heeded is = (
     subst (λ (v : Verdict). IsResting s (conn_by v c up down tcp m) up down later m (if renews came then m else since)) (sym is)
-        (subst (λ (x : Connection). IsResting s (if is_past x down tcp then acknowledged x down tcp (window_in x tcp) (is_bare tcp) m else settled (arrived (acknowledged x down tcp (window_in x tcp) (is_bare tcp) m) up tcp)) up down later m (if renews came then m else since))
+        (subst (λ (x : Connection). IsResting s (if is_past x down tcp then acknowledged x down tcp (window_in x tcp) (is_bare tcp) m else settled
+        (arrived (acknowledged x down tcp (window_in x tcp) (is_bare tcp) m) up tcp)) up down later m (if renews came then m else since))
         (sym opened_still) (by (is_too_far seen) refl)),
     ap (λ (v : Verdict). up_by v c up down tcp) is ∙ up_is (is_past (opened c) down tcp),
   )
@@ -343,12 +354,14 @@ module _ (s : Settings) (c : Connection) (up : Upward) (down : Downward) (past :
           ((far_or c.ack_owed (is_too_far seen) quiet.0).0, ap (λ (b : Bool). b && came.ack && not came.syn && not came.rst) quiet.2)))
 
       settled_is : settled (arrived heard_now up tcp) ≡ arrived heard_now up tcp
-      settled_is = ap (λ (b : Bool). if b then (if closes_first (arrived heard_now up tcp) then record (arrived heard_now up tcp) { stage = stage.Rests } else record (arrived heard_now up tcp) { stage = stage.Gone }) else arrived heard_now up tcp)
+      settled_is = ap (λ (b : Bool). if b then (if closes_first (arrived heard_now up tcp) then record (arrived heard_now up tcp) { stage = stage.Rests } else record
+          (arrived heard_now up tcp) { stage = stage.Gone }) else arrived heard_now up tcp)
           (ap (λ (st : Stage). is_synchronized st && (arrived heard_now up tcp).host_ended && (arrived heard_now up tcp).fin_acked && (arrived heard_now up tcp).end_acknowledged) h.at)
 
       by : (b : Bool) → is_too_far seen ≡ b → IsResting s (if b then heard_now else settled (arrived heard_now up tcp)) up down later m (if renews came then m else since)
       by true far =
-          rests_as (after_ack c.transmission (without (octets_acked seen) down) (record { 0 = tcp.seq }) w (is_bare tcp) m seen) (c.ack_owed || is_too_far seen) (c.fin_acked || is_fin_too seen) three.0 three.1 three.2
+          rests_as (after_ack c.transmission (without (octets_acked seen) down) (record { 0 = tcp.seq }) w (is_bare tcp) m seen) (c.ack_owed || is_too_far seen)
+          (c.fin_acked || is_fin_too seen) three.0 three.1 three.2
           (λ none. absurd (or_on c.ack_owed (is_too_far seen) far none))
       by false near = subst (λ (x : Connection). IsResting s x up down later m (if renews came then m else since)) (sym settled_is) arrived_rests
 

@@ -57,7 +57,8 @@ seeking_settled in_time s c up down past now count at h calls unsent some a = re
   };
   acknowledges = nothing_to_acknowledge s c up down past now h calls;
   window = λ honest is. absurd (no_both (answered (host past)) (not (is_closed past)) unanswered is);
-  resends = λ soon. subst (λ (b : Bool). AreAhead now (moment_if (b && not (is_closed past)) (waits_since past + 60000))) (sym (syn_under_way s c past h.opened (calls_opens c.stage calls).0 ∙ unsent)) tt;
+  resends = λ soon. subst (λ (b : Bool). AreAhead now (moment_if (b && not (is_closed past)) (waits_since past + 60000)))
+      (sym (syn_under_way s c past h.opened (calls_opens c.stage calls).0 ∙ unsent)) tt;
 }
   where
     unanswered : answered (host past) ≡ false

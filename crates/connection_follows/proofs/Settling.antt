@@ -1,5 +1,6 @@
 -- Where nothing is owed, all holds that is to hold while the program waits.
-use Rattle.std.proofs.Common.{List, refl, ◌≡◌, ℕ, ◌+◌, ◌-◌, ◌<◌, ◌≤◌, [], ◌∷◌, length, Bool, true, false, not, ◌&&◌, ◌||◌, Option, None, Some, is_some, if◌then◌else◌, IsTrue, min, nat_le, nat_lt, arith, ap, subst, sym, ◌∙◌, inl, inr, ◌⊎◌}
+use Rattle.std.proofs.Common.{List, refl, ◌≡◌, ℕ, ◌+◌, ◌-◌, ◌<◌, ◌≤◌, [], ◌∷◌, length, Bool, true, false, not, ◌&&◌, ◌||◌, Option, None, Some, is_some, if◌then◌else◌, IsTrue, min, nat_le}
+use Rattle.std.proofs.Common.{nat_lt, arith, ap, subst, sym, ◌∙◌, inl, inr, ◌⊎◌}
 use Rattle.std.proofs.lemmas.Bool.Decides.{nat_tests}
 use Rattle.cwnd.specs.Congestion.{Congestion}
 use Rattle.retransmit.specs.Resending.{Resending, is_expired, due_by as due_by_timer, due_of as resend_due}
@@ -102,7 +103,8 @@ and_not_true true is = absurd cc
 and_not_true false is = absurd cc
 
 -- while the guest's SYN isn't known, there's nothing to acknowledge
-pub nothing_to_acknowledge : (s : Settings) (c : Connection) (up : Upward) (down : Downward) (past : Story) (now : ℕ) → Holds s c up down past now → is_calls c.stage ≡ true → HasAcknowledged s past false
+pub nothing_to_acknowledge : (s : Settings) (c : Connection) (up : Upward) (down : Downward) (past : Story) (now : ℕ) → Holds s c up down past now → is_calls c.stage ≡ true →
+    HasAcknowledged s past false
 nothing_to_acknowledge s c up down past now h calls =
     let a = h.awaits calls in
     let unknown : is_some (their_number past) ≡ false = ap (λ (o : Option ℕ). is_some o) (h.opened.theirs ∙ ap (λ (b : Bool). if b then None else Some c.received.first) calls) in
@@ -141,13 +143,15 @@ module _ (s : Settings) (c : Connection) (up : Upward) (down : Downward) (past :
     pub not_expired : is_expired c.transmission.resend.timer ≡ false
     not_expired = (or_both (is_expired c.transmission.resend.timer) c.transmission.early owes.0).0
 
-    octets_out : min (if s.congestion then min (edge_told (window_by c.transmission.window)) (c.transmission.acked + mss s past) else edge_told (window_by c.transmission.window)) (down.first + length down.octets + (if not (is_open c.transmission.end) then 1 else 0)) ≤ c.transmission.sent
+    octets_out : min (if s.congestion then min (edge_told (window_by c.transmission.window)) (c.transmission.acked + mss s past) else edge_told (window_by c.transmission.window))
+        (down.first + length down.octets + (if not (is_open c.transmission.end) then 1 else 0)) ≤ c.transmission.sent
     octets_out =
         let low : (if s.congestion then min (edge_told (window_by c.transmission.window)) (c.transmission.acked + mss s past) else edge_told (window_by c.transmission.window)) ≤ reach c.transmission =
         subst (λ (x : ℕ). (if s.congestion then min x (c.transmission.acked + mss s past) else x) ≤ reach c.transmission) (sym (edges_same c.transmission.window))
         (subst (λ (most : ℕ). (if s.congestion then min (edge_of c.transmission.window) (c.transmission.acked + most) else edge_of c.transmission.window) ≤ reach c.transmission) (h.opened.mss reached)
         (within_reach c.transmission.cwnd c.transmission.mss c.transmission.acked (edge_of c.transmission.window) s.congestion h.buffers.feeds.sound.segments h.gives.alone)) in
-        all_out (if s.congestion then min (edge_told (window_by c.transmission.window)) (c.transmission.acked + mss s past) else edge_told (window_by c.transmission.window)) (down.first + length down.octets + (if not (is_open c.transmission.end) then 1 else 0)) c.transmission.sent (reach c.transmission) low
+        all_out (if s.congestion then min (edge_told (window_by c.transmission.window)) (c.transmission.acked + mss s past) else edge_told (window_by c.transmission.window))
+        (down.first + length down.octets + (if not (is_open c.transmission.end) then 1 else 0)) c.transmission.sent (reach c.transmission) low
         (subst (λ (k : ℕ). (down.first + length down.octets + k ≤ c.transmission.sent) ⊎ (reach c.transmission ≤ c.transmission.sent)) (sym (end_is c.transmission.end)) owes.1)
 
     update_near : c.received.ended ≡ false → (r : ℕ) → c.told ≡ Some r → c.received.taken + told (shift_told s past false) (s.ring - length up.held) < r + 2920
@@ -155,14 +159,17 @@ module _ (s : Settings) (c : Connection) (up : Upward) (down : Downward) (past :
         let none : moves_far c.told (told_edge c up (our_shift c)) ≡ false = sym (ap (λ (b : Bool). not b && moves_far c.told (told_edge c up (our_shift c))) yet) ∙ apart.1 in
         let near = near_enough r (told_edge c up (our_shift c)) r refl (sym (ap (λ (o : Option ℕ). moves_far o (told_edge c up (our_shift c))) is) ∙ none) in
         let same : told_edge c up (our_shift c) ≡ c.received.taken + told (our_shift c) (s.ring - length up.held) =
-        ap (λ (b : Bool). (if b then c.received.taken + 1 else c.received.taken) + told (our_shift c) (room_of up)) yet ∙ ap (λ (k : ℕ). c.received.taken + told (our_shift c) (k - length up.held)) (h.buffers.size ∙ h.suits.ring) in
-        let shift : told (shift_told s past false) (s.ring - length up.held) ≡ told (our_shift c) (s.ring - length up.held) = ap (λ (k : ℕ). told k (s.ring - length up.held)) (shift_is s c past h.suits h.opened) in
+        ap (λ (b : Bool). (if b then c.received.taken + 1 else c.received.taken) + told (our_shift c) (room_of up)) yet ∙ ap (λ (k : ℕ). c.received.taken + told (our_shift c)
+        (k - length up.held)) (h.buffers.size ∙ h.suits.ring) in
+        let shift : told (shift_told s past false) (s.ring - length up.held) ≡ told (our_shift c) (s.ring - length up.held) = ap (λ (k : ℕ). told k (s.ring - length up.held))
+        (shift_is s c past h.suits h.opened) in
         omega (arith, near, same, shift)
 
     pub synchronized_settled : IsSettledIf Early s past known false now
     synchronized_settled =
         let r = h.receives reached in
-        settled_is Early s past (part_of c up) (outward_of c.transmission down) known false now (timer_of (resending_of c)) (count_of (is_under_way past) (resending_of c)) (resending_of c).estimate.wait
+        settled_is Early s past (part_of c up) (outward_of c.transmission down) known false now (timer_of (resending_of c)) (count_of (is_under_way past) (resending_of c))
+        (resending_of c).estimate.wait
         (if s.congestion then min (edge_told (window_by c.transmission.window)) (c.transmission.acked + mss s past) else edge_told (window_by c.transmission.window)) c.told
         r.follows h.gives.keeps h.gives.resends r.told apart.0 (r.due apart.0)
         (λ is. r.once (first_of (is_accepted past) (is_some (their_number past)) (not (is_closed past)) is) apart.0) (λ is. absurd cc)
@@ -172,7 +179,8 @@ module _ (s : Settings) (c : Connection) (up : Upward) (down : Downward) (past :
         (edge_is s (outward_of c.transmission down) past (window_by c.transmission.window) h.gives.keeps h.gives.window)
         (λ is. octets_out)
         update_near
-        (λ under expired. let not_it = sym (expires_by c.transmission.resend.timer c.transmission.resend.estimate.wait (sym (ap (λ (q : Resending). timer_of q) runs) ∙ expired)) ∙ not_expired in absurd cc)
+        (λ under expired. let not_it = sym (expires_by c.transmission.resend.timer c.transmission.resend.estimate.wait (sym (ap (λ (q : Resending). timer_of q) runs) ∙ expired))
+        ∙ not_expired in absurd cc)
         (λ early moment is. waits_for c.transmission.resend.timer c.transmission.resend.estimate.wait now moment (sym (ap (λ (q : Resending). timer_of q) runs) ∙ is) (λ d due. early d (at.1 ∙ due)))
       where
         runs : resending_of c ≡ c.transmission.resend

@@ -1,5 +1,6 @@
 -- Our SYN or SYN-ACK goes out.
-use Rattle.std.proofs.Common.{refl, ◌≡◌, ℕ, ◌+◌, ◌^◌, ◌<◌, ◌≤◌, ◌%◌, List, [], ◌∷◌, length, Bool, true, false, not, ◌&&◌, ◌||◌, Option, None, Some, is_some, if◌then◌else◌, IsTrue, IfSome, nat_lt, int_le, pos, ◌+ℤ◌, arith, ap, subst, sym, ◌∙◌}
+use Rattle.std.proofs.Common.{refl, ◌≡◌, ℕ, ◌+◌, ◌^◌, ◌<◌, ◌≤◌, ◌%◌, List, [], ◌∷◌, length, Bool, true, false, not, ◌&&◌, ◌||◌, Option, None, Some, is_some, if◌then◌else◌, IsTrue, IfSome}
+use Rattle.std.proofs.Common.{nat_lt, int_le, pos, ◌+ℤ◌, arith, ap, subst, sym, ◌∙◌}
 use Rattle.retransmit.specs.Resending.{Resending, after_sent as resend_sent, counted, doublings, is_expired, is_off, set_unless_running}
 use Rattle.retransmit.specs.declared.Timer.{Timer}
 use Rattle.retransmit.specs.declared.Timer.TheVariants as timer
@@ -45,7 +46,8 @@ gone_once Once = refl
 gone_once Again = refl
 
 -- how far the connection is opened, once our SYN is out
-pub opened_gone : (s : Settings) (c : Connection) (past next : Story) (m : ℕ) → is_connects c.stage ≡ false → syn_is_out next ≡ true → our_number next ≡ our_number past → is_connecting next ≡ is_connecting past
+pub opened_gone : (s : Settings) (c : Connection) (past next : Story) (m : ℕ) → is_connects c.stage ≡ false → syn_is_out next ≡ true → our_number next ≡ our_number past →
+    is_connecting next ≡ is_connecting past
     → answered (host next) ≡ answered (host past) → is_accepted next ≡ is_accepted past → their_syn next ≡ their_syn past → IsOpened s c past → IsOpened s (syn_gone c m) next
 opened_gone s c past next m apart out_is ours_is connects_is answered_is accepted_is theirs_is o = record {
   live = o.live;
@@ -118,7 +120,8 @@ module _ (s : Settings) (c : Connection) (down : Downward) (up : Upward) (past :
       by false b d e is = refl
 
   ran : Resends past now (timer_of c.syn) (count_of (is_under_way past) c.syn) c.syn.estimate.wait
-  ran = subst (λ (b : Bool). Resends past now (timer_of (if b then c.syn else c.transmission.resend)) (count_of (is_under_way past) (if b then c.syn else c.transmission.resend)) (if b then c.syn else c.transmission.resend).estimate.wait) opening h.gives.resends
+  ran = subst (λ (b : Bool). Resends past now (timer_of (if b then c.syn else c.transmission.resend)) (count_of (is_under_way past) (if b then c.syn else c.transmission.resend))
+      (if b then c.syn else c.transmission.resend).estimate.wait) opening h.gives.resends
 
   went_again : (tm : Timer) (k w : ℕ) → is_off tm ≡ false → syn_is_out past ≡ true → Resends past now (timer_by tm w) (doublings tm k) w → Resends after m (Until (m + w)) (counted tm k) w
   went_again timer.Off k w off out r = absurd cc
@@ -129,7 +132,8 @@ module _ (s : Settings) (c : Connection) (down : Downward) (up : Upward) (past :
   Running r = Resends after m (timer_of r) (count_of (is_under_way after) r) r.estimate.wait
 
   counts : (r : Resending) (k : ℕ) → doublings r.timer r.resent ≡ k → Resends after m (timer_of r) k r.estimate.wait → Running r
-  counts r k is running = subst (λ (b : Bool). Resends after m (timer_of r) (count_of b r) r.estimate.wait) (sym way_now) (subst (λ (j : ℕ). Resends after m (timer_of r) j r.estimate.wait) (sym is) running)
+  counts r k is running = subst (λ (b : Bool). Resends after m (timer_of r) (count_of b r) r.estimate.wait) (sym way_now)
+      (subst (λ (j : ℕ). Resends after m (timer_of r) j r.estimate.wait) (sym is) running)
 
   begun : (tm : Timer) (w : ℕ) → is_off tm ≡ true → timer_by (set_unless_running tm m) w ≡ Until (m + w)
   begun timer.Off w is = refl
@@ -150,7 +154,8 @@ module _ (s : Settings) (c : Connection) (down : Downward) (up : Upward) (past :
       let off = h.gives.unset gone in
       counts (resend_sent c.syn false m) 0 (begun_even c.syn.timer c.syn.resent ∙ h.gives.steady.rests off)
       (subst (λ (q : FlowTimer). Resends after m q 0 c.syn.estimate.wait) (sym (begun c.syn.timer c.syn.estimate.wait off))
-      (syn_goes past seg m syn rst unanswered c.syn.estimate.wait (h.opened.out ∙ gone) (rises past h.goes.story) (omega (arith, h.goes.moment, on)) (steady_second c.syn h.gives.steady) h.gives.steady.longest))
+      (syn_goes past seg m syn rst unanswered c.syn.estimate.wait (h.opened.out ∙ gone) (rises past h.goes.story) (omega (arith, h.goes.moment, on))
+      (steady_second c.syn h.gives.steady) h.gives.steady.longest))
 
   -- the host's stream, and the timer of our SYN
   pub syn_gives : Gives s (syn_gone c m) down after m
@@ -214,7 +219,8 @@ module _ (s : Settings) (c : Connection) (up : Upward) (down : Downward) (past :
     (λ is. refl),
     (λ is. (
       sym h.opened.ours,
-      subst (λ (o : Option ℕ). IfSome o (λ f. next_number c.received ≡ number_after f)) (sym (theirs s c up past now m seg h.suits h.goes h.opened known h.gives.fin_out (h.receives known) refl refl refl)) number_same,
+      subst (λ (o : Option ℕ). IfSome o (λ f. next_number c.received ≡ number_after f))
+          (sym (theirs s c up past now m seg h.suits h.goes h.opened known h.gives.fin_out (h.receives known) refl refl refl)) number_same,
     )),
   )
 
@@ -222,7 +228,11 @@ module _ (s : Settings) (c : Connection) (up : Upward) (down : Downward) (past :
   scale_same a b d x y a_is b_is x_is = rw (a_is, b_is, x_is) refl
 
   options : SendsItsOptions s past (Send seg)
-  options = (refl, scale_is s.scales (is_some c.scale) (is_scaled s past) (least_shift c.ring) (least_told s.ring) h.suits.scales (sym (scaled_is s c past h.suits h.opened)) (ap least_shift h.suits.ring ∙ sym (least_same s.ring)))
+  options = (
+    refl,
+    scale_is s.scales (is_some c.scale) (is_scaled s past) (least_shift c.ring) (least_told s.ring) h.suits.scales (sym (scaled_is s c past h.suits h.opened))
+        (ap least_shift h.suits.ring ∙ sym (least_same s.ring)),
+  )
     where
       scale_is : (a b d : Bool) (x y : ℕ) → a ≡ true → b ≡ d → x ≡ y → scale_if b x ≡ (if a && true && true && (false || d) then Some y else None)
       scale_is true b true x y a_is b_is x_is = rw (b_is, x_is) refl

@@ -1,5 +1,6 @@
 -- The octets and the FIN of a segment that is heeded, against the flow's story.
-use Rattle.std.proofs.Common.{refl, ◌≡◌, ℕ, ◌+◌, ◌-◌, ◌^◌, ◌<◌, ◌≤◌, List, [], ◌∷◌, ◌++◌, length, Bool, true, false, not, ◌&&◌, ◌||◌, Option, None, Some, is_some, if◌then◌else◌, IsTrue, ◌↔◌, nat_eq, nat_le, ℤ, pos, negsuc, ◌+ℤ◌, ◌<ℤ◌, arith, ap, subst, sym, ◌∙◌, inl, inr, ◌⊎◌, slice_get}
+use Rattle.std.proofs.Common.{refl, ◌≡◌, ℕ, ◌+◌, ◌-◌, ◌^◌, ◌<◌, ◌≤◌, List, [], ◌∷◌, ◌++◌, length, Bool, true, false, not, ◌&&◌, ◌||◌, Option, None, Some, is_some, if◌then◌else◌, IsTrue}
+use Rattle.std.proofs.Common.{◌↔◌, nat_eq, nat_le, ℤ, pos, negsuc, ◌+ℤ◌, ◌<ℤ◌, arith, ap, subst, sym, ◌∙◌, inl, inr, ◌⊎◌, slice_get}
 use Rattle.retransmit.specs.Resending.{Resending}
 use Rattle.seq_space.specs.Places.{number_of, shifted_place}
 use Rattle.sock_buffers.specs.Kept.{octet_at}
@@ -101,7 +102,8 @@ module _ (s : Settings) (c : Connection) (up : Upward) (past : Story) (m : ℕ) 
 
       by : (zs : List ℕ) → ys ≡ zs → length zs ≡ 0
       by [] is = refl
-      by (z ∷ zs) is = absurd (kept_none z (subst (λ (xs : List ℕ). Has (kept_at c.received.taken up.kept) (place_in c.received tcp.seq) xs c.received.taken (c.received.taken + 0) z) (no_body tcp.body none)
+      by (z ∷ zs) is = absurd (kept_none z (subst (λ (xs : List ℕ). Has (kept_at c.received.taken up.kept) (place_in c.received tcp.seq) xs c.received.taken
+          (c.received.taken + 0) z) (no_body tcp.body none)
           (brings c.received tcp.seq tcp.body up comes 0 z (ap (λ (ws : List ℕ). slice_get ws 0) is))))
 
   -- with such an acknowledgement owed, and whatever else
@@ -115,9 +117,12 @@ module _ (s : Settings) (c : Connection) (up : Upward) (past : Story) (m : ℕ) 
     q_is : q ≡ part 0 0 c.received.first (c.received.taken + length ys) (c.received.ended || took) (up.held ++ ys) up.written up.size c.host_ended owed (kept_at now_received.taken later.kept)
     q_is =
         ap (λ (k : ℕ). part 0 0 c.received.first k now_received.ended later.held later.written later.size c.host_ended owed (kept_at now_received.taken later.kept)) taken_is
-        ∙ ap (λ (zs : List ℕ). part 0 0 c.received.first (c.received.taken + length ys) now_received.ended zs later.written later.size c.host_ended owed (kept_at now_received.taken later.kept)) (held_now c.received tcp.seq tcp.body up comes)
-        ∙ ap (λ (k : ℕ). part 0 0 c.received.first (c.received.taken + length ys) now_received.ended (up.held ++ ys) k later.size c.host_ended owed (kept_at now_received.taken later.kept)) (sized c.received tcp.seq tcp.body up).1
-        ∙ ap (λ (k : ℕ). part 0 0 c.received.first (c.received.taken + length ys) now_received.ended (up.held ++ ys) up.written k c.host_ended owed (kept_at now_received.taken later.kept)) (sized c.received tcp.seq tcp.body up).0
+        ∙ ap (λ (zs : List ℕ). part 0 0 c.received.first (c.received.taken + length ys) now_received.ended zs later.written later.size c.host_ended owed
+        (kept_at now_received.taken later.kept)) (held_now c.received tcp.seq tcp.body up comes)
+        ∙ ap (λ (k : ℕ). part 0 0 c.received.first (c.received.taken + length ys) now_received.ended (up.held ++ ys) k later.size c.host_ended owed
+        (kept_at now_received.taken later.kept)) (sized c.received tcp.seq tcp.body up).1
+        ∙ ap (λ (k : ℕ). part 0 0 c.received.first (c.received.taken + length ys) now_received.ended (up.held ++ ys) up.written k c.host_ended owed
+        (kept_at now_received.taken later.kept)) (sized c.received tcp.seq tcp.body up).0
 
     follows_now : Follows s.ring q (guest after)
     follows_now = subst (λ (g : List Up). Follows s.ring q g) (sym same)
@@ -165,7 +170,8 @@ module _ (s : Settings) (c : Connection) (up : Upward) (past : Story) (m : ℕ) 
 
   current_now : IsCurrent (guest after) (taken_of c.received.first now_received.taken now_received.ended) c.acknowledged
   current_now = subst (λ (g : List Up). IsCurrent g (taken_of c.received.first now_received.taken now_received.ended) c.acknowledged) (sym same)
-      (came_current (guest past) (taken_of c.received.first c.received.taken c.received.ended) (taken_of c.received.first now_received.taken now_received.ended) c.acknowledged tcp.seq tcp.body (is_fin tcp) true refl
+      (came_current (guest past) (taken_of c.received.first c.received.taken c.received.ended)
+      (taken_of c.received.first now_received.taken now_received.ended) c.acknowledged tcp.seq tcp.body (is_fin tcp) true refl
       (something (is_fin tcp) (is_empty tcp.body) refl refl) r.current)
     where
       empty_long : (xs : List ℕ) → is_empty xs ≡ true → length xs ≡ 0
@@ -173,12 +179,14 @@ module _ (s : Settings) (c : Connection) (up : Upward) (past : Story) (m : ℕ) 
       empty_long (x ∷ xs) is = absurd cc
 
       unended : is_fin tcp ≡ false → (c.received.ended || took) ≡ c.received.ended
-      unended none = or_off c.received.ended took (by (is_fin tcp) (not c.received.ended) (nat_eq (shifted_place tcp.seq c.received.first c.received.taken + length tcp.body) (c.received.taken + count_taken c.received tcp.seq tcp.body up + 2 ^ 31)) none)
+      unended none = or_off c.received.ended took (by (is_fin tcp) (not c.received.ended) (nat_eq (shifted_place tcp.seq c.received.first c.received.taken + length tcp.body)
+          (c.received.taken + count_taken c.received tcp.seq tcp.body up + 2 ^ 31)) none)
         where
           by : (a b d : Bool) → a ≡ false → (a && b && d) ≡ false
           by a b d is = rw is refl
 
-      something : (a b : Bool) → is_fin tcp ≡ a → is_empty tcp.body ≡ b → (places_of (taken_of c.received.first now_received.taken now_received.ended) ≡ places_of (taken_of c.received.first c.received.taken c.received.ended)) ⊎ IsTrue (true && (a || not b))
+      something : (a b : Bool) → is_fin tcp ≡ a → is_empty tcp.body ≡ b → (places_of (taken_of c.received.first now_received.taken now_received.ended) ≡ places_of
+          (taken_of c.received.first c.received.taken c.received.ended)) ⊎ IsTrue (true && (a || not b))
       something true b fin_is empty_is = inr refl
       something false false fin_is empty_is = inr refl
       something false true fin_is empty_is =

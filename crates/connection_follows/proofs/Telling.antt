@@ -1,5 +1,6 @@
 -- A segment that acknowledges goes out, and tells the room that is left.
-use Rattle.std.proofs.Common.{refl, ◌≡◌, ℕ, zero, suc, ◌+◌, ◌*◌, ◌/◌, ◌^◌, ◌≤◌, List, ◌∷◌, length, Bool, true, false, not, ◌&&◌, ◌||◌, Option, None, Some, is_some, if◌then◌else◌, IsTrue, nat_eq, nat_le, arith, ap, subst, sym, ◌∙◌}
+use Rattle.std.proofs.Common.{refl, ◌≡◌, ℕ, zero, suc, ◌+◌, ◌*◌, ◌/◌, ◌^◌, ◌≤◌, List, ◌∷◌, length, Bool, true, false, not, ◌&&◌, ◌||◌, Option, None, Some, is_some, if◌then◌else◌, IsTrue}
+use Rattle.std.proofs.Common.{nat_eq, nat_le, arith, ap, subst, sym, ◌∙◌}
 use Rattle.sock_buffers.specs.Upward.{Upward, room_of}
 use Rattle.tcp_receive.specs.Received.{next_number}
 use Rattle.tcp_transmit.specs.Transmission.{is_sent}
@@ -60,7 +61,8 @@ shift_is s c past suits o =
 -- ---- the number that is expected next
 
 -- all before it came
-pub came_of : (s : Settings) (c : Connection) (up : Upward) (past : Story) → IsOpened s c past → Receives s c up past → Honest (guest past) → HasCome (guest past) (ackd (Acked (next_number c.received) ∷ guest past))
+pub came_of : (s : Settings) (c : Connection) (up : Upward) (past : Story) → IsOpened s c past → Receives s c up past → Honest (guest past) → HasCome (guest past)
+    (ackd (Acked (next_number c.received) ∷ guest past))
 came_of s c up past o r = (acked s.ring (part_of c up) (guest past) (next_number c.received) (room_of up) whole refl r.follows).1
   where
     whole : room_of up + length up.held ≡ s.ring
@@ -98,12 +100,16 @@ module _ (s : Settings) (c : Connection) (up : Upward) (past : Story) (now m : �
 
   tells_ends : (shift : ℕ) → Ends (At m (Departs seg) ∷ past) (part_of (told c up shift) up) (c.end_acknowledged || c.received.ended) (closes_first c) (next_number c.received)
   tells_ends shift =
-      let e : Ends (At m (Departs seg) ∷ past) (part_of c up) (c.end_acknowledged || c.received.ended) (if nat_eq seg.acknowledgement c.acknowledged then c.ours_first else fin_is_out past) seg.acknowledgement =
+      let e : Ends (At m (Departs seg) ∷ past) (part_of c up) (c.end_acknowledged || c.received.ended)
+      (if nat_eq seg.acknowledgement c.acknowledged then c.ours_first else fin_is_out past) seg.acknowledgement =
       acknowledges_ends past (part_of c up) c.end_acknowledged c.ours_first c.acknowledged m seg s.ring (opens_once past goes.story) ack rst theirs number r.follows r.ends in
-      let e2 : Ends (At m (Departs seg) ∷ past) (part_of c up) (c.end_acknowledged || c.received.ended) (if nat_eq seg.acknowledgement c.acknowledged then c.ours_first else is_sent c.transmission.end) seg.acknowledgement =
-      subst (λ (b : Bool). Ends (At m (Departs seg) ∷ past) (part_of c up) (c.end_acknowledged || c.received.ended) (if nat_eq seg.acknowledgement c.acknowledged then c.ours_first else b) seg.acknowledgement) out e in
+      let e2 : Ends (At m (Departs seg) ∷ past) (part_of c up) (c.end_acknowledged || c.received.ended)
+      (if nat_eq seg.acknowledgement c.acknowledged then c.ours_first else is_sent c.transmission.end) seg.acknowledgement =
+      subst (λ (b : Bool). Ends (At m (Departs seg) ∷ past) (part_of c up) (c.end_acknowledged || c.received.ended)
+      (if nat_eq seg.acknowledgement c.acknowledged then c.ours_first else b) seg.acknowledgement) out e in
       let e3 : Ends (At m (Departs seg) ∷ past) (part_of c up) (c.end_acknowledged || c.received.ended) (closes_first c) (next_number c.received) =
-      subst (λ (n : ℕ). Ends (At m (Departs seg) ∷ past) (part_of c up) (c.end_acknowledged || c.received.ended) (if nat_eq n c.acknowledged then c.ours_first else is_sent c.transmission.end) n) number e2 in
+      subst (λ (n : ℕ). Ends (At m (Departs seg) ∷ past) (part_of c up) (c.end_acknowledged || c.received.ended)
+      (if nat_eq n c.acknowledged then c.ours_first else is_sent c.transmission.end) n) number e2 in
       record { low = e3.low; kept_low = e3.kept_low; fin = e3.fin; was_sure = e3.was_sure; is_sure = e3.is_sure; at = e3.at; order = e3.order }
 
   either_ended : (a b : Bool) (A : Type 0) → (a ≡ true → (b ≡ true) × A) → (a || b) ≡ true → b ≡ true

@@ -49,7 +49,8 @@ module _ (past : Story) (now at : ℕ) (late : at ≤ now) where
   reason_due (timer.Since base) k w way due r = let is = some_is (base + w) at due in by_expiry past now (base + w) k w r (omega (arith, is, late)) way
   reason_due (timer.Expired base) k w way due r = absurd cc
 
-  spent_due : (tm : Timer) (resent w : ℕ) → is_under_way past ≡ true → due_by tm w ≡ Some at → 8 ≤ resent → doublings tm resent ≤ 8 → Resends past now (timer_by tm w) (doublings tm resent) w → IsTrue (gives_up now past)
+  spent_due : (tm : Timer) (resent w : ℕ) → is_under_way past ≡ true → due_by tm w ≡ Some at → 8 ≤ resent → doublings tm resent ≤ 8 → Resends past now (timer_by tm w)
+      (doublings tm resent) w → IsTrue (gives_up now past)
   spent_due timer.Off resent w way due many few r = absurd cc
   spent_due (timer.Since base) resent w way due many few r =
       let is = some_is (base + w) at due in
@@ -93,7 +94,8 @@ module _ (s : Settings) (c : Connection) (up : Upward) (down : Downward) (past :
         (subst (λ (b : Bool). Resends past now (timer_of c.syn) (count_of b c.syn) c.syn.estimate.wait) way (ran c.syn syn_runs))
 
     -- it is owed again
-    pub syn_expires : is_given_up c.syn ≡ false → HasBuffers (record c { syn = resend_expired c.syn; syn_owed = true }) up down → Holds s (record c { syn = resend_expired c.syn; syn_owed = true }) up down past now
+    pub syn_expires : is_given_up c.syn ≡ false → HasBuffers (record c { syn = resend_expired c.syn; syn_owed = true }) up down → Holds s
+        (record c { syn = resend_expired c.syn; syn_owed = true }) up down past now
     syn_expires fresh buffers =
         let again : Connection = record c { syn = resend_expired c.syn; syn_owed = true } in
         let g = h.gives in
@@ -111,7 +113,8 @@ module _ (s : Settings) (c : Connection) (up : Upward) (down : Downward) (past :
             fin_out = g.fin_out;
             window = g.window;
             alone = g.alone;
-            resends = subst (λ (b : Bool). Resends past now (timer_of (if b then resend_expired c.syn else c.transmission.resend)) (count_of (is_under_way past) (if b then resend_expired c.syn else c.transmission.resend))
+            resends = subst (λ (b : Bool). Resends past now (timer_of (if b then resend_expired c.syn else c.transmission.resend))
+                (count_of (is_under_way past) (if b then resend_expired c.syn else c.transmission.resend))
                 (if b then resend_expired c.syn else c.transmission.resend).estimate.wait) (sym opening)
                 (subst (λ (q : Resending). Resends past now (timer_of q) (count_of (is_under_way past) q) q.estimate.wait) (sym (expired_is c.syn fresh))
                 (after_due past now at late c.syn.timer c.syn.resent c.syn.estimate.wait (is_under_way past) refl due (ran c.syn syn_runs)));
@@ -144,11 +147,14 @@ module _ (s : Settings) (c : Connection) (up : Upward) (down : Downward) (past :
 
     -- it was given up
     pub piece_spent : is_given_up c.transmission.resend ≡ true → IsTrue (gives_up now past)
-    piece_spent spent = spent_due past now at late c.transmission.resend.timer c.transmission.resend.resent c.transmission.resend.estimate.wait (under spent) due (grind (arith, nat_tests)) h.buffers.feeds.sound.steady.few
-        (subst (λ (b : Bool). Resends past now (timer_of c.transmission.resend) (count_of b c.transmission.resend) c.transmission.resend.estimate.wait) (under spent) (ran c.transmission.resend piece_runs))
+    piece_spent spent = spent_due past now at late c.transmission.resend.timer c.transmission.resend.resent c.transmission.resend.estimate.wait (under spent) due
+        (grind (arith, nat_tests)) h.buffers.feeds.sound.steady.few
+        (subst (λ (b : Bool). Resends past now (timer_of c.transmission.resend) (count_of b c.transmission.resend) c.transmission.resend.estimate.wait) (under spent)
+        (ran c.transmission.resend piece_runs))
 
     -- the oldest piece is owed again, or a probe
-    pub piece_expires : is_given_up c.transmission.resend ≡ false → HasBuffers (record c { transmission = after_expired c.transmission }) up down → Holds s (record c { transmission = after_expired c.transmission }) up down past now
+    pub piece_expires : is_given_up c.transmission.resend ≡ false → HasBuffers (record c { transmission = after_expired c.transmission }) up down → Holds s
+        (record c { transmission = after_expired c.transmission }) up down past now
     piece_expires fresh buffers =
         let g = h.gives in
         let is = transmission_is c.transmission fresh in
@@ -166,10 +172,13 @@ module _ (s : Settings) (c : Connection) (up : Upward) (down : Downward) (past :
             fin_out = g.fin_out ∙ ap (λ (u : Transmission). is_sent u.end) (sym is);
             window = g.window ∙ ap (λ (u : Transmission). window_by u.window) (sym is);
             alone = λ so. ap (λ (u : Transmission). u.cwnd) is ∙ ap (λ (o : Option Congestion). cwnd_expired o (flight c.transmission) c.transmission.again) (g.alone so);
-            resends = subst (λ (b : Bool). Resends past now (timer_of (if b then c.syn else (after_expired c.transmission).resend)) (count_of (is_under_way past) (if b then c.syn else (after_expired c.transmission).resend))
+            resends = subst (λ (b : Bool). Resends past now (timer_of (if b then c.syn else (after_expired c.transmission).resend))
+                (count_of (is_under_way past) (if b then c.syn else (after_expired c.transmission).resend))
                 (if b then c.syn else (after_expired c.transmission).resend).estimate.wait) (sym opening)
-                (subst (λ (q : Resending). Resends past now (timer_of q) (count_of (is_under_way past) q) q.estimate.wait) (sym (ap (λ (u : Transmission). u.resend) is ∙ expired_is c.transmission.resend fresh))
-                (after_due past now at late c.transmission.resend.timer c.transmission.resend.resent c.transmission.resend.estimate.wait (is_under_way past) refl due (ran c.transmission.resend piece_runs)));
+                (subst (λ (q : Resending). Resends past now (timer_of q) (count_of (is_under_way past) q) q.estimate.wait)
+                (sym (ap (λ (u : Transmission). u.resend) is ∙ expired_is c.transmission.resend fresh))
+                (after_due past now at late c.transmission.resend.timer c.transmission.resend.resent c.transmission.resend.estimate.wait (is_under_way past) refl due
+                (ran c.transmission.resend piece_runs)));
             counts = subst (λ (q : Resending). CountsSince past q.timer) (sym (ap (λ (u : Transmission). u.resend) is ∙ expired_is c.transmission.resend fresh))
                 (expired_counts past c.transmission.resend.timer c.transmission.resend.estimate.wait);
             steady = g.steady;

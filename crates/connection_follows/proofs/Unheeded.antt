@@ -100,7 +100,8 @@ module _ (s : Settings) (c : Connection) (up : Upward) (down : Downward) (past :
   runs = by (confirms past seg) refl
     where
       by : (b : Bool) → confirms past seg ≡ b → Resends after m (timer_of (resending_of c)) (count_of (is_under_way past) (resending_of c)) (resending_of c).estimate.wait
-      by true is = not_acceptable past seg m is (and_right (confirms past seg) (is_acceptable (host past) seg.acknowledgement) none is) now (timer_of (resending_of c)) (count_of (is_under_way past) (resending_of c)) (resending_of c).estimate.wait on h.gives.resends
+      by true is = not_acceptable past seg m is (and_right (confirms past seg) (is_acceptable (host past) seg.acknowledgement) none is) now (timer_of (resending_of c))
+          (count_of (is_under_way past) (resending_of c)) (resending_of c).estimate.wait on h.gives.resends
       by false is = unheard past seg m now (timer_of (resending_of c)) (count_of (is_under_way past) (resending_of c)) (resending_of c).estimate.wait is on h.gives.resends
 
   pub gives_after : (syn_owed ack_owed : Bool) → (c.syn_owed ≡ true → syn_owed ≡ true) → Gives s (record c { syn_owed = syn_owed; ack_owed = ack_owed }) down after m
@@ -134,7 +135,8 @@ module _ (s : Settings) (c : Connection) (up : Upward) (down : Downward) (past :
     answers : renews seg ≡ false → fin_is_answered past ≡ true → (not (renews seg) && fin_is_answered past) ≡ true
     answers is so = rw (is, so) refl
 
-    receives_by : (syn_owed ack_owed : Bool) → (ack_owed ≡ false → c.ack_owed ≡ false) → (ack_owed ≡ false → c.end_acknowledged ≡ true → renews seg ≡ false) → (b : Bool) → is_plain seg ≡ b → Receives s (record c { syn_owed = syn_owed; ack_owed = ack_owed }) up after
+    receives_by : (syn_owed ack_owed : Bool) → (ack_owed ≡ false → c.ack_owed ≡ false) → (ack_owed ≡ false → c.end_acknowledged ≡ true → renews seg ≡ false) → (b : Bool) →
+        is_plain seg ≡ b → Receives s (record c { syn_owed = syn_owed; ack_owed = ack_owed }) up after
     receives_by syn_owed ack_owed only fresh true plain =
         let r = h.receives known in
         let same : guest after ≡ Came seg.number seg.octets seg.fin false ∷ guest past =
@@ -142,12 +144,14 @@ module _ (s : Settings) (c : Connection) (up : Upward) (down : Downward) (past :
         let e = no_heed past (part_of c up) c.end_acknowledged c.ours_first c.acknowledged m seg (guest_came m past seg h.goes.open_yet is_known plain) r.ends in
         record {
           follows = subst (λ (g : List Up). Follows s.ring (record (part_of c up) { ack_owed = ack_owed }) g) (sym same)
-              (follows_owed s.ring (part_of c up) ack_owed (Came seg.number seg.octets seg.fin false ∷ guest past) only (passed s.ring (part_of c up) (guest past) seg.number seg.octets seg.fin r.follows));
+              (follows_owed s.ring (part_of c up) ack_owed (Came seg.number seg.octets seg.fin false ∷ guest past) only
+              (passed s.ring (part_of c up) (guest past) seg.number seg.octets seg.fin r.follows));
           due = λ not_owed due. none_due (r.due (only not_owed)) (subst (λ (g : List Up). AckIsDue g) same due);
           once = λ is not_owed. subst (λ (g : List Up). IsTrue (was_acked g)) (sym same) (r.once is (only not_owed));
           ends = record { low = e.low; kept_low = e.kept_low; fin = e.fin; was_sure = e.was_sure; is_sure = e.is_sure; at = e.at; order = e.order };
           current = subst (λ (g : List Up). IsCurrent g (taken_of c.received.first c.received.taken c.received.ended) c.acknowledged) (sym same)
-              (came_current (guest past) (taken_of c.received.first c.received.taken c.received.ended) (taken_of c.received.first c.received.taken c.received.ended) c.acknowledged seg.number seg.octets seg.fin false refl (inl refl) r.current);
+              (came_current (guest past) (taken_of c.received.first c.received.taken c.received.ended)
+              (taken_of c.received.first c.received.taken c.received.ended) c.acknowledged seg.number seg.octets seg.fin false refl (inl refl) r.current);
           sure = r.sure;
           host_ended = r.host_ended;
           told = λ honest. r.told (earlier (Came seg.number seg.octets seg.fin false) (guest past) (subst (λ (g : List Up). Honest g) same honest));
@@ -190,7 +194,8 @@ module _ (s : Settings) (c : Connection) (up : Upward) (down : Downward) (past :
         let two = if_some seg.rst seg must.0 (either seg.rst) must.1 in
         apart two.0 (ap (λ (g : Segment). g.number) two.1 ∙ reset_at_next s after (part_of c up) (h.receives known).follows must)
 
-    pub stays : (syn_owed ack_owed : Bool) → (c.syn_owed ≡ true → syn_owed ≡ true) → (ack_owed ≡ false → c.ack_owed ≡ false) → (is_connects c.stage ≡ true → ack_owed ≡ false) → (ack_owed ≡ false → c.end_acknowledged ≡ true → renews seg ≡ false)
+    pub stays : (syn_owed ack_owed : Bool) → (c.syn_owed ≡ true → syn_owed ≡ true) → (ack_owed ≡ false → c.ack_owed ≡ false) → (is_connects c.stage ≡ true → ack_owed ≡ false) →
+        (ack_owed ≡ false → c.end_acknowledged ≡ true → renews seg ≡ false)
         → HasBuffers (record c { syn_owed = syn_owed; ack_owed = ack_owed }) up down → Holds s (record c { syn_owed = syn_owed; ack_owed = ack_owed }) up down after m
     stays syn_owed ack_owed keeps_syn only calm fresh buffers =
         let o = opened_on s c past after (record { ours = refl; connecting = refl; out = refl; accepted = refl; theirs = same_syn; unasked = refl }) answered_same h.opened in

@@ -58,7 +58,8 @@ module _ (s : Settings) (c : Connection) (up : Upward) (down : Downward) (past :
       by true d at end = four (has_connected past || is_accepted past) (is_closed past) (got_end (host past)) (nat_lt (length (got (host past))) (acked (host past) + s.ring))
           (inl (none_granted (is_accepted past) (has_connected past) (is_closed past) (h.opened.connects ∙ at)))
       by false false at end = four (has_connected past || is_accepted past) (is_closed past) (got_end (host past)) (nat_lt (length (got (host past))) (acked (host past) + s.ring)) (inr (shut_end end))
-      by false true at end = all (has_connected past || is_accepted past) (is_closed past) (got_end (host past)) (nat_lt (length (got (host past))) (acked (host past) + s.ring)) (nat_lt (length down.octets) s.ring)
+      by false true at end = all (has_connected past || is_accepted past) (is_closed past) (got_end (host past)) (nat_lt (length (got (host past))) (acked (host past) + s.ring))
+          (nat_lt (length down.octets) s.ring)
           (granted s c past h.opened h.goes.open_yet at) h.goes.open_yet (open_end end) (has_room s past (outward_of c.transmission down) h.gives.keeps order (open_end end))
 
   -- a read asks for all the room, 16,384 octets at most
@@ -72,14 +73,16 @@ module _ (s : Settings) (c : Connection) (up : Upward) (down : Downward) (past :
   pub must_write : is_calls c.stage ≡ false → must_wait_to_write past ≡ true → (is_connects c.stage ≡ true) ⊎ ((0 < length up.held) ⊎ ((c.received.ended ≡ true) × (c.host_ended ≡ false)))
   must_write reached is = by (must_want s past (part_of c up) (h.receives reached).follows is)
     where
-      by : (is_connecting past ≡ true) ⊎ ((0 < length up.held) ⊎ ((c.received.ended ≡ true) × (c.host_ended ≡ false))) → (is_connects c.stage ≡ true) ⊎ ((0 < length up.held) ⊎ ((c.received.ended ≡ true) × (c.host_ended ≡ false)))
+      by : (is_connecting past ≡ true) ⊎ ((0 < length up.held) ⊎ ((c.received.ended ≡ true) × (c.host_ended ≡ false))) → (is_connects c.stage ≡ true) ⊎
+          ((0 < length up.held) ⊎ ((c.received.ended ≡ true) × (c.host_ended ≡ false)))
       by (inl connects) = inl (sym h.opened.connects ∙ connects)
       by (inr more) = inr more
 
   pub may_write : is_calls c.stage ≡ false → (is_connects c.stage ≡ true) ⊎ ((0 < length up.held) ⊎ ((c.received.ended ≡ true) × (c.host_ended ≡ false))) → MayWaitToWrite past
   may_write reached wants = may_want s past (part_of c up) (h.receives reached).follows h.goes.open_yet (by wants)
     where
-      by : (is_connects c.stage ≡ true) ⊎ ((0 < length up.held) ⊎ ((c.received.ended ≡ true) × (c.host_ended ≡ false))) → (is_connecting past ≡ true) ⊎ ((0 < length up.held) ⊎ ((c.received.ended ≡ true) × (c.host_ended ≡ false)))
+      by : (is_connects c.stage ≡ true) ⊎ ((0 < length up.held) ⊎ ((c.received.ended ≡ true) × (c.host_ended ≡ false))) → (is_connecting past ≡ true) ⊎
+          ((0 < length up.held) ⊎ ((c.received.ended ≡ true) × (c.host_ended ≡ false)))
       by (inl connects) = inl (h.opened.connects ∙ connects)
       by (inr more) = inr more
 
@@ -88,7 +91,8 @@ module _ (s : Settings) (c : Connection) (up : Upward) (down : Downward) (past :
   pub may_wait : is_calls c.stage ≡ false → takes_for_done c ≡ false → (is_connects c.stage ≡ true → now < opened_at past + 75000) → MayWait past now
   may_wait reached not_done early = record {
     closes = closes_when_done past (part_of c up) c.end_acknowledged c.ours_first c.acknowledged (h.receives reached).ends
-        (λ told acked_fin sure. absurd (all_three (sym (h.receives reached).host_ended ∙ told) (h.gives.fin_acked ∙ sym (our_fin (outward_of c.transmission down) past h.gives.keeps) ∙ acked_fin) sure));
+        (λ told acked_fin sure. absurd (all_three (sym (h.receives reached).host_ended ∙ told)
+        (h.gives.fin_acked ∙ sym (our_fin (outward_of c.transmission down) past h.gives.keeps) ∙ acked_fin) sure));
     connects = by (is_connecting past) refl;
   }
     where

@@ -1,5 +1,6 @@
 -- The guest's SYN arrives at a flow that calls it.
-use Rattle.std.proofs.Common.{refl, ◌≡◌, ℕ, ◌+◌, ◌*◌, ◌^◌, ◌≤◌, ◌∷◌, Bool, true, false, not, ◌&&◌, ◌||◌, Option, None, Some, is_some, if◌then◌else◌, min, nat_eq, nat_lt, pos, arith, ap, subst, sym, ◌∙◌, unwrap_or, length-drop}
+use Rattle.std.proofs.Common.{refl, ◌≡◌, ℕ, ◌+◌, ◌*◌, ◌^◌, ◌≤◌, ◌∷◌, Bool, true, false, not, ◌&&◌, ◌||◌, Option, None, Some, is_some, if◌then◌else◌, min, nat_eq, nat_lt, pos, arith, ap}
+use Rattle.std.proofs.Common.{subst, sym, ◌∙◌, unwrap_or, length-drop}
 use Rattle.std.proofs.lemmas.Int.{ints}
 use Rattle.std.specs.Option.{option_map}
 use Rattle.cwnd.specs.Congestion.{Congestion}
@@ -62,7 +63,8 @@ limited_feeds t down k low alone f = record {
   waits = f.waits;
 }
 
-module _ (s : Settings) (c : Connection) (up : Upward) (down : Downward) (past : Story) (now m : ℕ) (tcp : Tcp) (on : now ≤ m) (late : m ≤ 2 ^ 62) (h : Holds s c up down past now) (at : c.stage ≡ stage.Calls)
+module _ (s : Settings) (c : Connection) (up : Upward) (down : Downward) (past : Story) (now m : ℕ) (tcp : Tcp) (on : now ≤ m) (late : m ≤ 2 ^ 62) (h : Holds s c up down past now)
+    (at : c.stage ≡ stage.Calls)
     (gone : has_gone c.sendings ≡ true) (is_greeted : greets past (segment_of tcp) ≡ true) (rst : (segment_of tcp).rst ≡ false) (syn : (segment_of tcp).syn ≡ true) where
   abbrev seg : Segment
   seg = segment_of tcp
@@ -85,7 +87,8 @@ module _ (s : Settings) (c : Connection) (up : Upward) (down : Downward) (past :
   scale_known : shift_of tcp.scale ≡ shift_of (elim (their_syn after) [ None ↦ None | Some g ↦ g.scale ])
   scale_known = ap (λ (o : Option Segment). shift_of (elim o [ None ↦ None | Some g ↦ g.scale ])) (sym syn_known)
 
-  opened_after : (st : Stage) (tr : Transmission) (sy : Resending) (so fa : Bool) → is_calls st ≡ false → is_connects st ≡ false → is_live st ≡ true → tr.mss ≡ (greeted c tcp).transmission.mss → answered (host after) ≡ is_synchronized st
+  opened_after : (st : Stage) (tr : Transmission) (sy : Resending) (so fa : Bool) → is_calls st ≡ false → is_connects st ≡ false → is_live st ≡ true → tr.mss ≡
+      (greeted c tcp).transmission.mss → answered (host after) ≡ is_synchronized st
       → (is_opening st ≡ true → so ≡ true) → IsOpened s (record (greeted c tcp) { stage = st; transmission = tr; syn = sy; syn_owed = so; fin_acked = fa }) after
   opened_after st tr sy so fa no_call no_connect live most answered_is owes =
       let o = h.opened in record {
@@ -106,7 +109,8 @@ module _ (s : Settings) (c : Connection) (up : Upward) (down : Downward) (past :
         calling = λ is. let not_it = sym is ∙ no_call in absurd cc;
       }
 
-  received_after : (st : Stage) (tr : Transmission) (sy : Resending) (so fa : Bool) → Receives s (record (greeted c tcp) { stage = st; transmission = tr; syn = sy; syn_owed = so; fin_acked = fa }) up after
+  received_after : (st : Stage) (tr : Transmission) (sy : Resending) (so fa : Bool) → Receives s
+      (record (greeted c tcp) { stage = st; transmission = tr; syn = sy; syn_owed = so; fin_acked = fa }) up after
   received_after st tr sy so fa = greeted_receives s c up down past now m tcp on h at is_greeted rst st tr sy so fa refl
 
   -- ---- it acknowledges nothing
@@ -124,7 +128,8 @@ module _ (s : Settings) (c : Connection) (up : Upward) (down : Downward) (past :
         awaits = λ is. absurd cc;
         receives = λ is. received_after stage.Answers (greeted c tcp).transmission c.syn true c.fin_acked;
         gives = gives_most s (record (greeted c tcp) { transmission = c.transmission }) (greeted c tcp).transmission.mss down after m
-            (gives_as s (record c { syn_owed = true; ack_owed = true }) (record (greeted c tcp) { transmission = c.transmission }) down after m (sym opening) refl refl refl refl (λ owes so yet. by_arrival past m m seg) (λ so. refl) g);
+            (gives_as s (record c { syn_owed = true; ack_owed = true }) (record (greeted c tcp) { transmission = c.transmission }) down after m (sym opening) refl refl refl refl
+            (λ owes so yet. by_arrival past m m seg) (λ so. refl) g);
       }
     where
       none : (confirms past seg && is_acceptable (host past) seg.acknowledgement) ≡ false
@@ -206,16 +211,19 @@ module _ (s : Settings) (c : Connection) (up : Upward) (down : Downward) (past :
     answered0 = answered_now s past now m seg t0 down seq0 tcp.window false seen0 feeds0 keeps0 it seen_is0 ok0 on late
 
     window0 : tcp.window ≡ their_window s past seg
-    window0 = sym (ap (λ (b : Bool). tcp.window * 2 ^ (if b || not (is_scaled s past) then 0 else min 14 (unwrap_or (their_scale past) 0))) syn ∙ (let one : tcp.window * 2 ^ 0 ≡ tcp.window = omega arith in one))
+    window0 = sym (ap (λ (b : Bool). tcp.window * 2 ^ (if b || not (is_scaled s past) then 0 else min 14 (unwrap_or (their_scale past) 0))) syn ∙
+        (let one : tcp.window * 2 ^ 0 ≡ tcp.window = omega arith in one))
 
     gives0 : Gives s (opened_with u0) down0 after m
     gives0 =
         let g = h.gives in
         record {
           keeps = heard_keeps s past now m seg t0 down seq0 tcp.window false seen0 feeds0 keeps0 it seen_is0 ok0;
-          fin_acked = heard_fin s past now m seg t0 down seq0 tcp.window false seen0 feeds0 keeps0 it seen_is0 ok0 c.fin_acked (g.fin_acked ∙ ap (λ (x : ℕ). nat_eq x (octets_read down + 1)) (sym (congested_same (greeted c tcp)).3));
+          fin_acked = heard_fin s past now m seg t0 down seq0 tcp.window false seen0 feeds0 keeps0 it seen_is0 ok0 c.fin_acked
+              (g.fin_acked ∙ ap (λ (x : ℕ). nat_eq x (octets_read down + 1)) (sym (congested_same (greeted c tcp)).3));
           fin_out = g.fin_out ∙ ap (λ e. is_sent e) (sym ((heard_stays t0 seq0 tcp.window false m seen0).end ∙ (congested_same (greeted c tcp)).6));
-          window = heard_told s past now m seg t0 down seq0 tcp.window false seen0 feeds0 keeps0 it seen_is0 ok0 (g.window ∙ ap (λ o. window_by o) (sym (congested_same (greeted c tcp)).4)) refl window0;
+          window = heard_told s past now m seg t0 down seq0 tcp.window false seen0 feeds0 keeps0 it seen_is0 ok0
+              (g.window ∙ ap (λ o. window_by o) (sym (congested_same (greeted c tcp)).4)) refl window0;
           alone = λ is. heard_alone t0 seq0 tcp.window false m seen0 (congested_alone (greeted c tcp) (h.suits.congestion ∙ is) (g.alone is));
           resends = syn_heard_runs s past now m seg t0 down seq0 tcp.window false seen0 feeds0 keeps0 it seen_is0 ok0 on late sent0;
           counts = heard_counts s past now m seg t0 down seq0 tcp.window false seen0 feeds0 keeps0 it seen_is0 ok0 on late (rises past h.goes.story) (omega (arith, h.goes.moment, on))
@@ -230,7 +238,8 @@ module _ (s : Settings) (c : Connection) (up : Upward) (down : Downward) (past :
 
     watched_gives : Gives s (opened_with watched0) down0 after m
     watched_gives =
-        gives_watched s (opened_with u0) down0 after m (nat_lt u0.sent (places u0 down0)) (heard_steady t0 seq0 tcp.window false m seen0 late feeds0.sound.steady) (omega (arith, h.goes.moment, on), rises past h.goes.story)
+        gives_watched s (opened_with u0) down0 after m (nat_lt u0.sent (places u0 down0)) (heard_steady t0 seq0 tcp.window false m seen0 late feeds0.sound.steady)
+        (omega (arith, h.goes.moment, on), rises past h.goes.story)
         (λ is. under_way_is s (opened_with u0) down0 after (opened_after stage.Synchronized u0 (after_stop c.syn) false fa0 refl refl refl mss0 answered0 (λ yet. absurd cc)) gives0.keeps is) gives0
 
     ack_is0 : after_ack t0 down0 seq0 tcp.window false m seen0 ≡ watched0

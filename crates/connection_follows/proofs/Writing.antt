@@ -73,7 +73,8 @@ module _ (s : Settings) (c : Connection) (up : Upward) (down : Downward) (past :
           buffers = buffers;
           within = h.within;
           goes = does s past now m (Writes (take k up.held) n) (Write (take k up.held)) h.goes on (λ o. o) refl
-              (may_write s past m (take k up.held) w.1 w.2 h.goes.well h.goes.open_yet (h.opened.connects ∙ joined)) (must_write s past m (take k up.held) enough h.goes.free) h.goes.open_yet refl refl;
+              (may_write s past m (take k up.held) w.1 w.2 h.goes.well h.goes.open_yet (h.opened.connects ∙ joined))
+              (must_write s past m (take k up.held) enough h.goes.free) h.goes.open_yet refl refl;
           opened = opened_on s c past (At m (Writes (take k up.held) n) ∷ past) (record { ours = refl; connecting = refl; out = refl; accepted = refl; theirs = refl; unasked = refl }) refl h.opened;
           awaits = λ is. let not_it = sym is ∙ known in absurd cc;
           receives = λ is. written_receives r;
@@ -107,7 +108,8 @@ module _ (s : Settings) (c : Connection) (up : Upward) (down : Downward) (past :
         suits = record { ring = h.suits.ring; congestion = h.suits.congestion; scales = h.suits.scales; few = h.suits.few };
         buffers = buffers;
         within = h.within;
-        goes = does s past now m EndsHost EndHost h.goes on (λ o. o) refl (may_end s past m (t.1, t.2) h.goes.well h.goes.open_yet (h.opened.connects ∙ joined)) (must_end s past m h.goes.free) h.goes.open_yet refl refl;
+        goes = does s past now m EndsHost EndHost h.goes on (λ o. o) refl (may_end s past m (t.1, t.2) h.goes.well h.goes.open_yet (h.opened.connects ∙ joined))
+            (must_end s past m h.goes.free) h.goes.open_yet refl refl;
         opened = opened_beside s c (record c { host_ended = true }) (At m EndsHost ∷ past) refl refl (λ is. is) o.quiet o;
         awaits = λ is. let not_it = sym is ∙ known in absurd cc;
         receives = λ is. ended_receives none ended untold r;

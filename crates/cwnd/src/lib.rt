@@ -3,7 +3,8 @@
 #![tactic(auto)]
 
 ghost use Rattle.std.specs.Prelude.{◌≡◌, ℕ, ◌*◌, ◌^◌, ◌≤◌, List, [], ◌∷◌, Bool, IsTrue, ◌↔◌};
-ghost use Rattle.cwnd.specs.Congestion.{Congestion, Event, Acked, Duplicate, Expired, after_acked, after_duplicate, after_expiry, congestion_after, half_of as half_by, growth as growth_by, initial_window as initial_by};
+ghost use Rattle.cwnd.specs.Congestion.{Congestion, Event, Acked, Duplicate, Expired, after_acked, after_duplicate, after_expiry, congestion_after, half_of as half_by};
+ghost use Rattle.cwnd.specs.Congestion.{growth as growth_by, initial_window as initial_by};
 
 use std::marker::Model;
 

@@ -37,10 +37,12 @@ then a b c xs ys i j k first second = record {
 -- the octets of options are those of each
 pub put_octets-append : (form : Form) (ps qs : List (ℕ × List ℕ)) → put_octets form (ps ++ qs) ≡ put_octets form ps ++ put_octets form qs
 put_octets-append form [] qs = refl
-put_octets-append form (p ∷ ps) qs = ap (λ xs. item_octets form (Field p.0 p.1) ++ xs) (put_octets-append form ps qs) ∙ sym (append_assoc (item_octets form (Field p.0 p.1)) (put_octets form ps) (put_octets form qs))
+put_octets-append form (p ∷ ps) qs = ap (λ xs. item_octets form (Field p.0 p.1) ++ xs) (put_octets-append form ps qs) ∙ sym (append_assoc (item_octets form (Field p.0 p.1))
+    (put_octets form ps) (put_octets form qs))
 
 -- some options, and then others
-pub then_options : (form : Form) (a b c : List ℕ) (ps qs : List (ℕ × List ℕ)) (i j k : ℕ) → Adds a i b j (put_octets form ps) → Adds b j c k (put_octets form qs) → Adds a i c k (put_octets form (ps ++ qs))
+pub then_options : (form : Form) (a b c : List ℕ) (ps qs : List (ℕ × List ℕ)) (i j k : ℕ) → Adds a i b j (put_octets form ps) → Adds b j c k (put_octets form qs) → Adds a i c k
+    (put_octets form (ps ++ qs))
 then_options form a b c ps qs i j k first second = subst (Adds a i c k) (sym (put_octets-append form ps qs)) (then a b c (put_octets form ps) (put_octets form qs) i j k first second)
 
 -- what is written from the front on
@@ -57,7 +59,8 @@ adds_part old ys octets at n end long size room is =
     (written (take at old) octets old old ys at n end (sym (take-append-drop at old)) is (length-take-le at old within) size)
 
 -- octets that are put at the front of a part
-pub adds_front : (old ys octets : List ℕ) (at n k end : ℕ) → at + length octets ≡ end → at + n ≡ end → end ≤ length old → n ≤ k → ys ≡ octets ++ drop n (take k (drop at old)) → Adds old at (put_mid at k old ys) end octets
+pub adds_front : (old ys octets : List ℕ) (at n k end : ℕ) → at + length octets ≡ end → at + n ≡ end → end ≤ length old → n ≤ k → ys ≡ octets ++ drop n (take k (drop at old)) →
+    Adds old at (put_mid at k old ys) end octets
 adds_front old ys octets at n k end long size room few is =
     let within : at ≤ length old = omega arith in
     adds_from old (put_mid at k old ys) octets at end long within

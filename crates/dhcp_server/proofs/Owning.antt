@@ -1,5 +1,6 @@
 -- No hardware address has two addresses, whatever message comes.
-use Rattle.std.proofs.Common.{◌≡◌, ◌≢◌, ◌⊎◌, inl, inr, ℕ, zero, suc, ◌+◌, ◌-◌, ◌<◌, ◌≤◌, ◌==◌, nat_lt, nat_le, Bool, true, false, ◌&&◌, if◌then◌else◌, List, [], ◌∷◌, length, map, set, get_or, replicate, Option, Some, None, refl, sym, ap, ◌∙◌, subst, arith, get_or-set_same, get_or-set_other}
+use Rattle.std.proofs.Common.{◌≡◌, ◌≢◌, ◌⊎◌, inl, inr, ℕ, zero, suc, ◌+◌, ◌-◌, ◌<◌, ◌≤◌, ◌==◌, nat_lt, nat_le, Bool, true, false, ◌&&◌, if◌then◌else◌, List, [], ◌∷◌, length, map, set}
+use Rattle.std.proofs.Common.{get_or, replicate, Option, Some, None, refl, sym, ap, ◌∙◌, subst, arith, get_or-set_same, get_or-set_other}
 use Rattle.std.specs.Prelude.{IfSome, position}
 use Rattle.std.specs.List.{position_or_len}
 use Rattle.std.specs.Option.{option_or, option_and_then}
@@ -17,7 +18,8 @@ use Rattle.dhcp_server.specs.declared.leases.Lease.TheVariants.{Free, Reserved, 
 use Rattle.dhcp_server.specs.declared.message.Message.{Message}
 use Rattle.dhcp_server.specs.declared.serving.Answer.TheVariants.{Silence, Lends, Informs, Refuses}
 use Rattle.dhcp_server.specs.declared.serving.Outcome.{Outcome}
-use Rattle.dhcp_server.specs.Leases.{same_mac, at_moment, is_free, is_of, is_reserved_for, lease_at, place_of, free_asked, offered, reserved, freed, not_reserved, can_have, lend, replaced, lease_time, declined_time, IsOneToOne}
+use Rattle.dhcp_server.specs.Leases.{same_mac, at_moment, is_free, is_of, is_reserved_for, lease_at, place_of, free_asked, offered, reserved, freed, not_reserved, can_have, lend, replaced}
+use Rattle.dhcp_server.specs.Leases.{lease_time, declined_time, IsOneToOne}
 use Rattle.dhcp_server.specs.Serving.{leaves, asked_place, offers, discovered, is_for_another, wanted, lends, requested, given_up, leases_after, outcome_of, served}
 use Rattle.dhcp_server.specs.Messages.{read_message}
 use Rattle.dhcp_server.specs.Replies.{IsPlaced}
@@ -47,7 +49,8 @@ none_of : (mac : Mac) (place : ℕ) → is_of mac Free ≡ true → ⊥
 none_of mac place is = false≢true is
 
 -- one entry is made a hardware address's, which has no other
-set_one : (mac : Mac) (leases : List Lease) (k : ℕ) (lease : Lease) → OnlyOf mac lease → ((j : ℕ) → is_of mac (lease_at leases j) ≡ true → j ≡ k) → k < length leases → IsOneToOne leases → IsOneToOne (set leases k lease)
+set_one : (mac : Mac) (leases : List Lease) (k : ℕ) (lease : Lease) → OnlyOf mac lease → ((j : ℕ) → is_of mac (lease_at leases j) ≡ true → j ≡ k) → k < length leases →
+    IsOneToOne leases → IsOneToOne (set leases k lease)
 set_one mac leases k lease only alone within one m i j hi hj = by (cases_eq i k) (cases_eq j k)
   where
     at_k : (i : ℕ) → i ≡ k → is_of m (lease_at (set leases k lease) i) ≡ true → m ≡ mac
@@ -118,7 +121,8 @@ none_found mac leases none j is = by (nat_lt (position_or_len (is_of mac) leases
     behind : (a b c : ℕ) → nat_lt a b ≡ false → c < b → c < a
     behind a b c not_less lt = grind (arith, nat_tests)
 
-    by : (b : Bool) → nat_lt (position_or_len (is_of mac) leases) (length leases) ≡ b → (if b then Some (position_or_len (is_of mac) leases) else None) ≡ None → (j < length leases) ⊎ (length leases ≤ j) → ⊥
+    by : (b : Bool) → nat_lt (position_or_len (is_of mac) leases) (length leases) ≡ b → (if b then Some (position_or_len (is_of mac) leases) else None) ≡ None →
+        (j < length leases) ⊎ (length leases ≤ j) → ⊥
     by true lt missing where_j = never (position_or_len (is_of mac) leases) missing
     by false lt missing (inl before) = false≢true (sym (fails_before_first (is_of mac) leases j Free (behind (position_or_len (is_of mac) leases) (length leases) j lt before)) ∙ is)
     by false lt missing (inr past) = false≢true (ap (is_of mac) (sym (get_or_past leases j Free past)) ∙ is)
@@ -142,7 +146,8 @@ is_offered mac asked leases k one within is = by (position (is_of mac) leases) r
       within = (position-Some is_free leases k Free found).0;
     }
 
-    if_asked : (p : ℕ) (b : Bool) → is_free (lease_at leases p) ≡ b → p < length leases → position (is_of mac) leases ≡ None → option_or (if b then Some p else None) (position is_free leases) ≡ Some k → IsOffered mac leases k
+    if_asked : (p : ℕ) (b : Bool) → is_free (lease_at leases p) ≡ b → p < length leases → position (is_of mac) leases ≡ None → option_or (if b then Some p else None)
+        (position is_free leases) ≡ Some k → IsOffered mac leases k
     if_asked p true free lt none is =
         let pk = some_is p k is in
         record {
@@ -152,7 +157,8 @@ is_offered mac asked leases k one within is = by (position (is_of mac) leases) r
         }
     if_asked p false free lt none is = free_found is none
 
-    by_asked : (o : Option ℕ) → IfSome o (λ p. p < length leases) → position (is_of mac) leases ≡ None → option_or (option_and_then (free_asked leases) o) (position is_free leases) ≡ Some k → IsOffered mac leases k
+    by_asked : (o : Option ℕ) → IfSome o (λ p. p < length leases) → position (is_of mac) leases ≡ None → option_or (option_and_then (free_asked leases) o)
+        (position is_free leases) ≡ Some k → IsOffered mac leases k
     by_asked None lt none is = free_found is none
     by_asked (Some p) lt none is = if_asked p (is_free (lease_at leases p)) refl lt none is
 
@@ -224,10 +230,12 @@ good_lends now mac leases (Some k) long within one =
 good_requested : (config : Config) (now : ℕ) (m : Message) (leases : List Lease) → length leases ≡ 16 → IsOneToOne leases → IsGood (requested config now m leases)
 good_requested config now m leases long one =
     either (is_for_another config m) (leaves (map (not_reserved m.mac) leases) Silence) (lends now m.mac leases (place_of config (wanted m)))
-    (silent (map (not_reserved m.mac) leases) (length-map leases (not_reserved m.mac) ∙ long) (map_one (not_reserved m.mac) leases refl (λ n lease is. or_free (is_reserved_for m.mac lease) n lease is) one))
+    (silent (map (not_reserved m.mac) leases) (length-map leases (not_reserved m.mac) ∙ long)
+    (map_one (not_reserved m.mac) leases refl (λ n lease is. or_free (is_reserved_for m.mac lease) n lease is) one))
     (good_lends now m.mac leases (place_of config (wanted m)) long (place_within config (wanted m)) one)
 
-good_given_up : (mac : Mac) (lease : Lease) (leases : List Lease) (o : Option ℕ) → ((m : Mac) → is_of m lease ≡ false) → length leases ≡ 16 → IfSome o (λ k. k < 16) → IsOneToOne leases → IsGood (given_up mac lease leases o)
+good_given_up : (mac : Mac) (lease : Lease) (leases : List Lease) (o : Option ℕ) → ((m : Mac) → is_of m lease ≡ false) → length leases ≡ 16 → IfSome o (λ k. k < 16) →
+    IsOneToOne leases → IsGood (given_up mac lease leases o)
 good_given_up mac lease leases None none long within one = silent leases long one
 good_given_up mac lease leases (Some k) none long within one = silent (replaced mac k lease leases) (as_many (is_of mac (lease_at leases k))) (by (is_of mac (lease_at leases k)))
   where
@@ -262,7 +270,8 @@ all_free count m i j hi hj = absurd (none count i hi)
     none (suc count) (suc i) is = none count i is
 
 -- whatever octets came, where there were 16 addresses
-pub good_after : (config : Config) (now : ℕ) (octets : List ℕ) (leases : List Lease) → length leases ≡ 16 → IsOneToOne leases → IsOneToOne (leases_after config now octets leases) × (length (leases_after config now octets leases) ≡ 16)
+pub good_after : (config : Config) (now : ℕ) (octets : List ℕ) (leases : List Lease) → length leases ≡ 16 → IsOneToOne leases → IsOneToOne (leases_after config now octets leases) ×
+    (length (leases_after config now octets leases) ≡ 16)
 good_after config now octets leases long one = by (read_message octets)
   where
     by : (o : Option Message) → IsOneToOne (served config now leases o).leases × (length (served config now leases o).leases ≡ 16)

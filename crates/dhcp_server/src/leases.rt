@@ -182,7 +182,8 @@ impl Leases {
         }
     }
 
-    /// Takes a client's message at a moment of at most 2^62 milliseconds, and writes its reply at the front of `into`, which has room for 1,024 octets; no reply has over 790. A message that is none is answered by nothing and changes nothing.
+    /// Takes a client's message at a moment of at most 2^62 milliseconds, and writes its reply at the front of `into`, which has room for 1,024 octets; no
+    /// reply has over 790. A message that is none is answered by nothing and changes nothing.
     pub fn message(&mut self, now: u64, body: &[u8], into: &mut [u8]) -> Reply
         requires moment { now ≤ 2 ^ 62 }
         requires room { 1024 ≤ length into.old }

@@ -34,7 +34,8 @@ pub struct Message {
 }
 
 impl Message {
-    /// What the octets say. None where they are no message of a client to a server: the fixed part and the cookie aren't there, it isn't a request over Ethernet, a relay passed it on, or its options are no list with a kind.
+    /// What the octets say. None where they are no message of a client to a server: the fixed part and the cookie aren't there, it isn't a request over
+    /// Ethernet, a relay passed it on, or its options are no list with a kind.
     pub fn read(octets: &[u8]) -> Option<Message>
         ensures { result ≡ read_message octets.now }
     {

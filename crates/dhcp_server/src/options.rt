@@ -27,7 +27,8 @@ pub fn options_read() -> Table<5>
     Table::of(FORM, rows)
 }
 
-/// The table of the options that are written: mask, router, name server, the client's name and its domain, the time of a lease, the kind of the message, the server, the TFTP server's name and the file.
+/// The table of the options that are written: mask, router, name server, the client's name and its domain, the time of a lease, the kind of the message, the
+/// server, the TFTP server's name and the file.
 pub fn options_written() -> Table<10>
     ensures { result ≡ record { form = form; rows = rows_written } }
 {

@@ -4,7 +4,8 @@ ghost use Rattle.net_octets.specs.Octets.{four};
 ghost use Rattle.host_policy.specs.Settings.{settings};
 ghost use Rattle.tlv_table.specs.Putting.{CanPut, put_octets};
 ghost use Rattle.dhcp_server.specs.Messages.{form};
-ghost use Rattle.dhcp_server.specs.Replies.{rows_written, kind_of, is_ack, is_silence, is_refusal, IsPlaced, given, zeros, filled, front, addresses, back, text_option, router, name_server, lease_option, network_options, further_options, options, goes_to_all, datagram_of, reply_octets, reply_of, octets_of_reply};
+ghost use Rattle.dhcp_server.specs.Replies.{rows_written, kind_of, is_ack, is_silence, is_refusal, IsPlaced, given, zeros, filled, front, addresses, back, text_option, router};
+ghost use Rattle.dhcp_server.specs.Replies.{name_server, lease_option, network_options, further_options, options, goes_to_all, datagram_of, reply_octets, reply_of, octets_of_reply};
 ghost use Rattle.dhcp_server.specs.Writing.{Adds};
 
 use crate::message::Message;

@@ -35,7 +35,8 @@ below_up bound (x ∷ list) below =
     let here = All-head (λ (n : ℕ). n < bound) x.number (numbers list) below in
     All-cons (λ (n : ℕ). n < bound + 1) x.number (numbers list) (omega (arith, here)) (below_up bound list (All-tail (λ (n : ℕ). n < bound) x.number (numbers list) below))
 
-below_moved : (bound socket : ℕ) (change : Question → Question) → ((q : Question) → (change q).number ≡ q.number) → (list : List Question) → AreBelow bound list → AreBelow bound (moved_last change socket list)
+below_moved : (bound socket : ℕ) (change : Question → Question) → ((q : Question) → (change q).number ≡ q.number) → (list : List Question) → AreBelow bound list → AreBelow bound
+    (moved_last change socket list)
 below_moved bound socket change keeps list below = All-permutation (λ (n : ℕ). n < bound) (numbers list) (numbers (moved_last change socket list)) (moved_numbers change keeps socket list) below
 
 below_room : (bound : ℕ) (list : List Question) → AreBelow bound list → AreBelow bound (with_room list)
@@ -46,19 +47,23 @@ below_room bound (oldest ∷ list) below = by (nat_le most_questions (length (ol
     by true = below_without bound oldest.number (oldest ∷ list) below
     by false = below
 
-below_opened : (bind : ℕ) (d : Asked) (now number : ℕ) (old new : List Question) (reply : Reply) (calls : List Entry) → OpensFor bind d now number old new reply calls → AreBelow number old → AreBelow (number + 1) new
+below_opened : (bind : ℕ) (d : Asked) (now number : ℕ) (old new : List Question) (reply : Reply) (calls : List Entry) → OpensFor bind d now number old new reply calls →
+    AreBelow number old → AreBelow (number + 1) new
 below_opened bind d now number old new reply calls (Opens answer made is replies) below =
-    subst (AreBelow (number + 1)) (sym is) (below_moved (number + 1) number (asked_from d.mac now) (λ q. refl) (old ++ (question_of d number now ∷ [])) (below_last number old (question_of d number now) below refl))
+    subst (AreBelow (number + 1)) (sym is) (below_moved (number + 1) number (asked_from d.mac now) (λ q. refl) (old ++ (question_of d number now ∷ []))
+    (below_last number old (question_of d number now) below refl))
 below_opened bind d now number old new reply calls (OpensNone made is replies) below = subst (AreBelow (number + 1)) (sym is) (below_up number old below)
 
 -- after a question, after what came on a socket, and after sockets were closed
-pub below_relayed : (bind : ℕ) (d : Asked) (now number next : ℕ) (old new : List Question) (reply : Reply) (made : List Entry) → Relays bind d now number next old new reply made → AreBelow number old → AreBelow next new
+pub below_relayed : (bind : ℕ) (d : Asked) (now number next : ℕ) (old new : List Question) (reply : Reply) (made : List Entry) → Relays bind d now number next old new reply made →
+    AreBelow number old → AreBelow next new
 below_relayed bind d now number next old new reply made (BySocket socket answer found sends replies is same) below =
     subst (λ n. AreBelow n new) (sym same) (subst (AreBelow number) (sym is) (below_moved number socket (asked_from d.mac now) (λ q. refl) old below))
 below_relayed bind d now number next old new reply made (ByNewSocket calls found room opens is same) below =
     subst (λ n. AreBelow n new) (sym same) (below_opened bind d now number (with_room old) new reply calls opens (below_room number old below))
 
-pub below_heard : (bound : ℕ) (s : RelayState) (now socket room : ℕ) (into : List ℕ) (new : List Question) (reply : Reply) (made : List Entry) → Hears s now socket room into new reply made → AreBelow bound s.list → AreBelow bound new
+pub below_heard : (bound : ℕ) (s : RelayState) (now socket room : ℕ) (into : List ℕ) (new : List Question) (reply : Reply) (made : List Entry) →
+    Hears s now socket room into new reply made → AreBelow bound s.list → AreBelow bound new
 below_heard bound s now socket room into new reply made (OnNone found no_call is replies) below = subst (AreBelow bound) (sym is) below
 below_heard bound s now socket room into new reply made (OnQuestion q answer found calls is replies) below = subst (AreBelow bound) (sym is) (by answer (filled_got answer into))
   where

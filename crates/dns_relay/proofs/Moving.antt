@@ -1,5 +1,6 @@
 -- What becomes of the row of questions, and of their numbers.
-use Rattle.std.proofs.Common.{◌≡◌, ℕ, zero, suc, ◌-◌, ◌<◌, ◌==◌, ltb, not, Bool, true, false, cond, All, List, [], ◌∷◌, ◌++◌, length, filter, find, position, get_or, slice_get, Some, None, refl, sym, ◌∙◌, ap, subst, arith}
+use Rattle.std.proofs.Common.{◌≡◌, ℕ, zero, suc, ◌-◌, ◌<◌, ◌==◌, ltb, not, Bool, true, false, cond, All, List, [], ◌∷◌, ◌++◌, length, filter, find, position, get_or, slice_get, Some, None}
+use Rattle.std.proofs.Common.{refl, sym, ◌∙◌, ap, subst, arith}
 use Rattle.std.specs.List.{remove, position_or_len}
 use Rattle.std.specs.List.Sorted.{IsPermutation, IsNonDecreasing}
 use Rattle.std.proofs.lemmas.Bool.Decides.{nat_tests}
@@ -7,7 +8,8 @@ use Rattle.std.proofs.lemmas.List.{map-append}
 use Rattle.std.proofs.lemmas.List.Folds.{find_at}
 use Rattle.std.proofs.lemmas.List.Quantifiers.{position-Some}
 use Rattle.std.proofs.lemmas.Option.{slice_get_past}
-use Rattle.std.proofs.lemmas.List.Sorted.{All-permutation, IsNonDecreasingBy-push, IsPermutation-append_comm, IsPermutation-append_left, IsPermutation-append_right, IsPermutation-refl, IsPermutation-sym, IsPermutation-trans, length_permutation}
+use Rattle.std.proofs.lemmas.List.Sorted.{All-permutation, IsNonDecreasingBy-push, IsPermutation-append_comm, IsPermutation-append_left, IsPermutation-append_right, IsPermutation-refl}
+use Rattle.std.proofs.lemmas.List.Sorted.{IsPermutation-sym, IsPermutation-trans, length_permutation}
 use Rattle.dns_relay.specs.Questions.{is_numbered, moved_last, numbers, without}
 use Rattle.dns_relay.specs.declared.Question.{Question}
 use Rattle.dns_relay.proofs.Counting.{permuted_filter}
@@ -15,7 +17,8 @@ use Rattle.dns_relay.proofs.Counting.{permuted_filter}
 -- ---- one moves
 
 -- the one at the place of its number
-place_of_later : (number : ℕ) (q : Question) (rows : List Question) (i : ℕ) (d : Question) → ((k : ℕ) → k < suc i → is_numbered number (get_or (q ∷ rows) k d) ≡ false) → (k : ℕ) → k < i → is_numbered number (get_or rows k d) ≡ false
+place_of_later : (number : ℕ) (q : Question) (rows : List Question) (i : ℕ) (d : Question) → ((k : ℕ) → k < suc i → is_numbered number (get_or (q ∷ rows) k d) ≡ false) → (k : ℕ) →
+    k < i → is_numbered number (get_or rows k d) ≡ false
 place_of_later number q rows i d none k low = none (suc k) (omega (arith, low))
 
 moved_at : (change : Question → Question) (number : ℕ) (rows : List Question) (i : ℕ) (d : Question) → i < length rows → is_numbered number (get_or rows i d) ≡ true
@@ -80,7 +83,8 @@ one_more list q rising all =
     subst (λ (l : List ℕ). IsPermutation l (rising ++ (q.number ∷ []))) (sym (map-append (λ (x : Question). x.number) list (q ∷ [])))
     (IsPermutation-append_left (q.number ∷ []) (numbers list) rising all)
 
-pub still_rise : (list : List Question) (number : ℕ) (rising : List ℕ) → IsPermutation (numbers list) rising → IsNonDecreasing rising → All (λ n. n < number) (numbers list) → IsNonDecreasing (rising ++ (number ∷ []))
+pub still_rise : (list : List Question) (number : ℕ) (rising : List ℕ) → IsPermutation (numbers list) rising → IsNonDecreasing rising → All (λ n. n < number) (numbers list) →
+    IsNonDecreasing (rising ++ (number ∷ []))
 still_rise list number rising all rise above =
     let under = All-permutation (λ (n : ℕ). n < number) (numbers list) rising all above in
     IsNonDecreasingBy-push (λ (n : ℕ). n) rising number rise (λ d some. let last = under (length rising - 1) d (omega (arith, some)) in omega (arith, last))
@@ -98,7 +102,8 @@ numbers_without number [] = refl
 numbers_without number (q ∷ list) = by (is_numbered number q) (numbers_without number list)
   where
     by : (b : Bool) → filter (λ n. not (n == number)) (numbers list) ≡ numbers (without number list)
-        → cond (not b) (q.number ∷ filter (λ n. not (n == number)) (numbers list)) (filter (λ n. not (n == number)) (numbers list)) ≡ numbers (cond (not b) (q ∷ without number list) (without number list))
+        → cond (not b) (q.number ∷ filter (λ n. not (n == number)) (numbers list)) (filter (λ n. not (n == number)) (numbers list)) ≡ numbers
+        (cond (not b) (q ∷ without number list) (without number list))
     by true rest = rest
     by false rest = ap (λ (l : List ℕ). q.number ∷ l) rest
 

@@ -1,5 +1,6 @@
 -- What is told of a call that is passed on, and of one that gets the fault.
-use Rattle.std.proofs.Common.{◌≡◌, ◌⊎◌, inl, inr, ℕ, ◌+◌, ◌^◌, ◌<◌, ◌≤◌, ◌==◌, ◌&&◌, nat_lt, min, max, Bool, true, false, cond, Option, Some, None, is_none, List, [], ◌∷◌, ◌++◌, length, length-append, length-drop, get_or, take, drop, refl, sym, ◌∙◌, ap, subst, arith}
+use Rattle.std.proofs.Common.{◌≡◌, ◌⊎◌, inl, inr, ℕ, ◌+◌, ◌^◌, ◌<◌, ◌≤◌, ◌==◌, ◌&&◌, nat_lt, min, max, Bool, true, false, cond, Option, Some, None, is_none, List, [], ◌∷◌, ◌++◌, length}
+use Rattle.std.proofs.Common.{length-append, length-drop, get_or, take, drop, refl, sym, ◌∙◌, ap, subst, arith}
 use Rattle.std.proofs.lemmas.List.{get_or_default, take-append-le, length-take-le}
 use Rattle.world_face.specs.Journal.{AreOctets, Entry, Allowed, IsNumber, Leaves, MayRead, MayReadFile, MayWrite, count_of, filled}
 use Rattle.world_face.specs.Faults.{failures, link_failed, wait_failed, socket_failed, file_failed}
@@ -157,8 +158,12 @@ one_asked into some = length-take-le 1 into some
 module _ (into part : List ℕ) (answer : Io) (some : 0 < length into) (same : length part ≡ length (take 1 into)) where
   pub may_leave : length into < 2 ^ 64 → MayRead (length (take 1 into)) answer → Leaves answer (filled answer part)
       → MayRead (length into) answer × Leaves answer (filled answer (part ++ drop 1 into)) × IsNumber (length into)
-  may_leave fits may leaves =
-      (may_more (length (take 1 into)) (length into) answer (omega (arith, one_asked into some, some)) may, subst (Leaves answer) (sym (same_filled (length (take 1 into)) answer part (drop 1 into) same may)) leaves, fits)
+  may_leave fits may leaves = (
+    may_more (length (take 1 into)) (length into) answer (omega (arith, one_asked into some, some)) may,
+    subst (Leaves answer)
+        (sym (same_filled (length (take 1 into)) answer part (drop 1 into) same may)) leaves,
+    fits,
+  )
 
   pub file_may_leave : length into < 2 ^ 64 → MayReadFile (length (take 1 into)) answer → Leaves answer (filled answer part)
       → MayReadFile (length into) answer × Leaves answer (filled answer (part ++ drop 1 into)) × IsNumber (length into)

@@ -23,6 +23,7 @@ pub struct Draws {
 }
 
 impl Draws {
+    /// Draws the next number, from 0 to 7, and moves the seed on.
     pub fn draw(&mut self) -> u64
         ensures seed { self.new.seed ≡ next_seed self.old.seed }
         ensures drawn { result ≡ drawn self.new.seed }

@@ -41,7 +41,7 @@ enum Course {
     PassesOn,
 }
 
-// What the fault is, how many calls come before it, and which call got it.
+/// What the fault is, how many calls still come before it, and the kind of the call that got it, once one has.
 #[derive(Clone, Copy)]
 pub(crate) struct Plan {
     how: How,
@@ -111,9 +111,9 @@ impl Plan {
     }
 }
 
-/// A World that passes every call on to another but for one. The first call from a number on, counted from 0, that can be answered by the fault gets it in place of
-/// its own answer: it fails and the count of its kind rises, or it is answered NotYet, and the other World isn't asked; or, of a read or a write of several octets, the
-/// other World is asked for one, and moves it. It tells no call.
+/// A World that passes every call on to another but for one. The first call from a number on, counted from 0, that can be answered by the fault gets
+/// it in place of its own answer: it fails and the count of its kind rises, or it is answered NotYet, and the other World isn't asked; or, of a read
+/// or a write of several octets, the other World is asked for one, and moves it. It tells no call.
 #[derive(Drop)]
 pub struct FaultWorld<W: World> {
     inner: W,
@@ -170,7 +170,8 @@ impl<W: World> FaultWorld<W> {
 impl<W: World> World for FaultWorld<W> {
     ghost use Rattle.std.specs.Prelude.{take};
     ghost use Rattle.poll_list.specs.Listing.{AreWants};
-    ghost use Rattle.world_face.specs.Journal.{filled, filled_got, place_of, IsPlace, Now, Wait, LinkOpen, LinkRead, LinkWrite, Connect, Connected, Listen, Accept, TcpRead, TcpWrite, TcpEnd, Close, UdpOpen, UdpSend, UdpRecv, FileLen, FileRead};
+    ghost use Rattle.world_face.specs.Journal.{filled, filled_got, place_of, IsPlace, Now, Wait, LinkOpen, LinkRead, LinkWrite, Connect, Connected, Listen, Accept, TcpRead, TcpWrite};
+    ghost use Rattle.world_face.specs.Journal.{TcpEnd, Close, UdpOpen, UdpSend, UdpRecv, FileLen, FileRead};
     ghost use Rattle.world_face.specs.Limits.{most_ready, most_to_link, most_to_flow, most_to_udp, most_wants, most_name};
     ghost use Rattle.world_face.specs.declared.Io.TheVariants.{Failed as IoFailed, NotYet as IoLater};
     ghost use Rattle.world_face.specs.declared.Made.TheVariants.{Failed as MadeFailed};

@@ -22,6 +22,7 @@ const PATIENCE: u64 = 1000;
 /// A connection. Its numbers are counted from that of its SYN, which is 0; its octets follow, and its FIN is the last.
 #[derive(Clone, Copy)]
 pub struct Flow {
+    /// The guest's port.
     pub port: u16,
     /// How many octets it sends in all.
     pub octets: u32,
@@ -36,6 +37,7 @@ pub struct Flow {
     pub taken: u32,
     /// Whether the other side's FIN was taken.
     pub end_taken: bool,
+    /// Whether the other side reset it.
     pub reset: bool,
     /// When it sends next, while it has something to send.
     pub due: Option<u64>,
@@ -45,7 +47,7 @@ pub struct Flow {
 #[derive(Clone, Copy)]
 pub enum Owed {
     Nothing,
-    /// An acknowledgement.
+    /// A segment without octets that acknowledges what came.
     Word,
     /// The next piece, which acknowledges too.
     Piece,
@@ -89,7 +91,8 @@ impl Flow {
         matches!(self.due, Some(due) if due <= now)
     }
 
-    /// The piece that begins at the first number that isn't acknowledged. It is sent again after a while, shorter where the window shrank meanwhile.
+    /// The piece that begins at the first number that isn't acknowledged. It is sent again after a second, shorter where the window shrank
+    /// meanwhile. None once all is acknowledged or the connection was reset.
     pub fn piece<'a>(&mut self, now: u64, pattern: &'a Pattern) -> Option<TcpView<'a>> {
         if self.reset || self.is_all_acknowledged() {
             self.due = None;

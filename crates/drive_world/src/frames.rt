@@ -10,8 +10,10 @@ use std::alloc::Global;
 use tcp_segment::TcpView;
 use world_face::MOST_TO_LINK;
 
+/// The address of the guest, 10.0.2.15.
 pub const GUEST: Ip4 = Ip4(0x0a00020f);
 
+/// Where the guest's flows go: port 80 at 192.0.2.7, in a block for documentation (RFC 5737, 3).
 pub const SERVER: Endpoint = Endpoint {
     addr: Ip4(0xc0000207),
     port: 80,
@@ -40,6 +42,7 @@ pub struct Frame {
 }
 
 impl Frame {
+    /// A frame of which nothing came yet.
     pub fn empty() -> Frame {
         Frame {
             flow: 0,
@@ -86,7 +89,7 @@ impl Frame {
         }
     }
 
-    /// The frame that carries a segment of the guest's flow, which has at most 1,000 octets.
+    /// The frame that carries a segment of the guest's flow. None where the segment has more than 1,000 octets of data, or finds no room.
     pub fn carrying(flow: usize, segment: &TcpView<'_>) -> Option<Frame> {
         let mut body = [0; MOST_SEGMENT];
         let size = write_segment(segment, &mut body)?;
@@ -185,6 +188,7 @@ pub struct Frames {
 }
 
 impl Frames {
+    /// No frame, and memory for `room` of them. Err where there isn't so much.
     pub fn open(alloc: Global, room: usize) -> Result<Frames, NoMemory> {
         let Ok(list) = vec![in alloc; Frame::empty(); room] else {
             return Err(NoMemory);
@@ -196,11 +200,12 @@ impl Frames {
         })
     }
 
+    /// How many frames stand in the row, at most as many as there is room for.
     pub fn count(&self) -> usize {
         self.count
     }
 
-    /// Puts a frame at the end, where there is room.
+    /// Puts a frame at the end. False where there is no room, and then nothing is put.
     pub fn push(&mut self, frame: &Frame) -> bool {
         let room = self.list.len();
         let free = self.count < room;
@@ -220,7 +225,7 @@ impl Frames {
         }
     }
 
-    /// The first frame.
+    /// The frame that was put first of those that are left; None where none is.
     pub fn front(&self) -> Option<&Frame> {
         if self.count == 0 {
             return None;
@@ -240,7 +245,7 @@ impl Frames {
         }
     }
 
-    /// Takes the last frame away.
+    /// Takes away the frame that was put last, and answers it; None where there is none.
     pub fn pop(&mut self) -> Option<Frame> {
         if self.count == 0 {
             return None;

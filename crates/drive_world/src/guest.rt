@@ -8,6 +8,7 @@ use world_face::sooner;
 /// How many connections the guest has.
 pub const FLOWS: usize = 8;
 
+/// The guest with its flows, numbered from 0, whose ports rise from `FIRST_PORT` on.
 #[derive(Drop)]
 pub struct Guest {
     flows: [Flow; FLOWS],
@@ -82,7 +83,7 @@ impl Guest {
         }
     }
 
-    /// When it sends next by itself.
+    /// The moment, in milliseconds, at which it sends next by itself. None where no flow has something to send.
     pub fn next_due(&self) -> Option<u64> {
         let mut next = None;
         for flow in &self.flows {
@@ -91,6 +92,7 @@ impl Guest {
         next
     }
 
+    /// The flows, each at the place of its number.
     pub fn flows(&self) -> &[Flow] {
         &self.flows
     }

@@ -24,6 +24,7 @@ struct Socket {
     is_ended: bool,
 }
 
+/// The server's sides of the guest's flows, each at the place of its flow's number.
 #[derive(Drop)]
 pub struct Host {
     sockets: Vec<Socket>,
@@ -71,13 +72,14 @@ impl Host {
         }
     }
 
-    /// The guest's end came.
+    /// Notes that the guest's end came on this connection: behind what is given back the end is read.
     pub fn end(&mut self, number: u64) {
         if let Some(socket) = self.find(number) {
             socket.is_ended = true;
         }
     }
 
+    /// Closes the connection with this number, where there is one: the flow has none then.
     pub fn close(&mut self, number: u64) {
         if let Some(socket) = self.find(number) {
             socket.number = None;

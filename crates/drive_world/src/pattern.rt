@@ -1,23 +1,26 @@
 // What the streams carry: octet i is i modulo 251.
 use net_octets::NoMemory;
 use std::alloc::Global;
-use world_face::MOST_TO_FLOW;
 
 /// After so many octets a stream begins anew.
 pub const PERIOD: usize = 251;
 
-/// A stretch of a stream that holds each part of up to 16,384 octets.
+/// So many periods hold each part of 16,384 octets, wherever it begins.
+const PERIODS: usize = 67;
+
+/// The first 67 periods of a stream: each part of at most 16,384 octets stands in it, since 16,384 and 250 octets are fewer.
 #[derive(Drop)]
 pub struct Pattern {
     octets: Vec<u8>,
 }
 
 impl Pattern {
+    /// Makes the stretch. Err where there is no memory for it.
     pub fn open(alloc: Global) -> Result<Pattern, NoMemory> {
-        let Ok(mut octets) = Vec::with_capacity(alloc, MOST_TO_FLOW + PERIOD) else {
+        let Ok(mut octets) = Vec::with_capacity(alloc, PERIODS * PERIOD) else {
             return Err(NoMemory);
         };
-        for _ in 0..66 {
+        for _ in 0..PERIODS {
             for octet in 0..251u8 {
                 if octets.push(octet).is_err() {
                     return Err(NoMemory);
@@ -27,7 +30,7 @@ impl Pattern {
         Ok(Pattern { octets })
     }
 
-    /// The octets of a stream from a place on.
+    /// So many octets of a stream from a place on. None where the stretch is too short for them.
     pub fn part(&self, place: u32, count: usize) -> Option<&[u8]> {
         let from = place as usize % PERIOD;
         self.octets.get(from..from.saturating_add(count))

@@ -33,7 +33,8 @@ pub fn moved(count: usize) -> Io
     }
 }
 
-/// Puts the parts of the wants that are ready into an empty list: the link for reading where frames wait, connections for reading where they bring something, and each of them for writing.
+/// Puts the parts of the wants that are ready into an empty list: the link for reading where frames wait, connections for reading where they bring
+/// something, and each of them for writing.
 pub fn report(wants: &Wants, frames_wait: bool, host: &Host, ready: &mut ReadyList)
     requires none { ready.old.items ≡ [] }
     requires some { AreWants wants.now.items }

@@ -53,6 +53,7 @@ impl Way {
     }
 }
 
+/// Both directions between guest and network, and the draws that say what becomes of each frame.
 #[derive(Drop)]
 pub struct Road {
     draws: Draws,
@@ -63,6 +64,7 @@ pub struct Road {
 }
 
 impl Road {
+    /// An empty road, whose draws begin with `seed`. Err where there is no memory for the frames that may wait or be held back.
     pub fn open(alloc: Global, seed: u64) -> Result<Road, NoMemory> {
         let from_guest = Way::open(alloc)?;
         let to_guest = Way::open(alloc)?;
@@ -103,11 +105,12 @@ impl Road {
         self.to_guest.send(frame, &mut self.draws)
     }
 
-    /// The frame to the guest that was held back last.
+    /// Takes the frame to the guest that was held back last; None where none is.
     pub fn late(&mut self) -> Option<Frame> {
         self.to_guest.held.pop()
     }
 
+    /// How many frames to the guest are held back.
     pub fn late_count(&self) -> usize {
         self.to_guest.held.count()
     }

@@ -19,6 +19,7 @@ pub struct Run {
 }
 
 impl Run {
+    /// Puts the summary, a line each: the number, the count of flows, which is 8, the octets up and down, how many are wrong, and the waits.
     pub fn put<K: Sink>(&self, out: &mut K) -> Result<(), Failed>
         ensures { Puts (K.holds out.old) (K.holds out.new) (K.faults out.old) (K.faults out.new) (summary_text (run_of self.now)) result }
     {

@@ -25,7 +25,8 @@ use world_face::{
 /// At this wait the run is stopped.
 const LAST_WAIT: u64 = 20_000_000;
 
-/// A guest with eight connections through the network to a host that gives back what it got, and a clock that moves only while nothing else does. What becomes of each frame between guest and network is drawn from a number. No call on it fails.
+/// A guest with eight connections through the network to a host that gives back what it got, and a clock that moves only while nothing else does. What becomes
+/// of each frame between guest and network is drawn from a number. No call on it fails.
 #[derive(Drop)]
 pub struct DriveWorld {
     run: Run,
@@ -167,7 +168,8 @@ impl Outside {
         self.guest.tick(self.clock, &self.pattern, &mut self.road);
     }
 
-    // Nothing is ready: the clock moves, to the nearest of the timeout and the guest's own time, and what was held back comes. Answers whether there was anything to wait for.
+    // Nothing is ready: the clock moves, to the nearest of the timeout and the guest's own time, and what was held back comes. Answers whether there
+    // was anything to wait for.
     fn pass(&mut self, timeout: Option<u64>, run: &mut Run) -> bool
         ensures { CountsDown run.old run.new }
     {
@@ -252,7 +254,8 @@ impl Outside {
 impl World for DriveWorld {
     ghost use Rattle.std.specs.Prelude.{◌≡◌, ◌+◌, ◌<◌, ◌≤◌, length, min};
     ghost use Rattle.poll_list.specs.Listing.{AreWants};
-    ghost use Rattle.world_face.specs.Journal.{filled, filled_got, place_of, IsPlace, Now, Wait, LinkOpen, LinkRead, LinkWrite, Connect, Connected, Listen, Accept, TcpRead, TcpWrite, TcpEnd, Close, UdpOpen, UdpSend, UdpRecv, FileLen, FileRead};
+    ghost use Rattle.world_face.specs.Journal.{filled, filled_got, place_of, IsPlace, Now, Wait, LinkOpen, LinkRead, LinkWrite, Connect, Connected, Listen, Accept, TcpRead, TcpWrite};
+    ghost use Rattle.world_face.specs.Journal.{TcpEnd, Close, UdpOpen, UdpSend, UdpRecv, FileLen, FileRead};
     ghost use Rattle.world_face.specs.Limits.{most_ready, most_to_link, most_to_flow, most_to_udp, most_wants, most_name, last_count};
     ghost use Rattle.world_face.specs.Tells.{Answers};
     ghost use Rattle.world_face.specs.declared.Waited.TheVariants.{Stop};

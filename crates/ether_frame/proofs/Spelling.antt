@@ -1,5 +1,6 @@
 -- The grammar of frames and the reading function say the same.
-use Rattle.std.proofs.Common.{◌≡◌, ℕ, ◌+◌, ◌^◌, ◌<◌, ◌≤◌, nat_le, true, List, [], ◌∷◌, ◌++◌, length, drop, if◌then◌else◌, Some, None, refl, sym, ◌∙◌, ap, subst, arith, append_assoc, length-append, take}
+use Rattle.std.proofs.Common.{◌≡◌, ℕ, ◌+◌, ◌^◌, ◌<◌, ◌≤◌, nat_le, true, List, [], ◌∷◌, ◌++◌, length, drop, if◌then◌else◌, Some, None, refl, sym, ◌∙◌, ap, subst, arith, append_assoc}
+use Rattle.std.proofs.Common.{length-append, take}
 use Rattle.std.proofs.lemmas.List.{take_at}
 use Rattle.std.proofs.lemmas.Bool.Decides.{nat_tests}
 use Rattle.std.proofs.lemmas.Nat.{from_be_bytes-to_be_bytes_2}
@@ -14,7 +15,8 @@ ether_six to from body kind t f fits =
     let P : List ℕ → List ℕ → Type 0 = λ x y. read_ether (ether_octets x y kind body) ≡ Some (record { to = x; from = y; kind = kind; body = body }) in
     subst (λ x. P x from) (sym t.is) (subst (λ y. P (t.a ∷ t.b ∷ t.c ∷ t.d ∷ t.e ∷ t.f ∷ []) y) (sym f.is) (core t.a t.b t.c t.d t.e t.f f.a f.b f.c f.d f.e f.f))
   where
-    core : (a b c d e f g h i j k l : ℕ) → read_ether (ether_octets (a ∷ b ∷ c ∷ d ∷ e ∷ f ∷ []) (g ∷ h ∷ i ∷ j ∷ k ∷ l ∷ []) kind body) ≡ Some (record { to = a ∷ b ∷ c ∷ d ∷ e ∷ f ∷ []; from = g ∷ h ∷ i ∷ j ∷ k ∷ l ∷ []; kind = kind; body = body })
+    core : (a b c d e f g h i j k l : ℕ) → read_ether (ether_octets (a ∷ b ∷ c ∷ d ∷ e ∷ f ∷ []) (g ∷ h ∷ i ∷ j ∷ k ∷ l ∷ []) kind body) ≡ Some
+        (record { to = a ∷ b ∷ c ∷ d ∷ e ∷ f ∷ []; from = g ∷ h ∷ i ∷ j ∷ k ∷ l ∷ []; kind = kind; body = body })
     core a b c d e f g h i j k l =
         let octets = ether_octets (a ∷ b ∷ c ∷ d ∷ e ∷ f ∷ []) (g ∷ h ∷ i ∷ j ∷ k ∷ l ∷ []) kind body in
         let long : nat_le 14 (length octets) ≡ true = grind (arith, nat_tests) in
@@ -31,7 +33,8 @@ whole octets fits le =
     let to = part octets 0 6 in
     let from = part octets 6 6 in
     parted octets 0 6 6 refl
-    ∙ ap (λ (xs : List ℕ). to ++ xs) (parted octets 6 6 12 refl ∙ ap (λ (xs : List ℕ). from ++ xs) (parted octets 12 2 14 refl ∙ ap (λ (xs : List ℕ). xs ++ drop 14 octets) (sym (two-two_at octets 12 fits le))))
+    ∙ ap (λ (xs : List ℕ). to ++ xs) (parted octets 6 6 12 refl ∙ ap (λ (xs : List ℕ). from ++ xs) (parted octets 12 2 14 refl ∙ ap (λ (xs : List ℕ). xs ++ drop 14 octets)
+    (sym (two-two_at octets 12 fits le))))
     ∙ sym (append_assoc to from (two (two_at octets 12) ++ drop 14 octets))
     ∙ sym (append_assoc (to ++ from) (two (two_at octets 12)) (drop 14 octets))
 

@@ -1,5 +1,6 @@
 -- Where the test of what is done holds, it was done as it must be: sentence by sentence.
-use Rattle.std.proofs.Common.{refl, ◌≡◌, ℕ, ◌+◌, ◌-◌, List, [], ◌∷◌, length, min, Option, None, Some, is_some, ◌⊎◌, inl, inr, arith, Bool, true, false, not, ◌&&◌, if◌then◌else◌, IsTrue, MatchOption, nat_eq, nat_le, nat_lt}
+use Rattle.std.proofs.Common.{refl, ◌≡◌, ℕ, ◌+◌, ◌-◌, List, [], ◌∷◌, length, min, Option, None, Some, is_some, ◌⊎◌, inl, inr, arith, Bool, true, false, not, ◌&&◌, if◌then◌else◌, IsTrue}
+use Rattle.std.proofs.Common.{MatchOption, nat_eq, nat_le, nat_lt}
 use Rattle.std.specs.Option.{unwrap_or}
 use Rattle.seq_space.specs.Places.{number_of}
 use Rattle.flow_laws.specs.Settings.{Settings}
@@ -11,7 +12,8 @@ use Rattle.flow_laws.specs.Close.{before, newest_rst}
 use Rattle.flow_laws.specs.Lawful.{Act, AskConnected, Write, EndHost, Read, Send, Close, act_of}
 use Rattle.flow_laws.specs.Dutiful.{MayWaitToWrite, TellsRoom, MustClose, SendsItsRoom, OffersWhatWasAcknowledged, ClosesAfterReset, Must, IsDutiful}
 use Rattle.flow_laws.specs.Computed.{acknowledged, ends_at}
-use Rattle.flow_laws.specs.CheckDuty.{may_wait_to_write, tells_room, sends_its_room, offers_what_was_acknowledged, is_all_acked, resets_at_next, must_close, closes_after_reset, must, must_happen, is_dutiful}
+use Rattle.flow_laws.specs.CheckDuty.{may_wait_to_write, tells_room, sends_its_room, offers_what_was_acknowledged, is_all_acked, resets_at_next, must_close, closes_after_reset, must}
+use Rattle.flow_laws.specs.CheckDuty.{must_happen, is_dutiful}
 use Rattle.flow_laws.proofs.Computing.{both, either, imply, is_false, nat_same, nat_within, three_parts}
 use Rattle.flow_laws.proofs.Ends.{acknowledged_is, ends_at_is, ends_has}
 use Rattle.flow_laws.proofs.Answering.{nat_less}
@@ -78,10 +80,12 @@ no_test : (b : Bool) → (IsTrue b → ⊥) → IsTrue (not b)
 no_test true f = absurd (f refl)
 no_test false f = refl
 
-all_acked_is : (past : List Up) → ((ackd past ≡ length (front past)) × (EndsAt past (length (front past)) → ⊥)) ⊎ (EndsAt past (length (front past)) × (ackd past ≡ length (front past) + 1)) → IsTrue (is_all_acked past)
+all_acked_is : (past : List Up) → ((ackd past ≡ length (front past)) × (EndsAt past (length (front past)) → ⊥)) ⊎
+    (EndsAt past (length (front past)) × (ackd past ≡ length (front past) + 1)) → IsTrue (is_all_acked past)
 all_acked_is past (inl (all, no_end)) =
     or_left (nat_eq (ackd past) (length (front past)) && not (ends_at past (length (front past)))) (ends_at past (length (front past)) && nat_eq (ackd past) (length (front past) + 1))
-    (and_true (nat_eq (ackd past) (length (front past))) (not (ends_at past (length (front past)))) (same_nat (ackd past) (length (front past)) all) (no_test (ends_at past (length (front past))) (λ has. no_end (ends_at_is past (length (front past)) has))))
+    (and_true (nat_eq (ackd past) (length (front past))) (not (ends_at past (length (front past)))) (same_nat (ackd past) (length (front past)) all)
+    (no_test (ends_at past (length (front past))) (λ has. no_end (ends_at_is past (length (front past)) has))))
 all_acked_is past (inr (end, all)) =
     or_right (nat_eq (ackd past) (length (front past)) && not (ends_at past (length (front past)))) (ends_at past (length (front past)) && nat_eq (ackd past) (length (front past) + 1))
     (and_true (ends_at past (length (front past))) (nat_eq (ackd past) (length (front past) + 1)) (ends_has past (length (front past)) end) (same_nat (ackd past) (length (front past) + 1) all))
@@ -90,7 +94,8 @@ all_acked_is past (inr (end, all)) =
 pub must_close_is : (past : Story) → MustClose past → IsTrue (must_close past)
 must_close_is past (seg, newest, open_yet, honest, known, number, all) =
     and_true (not (is_closed past)) (resets_at_next (before past) (newest_rst past)) (rw open_yet refl)
-    (rw newest (three_true (is_some (their_number (before past))) (nat_eq seg.number (number_of (unwrap_or (their_number (before past)) 0) (ackd (guest (before past))))) (is_all_acked (guest (before past)))
+    (rw newest (three_true (is_some (their_number (before past))) (nat_eq seg.number (number_of (unwrap_or (their_number (before past)) 0) (ackd (guest (before past)))))
+    (is_all_acked (guest (before past)))
     known (same_nat seg.number (number_of (unwrap_or (their_number (before past)) 0) (ackd (guest (before past)))) number) (all_acked_is (guest (before past)) all)))
 
 no_close : (past : Story) → IsTrue (not (must_close past)) → MustClose past → ⊥

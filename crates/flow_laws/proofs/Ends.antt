@@ -1,5 +1,6 @@
 -- The list of the ends of a guest's stream has exactly these.
-use Rattle.std.proofs.Common.{refl, ◌≡◌, ℕ, ◌≤◌, List, [], ◌∷◌, length, Option, None, Some, ◌⊎◌, inl, inr, arith, subst, sym, ap, Bool, true, false, ◌&&◌, ◌||◌, if◌then◌else◌, IsTrue, nat_eq, nat_le, ℤ, pos, negsuc, ◌+◌}
+use Rattle.std.proofs.Common.{refl, ◌≡◌, ℕ, ◌≤◌, List, [], ◌∷◌, length, Option, None, Some, ◌⊎◌, inl, inr, arith, subst, sym, ap, Bool, true, false, ◌&&◌, ◌||◌, if◌then◌else◌, IsTrue}
+use Rattle.std.proofs.Common.{nat_eq, nat_le, ℤ, pos, negsuc, ◌+◌}
 use Rattle.std.proofs.lemmas.Bool.Decides.{nat_tests}
 use Rattle.flow_laws.specs.Guest.{Up, Known, Came, Acked, Wrote, Ended, EndsAt, Honest, HasCome, IsAcknowledged, ackd, ends, front}
 use Rattle.flow_laws.specs.Flow.{push}

@@ -1,5 +1,6 @@
 -- Of an honest guest the test misses nothing: what the law allows passes it, sentence by sentence.
-use Rattle.std.proofs.Common.{refl, ◌≡◌, ℕ, ◌+◌, ◌^◌, ◌<◌, ◌≤◌, List, [], ◌∷◌, ◌++◌, length, Option, None, Some, is_some, inl, inr, arith, Bool, true, false, not, ◌&&◌, ◌||◌, IsTrue, MatchOption, IfSome, pos, ◌+ℤ◌, nat_lt, nat_eq}
+use Rattle.std.proofs.Common.{refl, ◌≡◌, ℕ, ◌+◌, ◌^◌, ◌<◌, ◌≤◌, List, [], ◌∷◌, ◌++◌, length, Option, None, Some, is_some, inl, inr, arith, Bool, true, false, not, ◌&&◌, ◌||◌, IsTrue}
+use Rattle.std.proofs.Common.{MatchOption, IfSome, pos, ◌+ℤ◌, nat_lt, nat_eq}
 use Rattle.std.proofs.lemmas.Bool.Decides.{nat_tests}
 use Rattle.seq_space.specs.Places.{number_of, steps_up}
 use Rattle.flow_laws.specs.Settings.{Settings}
@@ -8,9 +9,15 @@ use Rattle.flow_laws.specs.Guest.{Up, Acked, is_empty, Honest, HasCome, front, w
 use Rattle.flow_laws.specs.Host.{answered, got, got_end, our_place, sent}
 use Rattle.flow_laws.specs.Flow.{guest, host, their_number, our_number, next_number, is_closed, is_accepted, is_connecting, has_connected, syn_is_out}
 use Rattle.flow_laws.specs.Close.{is_done, IsReset, newest_rst, before, follows_reset, host_failed, gives_up, connects_too_long, finds_no_guest, owes_reset, is_owed_reset, rests_since}
-use Rattle.flow_laws.specs.Lawful.{our_mss, our_scale, Act, AskConnected, Write, EndHost, Read, Send, Close, May, WritesWhatTheGuestSent, WritesWhatCame, SendsWhatTheHostSent, EndsAfterAll, SendsEndAfterAll, ReadsToTheEnd, AcknowledgesWhatCame, ClosesWithCause, ClosesAfterFailure, CallsOpenSocket, ResetsWhereOwed, SendsNothingAfterClose, OpensAfterHost, OpensWithSyn, AsksUntilConnected, HasHeaderOf, SendsItsHeader, is_ack_alone, SendsItsOptions, SendsAgainWithReason, SendsWithinMss, ResetsAtWhatCame}
+use Rattle.flow_laws.specs.Lawful.{our_mss, our_scale, Act, AskConnected, Write, EndHost, Read, Send, Close, May, WritesWhatTheGuestSent, WritesWhatCame, SendsWhatTheHostSent}
+use Rattle.flow_laws.specs.Lawful.{EndsAfterAll, SendsEndAfterAll, ReadsToTheEnd, AcknowledgesWhatCame, ClosesWithCause, ClosesAfterFailure, CallsOpenSocket, ResetsWhereOwed}
+use Rattle.flow_laws.specs.Lawful.{SendsNothingAfterClose, OpensAfterHost, OpensWithSyn, AsksUntilConnected, HasHeaderOf, SendsItsHeader, is_ack_alone, SendsItsOptions}
+use Rattle.flow_laws.specs.Lawful.{SendsAgainWithReason, SendsWithinMss, ResetsAtWhatCame}
 use Rattle.flow_laws.specs.Computed.{are_sized, ends_at, has_come, is_at, is_number, same_bool}
-use Rattle.flow_laws.specs.Check.{writes_what_the_guest_sent, writes_what_came, sends_what_the_host_sent, sends_again_with_reason, ends_after_all, sends_end_after_all, reads_to_the_end, acknowledges_what_came, closes_with_cause, closes_after_failure, calls_open_socket, resets_where_owed, sends_nothing_after_close, opens_after_host, opens_with_syn, asks_until_connected, has_header_of, sends_its_header, sends_its_options, acks_syn, is_reset, is_reset_at, may_stream, may_end, may_close, may_open, may, sends_within_mss, has_number_that_came, resets_at_what_came, may_be_sent}
+use Rattle.flow_laws.specs.Check.{writes_what_the_guest_sent, writes_what_came, sends_what_the_host_sent, sends_again_with_reason, ends_after_all, sends_end_after_all, reads_to_the_end}
+use Rattle.flow_laws.specs.Check.{acknowledges_what_came, closes_with_cause, closes_after_failure, calls_open_socket, resets_where_owed, sends_nothing_after_close, opens_after_host}
+use Rattle.flow_laws.specs.Check.{opens_with_syn, asks_until_connected, has_header_of, sends_its_header, sends_its_options, acks_syn, is_reset, is_reset_at, may_stream, may_end, may_close}
+use Rattle.flow_laws.specs.Check.{may_open, may, sends_within_mss, has_number_that_came, resets_at_what_came, may_be_sent}
 use Rattle.flow_laws.proofs.Streams.{carried_length, front_carried, near_top}
 use Rattle.flow_laws.proofs.Acks.{acked_exact}
 use Rattle.flow_laws.proofs.GuestLaws.{honest_before}
@@ -32,7 +39,8 @@ module _ (past : Story) (fair : Honest (guest past)) where
 
   ends_holds : (act : Act) → EndsAfterAll past act → IsTrue (ends_after_all past act)
   ends_holds EndHost is =
-      and_true (not (has_ended (guest past))) (ends_at (guest past) (length (written (guest past)))) (not_true (has_ended (guest past)) is.0) (ends_has (guest past) (length (written (guest past))) (is.1 fair))
+      and_true (not (has_ended (guest past))) (ends_at (guest past) (length (written (guest past)))) (not_true (has_ended (guest past)) is.0)
+      (ends_has (guest past) (length (written (guest past))) (is.1 fair))
   ends_holds _ is = refl
 
   acks_holds : (act : Act) → AcknowledgesWhatCame past act → IsTrue (acknowledges_what_came past act)
@@ -40,7 +48,8 @@ module _ (past : Story) (fair : Honest (guest past)) where
       implied (not seg.rst) (same_bool seg.ack (is_some (their_number past)) && (not seg.ack || has_come (guest past) (ackd (Acked seg.acknowledgement ∷ guest past))))
       (λ plain. and_true (same_bool seg.ack (is_some (their_number past))) (not seg.ack || has_come (guest past) (ackd (Acked seg.acknowledgement ∷ guest past)))
       (same_bools seg.ack (is_some (their_number past)) (is plain).0)
-      (implied seg.ack (has_come (guest past) (ackd (Acked seg.acknowledgement ∷ guest past))) (λ ack. come_holds (guest past) (ackd (Acked seg.acknowledgement ∷ guest past)) ((is plain).1 ack fair))))
+      (implied seg.ack (has_come (guest past) (ackd (Acked seg.acknowledgement ∷ guest past))) (λ ack. come_holds (guest past) (ackd (Acked seg.acknowledgement ∷ guest past))
+      ((is plain).1 ack fair))))
   acks_holds _ is = refl
 
 sends_holds : (past : Story) (act : Act) → SendsWhatTheHostSent past act → IsTrue (sends_what_the_host_sent past act)
@@ -144,12 +153,14 @@ within_holds : (s : Settings) (past : Story) (act : Act) → SendsWithinMss s pa
 within_holds s past (Send seg) is = grind (arith, nat_tests, is)
 within_holds s past _ is = refl
 
-number_came : (past : Story) → Honest (guest past) → (n : ℕ) (o : Option ℕ) → MatchOption o (n ≡ 0) (λ f. Honest (guest past) → HasCome (guest past) (ackd (Acked n ∷ guest past))) → IsTrue (has_number_that_came (guest past) o n)
+number_came : (past : Story) → Honest (guest past) → (n : ℕ) (o : Option ℕ) → MatchOption o (n ≡ 0) (λ f. Honest (guest past) → HasCome (guest past)
+    (ackd (Acked n ∷ guest past))) → IsTrue (has_number_that_came (guest past) o n)
 number_came past honest n None is = same_nat n 0 is
 number_came past honest n (Some f) is = come_holds (guest past) (ackd (Acked n ∷ guest past)) (is honest)
 
 reset_holds : (past : Story) → Honest (guest past) → (act : Act) → ResetsAtWhatCame past act → IsTrue (resets_at_what_came past act)
-reset_holds past honest (Send seg) is = implied seg.rst (has_number_that_came (guest past) (their_number past) seg.acknowledgement) (λ rst. number_came past honest seg.acknowledgement (their_number past) (is rst))
+reset_holds past honest (Send seg) is = implied seg.rst (has_number_that_came (guest past) (their_number past) seg.acknowledgement)
+    (λ rst. number_came past honest seg.acknowledgement (their_number past) (is rst))
 reset_holds past honest _ is = refl
 
 -- ---- opening
@@ -157,7 +168,8 @@ reset_holds past honest _ is = refl
 quiet_holds : (past : Story) (act : Act) → SendsNothingAfterClose past act → IsTrue (sends_nothing_after_close past act)
 quiet_holds past (Send seg) is =
     implied (is_closed past) (is_empty seg.octets && not seg.syn && not seg.fin && (seg.rst || is_some (rests_since past)))
-    (λ closed. let n = is closed in four_true (is_empty seg.octets) (not seg.syn) (not seg.fin) (seg.rst || is_some (rests_since past)) (empty_holds seg.octets n.0) (not_true seg.syn n.1) (not_true seg.fin n.2) n.3)
+    (λ closed. let n = is closed in four_true (is_empty seg.octets) (not seg.syn) (not seg.fin) (seg.rst || is_some (rests_since past)) (empty_holds seg.octets n.0)
+    (not_true seg.syn n.1) (not_true seg.fin n.2) n.3)
 quiet_holds past _ is = refl
 
 after_holds : (past : Story) (act : Act) → OpensAfterHost past act → IsTrue (opens_after_host past act)
@@ -173,11 +185,13 @@ syn_holds past (Send seg) is =
     and_true (not (not seg.rst && not (syn_is_out past)) || seg.syn) (not (seg.syn && not seg.rst) || (nat_eq seg.number (our_number past) && acks_syn (their_number past) seg))
     (implied (not seg.rst && not (syn_is_out past)) seg.syn is.0)
     (implied (seg.syn && not seg.rst) (nat_eq seg.number (our_number past) && acks_syn (their_number past) seg)
-    (λ syn. let p = is.1 syn in and_true (nat_eq seg.number (our_number past)) (acks_syn (their_number past) seg) (same_nat seg.number (our_number past) p.0) (acks_syn_holds (their_number past) seg p.1)))
+    (λ syn. let p = is.1 syn in and_true (nat_eq seg.number (our_number past)) (acks_syn (their_number past) seg) (same_nat seg.number (our_number past) p.0)
+    (acks_syn_holds (their_number past) seg p.1)))
 syn_holds past _ is = refl
 
 options_hold : (s : Settings) (past : Story) (act : Act) → SendsItsOptions s past act → IsTrue (sends_its_options s past act)
-options_hold s past (Send seg) is = and_true (is_number seg.mss (our_mss s seg)) (is_number seg.scale (our_scale s past seg)) (same_numbers seg.mss (our_mss s seg) is.0) (same_numbers seg.scale (our_scale s past seg) is.1)
+options_hold s past (Send seg) is = and_true (is_number seg.mss (our_mss s seg)) (is_number seg.scale (our_scale s past seg)) (same_numbers seg.mss (our_mss s seg) is.0)
+    (same_numbers seg.scale (our_scale s past seg) is.1)
 options_hold s past _ is = refl
 
 asks_hold : (past : Story) (act : Act) → AsksUntilConnected past act → IsTrue (asks_until_connected past act)
@@ -210,7 +224,8 @@ pub may_holds : (s : Settings) (past : Story) (now : ℕ) (act : Act) → Honest
 may_holds s past now act honest sized m =
     four_true (may_stream past now act) (may_end past act) (may_close past now act) (may_open past act && may_be_sent s past act)
     (four_true (writes_what_the_guest_sent past act) (writes_what_came past act) (sends_what_the_host_sent past act) (sends_again_with_reason past now act)
-    (writes_holds past honest act m.writes_what_the_guest_sent) (came_holds past honest sized act m.writes_what_came) (sends_holds past act m.sends_what_the_host_sent) (again_holds past now act m.sends_again_with_reason))
+    (writes_holds past honest act m.writes_what_the_guest_sent) (came_holds past honest sized act m.writes_what_came) (sends_holds past act m.sends_what_the_host_sent)
+    (again_holds past now act m.sends_again_with_reason))
     (four_true (ends_after_all past act) (sends_end_after_all past act) (reads_to_the_end past act) (acknowledges_what_came past act)
     (ends_holds past honest act m.ends_after_all) (fin_holds past act m.sends_end_after_all) (reads_holds past act m.reads_to_the_end) (acks_holds past honest act m.acknowledges_what_came))
     (four_true (closes_with_cause past now act) (closes_after_failure past act) (calls_open_socket past act) (resets_where_owed past act)

@@ -1,5 +1,6 @@
 -- Of an honest guest the test of what is done misses nothing either.
-use Rattle.std.proofs.Common.{refl, ◌≡◌, ℕ, ◌+◌, ◌-◌, List, [], ◌∷◌, length, min, Option, None, Some, is_some, inl, inr, arith, subst, ap, ◌∙◌, ◌⊎◌, Bool, true, false, not, ◌&&◌, IsTrue, nat_eq, nat_le}
+use Rattle.std.proofs.Common.{refl, ◌≡◌, ℕ, ◌+◌, ◌-◌, List, [], ◌∷◌, length, min, Option, None, Some, is_some, inl, inr, arith, subst, ap, ◌∙◌, ◌⊎◌, Bool, true, false, not, ◌&&◌, IsTrue}
+use Rattle.std.proofs.Common.{nat_eq, nat_le}
 use Rattle.std.proofs.lemmas.Bool.{cases_lt}
 use Rattle.std.specs.Option.{unwrap_or}
 use Rattle.seq_space.specs.Places.{number_of}
@@ -82,8 +83,17 @@ must_close_says past fair is = let p = both (not (is_closed past)) (resets_at_ne
     by : (o : Option Segment) → newest_rst past ≡ o → IsTrue (not (is_closed past)) → IsTrue (resets_at_next (before past) o) → MustClose past
     by None newest open_yet at = absurd cc
     by (Some seg) newest open_yet at =
-        let q = three_parts (is_some (their_number (before past))) (nat_eq seg.number (number_of (unwrap_or (their_number (before past)) 0) (ackd (guest (before past))))) (is_all_acked (guest (before past))) at in
-        (seg, newest, is_false (is_closed past) open_yet, honest_was past fair, q.0, nat_same seg.number (number_of (unwrap_or (their_number (before past)) 0) (ackd (guest (before past)))) q.1, all_acked_says (guest (before past)) q.2)
+        let q = three_parts (is_some (their_number (before past))) (nat_eq seg.number (number_of (unwrap_or (their_number (before past)) 0) (ackd (guest (before past)))))
+        (is_all_acked (guest (before past))) at in (
+          seg,
+          newest,
+          is_false (is_closed past) open_yet,
+          honest_was past fair,
+          q.0,
+          nat_same seg.number (number_of (unwrap_or (their_number (before past)) 0)
+              (ackd (guest (before past)))) q.1,
+          all_acked_says (guest (before past)) q.2,
+        )
 
 no_close : (a : Bool) → (IsTrue a → ⊥) → IsTrue (not a)
 no_close true f = absurd (f refl)

@@ -1,5 +1,6 @@
 -- No more is acknowledged than was written or found room.
-use Rattle.std.proofs.Common.{refl, ◌≡◌, ℕ, ◌+◌, ◌≤◌, ◌<◌, List, [], ◌∷◌, length, take, None, Some, is_some, get_or, ◌⊎◌, inl, inr, arith, Bool, true, false, not, ◌&&◌, if◌then◌else◌, IsTrue, length-append}
+use Rattle.std.proofs.Common.{refl, ◌≡◌, ℕ, ◌+◌, ◌≤◌, ◌<◌, List, [], ◌∷◌, length, take, None, Some, is_some, get_or, ◌⊎◌, inl, inr, arith, Bool, true, false, not, ◌&&◌, if◌then◌else◌}
+use Rattle.std.proofs.Common.{IsTrue, length-append}
 use Rattle.std.proofs.lemmas.Bool.{cases_lt}
 use Rattle.std.proofs.lemmas.Option.{slice_get-get_or}
 use Rattle.flow_laws.specs.Settings.{Settings}
@@ -70,7 +71,8 @@ found_room : (s : Settings) (story : Story) → IsDutiful s story → HasRoom s.
 found_room s [] d = nothing_has_room s.ring
 found_room s (At m (Connects ours syn) ∷ past) d = known_room s.ring (guest past) syn.number (found_room s past d.1)
 found_room s (At m (Arrives seg) ∷ past) d =
-    arrived (HasRoom s.ring) m past seg (found_room s past d.1) (came_room s.ring (guest past) seg.number seg.octets seg.fin _ (found_room s past d.1)) (known_room s.ring (guest past) seg.number (found_room s past d.1))
+    arrived (HasRoom s.ring) m past seg (found_room s past d.1) (came_room s.ring (guest past) seg.number seg.octets seg.fin _ (found_room s past d.1))
+    (known_room s.ring (guest past) seg.number (found_room s past d.1))
 found_room s (At m (Departs seg) ∷ past) d =
     went_room s.ring (guest past) seg.acknowledgement (acknowledges past seg) (found_room s past d.1)
     (λ is honest a acked. let told = d.0.sends_its_room (plain seg.ack seg.rst (is_some (their_number past)) is) honest a acked in (told.0, told.1))

@@ -1,5 +1,6 @@
 -- What the tests of numbers, lists and the two streams miss: nothing.
-use Rattle.std.proofs.Common.{refl, ◌≡◌, ℕ, zero, suc, ◌+◌, ◌^◌, ◌%◌, ◌<◌, ◌≤◌, List, [], ◌∷◌, length, drop, Option, None, Some, slice_get, inl, inr, arith, subst, Bool, true, false, not, ◌&&◌, ◌||◌, IsTrue, MatchBool, ℤ, pos, nat_le, nat_lt, nat_eq}
+use Rattle.std.proofs.Common.{refl, ◌≡◌, ℕ, zero, suc, ◌+◌, ◌^◌, ◌%◌, ◌<◌, ◌≤◌, List, [], ◌∷◌, length, drop, Option, None, Some, slice_get, inl, inr, arith, subst, Bool, true, false, not}
+use Rattle.std.proofs.Common.{◌&&◌, ◌||◌, IsTrue, MatchBool, ℤ, pos, nat_le, nat_lt, nat_eq}
 use Rattle.std.proofs.lemmas.Bool.Decides.{nat_tests}
 use Rattle.std.proofs.lemmas.Option.{slice_get_within}
 use Rattle.seq_space.specs.Places.{number_of, steps_up}

@@ -1,5 +1,6 @@
 -- Where the test of a story holds, the story is lawful: sentence by sentence.
-use Rattle.std.proofs.Common.{◌≡◌, ℕ, ◌+◌, ◌^◌, ◌<◌, ◌≤◌, [], ◌∷◌, ◌++◌, length, Option, None, Some, is_some, inl, inr, arith, Bool, true, false, not, ◌&&◌, ◌||◌, IsTrue, MatchOption, IfSome, pos, ◌+ℤ◌, nat_lt, nat_eq}
+use Rattle.std.proofs.Common.{◌≡◌, ℕ, ◌+◌, ◌^◌, ◌<◌, ◌≤◌, [], ◌∷◌, ◌++◌, length, Option, None, Some, is_some, inl, inr, arith, Bool, true, false, not, ◌&&◌, ◌||◌, IsTrue, MatchOption}
+use Rattle.std.proofs.Common.{IfSome, pos, ◌+ℤ◌, nat_lt, nat_eq}
 use Rattle.std.proofs.lemmas.Bool.Decides.{nat_tests}
 use Rattle.seq_space.specs.Places.{number_of, steps_up}
 use Rattle.flow_laws.specs.Settings.{Settings}
@@ -8,9 +9,15 @@ use Rattle.flow_laws.specs.Guest.{is_empty, Acked, Honest, HasCome, front, writt
 use Rattle.flow_laws.specs.Host.{answered, got, got_end, our_place, sent}
 use Rattle.flow_laws.specs.Flow.{guest, host, their_number, our_number, next_number, is_closed, is_accepted, is_connecting, has_connected, syn_is_out}
 use Rattle.flow_laws.specs.Close.{is_done, IsReset, newest_rst, before, follows_reset, host_failed, gives_up, connects_too_long, finds_no_guest, owes_reset, is_owed_reset, rests_since}
-use Rattle.flow_laws.specs.Lawful.{our_mss, our_scale, Act, AskConnected, Write, EndHost, Read, Send, Close, act_of, HasCause, May, IsLawful, WritesWhatTheGuestSent, WritesWhatCame, SendsWhatTheHostSent, SendsAgainWithReason, EndsAfterAll, SendsEndAfterAll, ReadsToTheEnd, AcknowledgesWhatCame, ClosesWithCause, ClosesAfterFailure, CallsOpenSocket, ResetsWhereOwed, SendsNothingAfterClose, OpensAfterHost, OpensWithSyn, AsksUntilConnected, HasHeaderOf, SendsItsHeader, is_ack_alone, SendsItsOptions, SendsWithinMss, ResetsAtWhatCame}
+use Rattle.flow_laws.specs.Lawful.{our_mss, our_scale, Act, AskConnected, Write, EndHost, Read, Send, Close, act_of, HasCause, May, IsLawful, WritesWhatTheGuestSent, WritesWhatCame}
+use Rattle.flow_laws.specs.Lawful.{SendsWhatTheHostSent, SendsAgainWithReason, EndsAfterAll, SendsEndAfterAll, ReadsToTheEnd, AcknowledgesWhatCame, ClosesWithCause, ClosesAfterFailure}
+use Rattle.flow_laws.specs.Lawful.{CallsOpenSocket, ResetsWhereOwed, SendsNothingAfterClose, OpensAfterHost, OpensWithSyn, AsksUntilConnected, HasHeaderOf, SendsItsHeader, is_ack_alone}
+use Rattle.flow_laws.specs.Lawful.{SendsItsOptions, SendsWithinMss, ResetsAtWhatCame}
 use Rattle.flow_laws.specs.Computed.{ends_at, has_come, is_at, is_number, same_bool}
-use Rattle.flow_laws.specs.Check.{writes_what_the_guest_sent, writes_what_came, sends_what_the_host_sent, sends_again_with_reason, ends_after_all, sends_end_after_all, reads_to_the_end, acknowledges_what_came, closes_with_cause, closes_after_failure, calls_open_socket, resets_where_owed, sends_nothing_after_close, opens_after_host, opens_with_syn, asks_until_connected, has_header_of, sends_its_header, sends_its_options, acks_syn, has_cause, is_reset, is_reset_at, may_stream, may_end, may_close, may_open, may, may_happen, is_lawful, sends_within_mss, has_number_that_came, resets_at_what_came, may_be_sent}
+use Rattle.flow_laws.specs.Check.{writes_what_the_guest_sent, writes_what_came, sends_what_the_host_sent, sends_again_with_reason, ends_after_all, sends_end_after_all, reads_to_the_end}
+use Rattle.flow_laws.specs.Check.{acknowledges_what_came, closes_with_cause, closes_after_failure, calls_open_socket, resets_where_owed, sends_nothing_after_close, opens_after_host}
+use Rattle.flow_laws.specs.Check.{opens_with_syn, asks_until_connected, has_header_of, sends_its_header, sends_its_options, acks_syn, has_cause, is_reset, is_reset_at, may_stream, may_end}
+use Rattle.flow_laws.specs.Check.{may_close, may_open, may, may_happen, is_lawful, sends_within_mss, has_number_that_came, resets_at_what_came, may_be_sent}
 use Rattle.flow_laws.proofs.Computing.{all_brought, at_is, begins_prefix, both, either, empty_is, imply, is_false, nat_same, number_is, same_bool_is, sends_read_is, four_parts}
 use Rattle.flow_laws.proofs.Ends.{ends_at_is, has_come_is}
 
@@ -172,7 +179,8 @@ or_else false b is none = is
 
 header_of : (past : Story) (seg : Segment) → IsTrue (has_header_of past seg) → HasHeaderOf past seg
 header_of past seg is =
-    let all = four_parts (not (not seg.rst && (seg.fin || not (is_empty seg.octets))) || answered (host past)) ((not (not seg.rst && not seg.syn) || seg.ack) && (seg.ack || nat_eq seg.acknowledgement 0))
+    let all = four_parts (not (not seg.rst && (seg.fin || not (is_empty seg.octets))) || answered (host past)) ((not (not seg.rst && not seg.syn) || seg.ack) &&
+    (seg.ack || nat_eq seg.acknowledgement 0))
     (not (is_ack_alone seg) || is_at (our_place (host past) seg.number) (sent (host past))) (not seg.rst || nat_eq seg.window 0) is in
     let acks = both (not (not seg.rst && not seg.syn) || seg.ack) (seg.ack || nat_eq seg.acknowledgement 0) all.1 in
     record {

@@ -1,5 +1,6 @@
 -- Tests that compute: of numbers and lists, of the guest's stream, and of the host's.
-use Rattle.std.specs.Prelude.{ℕ, zero, suc, ◌+◌, ◌^◌, List, [], ◌∷◌, length, drop, min, Option, None, Some, slice_get, Bool, true, false, not, ◌&&◌, ◌||◌, if◌then◌else◌, ℤ, pos, negsuc, ◌+ℤ◌, nat_le, nat_lt, nat_eq}
+use Rattle.std.specs.Prelude.{ℕ, zero, suc, ◌+◌, ◌^◌, List, [], ◌∷◌, length, drop, min, Option, None, Some, slice_get, Bool, true, false, not, ◌&&◌, ◌||◌, if◌then◌else◌, ℤ, pos, negsuc}
+use Rattle.std.specs.Prelude.{◌+ℤ◌, nat_le, nat_lt, nat_eq}
 use Rattle.seq_space.specs.Places.{number_of, steps_up}
 use Rattle.flow_laws.specs.Event.{Segment, Story}
 use Rattle.flow_laws.specs.Guest.{Up, Came, is_empty, octet_at, first_of, front, begins, ends, top, ackd}

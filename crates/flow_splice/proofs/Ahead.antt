@@ -1,7 +1,8 @@
 -- The connection's timer isn't due after a tick, nor after what goes out.
 use Rattle.std.proofs.Common.{refl, ◌≡◌, ℕ, ◌+◌, ◌<◌, Bool, true, false, not, ◌&&◌, Option, None, Some, is_some, nat_le, nat_lt, if◌then◌else◌, List, arith, ap, subst, sym, ◌∙◌, ◌⊎◌, inl, inr}
 use Rattle.std.proofs.lemmas.Bool.Decides.{nat_tests}
-use Rattle.retransmit.specs.Resending.{IsSteady, Resending, after_expired as resend_expired, after_sent as resend_sent, doublings, due_by as due_by_timer, due_of as resend_due, expired_by, is_given_up, is_off, set_unless_running}
+use Rattle.retransmit.specs.Resending.{IsSteady, Resending, after_expired as resend_expired, after_sent as resend_sent, doublings, due_by as due_by_timer, due_of as resend_due, expired_by}
+use Rattle.retransmit.specs.Resending.{is_given_up, is_off, set_unless_running}
 use Rattle.retransmit.specs.Estimate.{after_expiry}
 use Rattle.retransmit.specs.declared.Timer.{Timer}
 use Rattle.retransmit.specs.declared.Timer.TheVariants as timer
@@ -118,9 +119,12 @@ not_due (Some x) now is at some = let same : x ≡ at = cc in let low = after x 
 pub tick_ahead : (c : Connection) (now : ℕ) → c.ack_owed ≡ false → IsAhead (after_tick c now) now
 tick_ahead c now unowed = by (is_due (due_of c) now) (is_spent c) c.ack_owed refl refl refl
   where
-    by_opening : (o : Bool) → is_opening c.stage ≡ o → is_given_up (if o then c.syn else c.transmission.resend) ≡ false → IsAhead (if o then record c { syn = resend_expired c.syn; syn_owed = true } else record c { transmission = transmission_expired c.transmission }) now
-    by_opening true opening spent = none_early (due_by c.stage (record c { syn = resend_expired c.syn; syn_owed = true })) now (opening_due c.stage (record c { syn = resend_expired c.syn; syn_owed = true }) opening (expired_none c.syn spent))
-    by_opening false opening spent = none_early (due_by c.stage (record c { transmission = transmission_expired c.transmission })) now (other_due c.stage (record c { transmission = transmission_expired c.transmission }) opening (pieces_none c.transmission spent))
+    by_opening : (o : Bool) → is_opening c.stage ≡ o → is_given_up (if o then c.syn else c.transmission.resend) ≡ false → IsAhead
+        (if o then record c { syn = resend_expired c.syn; syn_owed = true } else record c { transmission = transmission_expired c.transmission }) now
+    by_opening true opening spent = none_early (due_by c.stage (record c { syn = resend_expired c.syn; syn_owed = true })) now
+        (opening_due c.stage (record c { syn = resend_expired c.syn; syn_owed = true }) opening (expired_none c.syn spent))
+    by_opening false opening spent = none_early (due_by c.stage (record c { transmission = transmission_expired c.transmission })) now
+        (other_due c.stage (record c { transmission = transmission_expired c.transmission }) opening (pieces_none c.transmission spent))
 
     again_ahead : is_spent c ≡ false → IsAhead (again c) now
     again_ahead spent = by_opening (is_opening c.stage) refl spent
@@ -232,7 +236,8 @@ marks_conn Taken what f new now made marks = inl (conn_is (is_rst what) marks)
         by true sees = ap (λ (y : Splice). y.conn) sees.1
         by false sees = ap (λ (y : Splice). y.conn) sees.1
 
-pub marks_early : (o : Offered) (what : Owed) (f new : Splice) (now : ℕ) (made : List Entry) → HasBuffers f.conn f.up f.down → Marks o what f new now made → IsAhead f.conn now × Waits f.conn → IsAhead new.conn now × Waits new.conn
+pub marks_early : (o : Offered) (what : Owed) (f new : Splice) (now : ℕ) (made : List Entry) → HasBuffers f.conn f.up f.down → Marks o what f new now made →
+    IsAhead f.conn now × Waits f.conn → IsAhead new.conn now × Waits new.conn
 marks_early o what f new now made buffers marks two = by (marks_conn o what f new now made marks)
   where
     by : (new.conn ≡ after_gone what f.conn f.up now) ⊎ (new.conn ≡ f.conn) → IsEarly now new.conn

@@ -1,5 +1,6 @@
 -- The guest's hardware address: it is told, or asked for.
-use Rattle.std.proofs.Common.{refl, ◌≡◌, ℕ, zero, suc, ◌+◌, ◌<◌, ◌≤◌, ◌^◌, ◌%◌, [], ◌∷◌, List, Bool, true, false, ◌&&◌, ◌||◌, Option, None, Some, nat_eq, nat_le, nat_lt, if◌then◌else◌, arith, ap, subst, sym, ◌∙◌, inl, inr}
+use Rattle.std.proofs.Common.{refl, ◌≡◌, ℕ, zero, suc, ◌+◌, ◌<◌, ◌≤◌, ◌^◌, ◌%◌, [], ◌∷◌, List, Bool, true, false, ◌&&◌, ◌||◌, Option, None, Some, nat_eq, nat_le, nat_lt, if◌then◌else◌}
+use Rattle.std.proofs.Common.{arith, ap, subst, sym, ◌∙◌, inl, inr}
 use Rattle.std.proofs.lemmas.Bool.Decides.{nat_tests}
 use Rattle.net_octets.specs.declared.Mac.{Mac}
 use Rattle.world_face.specs.Frames.{spelling}
@@ -51,14 +52,16 @@ learn_follows s f mac past now h = by f.place f.shut h
     }
     by (Resting since) b q = record { rests = q.rests; mru = q.mru; known = λ none. q.known (or_none mac f.mac none) }
 
-pub learn_then : (f new : Splice) (mac : Option Mac) (link next : LinkState) (first last now : ℕ) (made : List Entry) → SendsOn (learnt f mac) new link next first last now made → SendsOn f new link next first last now made
+pub learn_then : (f new : Splice) (mac : Option Mac) (link next : LinkState) (first last now : ℕ) (made : List Entry) → SendsOn (learnt f mac) new link next first last now made →
+    SendsOn f new link next first last now made
 learn_then f new mac link next first last now made sends = ((λ s past before ended known on h. sends.0 s past before ended known on (learn_follows s f mac past before h)), sends.1)
 
 -- what a pump asks for is by the address that the flow has then
 pub known_asks : (f new : Splice) (mac : Option Mac) (now : ℕ) (made : List Entry) {to : Mac} → or_known mac f.mac ≡ Some to → new.asked ≡ f.asked → AsksOnce (or_known mac f.mac) f new now made
 known_asks f new mac now made known same = subst (λ (o : Option Mac). AsksOnce o f new now made) (sym known) same
 
-pub unknown_asks : (f new : Splice) (mac : Option Mac) (now : ℕ) (made : List Entry) → or_known mac f.mac ≡ None → AsksOnce None (learnt f mac) new now made → AsksOnce (or_known mac f.mac) f new now made
+pub unknown_asks : (f new : Splice) (mac : Option Mac) (now : ℕ) (made : List Entry) → or_known mac f.mac ≡ None → AsksOnce None (learnt f mac) new now made → AsksOnce
+    (or_known mac f.mac) f new now made
 unknown_asks f new (Some to) now made unknown asks = absurd cc
 unknown_asks f new None now made unknown asks = subst (λ (o : Option Mac). AsksOnce o f new now made) (sym unknown) asks
 
@@ -84,7 +87,8 @@ three true true false is = absurd cc
 three true false d is = absurd cc
 three false b d is = absurd cc
 
-module _ (f : Splice) (now : ℕ) (unknown : f.mac ≡ None) (asks : asks_now f now ≡ true) (result : Offered) (answer : Io) (result_is : result ≡ offered answer) (allowed : Allowed (LinkWrite (spelling (request_frame f.face)) answer))
+module _ (f : Splice) (now : ℕ) (unknown : f.mac ≡ None) (asks : asks_now f now ≡ true) (result : Offered) (answer : Io) (result_is : result ≡ offered answer)
+    (allowed : Allowed (LinkWrite (spelling (request_frame f.face)) answer))
     (new : Splice) (new_is : new ≡ asked result f now) (first : ℕ) (small : first < 2 ^ 16) where
   abbrev octets : List ℕ
   octets = spelling (request_frame f.face)
@@ -103,7 +107,8 @@ module _ (f : Splice) (now : ℕ) (unknown : f.mac ≡ None) (asks : asks_now f 
     Result = (serves : Serves s new false ended known first now past (LinkWrite octets answer ∷ [])) × (first ≡ ident_after first serves.beats)
 
     seeks_now : (n at : ℕ) → f.asked ≡ n → (nat_eq n 0 || nat_le f.ask_at now) ≡ true → Seeks (At now AsksAddress ∷ past) (n + 1) (now + least_wait n)
-    seeks_now zero at is due = asks_first past now (least_wait 0) (let opened = first_opened past o.holds.goes.story in let moment = o.holds.goes.moment in omega (arith, opened, moment, on)) (omega arith)
+    seeks_now zero at is due = asks_first past now (least_wait 0) (let opened = first_opened past o.holds.goes.story in let moment = o.holds.goes.moment in omega
+        (arith, opened, moment, on)) (omega arith)
     seeks_now (suc n) at is due =
         let late : f.ask_at ≤ now = grind (arith, nat_tests) in
         let again = asks_again past (suc n) f.ask_at now (least_wait (suc n)) late (omega arith) (subst (λ (k : ℕ). Seeks past k f.ask_at) is (o.seeks unknown (omega (arith, is)))) in

@@ -117,7 +117,8 @@ module _ (c : Connection) (up : Upward) (down : Downward) (tcp : Tcp) (now : ℕ
       no_reset true b is = absurd cc
       no_reset false b is = refl
 
-      by : (r n w s a : Bool) → (r && n) ≡ false → (conn_by (if r then (if n then Resets else (if w then Challenged else Ignored)) else (if s then Challenged else (if a then Heeded else Ignored))) c up down tcp now).stage ≡ stage.Rests
+      by : (r n w s a : Bool) → (r && n) ≡ false → (conn_by (if r then (if n then Resets else (if w then Challenged else Ignored)) else
+          (if s then Challenged else (if a then Heeded else Ignored))) c up down tcp now).stage ≡ stage.Rests
       by true true w s a none = absurd cc
       by true false true s a none = at
       by true false false s a none = at
@@ -161,7 +162,8 @@ owed_is InUse o what is = is
 owed_is (Resting since) o what is = is
 
 -- one segment
-pub marks_acknowledge : (o : Offered) (what : Owed) (f new : Splice) (now : ℕ) (made : List Entry) → rests_by f.place f.conn.stage ≡ true → takes_part f (owed_of f.conn f.up f.down) ≡ Some what → Marks o what f new now made
+pub marks_acknowledge : (o : Offered) (what : Owed) (f new : Splice) (now : ℕ) (made : List Entry) → rests_by f.place f.conn.stage ≡ true → takes_part f
+    (owed_of f.conn f.up f.down) ≡ Some what → Marks o what f new now made
     → is_at_rest f.place ≡ true → Acknowledges f new now
 marks_acknowledge o what f new now made rests owed marks resting =
     by o (subst (λ (w : Owed). Marks o w f new now made) (only_acknowledges f.conn f.up f.down what at (owed_is f.place (owed_of f.conn f.up f.down) what owed)) marks)
@@ -175,7 +177,8 @@ marks_acknowledge o what f new now made rests owed marks resting =
     by Failed stays = inl stays.1
 
 -- and no second one
-pub acknowledges_once : (old mid new : Splice) (now : ℕ) (what : Owed) → rests_by mid.place mid.conn.stage ≡ true → takes_part mid (owed_of mid.conn mid.up mid.down) ≡ Some what → (is_at_rest old.place ≡ true → Acknowledges old mid now)
+pub acknowledges_once : (old mid new : Splice) (now : ℕ) (what : Owed) → rests_by mid.place mid.conn.stage ≡ true → takes_part mid (owed_of mid.conn mid.up mid.down) ≡ Some what →
+    (is_at_rest old.place ≡ true → Acknowledges old mid now)
     → (is_at_rest mid.place ≡ true → Acknowledges mid new now) → is_at_rest old.place ≡ true → Acknowledges old new now
 acknowledges_once old mid new now what rests owed before next resting = elim (before resting) [
   | inl same ↦ subst (λ (x : Splice). Acknowledges x new now) same (next (ap (λ (x : Splice). is_at_rest x.place) same ∙ resting))

@@ -83,7 +83,8 @@ reads_behind true second first so later = is_already reads_or_shuts second first
 reads_behind false second first so later = still_is reads_or_shuts second first so
 
 -- the calls for writing, and then those for reading
-pub serves_both : (read write : Bool) (old mid : Splice) (first second : List Entry) → (write ≡ true → writes old ≡ true → some_is (serves_write (is_connects old.conn.stage)) first ≡ true) → ReadsOn old mid first
+pub serves_both : (read write : Bool) (old mid : Splice) (first second : List Entry) →
+    (write ≡ true → writes old ≡ true → some_is (serves_write (is_connects old.conn.stage)) first ≡ true) → ReadsOn old mid first
     → (read ≡ true → reads mid ≡ true → some_is is_for_reading second ≡ true) → ServesReport read write old (second ++ first)
 serves_both read write old mid first second written on later = record {
   writing = λ is waits. still_is (serves_write (is_connects old.conn.stage)) second first (written is waits);

@@ -81,7 +81,8 @@ module _ (s : Settings) (c : Connection) (up : Upward) (down : Downward) (past :
       by false rst = plain_calm past m seg rst
 
 -- a guest that is called and calls on didn't turn us away
-pub waits_unturned : (c : Connection) (up : Upward) (down : Downward) (tcp : Tcp) (now : ℕ) → c.stage ≡ stage.Calls → after_segment c up down tcp now ≡ c → is_rst tcp ≡ true → acknowledges_syn c tcp ≡ false
+pub waits_unturned : (c : Connection) (up : Upward) (down : Downward) (tcp : Tcp) (now : ℕ) → c.stage ≡ stage.Calls → after_segment c up down tcp now ≡ c → is_rst tcp ≡ true →
+    acknowledges_syn c tcp ≡ false
 waits_unturned c up down tcp now at same rst = by (acknowledges_syn c tcp) refl
   where
     by : (b : Bool) → acknowledges_syn c tcp ≡ b → b ≡ false

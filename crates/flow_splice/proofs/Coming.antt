@@ -7,7 +7,8 @@ use Rattle.tcp_segment.specs.Tcp.{Tcp}
 use Rattle.tcp_transmit.specs.Acks.{octets_acked, without}
 use Rattle.tcp_guest.specs.Checks.{is_ack, verdict_of}
 use Rattle.tcp_guest.specs.Connection.{Connection}
-use Rattle.tcp_guest.specs.Segments.{after_segment, arrived, change_at, change_by, conn_by, down_after_segment, down_by, established, greeted, heard as conn_heard, is_past, opened, seen_of, settled, settling, up_after_segment, up_by}
+use Rattle.tcp_guest.specs.Segments.{after_segment, arrived, change_at, change_by, conn_by, down_after_segment, down_by, established, greeted, heard as conn_heard, is_past, opened}
+use Rattle.tcp_guest.specs.Segments.{seen_of, settled, settling, up_after_segment, up_by}
 use Rattle.tcp_guest.specs.declared.Change.TheVariants.{Nothing}
 use Rattle.tcp_guest.specs.declared.Verdict.{Verdict}
 use Rattle.tcp_guest.specs.declared.Verdict.TheVariants.{Ignored, Resets, Unacceptable, Repeats, Challenged, Greets, Heeded}
@@ -101,7 +102,8 @@ dead_by Challenged c up down tcp now is = absurd cc
 dead_by Greets c up down tcp now is = absurd cc
 dead_by Heeded c up down tcp now is = by (is_past (opened c) down tcp) is
   where
-    by : (b : Bool) → ends (if b then Nothing else settling (arrived (conn_heard c down tcp now) up tcp)) ≡ true → is_live (if b then conn_heard c down tcp now else settled (arrived (conn_heard c down tcp now) up tcp)).stage ≡ false
+    by : (b : Bool) → ends (if b then Nothing else settling (arrived (conn_heard c down tcp now) up tcp)) ≡ true → is_live (if b then conn_heard c down tcp now else settled
+        (arrived (conn_heard c down tcp now) up tcp)).stage ≡ false
     by true is = absurd cc
     by false is = settled_over (arrived (conn_heard c down tcp now) up tcp) is
 

@@ -73,7 +73,8 @@ goes_then old mid new directly now before made same_face same_mac first second s
     record {
       beats = b.beats ++ a.beats;
       are = events_then s new.face new.mac directly ended known ident now past a.beats before made b.beats
-          (subst (λ (face : Face). AreEvents s face new.mac directly ended known ident now past before a.beats) (sym same_face) (subst (λ (mac : Option Mac). AreEvents s mid.face mac directly ended known ident now past before a.beats) (sym same_mac) a.are))
+          (subst (λ (face : Face). AreEvents s face new.mac directly ended known ident now past before a.beats) (sym same_face)
+          (subst (λ (mac : Option Mac). AreEvents s mid.face mac directly ended known ident now past before a.beats) (sym same_mac) a.are))
           b.are;
       follows = subst (λ (q : Story). Follows s new q now) (sym (append_assoc b.beats a.beats past)) b.follows;
     }

@@ -1,5 +1,6 @@
 -- A segment is offered to the link: the flow's story goes on where something of it was taken.
-use Rattle.std.proofs.Common.{refl, ◌≡◌, ℕ, ◌+◌, ◌<◌, ◌≤◌, ◌^◌, ◌%◌, [], ◌∷◌, ◌++◌, List, Bool, true, false, not, ◌&&◌, ◌||◌, Option, None, Some, if◌then◌else◌, nat_lt, arith, ap, subst, sym, ◌∙◌, inl}
+use Rattle.std.proofs.Common.{refl, ◌≡◌, ℕ, ◌+◌, ◌<◌, ◌≤◌, ◌^◌, ◌%◌, [], ◌∷◌, ◌++◌, List, Bool, true, false, not, ◌&&◌, ◌||◌, Option, None, Some, if◌then◌else◌, nat_lt, arith, ap, subst}
+use Rattle.std.proofs.Common.{sym, ◌∙◌, inl}
 use Rattle.std.proofs.lemmas.Bool.Decides.{nat_tests}
 use Rattle.net_octets.specs.declared.Mac.{Mac}
 use Rattle.seq_space.specs.declared.Seq.{Seq}
@@ -48,7 +49,8 @@ use Rattle.flow_splice.proofs.Restless.{owing_none}
 use Rattle.flow_splice.proofs.Shutting.{done_follows, finished_cause, settled_same}
 
 -- what is offered, and taken or not
-module _ (f : Splice) (now first : ℕ) (what : Owed) (mac : Mac) (known_mac : f.mac ≡ Some mac) (late : now ≤ 2 ^ 62) (small : first < 2 ^ 16) (buffers : HasBuffers f.conn f.up f.down) (owed : owed_of f.conn f.up f.down ≡ Some what) (used : f.place ≡ Empty → ⊥)
+module _ (f : Splice) (now first : ℕ) (what : Owed) (mac : Mac) (known_mac : f.mac ≡ Some mac) (late : now ≤ 2 ^ 62) (small : first < 2 ^ 16)
+    (buffers : HasBuffers f.conn f.up f.down) (owed : owed_of f.conn f.up f.down ≡ Some what) (used : f.place ≡ Empty → ⊥)
     (sized : IsSized f.face mac first (segment_out f.mru f.conn f.up f.down what)) where
   abbrev seg : Segment
   seg = segment_out f.mru f.conn f.up f.down what
@@ -67,11 +69,26 @@ module _ (f : Splice) (now first : ℕ) (what : Owed) (mac : Mac) (known_mac : f
     out = At now (Departs seg) ∷ past
 
     -- what was made where nothing of it was taken, or something
-    offers : (x : Splice) → x.face ≡ f.face → x.mac ≡ f.mac → IsLawful s out → IsDutiful s out → (beats : Story) → beats ≡ went answer now (Departs seg) [] → AreEvents s x.face x.mac false ended known first now past (LinkWrite octets answer ∷ []) beats
+    offers : (x : Splice) → x.face ≡ f.face → x.mac ≡ f.mac → IsLawful s out → IsDutiful s out → (beats : Story) → beats ≡ went answer now (Departs seg) [] →
+        AreEvents s x.face x.mac false ended known first now past (LinkWrite octets answer ∷ []) beats
     offers x same_face same_mac lawful dutiful beats is =
         subst (λ face. AreEvents s face x.mac false ended known first now past (LinkWrite octets answer ∷ []) beats) (sym same_face)
-        (subst (λ (m : Option Mac). AreEvents s f.face m false ended known first now past (LinkWrite octets answer ∷ []) beats) (sym same_mac)
-        ([], refl, inl (seg, record { to = mac; known = known_mac; frame = ap (λ (n : ℕ). spelling (segment_frame f.face mac n seg)) stays; may = lawful.0; must = dutiful.0; sized = subst (λ (n : ℕ). IsSized f.face mac n seg) stays sized }, is)))
+        (subst (λ (m : Option Mac). AreEvents s f.face m false ended known first now past (LinkWrite octets answer ∷ []) beats) (sym same_mac) (
+          [],
+          refl,
+          inl (
+            seg,
+            record {
+              to = mac;
+              known = known_mac;
+              frame = ap (λ (n : ℕ). spelling (segment_frame f.face mac n seg)) stays;
+              may = lawful.0;
+              must = dutiful.0;
+              sized = subst (λ (n : ℕ). IsSized f.face mac n seg) stays sized;
+            },
+            is,
+          ),
+        ))
 
     -- it wasn't taken
     untaken : IsLawful s out → IsDutiful s out → count_of answer ≡ 0 → (new : Splice) (made : List Entry) → made ≡ [] → new ≡ f
@@ -104,16 +121,18 @@ module _ (f : Splice) (now first : ℕ) (what : Owed) (mac : Mac) (known_mac : f
       )
 
       -- it was, and the socket was closed then
-      taken_last : IsLawful s out → IsDutiful s out → (x new : Splice) (made : List Entry) → x.face ≡ f.face → x.mac ≡ f.mac → made ≡ Close f.face.number ∷ [] → new ≡ x → HasCause false false known now out → Follows s x (At now (Closes false ended known) ∷ out) now
+      taken_last : IsLawful s out → IsDutiful s out → (x new : Splice) (made : List Entry) → x.face ≡ f.face → x.mac ≡ f.mac → made ≡ Close f.face.number ∷ [] → new ≡ x →
+          HasCause false false known now out → Follows s x (At now (Closes false ended known) ∷ out) now
           → (serves : Serves s new false ended known first now past (made ++ (LinkWrite octets answer ∷ []))) × ((first + 1) % 2 ^ 16 ≡ ident_after first serves.beats)
       taken_last lawful dutiful x new made face_is mac_is made_is new_is cause q = (
         record {
           beats = At now (Closes false ended known) ∷ At now (Departs seg) ∷ [];
-          are = subst (λ (es : List Entry). AreEvents s new.face new.mac false ended known first now past (es ++ (LinkWrite octets answer ∷ [])) (At now (Closes false ended known) ∷ At now (Departs seg) ∷ [])) (sym made_is) (
-            At now (Departs seg) ∷ [],
-            offers new (ap (λ (y : Splice). y.face) new_is ∙ face_is) (ap (λ (y : Splice). y.mac) new_is ∙ mac_is) lawful dutiful (At now (Departs seg) ∷ []) taken_is,
-            (sym (ap (λ (y : Splice). y.face.number) new_is ∙ ap (λ face. face.number) face_is), refl, cause),
-          );
+          are = subst (λ (es : List Entry). AreEvents s new.face new.mac false ended known first now past (es ++ (LinkWrite octets answer ∷ []))
+              (At now (Closes false ended known) ∷ At now (Departs seg) ∷ [])) (sym made_is) (
+                At now (Departs seg) ∷ [],
+                offers new (ap (λ (y : Splice). y.face) new_is ∙ face_is) (ap (λ (y : Splice). y.mac) new_is ∙ mac_is) lawful dutiful (At now (Departs seg) ∷ []) taken_is,
+                (sym (ap (λ (y : Splice). y.face.number) new_is ∙ ap (λ face. face.number) face_is), refl, cause),
+              );
           follows = subst (λ (y : Splice). Follows s y (At now (Closes false ended known) ∷ out) now) (sym new_is) q;
         },
         (let same : (first + 1) % 2 ^ 16 ≡ (first + (0 + 1)) % 2 ^ 16 = omega arith in same),
@@ -158,8 +177,10 @@ ack_is false what is = absurd cc
 taken_some : (n : ℕ) → 0 < n → nat_lt 0 n ≡ true
 taken_some n some = grind (arith, nat_tests)
 
-module _ (f : Splice) (now first : ℕ) (what : Owed) (mac : Mac) (known_mac : f.mac ≡ Some mac) (late : now ≤ 2 ^ 62) (small : first < 2 ^ 16) (buffers : HasBuffers f.conn f.up f.down) (owed : owed_of f.conn f.up f.down ≡ Some what) (used : f.place ≡ Empty → ⊥)
-    (sized : IsSized f.face mac first (segment_out f.mru f.conn f.up f.down what)) (result : Offered) (answer : Io) (result_is : result ≡ offered answer) (allowed : Allowed (LinkWrite (spelling (segment_frame f.face mac first (segment_out f.mru f.conn f.up f.down what))) answer))
+module _ (f : Splice) (now first : ℕ) (what : Owed) (mac : Mac) (known_mac : f.mac ≡ Some mac) (late : now ≤ 2 ^ 62) (small : first < 2 ^ 16)
+    (buffers : HasBuffers f.conn f.up f.down) (owed : owed_of f.conn f.up f.down ≡ Some what) (used : f.place ≡ Empty → ⊥)
+    (sized : IsSized f.face mac first (segment_out f.mru f.conn f.up f.down what)) (result : Offered) (answer : Io) (result_is : result ≡ offered answer)
+    (allowed : Allowed (LinkWrite (spelling (segment_frame f.face mac first (segment_out f.mru f.conn f.up f.down what))) answer))
     (new : Splice) (made : List Entry) (marks : Marks result what f new now made) where
   abbrev c : Connection
   c = f.conn
@@ -174,7 +195,8 @@ module _ (f : Splice) (now first : ℕ) (what : Owed) (mac : Mac) (known_mac : f
     abbrev Result : ℕ → Type 0
     Result last = (serves : Serves s new false ended known first now past (made ++ (LinkWrite frame answer ∷ []))) × (last ≡ ident_after first serves.beats)
 
-    by_answer : IsLawful s gone_out → IsDutiful s gone_out → (nat_lt 0 (count_of answer) ≡ true → GoesOut (is_rst what) what f new now made → Result ((first + 1) % 2 ^ 16)) → Result (ident_if result first)
+    by_answer : IsLawful s gone_out → IsDutiful s gone_out → (nat_lt 0 (count_of answer) ≡ true → GoesOut (is_rst what) what f new now made → Result ((first + 1) % 2 ^ 16)) →
+        Result (ident_if result first)
     by_answer lawful dutiful goes = by answer refl
       where
         none : count_of answer ≡ 0 → (made ≡ []) × (new ≡ f) → Result first
@@ -199,7 +221,8 @@ module _ (f : Splice) (now first : ℕ) (what : Owed) (mac : Mac) (known_mac : f
     -- its socket is open
     sends_open : is_open f ≡ true → IsOpen s f past before → Result (ident_if result first)
     sends_open open_yet o =
-        by_answer x_holds.goes.lawful x_holds.goes.dutiful (λ some goes. by_done some (is_done (gone what c f.up now)) refl (subst (λ (b : Bool). GoesOut b what f new now made) (live_none c.stage c f.up f.down what o.holds.opened.live owed) goes))
+        by_answer x_holds.goes.lawful x_holds.goes.dutiful (λ some goes. by_done some (is_done (gone what c f.up now)) refl (subst (λ (b : Bool). GoesOut b what f new now made)
+        (live_none c.stage c f.up f.down what o.holds.opened.live owed) goes))
       where
         x_holds : Holds s (gone what c f.up now) f.up f.down gone_out now
         x_holds = subst (λ (n : ℕ). Holds s (gone what c f.up now) f.up f.down (At now (Departs (segment_out n c f.up f.down what)) ∷ past) now) (sym o.mru)
@@ -208,25 +231,30 @@ module _ (f : Splice) (now first : ℕ) (what : Owed) (mac : Mac) (known_mac : f
         no_mac : f.mac ≡ None → ⊥
         no_mac none = let not_it = sym known_mac ∙ none in cc
 
-        by_done : nat_lt 0 (count_of answer) ≡ true → (b : Bool) → is_done (gone what c f.up now) ≡ b → Sees (ends (settling (gone what c f.up now))) (went_out f what now) new now made → Result ((first + 1) % 2 ^ 16)
+        by_done : nat_lt 0 (count_of answer) ≡ true → (b : Bool) → is_done (gone what c f.up now) ≡ b → Sees (ends (settling (gone what c f.up now)))
+            (went_out f what now) new now made → Result ((first + 1) % 2 ^ 16)
         by_done some true done sees =
             let shut = subst (λ (b : Bool). Sees (ends (if b then Finished else Nothing)) (went_out f what now) new now made) done sees in
-            taken_last f now first what mac known_mac late small buffers owed used sized answer allowed s past before ended known on h some x_holds.goes.lawful x_holds.goes.dutiful (closed (went_out f what now) now) new made refl refl shut.0 shut.1
+            taken_last f now first what mac known_mac late small buffers owed used sized answer allowed s past before ended known on h some x_holds.goes.lawful x_holds.goes.dutiful
+            (closed (went_out f what now) now) new made refl refl shut.0 shut.1
             (finished_cause s f (gone what c f.up now) gone_out now false known x_holds done refl)
             (done_follows s f (gone what c f.up now) gone_out now false ended known x_holds done refl o.mru (λ none. absurd (no_mac none)))
         by_done some false unfinished sees =
             let stays = subst (λ (b : Bool). Sees (ends (if b then Finished else Nothing)) (went_out f what now) new now made) unfinished sees in
-            taken f now first what mac known_mac late small buffers owed used sized answer allowed s past before ended known on h some x_holds.goes.lawful x_holds.goes.dutiful (went_out f what now) new made refl refl stays.0 stays.1
+            taken f now first what mac known_mac late small buffers owed used sized answer allowed s past before ended known on h some x_holds.goes.lawful x_holds.goes.dutiful
+            (went_out f what now) new made refl refl stays.0 stays.1
             (subst (λ (y : Connection). Follows s (record f { conn = y }) gone_out now) (sym (settled_same (gone what c f.up now) unfinished))
             (open_follows s (record f { conn = gone what c f.up now }) gone_out now open_yet
-            (goes_on s f (gone what c f.up now) f.up f.down f.told_end past before now (Departs (segment_out f.mru c f.up f.down what)) (λ none. none) o x_holds o.told unfinished (λ none. absurd (no_mac none)) (λ unowed. refl))))
+            (goes_on s f (gone what c f.up now) f.up f.down f.told_end past before now (Departs (segment_out f.mru c f.up f.down what)) (λ none. none) o x_holds o.told unfinished
+            (λ none. absurd (no_mac none)) (λ unowed. refl))))
 
     -- it owes a reset
     sends_reset : IsOwing s f past before → Result (ident_if result first)
     sends_reset q =
         by_answer lawful dutiful (λ some goes.
         let sent = subst (λ (w : Owed). GoesOut (is_rst w) w f new now made) (sym what_is) goes in
-        taken f now first what mac known_mac late small buffers owed used sized answer allowed s past before ended known on h some lawful dutiful (record f { conn = record c { stage = stage.Gone }; place = Empty }) new made refl refl sent.0 sent.1
+        taken f now first what mac known_mac late small buffers owed used sized answer allowed s past before ended known on h some lawful dutiful
+        (record f { conn = record c { stage = stage.Gone }; place = Empty }) new made refl refl sent.0 sent.1
         (record { over = over_now; owes_none = refl; rests_none = owing_none past (q.over.owes ∙ q.owes) }))
       where
         at : (seq : Seq) × (ack : Seq) × (c.stage ≡ stage.Resets seq ack)
@@ -253,7 +281,8 @@ module _ (f : Splice) (now first : ℕ) (what : Owed) (mac : Mac) (known_mac : f
         by_answer rests_now.over.runs.lawful rests_now.over.runs.dutiful (λ some goes.
         let sent = subst (λ (w : Owed). GoesOut (is_rst w) w f new now made) (sym two.1) goes in
         let stays = subst (λ (b : Bool). Sees (ends (if b then Finished else Nothing)) (went_out f Ack now) new now made) unfinished sent in
-        taken f now first what mac known_mac late small buffers owed used sized answer allowed s past before ended known on h some rests_now.over.runs.lawful rests_now.over.runs.dutiful (went_out f Ack now) new made refl refl stays.0 stays.1
+        taken f now first what mac known_mac late small buffers owed used sized answer allowed s past before ended known on h some rests_now.over.runs.lawful
+        rests_now.over.runs.dutiful (went_out f Ack now) new made refl refl stays.0 stays.1
         (subst (λ (p : Place). FollowsAt p f.shut s (went_out f Ack now) gone_out now) (sym at)
         (record {
           rests = subst (λ (y : Connection). IsResting s y f.up f.down gone_out now since) (sym (settled_same (told c f.up (our_shift c)) unfinished)) rests_now;

@@ -13,7 +13,8 @@ use Rattle.tcp_transmit.specs.declared.AckSeen.{AckSeen}
 use Rattle.tcp_transmit.specs.declared.AckSeen.TheVariants.{Old, Same, Forward, FinToo, TooFar}
 use Rattle.tcp_guest.specs.Checks.{is_ack, verdict_of}
 use Rattle.tcp_guest.specs.Connection.{Connection, HasBuffers, has_gone, is_answering, is_opening, is_synchronized}
-use Rattle.tcp_guest.specs.Segments.{acknowledged, after_segment, arrived, change_at, change_by, conn_by, congested, down_after_segment, down_by, established, greeted, heard as conn_heard, is_bare, is_fin_too, is_done, is_past, is_too_far, opened, seen_of, settled, settling, up_after_segment, up_by}
+use Rattle.tcp_guest.specs.Segments.{acknowledged, after_segment, arrived, change_at, change_by, conn_by, congested, down_after_segment, down_by, established, greeted, heard as conn_heard}
+use Rattle.tcp_guest.specs.Segments.{is_bare, is_fin_too, is_done, is_past, is_too_far, opened, seen_of, settled, settling, up_after_segment, up_by}
 use Rattle.tcp_guest.specs.Windows.{window_in}
 use Rattle.tcp_guest.specs.declared.Change.TheVariants.{Nothing, Finished}
 use Rattle.tcp_guest.specs.declared.Stage.{Stage}
@@ -88,14 +89,16 @@ module _ (f : Splice) (now : ℕ) (tcp : Tcp) (open_yet : is_open f ≡ true) (l
         by true is saw = record {
           beats = At now (Closes true ended known) ∷ [];
           are = subst (λ (es : List Entry). AreEvents s new.face new.mac true ended known ident now after es (At now (Closes true ended known) ∷ [])) (sym saw.0)
-              (subst (λ (g : Splice). AreEvents s g.face g.mac true ended known ident now after (Close f.face.number ∷ []) (At now (Closes true ended known) ∷ [])) (sym saw.1) ([], refl, (refl, refl, cause)));
+              (subst (λ (g : Splice). AreEvents s g.face g.mac true ended known ident now after (Close f.face.number ∷ []) (At now (Closes true ended known) ∷ [])) (sym saw.1)
+              ([], refl, (refl, refl, cause)));
           follows = subst (λ (g : Splice). Follows s g (At now (Closes true ended known) ∷ after) now) (sym saw.1) h;
         }
         by false is saw = let not_it = sym over ∙ is in absurd cc
 
     -- ---- with what the connection and its buffers are then
 
-    module _ (x : Connection) (u : Upward) (d : Downward) (c_is : after_segment c f.up f.down tcp now ≡ x) (u_is : up_after_segment c f.up f.down tcp ≡ u) (d_is : down_after_segment c f.up f.down tcp ≡ d) where
+    module _ (x : Connection) (u : Upward) (d : Downward) (c_is : after_segment c f.up f.down tcp now ≡ x) (u_is : up_after_segment c f.up f.down tcp ≡ u)
+        (d_is : down_after_segment c f.up f.down tcp ≡ d) where
       has : HasBuffers x u d
       has = subst (λ (y : Connection). HasBuffers y u d) c_is (subst (λ (v : Upward). HasBuffers (after_segment c f.up f.down tcp now) v d) u_is
           (subst (λ (w : Downward). HasBuffers (after_segment c f.up f.down tcp now) (up_after_segment c f.up f.down tcp) w) d_is buffers))
@@ -105,20 +108,24 @@ module _ (f : Splice) (now : ℕ) (tcp : Tcp) (open_yet : is_open f ≡ true) (l
           (subst (λ (v : Upward). P (record f { conn = x; up = v; down = down_after_segment c f.up f.down tcp })) (sym u_is)
           (subst (λ (w : Downward). P (record f { conn = x; up = u; down = w })) (sym d_is) p))
 
-      holds_on : Holds s x u d after now → is_done x ≡ false → (f.mac ≡ None → (is_calls x.stage ≡ true) × (has_gone x.sendings ≡ false)) → (x.ack_owed ≡ false → follows_reset true after ≡ false) → Result
+      holds_on : Holds s x u d after now → is_done x ≡ false → (f.mac ≡ None → (is_calls x.stage ≡ true) × (has_gone x.sendings ≡ false)) →
+          (x.ack_owed ≡ false → follows_reset true after ≡ false) → Result
       holds_on h unfinished unsent calm =
           stays (as_heard (λ (g : Splice). IsOpen s g after now) (goes_on s f x u d f.told_end past before now (Arrives seg) (λ none. none) o h o.told unfinished unsent calm))
 
     -- the connection is gone
-    gone : verdict_of c f.up tcp ≡ Resets → HasCause true false known now after → Follows s (closed (record f { conn = record c { stage = stage.Gone } }) now) (At now (Closes true ended known) ∷ after) now → Result
+    gone : verdict_of c f.up tcp ≡ Resets → HasCause true false known now after → Follows s (closed (record f { conn = record c { stage = stage.Gone } }) now)
+        (At now (Closes true ended known) ∷ after) now → Result
     gone is cause h =
         shuts (ap (λ (v : Verdict). ends (change_by v c f.up f.down tcp now)) is) cause
-        (as_heard (record c { stage = stage.Gone }) f.up f.down (ap (λ (v : Verdict). conn_by v c f.up f.down tcp now) is) (ap (λ (v : Verdict). up_by v c f.up f.down tcp) is) (ap (λ (v : Verdict). down_by v c f.down tcp) is)
+        (as_heard (record c { stage = stage.Gone }) f.up f.down (ap (λ (v : Verdict). conn_by v c f.up f.down tcp now) is) (ap (λ (v : Verdict). up_by v c f.up f.down tcp) is)
+        (ap (λ (v : Verdict). down_by v c f.down tcp) is)
         (λ (g : Splice). Follows s (closed g now) (At now (Closes true ended known) ∷ after) now) h)
 
     -- ---- one that is heeded, by what the connection makes of itself then
 
-    module _ (x : Connection) (u : Upward) (d : Downward) (c_is : after_segment c f.up f.down tcp now ≡ settled x) (u_is : up_after_segment c f.up f.down tcp ≡ u) (d_is : down_after_segment c f.up f.down tcp ≡ d)
+    module _ (x : Connection) (u : Upward) (d : Downward) (c_is : after_segment c f.up f.down tcp now ≡ settled x) (u_is : up_after_segment c f.up f.down tcp ≡ u)
+        (d_is : down_after_segment c f.up f.down tcp ≡ d)
         (change_is : change_at c f.up f.down tcp now ≡ settling x) (rst : seg.rst ≡ false) where
       settles : Holds s x u d after now → (f.mac ≡ None → (is_calls x.stage ≡ true) × (has_gone x.sendings ≡ false)) → Result
       settles h unsent = by (is_done x) refl
@@ -166,7 +173,8 @@ module _ (f : Splice) (now : ℕ) (tcp : Tcp) (open_yet : is_open f ≡ true) (l
 
     -- ---- the three that change the streams
 
-    greeting : verdict_of c f.up tcp ≡ Greets → (at : c.stage ≡ stage.Calls) → has_gone c.sendings ≡ true → (greets_it : greets past seg ≡ true) → seg.rst ≡ false → seg.syn ≡ true → (seg.ack ≡ true → tcp.ack ≡ number_of c.ours 0) → Result
+    greeting : verdict_of c f.up tcp ≡ Greets → (at : c.stage ≡ stage.Calls) → has_gone c.sendings ≡ true → (greets_it : greets past seg ≡ true) → seg.rst ≡ false →
+        seg.syn ≡ true → (seg.ack ≡ true → tcp.ack ≡ number_of c.ours 0) → Result
     greeting is at out greets_it rst syn number = by (is_ack tcp) refl
       where
         unfinished : (y : Connection) → y.host_ended ≡ false → is_done y ≡ false
@@ -193,9 +201,11 @@ module _ (f : Splice) (now : ℕ) (tcp : Tcp) (open_yet : is_open f ≡ true) (l
             (greets_and_opens s c f.up f.down past before now tcp on late o.holds at out greets_it rst syn ack (number ack) (has x f.up d c_is u_is d_is))
             (unfinished x (o.holds.awaits calls).host_ended) (λ none. absurd (known_now none)) (λ unowed. plain_calm past now seg rst)
         by false ack =
-            let c_is : after_segment c f.up f.down tcp now ≡ greeted c tcp = ap (λ (v : Verdict). conn_by v c f.up f.down tcp now) is ∙ ap (λ (e : Bool). if e then acknowledged (established (greeted c tcp)) f.down tcp tcp.window false now else greeted c tcp) ack in
+            let c_is : after_segment c f.up f.down tcp now ≡ greeted c tcp = ap (λ (v : Verdict). conn_by v c f.up f.down tcp now) is ∙ ap
+            (λ (e : Bool). if e then acknowledged (established (greeted c tcp)) f.down tcp tcp.window false now else greeted c tcp) ack in
             let u_is = ap (λ (v : Verdict). up_by v c f.up f.down tcp) is in
-            let d_is : down_after_segment c f.up f.down tcp ≡ f.down = ap (λ (v : Verdict). down_by v c f.down tcp) is ∙ ap (λ (e : Bool). if e then without (octets_acked (seen_of (established (greeted c tcp)).transmission f.down tcp.ack)) f.down else f.down) ack in
+            let d_is : down_after_segment c f.up f.down tcp ≡ f.down = ap (λ (v : Verdict). down_by v c f.down tcp) is ∙ ap
+            (λ (e : Bool). if e then without (octets_acked (seen_of (established (greeted c tcp)).transmission f.down tcp.ack)) f.down else f.down) ack in
             holds_on (greeted c tcp) f.up f.down c_is u_is d_is
             (greets_alone s c f.up f.down past before now tcp on late o.holds at out greets_it rst syn ack (has (greeted c tcp) f.up f.down c_is u_is d_is))
             (unfinished (greeted c tcp) (o.holds.awaits calls).host_ended) (λ none. absurd (known_now none)) (λ unowed. plain_calm past now seg rst)
@@ -213,14 +223,16 @@ module _ (f : Splice) (now : ℕ) (tcp : Tcp) (open_yet : is_open f ≡ true) (l
         ∙ ap (λ (p : Bool). if p then conn_heard c f.down tcp now else settled (arrived (conn_heard c f.down tcp now) f.up tcp)) near
         ∙ ap (λ (y : Connection). settled (arrived (acknowledged y f.down tcp (window_in y tcp) (is_bare tcp) now) f.up tcp)) opened_is in
         let u_is : up_after_segment c f.up f.down tcp ≡ u = ap (λ (v : Verdict). up_by v c f.up f.down tcp) is ∙ ap (λ (p : Bool). if p then f.up else u) near in
-        let d_is : down_after_segment c f.up f.down tcp ≡ d = ap (λ (v : Verdict). down_by v c f.down tcp) is ∙ ap (λ (y : Connection). without (octets_acked (seen_of y.transmission f.down tcp.ack)) f.down) opened_is in
+        let d_is : down_after_segment c f.up f.down tcp ≡ d = ap (λ (v : Verdict). down_by v c f.down tcp) is ∙ ap
+        (λ (y : Connection). without (octets_acked (seen_of y.transmission f.down tcp.ack)) f.down) opened_is in
         let change_is : change_at c f.up f.down tcp now ≡ settling x =
         ap (λ (v : Verdict). change_by v c f.up f.down tcp now) is
         ∙ ap (λ (p : Bool). if p then Nothing else settling (arrived (conn_heard c f.down tcp now) f.up tcp)) near
         ∙ ap (λ (y : Connection). settling (arrived (acknowledged y f.down tcp (window_in y tcp) (is_bare tcp) now) f.up tcp)) opened_is in
         let kept = unsettled x u d (has (settled x) u d c_is u_is d_is) in
         settles x u d c_is u_is d_is change_is rst
-        (opens_now s c f.up f.down past before now tcp on late o.holds at out number ack rst syn seq_fits few (subst (λ (v : Upward). Comes c.received tcp.seq tcp.body f.up v) u_is comes) (subst (λ (v : Upward). length v.held ≤ v.size) u_is within) kept.fills kept)
+        (opens_now s c f.up f.down past before now tcp on late o.holds at out number ack rst syn seq_fits few
+        (subst (λ (v : Upward). Comes c.received tcp.seq tcp.body f.up v) u_is comes) (subst (λ (v : Upward). length v.held ≤ v.size) u_is within) kept.fills kept)
         (λ none. let not_it = sym out ∙ (o.unsent none).1 in absurd cc)
 
     hearing_now : verdict_of c f.up tcp ≡ Heeded → c.stage ≡ stage.Synchronized → seg.ack ≡ true → seg.rst ≡ false → seg.syn ≡ false → Result
@@ -268,10 +280,13 @@ module _ (f : Splice) (now : ℕ) (tcp : Tcp) (open_yet : is_open f ≡ true) (l
             ap (λ (v : Verdict). conn_by v c f.up f.down tcp now) is
             ∙ ap (λ (p : Bool). if p then conn_heard c f.down tcp now else settled (arrived (conn_heard c f.down tcp now) f.up tcp)) (past_is ∙ far)
             ∙ ap (λ (y : Connection). acknowledged y f.down tcp (window_in y tcp) (is_bare tcp) now) opened_is in
-            let u_is : up_after_segment c f.up f.down tcp ≡ f.up = ap (λ (v : Verdict). up_by v c f.up f.down tcp) is ∙ ap (λ (p : Bool). if p then f.up else up_after c.received tcp.seq tcp.body f.up) (past_is ∙ far) in
+            let u_is : up_after_segment c f.up f.down tcp ≡ f.up = ap (λ (v : Verdict). up_by v c f.up f.down tcp) is ∙ ap
+            (λ (p : Bool). if p then f.up else up_after c.received tcp.seq tcp.body f.up) (past_is ∙ far) in
             holds_on x f.up (without (octets_acked (seen_of c.transmission f.down tcp.ack)) f.down) c_is u_is d_is
-            (heeds_none s c f.up f.down past before now tcp on late o.holds no_call late_stage sync ack rst syn far (has x f.up (without (octets_acked (seen_of c.transmission f.down tcp.ack)) f.down) c_is u_is d_is))
-            (ap (λ (p : Bool). is_synchronized c.stage && c.host_ended && p && c.end_acknowledged) (or_none c.fin_acked (is_fin_too (seen_of c.transmission f.down tcp.ack)) (fin_none (seen_of c.transmission f.down tcp.ack) far)) ∙ o.unfinished)
+            (heeds_none s c f.up f.down past before now tcp on late o.holds no_call late_stage sync ack rst syn far
+            (has x f.up (without (octets_acked (seen_of c.transmission f.down tcp.ack)) f.down) c_is u_is d_is))
+            (ap (λ (p : Bool). is_synchronized c.stage && c.host_ended && p && c.end_acknowledged) (or_none c.fin_acked (is_fin_too (seen_of c.transmission f.down tcp.ack))
+            (fin_none (seen_of c.transmission f.down tcp.ack) far)) ∙ o.unfinished)
             (λ none. absurd (known_now none)) (λ unowed. plain_calm past now seg rst)
         by false near =
             let x : Connection = arrived (acknowledged c f.down tcp (window_in c tcp) (is_bare tcp) now) f.up tcp in
@@ -288,7 +303,8 @@ module _ (f : Splice) (now : ℕ) (tcp : Tcp) (open_yet : is_open f ≡ true) (l
             let after_d : Downward = without (octets_acked (seen_of c.transmission f.down tcp.ack)) f.down in
             let kept = unsettled x u after_d (has (settled x) u after_d c_is u_is d_is) in
             settles x u after_d c_is u_is d_is change_is rst
-            (heeds_now s c f.up f.down past before now tcp on late o.holds no_call late_stage sync ack rst syn seq_fits few (subst (λ (v : Upward). Comes c.received tcp.seq tcp.body f.up v) u_is comes) (subst (λ (v : Upward). length v.held ≤ v.size) u_is within) kept.fills near kept)
+            (heeds_now s c f.up f.down past before now tcp on late o.holds no_call late_stage sync ack rst syn seq_fits few
+            (subst (λ (v : Upward). Comes c.received tcp.seq tcp.body f.up v) u_is comes) (subst (λ (v : Upward). length v.held ≤ v.size) u_is within) kept.fills near kept)
             (λ none. absurd (known_now none))
 
     -- ---- all
@@ -296,16 +312,22 @@ module _ (f : Splice) (now : ℕ) (tcp : Tcp) (open_yet : is_open f ≡ true) (l
     by_means : Means s c f.up f.down past before now tcp on o.holds → Result
     by_means (rests syn_owed ack_owed c_is u_is d_is keeps only calm no_call quiet) =
         let x : Connection = record c { syn_owed = syn_owed; ack_owed = ack_owed } in
-        holds_on x f.up f.down c_is u_is d_is (rests_holds s c f.up f.down past before now tcp on o.holds ack_fits syn_owed ack_owed keeps only calm no_call quiet (has x f.up f.down c_is u_is d_is)) o.unfinished o.unsent
+        holds_on x f.up f.down c_is u_is d_is (rests_holds s c f.up f.down past before now tcp on o.holds ack_fits syn_owed ack_owed keeps only calm no_call quiet
+        (has x f.up f.down c_is u_is d_is)) o.unfinished o.unsent
         (λ unowed. apart_calm s c f.up f.down past before now o.holds seg no_call quiet.apart (only unowed))
-    by_means (waits c_is u_is d_is at none) = holds_on c f.up f.down c_is u_is d_is (waits_on s c f.up f.down past before now tcp on o.holds at none (has c f.up f.down c_is u_is d_is)) o.unfinished o.unsent
+    by_means (waits c_is u_is d_is at none) = holds_on c f.up f.down c_is u_is d_is (waits_on s c f.up f.down past before now tcp on o.holds at none
+        (has c f.up f.down c_is u_is d_is)) o.unfinished o.unsent
         (λ unowed. called_calm s c f.up f.down past before now o.holds seg (ap (λ (st : Stage). is_calls st) at) (λ rst. waits_unturned c f.up f.down tcp now at c_is rst))
     by_means (resets is no_call rst number) =
         gone is (next_reset_cause s c f.up f.down past before now on o.holds known false seg no_call rst number)
-        (over_follows s (record f { conn = record c { stage = stage.Gone } }) (At now (Closes true ended known) ∷ after) now (next_reset_closes s c f.up f.down past before now on o.holds known ended seg no_call rst number) (λ at. cc) o.mru (λ owes. absurd cc) (λ none. next_reset_none s c f.up f.down past before now known o.holds seg rst no_call number))
+        (over_follows s (record f { conn = record c { stage = stage.Gone } }) (At now (Closes true ended known) ∷ after) now
+        (next_reset_closes s c f.up f.down past before now on o.holds known ended seg no_call rst number) (λ at. cc) o.mru (λ owes. absurd cc)
+        (λ none. next_reset_none s c f.up f.down past before now known o.holds seg rst no_call number))
     by_means (turns_away is calls rst ack number) =
         gone is (called_reset_cause s c f.up f.down past before now on o.holds known false seg calls rst ack number)
-        (over_follows s (record f { conn = record c { stage = stage.Gone } }) (At now (Closes true ended known) ∷ after) now (called_reset_closes s c f.up f.down past before now on o.holds known ended seg calls rst ack number) (λ at. cc) o.mru (λ owes. absurd cc) (λ none. called_reset_none s c f.up f.down past before now known o.holds seg rst calls ack number))
+        (over_follows s (record f { conn = record c { stage = stage.Gone } }) (At now (Closes true ended known) ∷ after) now
+        (called_reset_closes s c f.up f.down past before now on o.holds known ended seg calls rst ack number) (λ at. cc) o.mru (λ owes. absurd cc)
+        (λ none. called_reset_none s c f.up f.down past before now known o.holds seg rst calls ack number))
     by_means (is_greeted is at out greets_it rst syn number) = greeting is at out greets_it rst syn number
     by_means (is_opened is at out number ack rst syn) = opening_now is at out number ack rst syn
     by_means (is_heard is at ack rst syn) = hearing_now is at ack rst syn

@@ -147,7 +147,16 @@ module _ (f : Splice) (now : ℕ) (open_yet : is_open f ≡ true) where
         let o = open_is s f past before open_yet h in
         record {
           beats = At now (Closes false ended known) ∷ At now (WriteFails front) ∷ [];
-          are = (At now (WriteFails front) ∷ [], ([], refl, (refl, refl)), (refl, refl, failed_cause s f.conn f.up f.down past before now on o.holds known false (At now (WriteFails front) ∷ past) refl));
+          are = (
+            At now (WriteFails front) ∷ [],
+            ([], refl, (refl, refl)),
+            (
+              refl,
+              refl,
+              failed_cause s f.conn f.up f.down past before now on o.holds known false
+                  (At now (WriteFails front) ∷ past) refl,
+            ),
+          );
           follows = reset_follows s f past (At now (WriteFails front) ∷ past) before now false ended known o refl
               (write_fails_closes s f.conn f.up f.down past before now on o.holds known (reached s past before o) joined (untold s past before o) ended (min 16384 (length f.up.held)) refl);
         }
@@ -213,8 +222,18 @@ module _ (f : Splice) (now : ℕ) (open_yet : is_open f ≡ true) where
         let o = open_is s f past before open_yet h in
         record {
           beats = At now (Closes false over known) ∷ At now EndsHost ∷ [];
-          are = (At now EndsHost ∷ [], ([], refl, (refl, refl)), (refl, refl, finished_cause s (record f { told_end = true }) told (At now EndsHost ∷ past) now false known (ends_holds buffers s past before on o) (is_finished told finished) refl));
-          follows = done_follows s (record f { told_end = true }) told (At now EndsHost ∷ past) now false over known (ends_holds buffers s past before on o) (is_finished told finished) refl o.mru (λ unknown. (o.unsent unknown).0);
+          are = (
+            At now EndsHost ∷ [],
+            ([], refl, (refl, refl)),
+            (
+              refl,
+              refl,
+              finished_cause s (record f { told_end = true }) told (At now EndsHost ∷ past) now false known
+                  (ends_holds buffers s past before on o) (is_finished told finished) refl,
+            ),
+          );
+          follows = done_follows s (record f { told_end = true }) told (At now EndsHost ∷ past) now false over known (ends_holds buffers s past before on o)
+              (is_finished told finished) refl o.mru (λ unknown. (o.unsent unknown).0);
         }))
     host_ends buffers false unfinished new made sees =
         subst (λ (g : Splice). GoesOn f g false now (made ++ (TcpEnd f.face.number MadeDone ∷ []))) (sym sees.1)
@@ -246,7 +265,8 @@ module _ (f : Splice) (now : ℕ) (open_yet : is_open f ≡ true) where
 
     -- as many as there is room for are asked for
     asks : (s : Settings) (past : Story) (before : ℕ) → IsOpen s f past before → f.down.size ≡ f.up.size → min 16384 (f.down.size - length f.down.octets) ≡ read_size s past
-    asks s past before o size = ap (λ (n : ℕ). min 16384 (n - length f.down.octets)) (size ∙ o.holds.buffers.size ∙ o.holds.suits.ring) ∙ sym (asks_for_all_room s f.conn f.up f.down past before o.holds yet)
+    asks s past before o size = ap (λ (n : ℕ). min 16384 (n - length f.down.octets)) (size ∙ o.holds.buffers.size ∙ o.holds.suits.ring) ∙ sym
+        (asks_for_all_room s f.conn f.up f.down past before o.holds yet)
 
     abbrev asked : ℕ
     asked = min 16384 (f.down.size - length f.down.octets)
@@ -257,10 +277,13 @@ module _ (f : Splice) (now : ℕ) (open_yet : is_open f ≡ true) where
         let next = given f octets now in
         open_follows s next (At now (Reads octets) ∷ past) now open_yet
         (goes_on s f next.conn f.up next.down f.told_end past before now (Reads octets) (λ none. none) o
-        (reads s f.conn f.up f.down past before now on o.holds yet joined_yet octets (let long = length-append f.down.octets octets in let within = o.holds.within in let ring = size ∙ o.holds.buffers.size ∙ o.holds.suits.ring in omega (arith, long, ring, few, within)) buffers)
+        (reads s f.conn f.up f.down past before now on o.holds yet joined_yet octets
+        (let long = length-append f.down.octets octets in let within = o.holds.within in let ring = size ∙ o.holds.buffers.size ∙ o.holds.suits.ring in omega
+        (arith, long, ring, few, within)) buffers)
         o.told o.unfinished o.unsent (λ unowed. refl))
 
-    pub host_gives : (answer : Io) (octets : List ℕ) → gives_octets answer ≡ true → f.down.size ≡ f.up.size → length octets ≤ asked → HasBuffers (given f octets now).conn f.up (given f octets now).down
+    pub host_gives : (answer : Io) (octets : List ℕ) → gives_octets answer ≡ true → f.down.size ≡ f.up.size → length octets ≤ asked → HasBuffers (given f octets now).conn f.up
+        (given f octets now).down
         → GoesOn f (given f octets now) false now (TcpRead f.face.number asked answer octets ∷ [])
     host_gives (Done n) octets done size few buffers s past before ident ended known on h =
         let o = open_is s f past before open_yet h in
@@ -272,7 +295,8 @@ module _ (f : Splice) (now : ℕ) (open_yet : is_open f ≡ true) where
     host_gives Failed octets done size few buffers s past before ident ended known on h = absurd cc
 
     -- the host ended its stream
-    pub host_gives_end : (octets : List ℕ) → f.down.size ≡ f.up.size → HasBuffers (host_ended f.conn now) f.up f.down → GoesOn f (record f { conn = host_ended f.conn now }) false now (TcpRead f.face.number asked End octets ∷ [])
+    pub host_gives_end : (octets : List ℕ) → f.down.size ≡ f.up.size → HasBuffers (host_ended f.conn now) f.up f.down → GoesOn f
+        (record f { conn = host_ended f.conn now }) false now (TcpRead f.face.number asked End octets ∷ [])
     host_gives_end octets size buffers s past before ident ended known on h =
         let o = open_is s f past before open_yet h in
         let next : Connection = record f.conn { transmission = watched (unsent_end s f.conn f.up f.down past before now on o.holds yet joined_yet) true now } in
@@ -283,16 +307,27 @@ module _ (f : Splice) (now : ℕ) (open_yet : is_open f ≡ true) where
           follows = subst (λ (c : Connection). Follows s (record f { conn = c }) (At now ReadsEnd ∷ past) now) (sym is)
               (open_follows s (record f { conn = next }) (At now ReadsEnd ∷ past) now open_yet
               (goes_on s f next f.up f.down f.told_end past before now ReadsEnd (λ none. none) o
-              (reads_end s f.conn f.up f.down past before now on o.holds yet joined_yet (subst (λ (c : Connection). HasBuffers c f.up f.down) is buffers)) o.told o.unfinished o.unsent (λ unowed. refl)));
+              (reads_end s f.conn f.up f.down past before now on o.holds yet joined_yet (subst (λ (c : Connection). HasBuffers c f.up f.down) is buffers)) o.told o.unfinished
+              o.unsent (λ unowed. refl)));
         }
 
     -- the read failed
-    pub host_gives_none : (octets : List ℕ) → f.down.size ≡ f.up.size → GoesOn f (closed (record f { conn = reset f.conn }) now) false now (Close f.face.number ∷ TcpRead f.face.number asked Failed octets ∷ [])
+    pub host_gives_none : (octets : List ℕ) → f.down.size ≡ f.up.size → GoesOn f (closed (record f { conn = reset f.conn }) now) false now
+        (Close f.face.number ∷ TcpRead f.face.number asked Failed octets ∷ [])
     host_gives_none octets size s past before ident ended known on h =
         let o = open_is s f past before open_yet h in
         record {
           beats = At now (Closes false ended known) ∷ At now ReadFails ∷ [];
-          are = (At now ReadFails ∷ [], ([], refl, (refl, asks s past before o size, refl)), (refl, refl, failed_cause s f.conn f.up f.down past before now on o.holds known false (At now ReadFails ∷ past) refl));
+          are = (
+            At now ReadFails ∷ [],
+            ([], refl, (refl, asks s past before o size, refl)),
+            (
+              refl,
+              refl,
+              failed_cause s f.conn f.up f.down past before now on o.holds known false
+                  (At now ReadFails ∷ past) refl,
+            ),
+          );
           follows = reset_follows s f past (At now ReadFails ∷ past) before now false ended known o refl
               (read_fails_closes s f.conn f.up f.down past before now on o.holds known ended yet joined_yet);
         }

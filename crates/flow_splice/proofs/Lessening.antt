@@ -43,7 +43,8 @@ settled_left x up down = by (is_done x) (closes_first x) refl
     first_is true b d e is = refl
     first_is false b d e is = absurd cc
 
-    by : (b d : Bool) → is_done x ≡ b → left_by (if b then (if d then record x { stage = stage.Rests } else record x { stage = stage.Gone }) else x).stage (if b then (if d then record x { stage = stage.Rests } else record x { stage = stage.Gone }) else x) up down ≤ left_by x.stage x up down
+    by : (b d : Bool) → is_done x ≡ b → left_by (if b then (if d then record x { stage = stage.Rests } else record x { stage = stage.Gone }) else x).stage
+        (if b then (if d then record x { stage = stage.Rests } else record x { stage = stage.Gone }) else x) up down ≤ left_by x.stage x up down
     by true true done = at_sync x.stage (first_is (is_synchronized x.stage) x.host_ended x.fin_acked x.end_acknowledged done)
     by true false done = omega arith
     by false d done = omega arith
@@ -100,7 +101,8 @@ module _ (c : Connection) (up : Upward) (down : Downward) (now : ℕ) (h : HasBu
       by true syn is =
           let same : SynAck ≡ what = cc in
           subst (λ (w : Owed). Less w stage.Answers) same
-          (subst (λ (st : Stage). left_by st (gone SynAck c up now) up down < count_if c.syn_owed 2 + count_if c.ack_owed 1) (sym at) (let some = ap (λ (b : Bool). count_if b 2) syn in omega (arith, some)))
+          (subst (λ (st : Stage). left_by st (gone SynAck c up now) up down < count_if c.syn_owed 2 + count_if c.ack_owed 1) (sym at)
+          (let some = ap (λ (b : Bool). count_if b 2) syn in omega (arith, some)))
       by false syn is =
           let two = if_some c.ack_owed Ack what is in
           subst (λ (w : Owed). Less w stage.Answers) two.1

@@ -31,7 +31,8 @@ pub record Marked (old new : Splice) (made : List Entry) : Type 0 where
   pub closes : (made ≡ []) ⊎ ((n : ℕ) × (made ≡ Close n ∷ []))
   pub shut : is_open old ≡ false → is_open new ≡ false
 
-same_of : (f x new : Splice) (made : List Entry) → IsAsOld f x → x.up ≡ f.up → x.down ≡ f.down → new ≡ x → (made ≡ []) ⊎ ((n : ℕ) × (made ≡ Close n ∷ [])) → (is_open f ≡ false → is_open x ≡ false) → Marked f new made
+same_of : (f x new : Splice) (made : List Entry) → IsAsOld f x → x.up ≡ f.up → x.down ≡ f.down → new ≡ x → (made ≡ []) ⊎ ((n : ℕ) × (made ≡ Close n ∷ [])) →
+    (is_open f ≡ false → is_open x ≡ false) → Marked f new made
 same_of f x new made as_old up down is closes shut = record {
   stays = record { same = subst (λ (y : Splice). IsAsOld f y) (sym is) as_old; up = ap (λ (y : Splice). y.up) is ∙ up; down = ap (λ (y : Splice). y.down) is ∙ down };
   closes = closes;
@@ -47,15 +48,26 @@ as_it_is f = record { face = refl; mac = refl; since = refl; asked = refl; ask_a
 
 out_stays : (b : Bool) (what : Owed) (f new : Splice) (now : ℕ) (made : List Entry) → GoesOut b what f new now made → Marked f new made
 out_stays true what f new now made is =
-    same_of f (record (went_out f what now) { place = new.place }) new made (record { face = refl; mac = refl; since = refl; asked = refl; ask_at = refl; up_size = refl; down_size = refl; mru = refl }) refl refl
+    same_of f (record (went_out f what now) { place = new.place }) new made
+    (record { face = refl; mac = refl; since = refl; asked = refl; ask_at = refl; up_size = refl; down_size = refl; mru = refl }) refl refl
     (is.1 ∙ ap (λ p. record (went_out f what now) { place = p }) (sym (ap (λ (y : Splice). y.place) is.1))) (inl is.0)
     (λ is_shut. ap (λ p. is_in_use p && not f.shut) (ap (λ (y : Splice). y.place) is.1))
 out_stays false what f new now made is = by (ends (change_gone what f.conn f.up now)) is
   where
     by : (e : Bool) → Sees e (went_out f what now) new now made → Marked f new made
-    by true sees = same_of f (closed (went_out f what now) now) new made (record { face = refl; mac = refl; since = refl; asked = refl; ask_at = refl; up_size = refl; down_size = refl; mru = refl }) refl refl sees.1 (inr (f.face.number, sees.0))
+    by true sees = same_of f (closed (went_out f what now) now) new made
+        (record { face = refl; mac = refl; since = refl; asked = refl; ask_at = refl; up_size = refl; down_size = refl; mru = refl }) refl refl sees.1 (inr (f.face.number, sees.0))
         (λ is_shut. never_both (is_in_use (closed (went_out f what now) now).place))
-    by false sees = same_of f (went_out f what now) new made (record { face = refl; mac = refl; since = refl; asked = refl; ask_at = refl; up_size = refl; down_size = refl; mru = refl }) refl refl sees.1 (inl sees.0) (λ is_shut. is_shut)
+    by false sees = same_of f (went_out f what now) new made (record {
+      face = refl;
+      mac = refl;
+      since = refl;
+      asked = refl;
+      ask_at = refl;
+      up_size = refl;
+      down_size = refl;
+      mru = refl;
+    }) refl refl sees.1 (inl sees.0) (λ is_shut. is_shut)
 
 pub marks_stay : (o : Offered) (what : Owed) (f new : Splice) (now : ℕ) (made : List Entry) → Marks o what f new now made → Marked f new made
 marks_stay Taken what f new now made marks = out_stays (is_rst what) what f new now made marks
@@ -65,9 +77,11 @@ marks_stay Failed what f new now made marks = same_of f f new made (as_it_is f) 
 -- less is left where it went out
 left_of : (x new : Splice) → new.conn ≡ x.conn → new.up ≡ x.up → new.down ≡ x.down → left new ≡ left x
 left_of x new conn up down =
-    ap (λ (c : Connection). left (record new { conn = c })) conn ∙ ap (λ (u : Upward). left (record new { conn = x.conn; up = u })) up ∙ ap (λ (d : Downward). left (record new { conn = x.conn; up = x.up; down = d })) down
+    ap (λ (c : Connection). left (record new { conn = c })) conn ∙ ap (λ (u : Upward). left (record new { conn = x.conn; up = u })) up ∙ ap
+    (λ (d : Downward). left (record new { conn = x.conn; up = x.up; down = d })) down
 
-pub marks_less : (what : Owed) (f new : Splice) (now : ℕ) (made : List Entry) → HasBuffers f.conn f.up f.down → owed_of f.conn f.up f.down ≡ Some what → Marks Taken what f new now made → left new < left f
+pub marks_less : (what : Owed) (f new : Splice) (now : ℕ) (made : List Entry) → HasBuffers f.conn f.up f.down → owed_of f.conn f.up f.down ≡ Some what →
+    Marks Taken what f new now made → left new < left f
 marks_less what f new now made buffers owed marks =
     let fewer = less f.conn f.up f.down now buffers what owed in
     let stays = (marks_stay Taken what f new now made marks).stays in
@@ -97,8 +111,14 @@ makes_allowed a b P m = record { made = m.made; same = m.same; allowed = m.allow
 -- ---- one after another
 
 pub sends_none : (f : Splice) (link : LinkState) (ident now : ℕ) → ident < 2 ^ 16 → SendsOn f f link link ident ident now []
-sends_none f link ident now small =
-    ((λ s past before ended known on h. (record { beats = []; are = refl; follows = follows_later s f past before now on h }, (let same : ident ≡ (ident + 0) % 2 ^ 16 = omega (arith, small) in same))), λ past k. k)
+sends_none f link ident now small = (
+  (λ s past before ended known on h. (
+    record { beats = []; are = refl; follows = follows_later s f past before now on h },
+    (let same : ident ≡ (ident + 0) % 2 ^ 16 = omega
+        (arith, small) in same),
+  )),
+  λ past k. k,
+)
 
 pub sends_then : (old mid new : Splice) (one two three : LinkState) (first second third now : ℕ) (before made : List Entry) → new.face ≡ mid.face → new.mac ≡ mid.mac
     → SendsOn old mid one two first second now before → SendsOn mid new two three second third now made → SendsOn old new one three first third now (made ++ before)
@@ -109,7 +129,8 @@ sends_then old mid new one two three first second third now before made same_fac
         record {
           beats = y.0.beats ++ x.0.beats;
           are = events_then s new.face new.mac false ended known first now past x.0.beats before made y.0.beats
-              (subst (λ (face : Face). AreEvents s face new.mac false ended known first now past before x.0.beats) (sym same_face) (subst (λ (mac : Option Mac). AreEvents s mid.face mac false ended known first now past before x.0.beats) (sym same_mac) x.0.are))
+              (subst (λ (face : Face). AreEvents s face new.mac false ended known first now past before x.0.beats) (sym same_face)
+              (subst (λ (mac : Option Mac). AreEvents s mid.face mac false ended known first now past before x.0.beats) (sym same_mac) x.0.are))
               (subst (λ (n : ℕ). AreEvents s new.face new.mac false ended known n now (x.0.beats ++ past) made y.0.beats) x.1 y.0.are);
           follows = subst (λ (q : Story). Follows s new q now) (sym (append_assoc y.0.beats x.0.beats past)) y.0.follows;
         },

@@ -45,7 +45,8 @@ runs_later s past now m on r = record { story = r.story; moment = let low = r.mo
 pub over_later : (s : Settings) (c : Connection) (past : Story) (now m : ℕ) → now ≤ m → IsOver s c past now → IsOver s c past m
 over_later s c past now m on h = record { runs = runs_later s past now m on h.runs; closed = h.closed; well = h.well; over = h.over; owes = h.owes; pays = h.pays; came = h.came }
 
-pub resting_later : (s : Settings) (c : Connection) (up : Upward) (down : Downward) (past : Story) (now m since : ℕ) → now ≤ m → IsResting s c up down past now since → IsResting s c up down past m since
+pub resting_later : (s : Settings) (c : Connection) (up : Upward) (down : Downward) (past : Story) (now m since : ℕ) → now ≤ m → IsResting s c up down past now since →
+    IsResting s c up down past m since
 resting_later s c up down past now m since on h = record {
   over = over_later s c past now m on h.over;
   at = h.at;

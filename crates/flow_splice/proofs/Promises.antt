@@ -1,5 +1,6 @@
 -- What follows where a flow follows its story.
-use Rattle.std.proofs.Common.{refl, ◌≡◌, ℕ, ◌+◌, ◌-◌, ◌<◌, ◌≤◌, [], ◌++◌, List, length, Bool, true, false, not, ◌&&◌, ◌||◌, Option, None, Some, nat_lt, IsTrue, if◌then◌else◌, arith, ap, subst, sym, ◌∙◌, inl, inr, ◌⊎◌}
+use Rattle.std.proofs.Common.{refl, ◌≡◌, ℕ, ◌+◌, ◌-◌, ◌<◌, ◌≤◌, [], ◌++◌, List, length, Bool, true, false, not, ◌&&◌, ◌||◌, Option, None, Some, nat_lt, IsTrue, if◌then◌else◌, arith, ap}
+use Rattle.std.proofs.Common.{subst, sym, ◌∙◌, inl, inr, ◌⊎◌}
 use Rattle.std.proofs.lemmas.Bool.Decides.{nat_tests}
 use Rattle.net_octets.specs.declared.Mac.{Mac}
 use Rattle.retransmit.specs.Resending.{due_by as due_by_timer, is_off}
@@ -86,7 +87,8 @@ module _ (s : Settings) (f : Splice) (past : Story) (now : ℕ) (o : IsOpen s f 
   held_begins = by (is_calls f.conn.stage) refl
     where
       by : (b : Bool) → is_calls f.conn.stage ≡ b → IsPrefixOf (written (guest past) ++ f.up.held) (front (guest past))
-      by true calls = let two = held_reached s f past now o calls in subst (λ (g : List Up). IsPrefixOf (written g ++ f.up.held) (front g)) (sym two.0) (subst (λ (xs : List ℕ). IsPrefixOf ([] ++ xs) []) (sym two.1) ([], refl))
+      by true calls = let two = held_reached s f past now o calls in subst (λ (g : List Up). IsPrefixOf (written g ++ f.up.held) (front g)) (sym two.0)
+          (subst (λ (xs : List ℕ). IsPrefixOf ([] ++ xs) []) (sym two.1) ([], refl))
       by false reached = begins_front s.ring (guest past) (part_of f.conn f.up) (o.holds.receives reached).follows honest
 
   pub held_all : (a : ℕ) → IsAcknowledged (guest past) a → a ≤ length (written (guest past)) + length f.up.held
@@ -113,7 +115,8 @@ closed_last : (a b d : Bool) → d ≡ true → IsTrue (a && b && not d) → ⊥
 closed_last true b d is so = closed_not b d is so
 closed_last false b d is so = absurd cc
 
-module _ (in_time : Type 0) (s : Settings) (past : Story) (now : ℕ) (known rests : Bool) (shut : is_closed past ≡ true) (none : owes_reset past ≡ false) (answers : IsTrue rests → IsTrue (fin_is_answered past)) where
+module _ (in_time : Type 0) (s : Settings) (past : Story) (now : ℕ) (known rests : Bool) (shut : is_closed past ≡ true) (none : owes_reset past ≡ false)
+    (answers : IsTrue rests → IsTrue (fin_is_answered past)) where
   pub closed_settled : IsSettledIf in_time s past known rests now
   closed_settled = record {
     sends = record {
@@ -168,7 +171,8 @@ module _ (s : Settings) (f : Splice) (past : Story) (now : ℕ) (known : Bool) (
       by stage.Answers at live =
           let opening = ap (λ (q : Stage). is_opening q) at in
           let two = both c.syn_owed c.ack_owed (sym (ap (λ (q : Stage). owed_by q c f.up f.down) at) ∙ nothing) in
-          opening_settled s c f.up f.down past now h nothing known opening two.1 (λ is. went (has_gone c.sendings) refl is opening two.0) (λ is. two.0) (λ early d is. early d (ap (λ (q : Stage). due_by q c) at ∙ is))
+          opening_settled s c f.up f.down past now h nothing known opening two.1 (λ is. went (has_gone c.sendings) refl is opening two.0) (λ is. two.0)
+          (λ early d is. early d (ap (λ (q : Stage). due_by q c) at ∙ is))
         where
           both : (a b : Bool) → (if a then Some SynAck else ack_if b) ≡ None → (a ≡ false) × (b ≡ false)
           both true b is = absurd cc
@@ -187,10 +191,12 @@ module _ (s : Settings) (f : Splice) (past : Story) (now : ℕ) (known : Bool) (
       by : (m : Option Mac) → f.mac ≡ m → IsClearBy m f → IsSettledIf (IsAhead f.conn now) s past known false now
       by None is some =
           let two = o.unsent is in
-          subst (λ (k : Bool). IsSettledIf (IsAhead f.conn now) s past k false now) (sym (unknown is)) (seeking_settled (IsAhead f.conn now) s c f.up f.down past now f.asked f.ask_at h two.0 two.1 (some open_yet) (o.seeks is (some open_yet)))
+          subst (λ (k : Bool). IsSettledIf (IsAhead f.conn now) s past k false now) (sym (unknown is))
+          (seeking_settled (IsAhead f.conn now) s c f.up f.down past now f.asked f.ask_at h two.0 two.1 (some open_yet) (o.seeks is (some open_yet)))
       by (Some mac) is none = known_settled (takes f.place (owed_of c f.up f.down) (in_use (is_in_use f.place) f.shut open_yet) none)
 
-pub settled_is : (s : Settings) (f : Splice) (past : Story) (now : ℕ) (known : Bool) → Follows s f past now → IsClear f → (f.mac ≡ None → known ≡ false) → IsSettledIf (IsAhead f.conn now) s past known (is_at_rest f.place) now
+pub settled_is : (s : Settings) (f : Splice) (past : Story) (now : ℕ) (known : Bool) → Follows s f past now → IsClear f → (f.mac ≡ None → known ≡ false) → IsSettledIf
+    (IsAhead f.conn now) s past known (is_at_rest f.place) now
 settled_is s f past now known h clear unknown = by f.place f.shut refl refl h
   where
     some_mac : (m : Option Mac) → f.mac ≡ m → (f.mac ≡ None → ⊥) → IsClearBy f.mac f → takes_part_at f.place (owed_of f.conn f.up f.down) ≡ None
@@ -244,7 +250,8 @@ waited_is s f past now h early = by f.place f.shut refl refl h
           closes = λ honest done. absurd (not_done (host_was_ended past) (our_fin_is_acked past) (fin_was_acknowledged past) (o.holds.awaits calls).untold done);
           connects = subst (λ (e : Bool). AreAhead now (moment_if e (opened_at past + 75000))) (sym (o.holds.opened.connects ∙ (calls_opens f.conn.stage calls).1)) tt;
         }
-        by_calls false reached = may_wait s f.conn f.up f.down past now o.holds reached o.unfinished (λ connects. let soon = early open_yet connects in let since = o.since in omega (arith, soon, since))
+        by_calls false reached = may_wait s f.conn f.up f.down past now o.holds reached o.unfinished (λ connects. let soon = early open_yet connects in let since = o.since in omega
+            (arith, soon, since))
 
     by : (p : Place) (b : Bool) → f.place ≡ p → f.shut ≡ b → FollowsAt p b s f past now → MayWait past now
     by Empty b at shut q = closed_waits past now q.over.closed
@@ -265,7 +272,8 @@ last_false false b d e is = refl
 
 shut_reads : (s : Settings) (f : Splice) (past : Story) → is_closed past ≡ true → is_open f ≡ false → (waits_to_read s past ≡ reads f) × (must_wait_to_write past ≡ false) × (writes f ≡ false)
 shut_reads s f past shut is = (
-  last_false (has_connected past || is_accepted past) (is_closed past) (not (got_end (host past))) (nat_lt (length (got (host past))) (acked (host past) + s.ring)) shut ∙ sym (ap (λ (b : Bool). b && may_read f) is),
+  last_false (has_connected past || is_accepted past) (is_closed past) (not (got_end (host past))) (nat_lt (length (got (host past))) (acked (host past) + s.ring)) shut ∙ sym
+      (ap (λ (b : Bool). b && may_read f) is),
   ap (λ (b : Bool). not b && (is_connecting past || (nat_lt (length (written (guest past))) (ackd (guest past)) && not (has_ended (guest past))))) shut,
   ap (λ (b : Bool). b && may_write f) is,
 )
@@ -283,7 +291,8 @@ module _ (s : Settings) (f : Splice) (past : Story) (now : ℕ) (size : f.down.s
   open_reads : waits_to_read s past ≡ reads f
   open_reads =
       reads_where_room s f.conn f.up f.down past now o.holds
-      ∙ ap (λ (b : Bool). not (is_connects f.conn.stage) && is_host_open f.conn.transmission.end && b) (room_same (length f.down.octets) f.down.size s.ring (size ∙ o.holds.buffers.size ∙ o.holds.suits.ring))
+      ∙ ap (λ (b : Bool). not (is_connects f.conn.stage) && is_host_open f.conn.transmission.end && b) (room_same (length f.down.octets) f.down.size s.ring
+      (size ∙ o.holds.buffers.size ∙ o.holds.suits.ring))
       ∙ sym (ap (λ (b : Bool). b && may_read f) open_yet)
 
   writes_is : writes f ≡ may_write f
@@ -324,7 +333,8 @@ module _ (s : Settings) (f : Splice) (past : Story) (now : ℕ) (size : f.down.s
     where
       untold : must_wait_to_write past ≡ true → is_calls f.conn.stage ≡ false → (is_connects f.conn.stage ≡ false) → f.told_end ≡ false
       untold is reached apart =
-          sym (told_same reached) ∙ (o.holds.receives reached).follows.told ∙ last_of (is_closed past) (is_connecting past) (nat_lt (length (written (guest past))) (ackd (guest past))) (has_ended (guest past)) (o.holds.opened.connects ∙ apart) is
+          sym (told_same reached) ∙ (o.holds.receives reached).follows.told ∙ last_of (is_closed past) (is_connecting past)
+          (nat_lt (length (written (guest past))) (ackd (guest past))) (has_ended (guest past)) (o.holds.opened.connects ∙ apart) is
         where
           last_of : (a b d e : Bool) → b ≡ false → (not a && (b || (d && not e))) ≡ true → e ≡ false
           last_of true b d e b_is is = absurd cc
@@ -337,7 +347,8 @@ module _ (s : Settings) (f : Splice) (past : Story) (now : ℕ) (size : f.down.s
       by true calls = absurd (none (guest past) (held_reached s f past now o calls).0 must)
         where
           none : (g : List Up) → guest past ≡ [] → must_wait_to_write past ≡ true → ⊥
-          none g is so = none_by (is_closed past) (is_connecting past) (o.holds.opened.connects ∙ calls_none f.conn.stage calls) (sym (ap (λ (x : List Up). not (is_closed past) && (is_connecting past || (nat_lt (length (written x)) (ackd x) && not (has_ended x)))) is) ∙ so)
+          none g is so = none_by (is_closed past) (is_connecting past) (o.holds.opened.connects ∙ calls_none f.conn.stage calls)
+              (sym (ap (λ (x : List Up). not (is_closed past) && (is_connecting past || (nat_lt (length (written x)) (ackd x) && not (has_ended x)))) is) ∙ so)
             where
               calls_none : (st : Stage) → is_calls st ≡ true → is_connects st ≡ false
               calls_none stage.Connects is = absurd cc
@@ -352,7 +363,8 @@ module _ (s : Settings) (f : Splice) (past : Story) (now : ℕ) (size : f.down.s
               none_by true b is so = cc
               none_by false true is so = cc
               none_by false false is so = cc
-      by false reached = three_writes (is_connects f.conn.stage) (length f.up.held) f.conn.received.ended f.told_end (cases (is_connects f.conn.stage) refl (must_write s f.conn f.up f.down past now o.holds reached must))
+      by false reached = three_writes (is_connects f.conn.stage) (length f.up.held) f.conn.received.ended f.told_end
+          (cases (is_connects f.conn.stage) refl (must_write s f.conn f.up f.down past now o.holds reached must))
         where
           cases : (b : Bool) → is_connects f.conn.stage ≡ b → (is_connects f.conn.stage ≡ true) ⊎ ((0 < length f.up.held) ⊎ ((f.conn.received.ended ≡ true) × (f.conn.host_ended ≡ false)))
               → (is_connects f.conn.stage ≡ true) ⊎ (((0 < length f.up.held) × (f.told_end ≡ false)) ⊎ ((f.conn.received.ended ≡ true) × (f.told_end ≡ false)))

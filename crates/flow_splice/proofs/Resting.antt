@@ -1,5 +1,6 @@
 -- A segment of the guest arrives at a flow whose socket was closed.
-use Rattle.std.proofs.Common.{refl, ◌≡◌, ℕ, ◌≤◌, List, MatchOption, is_some, option_map, [], ◌∷◌, Bool, true, false, not, ◌&&◌, ◌||◌, Option, None, Some, if◌then◌else◌, nat_eq, arith, ap, subst, sym, ◌∙◌}
+use Rattle.std.proofs.Common.{refl, ◌≡◌, ℕ, ◌≤◌, List, MatchOption, is_some, option_map, [], ◌∷◌, Bool, true, false, not, ◌&&◌, ◌||◌, Option, None, Some, if◌then◌else◌, nat_eq, arith, ap}
+use Rattle.std.proofs.Common.{subst, sym, ◌∙◌}
 use Rattle.std.specs.Option.{option_or, option_map, unwrap_or}
 use Rattle.seq_space.specs.Places.{number_of}
 use Rattle.sock_buffers.specs.Downward.{Downward}
@@ -154,11 +155,22 @@ hears_at_rest f now since tcp at s past before ident ended known on h =
     by false is q =
         let r = rest_arrives s f.conn f.up f.down past before now since tcp on q.rests (ends_is s f.conn f.up f.down past before since tcp q.rests ∙ is) in
         record {
-          rests = resting_with s (after_segment f.conn f.up f.down tcp now) f.up (up_after_segment f.conn f.up f.down tcp) f.down (down_after_segment f.conn f.up f.down tcp) (At now (Arrives (segment_of tcp)) ∷ past) now (if renews tcp then now else since) r.1 r.0;
+          rests = resting_with s (after_segment f.conn f.up f.down tcp now) f.up (up_after_segment f.conn f.up f.down tcp) f.down (down_after_segment f.conn f.up f.down tcp)
+              (At now (Arrives (segment_of tcp)) ∷ past) now (if renews tcp then now else since) r.1 r.0;
           mru = q.mru;
           known = q.known;
         }
 
-pub at_rest_as_old : (b : Bool) (f : Splice) (since : ℕ) (tcp : Tcp) (now : ℕ) → IsAsOld f (if b then record f { place = Empty } else record (heard f tcp now) { place = Resting (if renews tcp then now else since) })
+pub at_rest_as_old : (b : Bool) (f : Splice) (since : ℕ) (tcp : Tcp) (now : ℕ) → IsAsOld f (if b then record f { place = Empty } else record
+    (heard f tcp now) { place = Resting (if renews tcp then now else since) })
 at_rest_as_old true f since tcp now = record { face = refl; mac = refl; since = refl; asked = refl; ask_at = refl; up_size = refl; down_size = refl; mru = refl }
-at_rest_as_old false f since tcp now = let same = heard_as_old f tcp now in record { face = refl; mac = refl; since = refl; asked = refl; ask_at = refl; up_size = same.up_size; down_size = same.down_size; mru = refl }
+at_rest_as_old false f since tcp now = let same = heard_as_old f tcp now in record {
+  face = refl;
+  mac = refl;
+  since = refl;
+  asked = refl;
+  ask_at = refl;
+  up_size = same.up_size;
+  down_size = same.down_size;
+  mru = refl;
+}

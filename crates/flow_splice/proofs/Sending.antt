@@ -59,7 +59,8 @@ fits_of (Reset seq ack) c up down mru held = omega arith
 
 -- ---- the buffers stay
 
-gone_feeds : (what : Owed) (c : Connection) (up : Upward) (down : Downward) (now : ℕ) → now ≤ 2 ^ 62 → HasBuffers c up down → owed_of c up down ≡ Some what → Feeds (gone what c up now).transmission down
+gone_feeds : (what : Owed) (c : Connection) (up : Upward) (down : Downward) (now : ℕ) → now ≤ 2 ^ 62 → HasBuffers c up down → owed_of c up down ≡ Some what → Feeds
+    (gone what c up now).transmission down
 gone_feeds Syn c up down now late h owed = h.feeds
 gone_feeds SynAck c up down now late h owed = h.feeds
 gone_feeds (Data p) c up down now late h owed = sent_feeds c.transmission down p now late h.feeds (data_owed c.stage c up down p owed)
@@ -69,5 +70,6 @@ gone_feeds (Reset seq ack) c up down now late h owed = h.feeds
 pub goes_has : (what : Owed) (c : Connection) (up : Upward) (down : Downward) (now : ℕ) → now ≤ 2 ^ 62 → HasBuffers c up down → owed_of c up down ≡ Some what → HasBuffers (gone what c up now) up down
 goes_has what c up down now late h owed = gone_has what c up down now owed h (gone_feeds what c up down now late h owed)
 
-pub went_has : (what : Owed) (c : Connection) (up : Upward) (down : Downward) (now : ℕ) → now ≤ 2 ^ 62 → HasBuffers c up down → owed_of c up down ≡ Some what → HasBuffers (after_gone what c up now) up down
+pub went_has : (what : Owed) (c : Connection) (up : Upward) (down : Downward) (now : ℕ) → now ≤ 2 ^ 62 → HasBuffers c up down → owed_of c up down ≡ Some what → HasBuffers
+    (after_gone what c up now) up down
 went_has what c up down now late h owed = settled_has (gone what c up now) up down (goes_has what c up down now late h owed)

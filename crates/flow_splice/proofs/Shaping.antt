@@ -110,7 +110,8 @@ pub request_works : (result : Offered) (answer : Io) (blocked : Bool) (octets : 
 request_works result answer blocked octets is =
     subst (λ (o : Offered). IsPumpWork (pumped_of o blocked) (LinkWrite octets answer ∷ [])) (sym is) (offer_works answer blocked octets [] (inl refl) (λ failed. refl))
 
-pub marks_work : (result : Offered) (answer : Io) (blocked : Bool) (octets : List ℕ) (what : Owed) (f new : Splice) (now : ℕ) (made : List Entry) → result ≡ offered answer → Marks result what f new now made
+pub marks_work : (result : Offered) (answer : Io) (blocked : Bool) (octets : List ℕ) (what : Owed) (f new : Splice) (now : ℕ) (made : List Entry) → result ≡ offered answer →
+    Marks result what f new now made
     → IsPumpWork (pumped_of result blocked) (made ++ (LinkWrite octets answer ∷ []))
 marks_work result answer blocked octets what f new now made is marks =
     let none : offered answer ≡ Failed → made ≡ [] = λ failed. (subst (λ (o : Offered). Marks o what f new now made) (is ∙ failed) marks).0 in

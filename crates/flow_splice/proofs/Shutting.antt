@@ -27,7 +27,8 @@ use Rattle.flow_splice.specs.Splice.{Splice, closed, is_in_use, is_open, place_a
 use Rattle.flow_splice.proofs.Restless.{undone_none}
 
 -- a connection that is over and doesn't rest
-pub over_follows : (s : Settings) (f : Splice) (past : Story) (now : ℕ) → IsOver s f.conn past now → (f.conn.stage ≡ stage.Rests → ⊥) → f.mru ≡ s.mru → (is_resets f.conn.stage ≡ true → f.mac ≡ None → ⊥)
+pub over_follows : (s : Settings) (f : Splice) (past : Story) (now : ℕ) → IsOver s f.conn past now → (f.conn.stage ≡ stage.Rests → ⊥) → f.mru ≡ s.mru →
+    (is_resets f.conn.stage ≡ true → f.mac ≡ None → ⊥)
     → (is_resets f.conn.stage ≡ false → rests_since past ≡ None) → Follows s (closed f now) past now
 over_follows s f past now over awake mru known restless = by f.conn.stage refl
   where
@@ -107,7 +108,8 @@ last_of_four true false c d is = absurd cc
 last_of_four false b c d is = absurd cc
 
 -- with this connection, which makes of itself that it is finished
-pub done_follows : (s : Settings) (f : Splice) (x : Connection) (past : Story) (now : ℕ) (directly ended known : Bool) → Holds s x f.up f.down past now → is_done x ≡ true → newest_rst past ≡ None → f.mru ≡ s.mru
+pub done_follows : (s : Settings) (f : Splice) (x : Connection) (past : Story) (now : ℕ) (directly ended known : Bool) → Holds s x f.up f.down past now → is_done x ≡ true →
+    newest_rst past ≡ None → f.mru ≡ s.mru
     → (f.mac ≡ None → is_calls x.stage ≡ true) → Follows s (closed (record f { conn = settled x }) now) (At now (Closes directly ended known) ∷ past) now
 done_follows s f x past now directly ended known h done no_rst mru unknown =
     subst (λ (c : Connection). Follows s (closed (record f { conn = c }) now) (At now (Closes directly ended known) ∷ past) now)
@@ -130,7 +132,8 @@ done_follows s f x past now directly ended known h done no_rst mru unknown =
         closes_to_rest past (part_of x f.up) x.end_acknowledged x.ours_first x.acknowledged now directly ended known r.ends both (no_reset past directly no_rst)
         ∙ ap (λ (b : Bool). if b then Some now else None) (sym order ∙ last)
 
-    by : (b : Bool) → closes_first x ≡ b → Follows s (closed (record f { conn = if b then record x { stage = stage.Rests } else record x { stage = stage.Gone } }) now) (At now (Closes directly ended known) ∷ past) now
+    by : (b : Bool) → closes_first x ≡ b → Follows s (closed (record f { conn = if b then record x { stage = stage.Rests } else record x { stage = stage.Gone } }) now)
+        (At now (Closes directly ended known) ∷ past) now
     by true first = record {
       rests = done_rests s x f.up f.down past now now (omega arith) h known done reached no_rst directly ended first;
       mru = mru;
@@ -143,9 +146,11 @@ done_follows s f x past now directly ended known h done no_rst mru unknown =
     }
 
 -- and then both ends passed, which is a cause whether the run is over or not
-pub finished_cause : (s : Settings) (f : Splice) (x : Connection) (past : Story) (now : ℕ) (directly known : Bool) → Holds s x f.up f.down past now → is_done x ≡ true → newest_rst past ≡ None → HasCause directly false known now past
+pub finished_cause : (s : Settings) (f : Splice) (x : Connection) (past : Story) (now : ℕ) (directly known : Bool) → Holds s x f.up f.down past now → is_done x ≡ true →
+    newest_rst past ≡ None → HasCause directly false known now past
 finished_cause s f x past now directly known h done no_rst =
-    done_cause s x f.up f.down past now now (omega arith) h known done (synchronized_reached x.stage (first_of_four (is_synchronized x.stage) x.host_ended x.fin_acked x.end_acknowledged done)) no_rst directly false
+    done_cause s x f.up f.down past now now (omega arith) h known done
+    (synchronized_reached x.stage (first_of_four (is_synchronized x.stage) x.host_ended x.fin_acked x.end_acknowledged done)) no_rst directly false
 
 -- what a connection makes of itself is over where it says so
 pub settled_over : (x : Connection) → ends (settling x) ≡ true → is_live (settled x).stage ≡ false

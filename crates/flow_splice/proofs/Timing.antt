@@ -1,5 +1,6 @@
 -- Time passes: what was awaited too long, and timers.
-use Rattle.std.proofs.Common.{◌||◌, refl, ◌≡◌, ℕ, ◌+◌, ◌≤◌, [], ◌∷◌, List, Bool, true, false, not, ◌&&◌, Option, None, Some, is_some, if◌then◌else◌, nat_eq, nat_le, nat_lt, IsTrue, arith, ap, subst, sym, ◌∙◌}
+use Rattle.std.proofs.Common.{◌||◌, refl, ◌≡◌, ℕ, ◌+◌, ◌≤◌, [], ◌∷◌, List, Bool, true, false, not, ◌&&◌, Option, None, Some, is_some, if◌then◌else◌, nat_eq, nat_le, nat_lt, IsTrue, arith}
+use Rattle.std.proofs.Common.{ap, subst, sym, ◌∙◌}
 use Rattle.std.proofs.lemmas.Bool.Decides.{nat_tests}
 use Rattle.retransmit.specs.Resending.{after_expired as resend_expired, due_of as resend_due, is_given_up}
 use Rattle.net_octets.specs.declared.Mac.{Mac}
@@ -55,17 +56,20 @@ module _ (f : Splice) (now : ℕ) (open_yet : is_open f ≡ true) where
 
   -- what is closed with a reset
   shut_by : (s : Settings) (past : Story) (before ident : ℕ) (directly known : Bool) → IsOpen s f past before → HasCause directly false known now past
-      → Follows s (closed (record f { conn = reset f.conn }) now) (At now (Closes directly false known) ∷ past) now → Serves s (closed (record f { conn = reset f.conn }) now) directly false known ident now past (Close f.face.number ∷ [])
+      → Follows s (closed (record f { conn = reset f.conn }) now) (At now (Closes directly false known) ∷ past) now → Serves s
+      (closed (record f { conn = reset f.conn }) now) directly false known ident now past (Close f.face.number ∷ [])
   shut_by s past before ident directly known o cause h = record { beats = At now (Closes directly false known) ∷ []; are = ([], refl, (refl, refl, cause)); follows = h }
 
   -- the socket didn't connect
   pub host_late : is_connects f.conn.stage ≡ true → connect_end f ≤ now → GoesOnYet f (closed (record f { conn = reset f.conn }) now) now (Close f.face.number ∷ [])
   host_late connects over s past before ident directly known on h =
       let o = open_is s f past before open_yet h in
-      let late : connects_too_long now past ≡ true = both (is_connecting past) (nat_le (opened_at past + 75000) now) (o.holds.opened.connects ∙ connects) (late_test (opened_at past + 75000) now (let since = o.since in omega (arith, since, over))) in
+      let late : connects_too_long now past ≡ true = both (is_connecting past) (nat_le (opened_at past + 75000) now) (o.holds.opened.connects ∙ connects)
+      (late_test (opened_at past + 75000) now (let since = o.since in omega (arith, since, over))) in
       let calm = calm_either past directly (o.calm (o.holds.opened.quiet connects)) in
       shut_by s past before ident directly known o (late_cause s f.conn f.up f.down past before now on o.holds known directly calm (rw late (or_true (gives_up now past))))
-      (reset_follows s f past past before now directly false known o refl (late_closes s f.conn f.up f.down past before now on o.holds known directly calm (connects_opening f.conn.stage connects) late))
+      (reset_follows s f past past before now directly false known o refl (late_closes s f.conn f.up f.down past before now on o.holds known directly calm
+      (connects_opening f.conn.stage connects) late))
     where
       both : (a b : Bool) → a ≡ true → b ≡ true → (a && b) ≡ true
       both a b a_is b_is = rw (a_is, b_is) refl
@@ -141,7 +145,17 @@ module _ (f : Splice) (now : ℕ) (open_yet : is_open f ≡ true) where
           by true ends_now saw = record {
             beats = At now (Closes directly false known) ∷ [];
             are = subst (λ (es : List Entry). AreEvents s new.face new.mac directly false known ident now past es (At now (Closes directly false known) ∷ [])) (sym saw.0)
-                (subst (λ (g : Splice). AreEvents s g.face g.mac directly false known ident now past (Close f.face.number ∷ []) (At now (Closes directly false known) ∷ [])) (sym saw.1) ([], refl, (refl, refl, late_cause s f.conn f.up f.down past before now on o.holds known directly calm (or_left (gives_up now past) (connects_too_long now past) cause))));
+                (subst (λ (g : Splice). AreEvents s g.face g.mac directly false known ident now past (Close f.face.number ∷ []) (At now (Closes directly false known) ∷ []))
+                (sym saw.1) (
+                  [],
+                  refl,
+                  (
+                    refl,
+                    refl,
+                    late_cause s f.conn f.up f.down past before now on o.holds known directly calm
+                        (or_left (gives_up now past) (connects_too_long now past) cause),
+                  ),
+                ));
             follows = subst (λ (g : Splice). Follows s g (At now (Closes directly false known) ∷ past) now) (sym saw.1)
                 (subst (λ (c : Connection). Follows s (closed (record f { conn = c }) now) (At now (Closes directly false known) ∷ past) now) (sym is)
                 (reset_follows s f past past before now directly false known o refl (gives_up_closes s f.conn f.up f.down past before now on o.holds known directly calm cause)));
@@ -194,23 +208,27 @@ module _ (f : Splice) (now : ℕ) (open_yet : is_open f ≡ true) where
       by_opening true opening due true false spent owed =
           let two = tick_is true true false due spent owed in
           let at = due_at (conn_due f.conn) due in
-          given_up two.0 (ap ends two.1) (syn_spent s f.conn f.up f.down past now later.holds at.0 at.2 opening (syn_due f.conn.stage at.0 refl opening at.1) (sym (spent_is true opening) ∙ spent)) owed
+          given_up two.0 (ap ends two.1) (syn_spent s f.conn f.up f.down past now later.holds at.0 at.2 opening (syn_due f.conn.stage at.0 refl opening at.1)
+          (sym (spent_is true opening) ∙ spent)) owed
       by_opening false opening due true false spent owed =
           let two = tick_is true true false due spent owed in
           let at = due_at (conn_due f.conn) due in
-          given_up two.0 (ap ends two.1) (piece_spent s f.conn f.up f.down past now later.holds at.0 at.2 opening (piece_due f.conn.stage at.0 refl opening at.1) (sym (spent_is false opening) ∙ spent)) owed
+          given_up two.0 (ap ends two.1) (piece_spent s f.conn f.up f.down past now later.holds at.0 at.2 opening (piece_due f.conn.stage at.0 refl opening at.1)
+          (sym (spent_is false opening) ∙ spent)) owed
       by_opening true opening due false d spent owed =
           let two = tick_is true false d due spent owed in
           let x : Connection = record f.conn { syn = resend_expired f.conn.syn; syn_owed = true } in
           let is : after_tick f.conn now ≡ x = two.0 ∙ again_is true opening in
           let at = due_at (conn_due f.conn) due in
-          stays x is (ap ends two.1) (syn_expires s f.conn f.up f.down past now later.holds at.0 at.2 opening (syn_due f.conn.stage at.0 refl opening at.1) (sym (spent_is true opening) ∙ spent) (has x is)) o.unfinished o.unsent o.calm
+          stays x is (ap ends two.1) (syn_expires s f.conn f.up f.down past now later.holds at.0 at.2 opening (syn_due f.conn.stage at.0 refl opening at.1)
+          (sym (spent_is true opening) ∙ spent) (has x is)) o.unfinished o.unsent o.calm
       by_opening false opening due false d spent owed =
           let two = tick_is true false d due spent owed in
           let x : Connection = record f.conn { transmission = transmission_expired f.conn.transmission } in
           let is : after_tick f.conn now ≡ x = two.0 ∙ again_is false opening in
           let at = due_at (conn_due f.conn) due in
-          stays x is (ap ends two.1) (piece_expires s f.conn f.up f.down past now later.holds at.0 at.2 opening (piece_due f.conn.stage at.0 refl opening at.1) (sym (spent_is false opening) ∙ spent) (has x is)) o.unfinished o.unsent o.calm
+          stays x is (ap ends two.1) (piece_expires s f.conn f.up f.down past now later.holds at.0 at.2 opening (piece_due f.conn.stage at.0 refl opening at.1)
+          (sym (spent_is false opening) ∙ spent) (has x is)) o.unfinished o.unsent o.calm
 
       by_due : (a : Bool) → is_due (conn_due f.conn) now ≡ a → Result
       by_due true due = by_opening (is_opening f.conn.stage) refl due (is_spent f.conn) f.conn.ack_owed refl refl
@@ -226,13 +244,17 @@ pub tick_stage : (c : Connection) (now : ℕ) → ends (change_at_tick c now) �
 tick_stage c now is = by (is_due (conn_due c) now) (is_spent c) c.ack_owed (is_opening c.stage) is
   where
     by : (a b d e : Bool) → ends (if a then (if b then (if d then Nothing else Finished) else Nothing) else Nothing) ≡ false
-        → (if a then (if b then (if d then c else reset c) else (if e then record c { syn = resend_expired c.syn; syn_owed = true } else record c { transmission = transmission_expired c.transmission })) else c).stage ≡ c.stage
+        → (if a then (if b then (if d then c else reset c) else (if e then record c {
+          syn = resend_expired c.syn;
+          syn_owed = true;
+        } else record c { transmission = transmission_expired c.transmission })) else c).stage ≡ c.stage
     by true true true e is = refl
     by true true false e is = absurd cc
     by true false d true is = refl
     by true false d false is = refl
     by false b d e is = refl
 
-pub sees_stage : (b : Bool) (f new : Splice) (now : ℕ) (made : List Entry) → ends (change_at_tick f.conn now) ≡ b → Sees b (record f { conn = after_tick f.conn now }) new now made → is_open new ≡ true → new.conn.stage ≡ f.conn.stage
+pub sees_stage : (b : Bool) (f new : Splice) (now : ℕ) (made : List Entry) → ends (change_at_tick f.conn now) ≡ b → Sees b
+    (record f { conn = after_tick f.conn now }) new now made → is_open new ≡ true → new.conn.stage ≡ f.conn.stage
 sees_stage true f new now made is sees yet = absurd (shut_is (record f { conn = after_tick f.conn now }) now (ap is_open (sym sees.1) ∙ yet))
 sees_stage false f new now made is sees yet = ap (λ (x : Splice). x.conn.stage) sees.1 ∙ tick_stage f.conn now is

@@ -10,7 +10,8 @@ use Rattle.world_face.specs.declared.Joined.TheVariants.{Yes, NotYet as NotJoine
 use Rattle.world_face.specs.declared.Made.{Made}
 use Rattle.world_face.specs.declared.Made.TheVariants.{Done as MadeDone, Failed as MadeFailed}
 use Rattle.flow_laws.specs.Settings.{Settings}
-use Rattle.flow_laws.specs.Event.{Segment, Event, Departs, Connected as HostConnected, ConnectsYet, ConnectFails, Writes, WriteFails, Reads, ReadsEnd, ReadFails, EndsHost, EndFails, AsksAddress, Closes, At, Story}
+use Rattle.flow_laws.specs.Event.{Segment, Event, Departs, Connected as HostConnected, ConnectsYet, ConnectFails, Writes, WriteFails, Reads, ReadsEnd, ReadFails, EndsHost, EndFails}
+use Rattle.flow_laws.specs.Event.{AsksAddress, Closes, At, Story}
 use Rattle.flow_laws.specs.Flow.{is_accepted, is_closed, syn_is_out}
 use Rattle.flow_laws.specs.Lawful.{HasCause, May, Send}
 use Rattle.flow_laws.specs.Dutiful.{Must, read_size}

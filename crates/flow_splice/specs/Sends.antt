@@ -31,7 +31,8 @@ or_known (Some mac) old = Some mac
 -- What was made are events of the flow, after every story that it followed; datagrams are numbered from one identification on to another.
 abbrev pub Sends : (old new : Splice) → (first last now : ℕ) → List Entry → Type 0
 Sends old new first last now made =
-    (s : Settings) (past : Story) (before : ℕ) (ended known : Bool) → before ≤ now → Follows s old past before → (serves : Serves s new false ended known first now past made) × (last ≡ ident_after first serves.beats)
+    (s : Settings) (past : Story) (before : ℕ) (ended known : Bool) → before ≤ now → Follows s old past before → (serves : Serves s new false ended known first now past made) ×
+    (last ≡ ident_after first serves.beats)
 
 -- And the link goes on.
 abbrev pub SendsOn : (old new : Splice) → (link next : LinkState) → (first last now : ℕ) → List Entry → Type 0

@@ -79,9 +79,11 @@ impl Spliced {
     {
         let (_number, _acknowledgement) = (seg.seq.0, seg.ack.0);
         let held = self.up.held();
+        // for the prover: a ring holds 2^20 octets at most.
         prove!(held <= 1 << 20);
         let change = self.conn.on_segment(&mut self.up, &mut self.down, now, seg);
         let held = self.up.held();
+        // for the prover: a ring holds 2^20 octets at most.
         prove!(held <= 1 << 20);
         change
     }

@@ -270,7 +270,8 @@ impl Spliced {
 impl Spliced {
     ghost use Rattle.flow_splice.specs.Hosts.{Sees, ends};
     ghost use Rattle.flow_splice.specs.Splice.{closed, place_after as place_after_by};
-    ghost use Rattle.flow_splice.specs.Wants.{connect_end as connect_end_by, due_of, may_end, may_read as may_read_by, may_write as may_write_by, owes_octets as owes_octets_by, reads as reads_by, seeks as seeks_by, writes as writes_by};
+    ghost use Rattle.flow_splice.specs.Wants.{connect_end as connect_end_by, due_of, may_end, may_read as may_read_by, may_write as may_write_by, owes_octets as owes_octets_by};
+    ghost use Rattle.flow_splice.specs.Wants.{reads as reads_by, seeks as seeks_by, writes as writes_by};
 
     // Whether the socket is to connect.
     pub(crate) fn connects(&self) -> bool

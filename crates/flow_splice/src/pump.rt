@@ -194,6 +194,7 @@ impl Spliced {
         // Where the connection's timer wasn't due, it isn't due then.
         ensures ahead { (s : Settings) (past : Story) (before : ℕ) → Follows s self.old past before → IsAhead self.old.conn now → IsAhead self.new.conn now }
     {
+        // for the prover: a read gives the range of the number.
         let _first = *ident;
         self.learn(mac);
         if link.blocked() {
@@ -319,6 +320,7 @@ impl Spliced {
         ensures closed { is_open_by self.old ≡ false → is_open_by self.new ≡ false }
         ensures early { IsEarly now self.old.conn → IsEarly now self.new.conn }
     {
+        // for the prover: a read gives the range of the number.
         let _first = *ident;
         while let Some(what) = self.owed() {
             match self.send(world, link, ident, &what, mac, now) {

@@ -1,5 +1,6 @@
 -- What a step makes of the slots and of their order.
-use Rattle.std.proofs.Common.{◌≡◌, ◌==◌, ℕ, ◌<◌, ◌+◌, ◌⊎◌, inl, inr, List, [], ◌∷◌, ◌++◌, length, Some, zero, suc, refl, sym, ap, ◌∙◌, subst, arith, true, get_or, replicate, length-set, zero-add, eq-eqb}
+use Rattle.std.proofs.Common.{◌≡◌, ◌==◌, ℕ, ◌<◌, ◌+◌, ◌⊎◌, inl, inr, List, [], ◌∷◌, ◌++◌, length, Some, zero, suc, refl, sym, ap, ◌∙◌, subst, arith, true, get_or, replicate, length-set}
+use Rattle.std.proofs.Common.{zero-add, eq-eqb}
 use Rattle.std.specs.Prelude.{slice_get, slice_set}
 use Rattle.std.specs.List.{remove, position_or_len, range_with_len}
 use Rattle.std.specs.Option.{option_and_then}
@@ -86,7 +87,11 @@ one_more n = omega arith
 pub first_place : (xs : List ℕ) (k i : ℕ) → slice_get xs i ≡ Some k → slice_get xs (position_or_len (λ other. other == k) xs) ≡ Some k
 first_place [] k i h = cc
 first_place (z ∷ xs) k zero h = let e : (z == k) ≡ true = eq-eqb z k cc in rw e (ap Some cc)
-first_place (z ∷ xs) k (suc i) h = elim (eqb_tells z k) [ inl same ↦ rw same.0 (ap Some same.1) | inr other ↦ rw other.0 (subst (λ n. slice_get (z ∷ xs) n ≡ Some k) (one_more (position_or_len (λ o. o == k) xs)) (first_place xs k i h)) ]
+first_place (z ∷ xs) k (suc i) h = elim (eqb_tells z k) [
+  | inl same ↦ rw same.0 (ap Some same.1)
+  | inr other ↦ rw other.0
+      (subst (λ n. slice_get (z ∷ xs) n ≡ Some k) (one_more (position_or_len (λ o. o == k) xs)) (first_place xs k i h))
+]
 
 -- an order stays one where a number goes to its end
 pub moved_kept : (slots : List Slot) (rest_order : List ℕ) (k : ℕ) → k < length slots → AreKept slots rest_order → AreKept slots (moved_last k rest_order)
@@ -96,7 +101,11 @@ moved_kept slots rest_order k fits kept =
     let stands = first_place rest_order k stood.0 stood.1 in
     record {
       apart = kept.apart;
-      within = λ i x h. elim (of_end (remove rest_order at) k i x h) [ inl s ↦ let t = of_removed rest_order at s.0 x s.1 in kept.within t.0 x t.1 | inr e ↦ subst (λ n. n < length slots) (sym e) fits ];
+      within = λ i x h. elim (of_end (remove rest_order at) k i x h) [
+        | inl s ↦ let t = of_removed rest_order at s.0 x s.1 in kept.within t.0 x t.1
+        | inr e ↦ subst
+            (λ n. n < length slots) (sym e) fits
+      ];
       all = λ x small. let s = kept.all x small in
           elim (in_removed rest_order at s.0 x s.1) [
             | inl e ↦ subst (λ n. Stands (moved_last k rest_order) n) (same_Some k x (sym stands ∙ ap (slice_get rest_order) (sym e) ∙ s.1)) (at_end (remove rest_order at) k)
@@ -106,7 +115,8 @@ moved_kept slots rest_order k fits kept =
     }
 
 -- a slot gets a content whose tuple no other slot has
-pub set_kept : (slots : List Slot) (rest_order : List ℕ) (k : ℕ) (s : Slot) → ((other : ℕ) (t : Tuple) → tuple_of s ≡ Some t → HasTuple slots other t → other ≡ k) → AreKept slots rest_order → AreKept (slice_set slots k s) rest_order
+pub set_kept : (slots : List Slot) (rest_order : List ℕ) (k : ℕ) (s : Slot) → ((other : ℕ) (t : Tuple) → tuple_of s ≡ Some t → HasTuple slots other t → other ≡ k) →
+    AreKept slots rest_order → AreKept (slice_set slots k s) rest_order
 set_kept slots rest_order k s alone kept =
     let long = length-set slots k s in
     record {
@@ -158,7 +168,8 @@ pub tuple_is_read : (slots : List Slot) (k : ℕ) (s : Slot) (t : Tuple) → Has
 tuple_is_read slots k s t has read = sym (ap (option_and_then tuple_of) (slice_get_read slots (length slots) k s refl (has_within slots k t has) read)) ∙ has
 
 -- a slot that came to rest
-pub rested_is : (slots : List Slot) (rest_order new : List ℕ) (now : Flows) (k since : ℕ) (t u : Tuple) → flows slots rest_order ≡ now → HasTuple slots k u → new ≡ moved_last k rest_order → HasTuple now.slots k t
+pub rested_is : (slots : List Slot) (rest_order new : List ℕ) (now : Flows) (k since : ℕ) (t u : Tuple) → flows slots rest_order ≡ now → HasTuple slots k u →
+    new ≡ moved_last k rest_order → HasTuple now.slots k t
     → flows (slice_set slots k (Resting u since)) new ≡ flows (slice_set now.slots k (Resting t since)) (moved_last k now.rest_order)
 rested_is slots rest_order new now k since t u view has moved asked =
     let had : HasTuple slots k t = subst (λ (f : Flows). HasTuple f.slots k t) (sym view) asked in
@@ -168,7 +179,8 @@ rested_is slots rest_order new now k since t u view has moved asked =
     ∙ ap (λ (f : Flows). flows (slice_set f.slots k (Resting t since)) (moved_last k f.rest_order)) view
 
 -- and what holds then
-pub rested_kept : (slots : List Slot) (rest_order : List ℕ) (k since : ℕ) (u : Tuple) → HasTuple slots k u → AreKept slots rest_order → AreKept (slice_set slots k (Resting u since)) (moved_last k rest_order)
+pub rested_kept : (slots : List Slot) (rest_order : List ℕ) (k since : ℕ) (u : Tuple) → HasTuple slots k u → AreKept slots rest_order → AreKept
+    (slice_set slots k (Resting u since)) (moved_last k rest_order)
 rested_kept slots rest_order k since u has kept =
     let fits = has_within slots k u has in
     set_kept slots (moved_last k rest_order) k (Resting u since)

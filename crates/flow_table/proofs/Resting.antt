@@ -36,14 +36,16 @@ one_rest : (slots : List Slot) (k : ℕ) (t u : Tuple) (since moment : ℕ) → 
 one_rest slots k t u since moment h g = let e = same_Some (Resting t since) (Resting u moment) (sym h ∙ g) in cc
 
 -- no slot stands twice
-pub rests_once : (rest_order : List ℕ) (rests : List Rest) (i j : ℕ) (a b : Rest) → ((i j : ℕ) (a b : Rest) → i < j → slice_get rests i ≡ Some a → slice_get rests j ≡ Some b → IsLonger rest_order a b) → slice_get rests i ≡ Some a → slice_get rests j ≡ Some b → a.slot ≡ b.slot → i ≡ j
+pub rests_once : (rest_order : List ℕ) (rests : List Rest) (i j : ℕ) (a b : Rest) → ((i j : ℕ) (a b : Rest) → i < j → slice_get rests i ≡ Some a → slice_get rests j ≡ Some b →
+    IsLonger rest_order a b) → slice_get rests i ≡ Some a → slice_get rests j ≡ Some b → a.slot ≡ b.slot → i ≡ j
 rests_once rest_order rests i j a b order h g same =
     let not_below : i < j → ⊥ = λ less. (order i j a b less h g).other same in
     let not_above : j < i → ⊥ = λ less. (order j i b a less g h).other (sym same) in
     omega (arith, not_below, not_above)
 
 -- a slot stops to rest
-pub rests_removed : (slots : List Slot) (rest_order : List ℕ) (rests : List Rest) (place : ℕ) (r : Rest) → slice_get rests place ≡ Some r → AreRests slots rest_order rests → AreRests (slice_set slots r.slot Free) rest_order (remove rests place)
+pub rests_removed : (slots : List Slot) (rest_order : List ℕ) (rests : List Rest) (place : ℕ) (r : Rest) → slice_get rests place ≡ Some r → AreRests slots rest_order rests →
+    AreRests (slice_set slots r.slot Free) rest_order (remove rests place)
 rests_removed slots rest_order rests place r stands are = record {
   has = λ i x h.
       let from = removed_from rests place i x h in
@@ -64,7 +66,8 @@ rests_removed slots rest_order rests place r stands are = record {
 }
 
 -- a slot that doesn't rest is written, and doesn't rest then
-pub rests_quiet : (slots : List Slot) (rest_order : List ℕ) (rests : List Rest) (k : ℕ) (s : Slot) → ((t : Tuple) (since : ℕ) → RestsSince slots k t since → ⊥) → ((t : Tuple) (since : ℕ) → Resting t since ≡ s → ⊥) → AreRests slots rest_order rests → AreRests (slice_set slots k s) rest_order rests
+pub rests_quiet : (slots : List Slot) (rest_order : List ℕ) (rests : List Rest) (k : ℕ) (s : Slot) → ((t : Tuple) (since : ℕ) → RestsSince slots k t since → ⊥) →
+    ((t : Tuple) (since : ℕ) → Resting t since ≡ s → ⊥) → AreRests slots rest_order rests → AreRests (slice_set slots k s) rest_order rests
 rests_quiet slots rest_order rests k s quiet still are = record {
   has = λ i x h. let had = are.has i x h in (had.0, set_to slots k x.slot s (Resting had.0 x.since) had.1 (λ same. quiet had.0 x.since (subst (λ n. RestsSince slots n had.0 x.since) same had.1)));
   all = λ j t since h. elim (set_from slots k j s (Resting t since) h) [ inl p ↦ absurd (still t since p.1) | inr p ↦ are.all j t since p.1 ];
@@ -119,7 +122,8 @@ rests_inserted slots rest_order rests place k since t fits kept at are =
     let left = gone rest_order n k kept.once here in
     -- a slot in the row isn't this one
     let apart : (i : ℕ) (x : Rest) → slice_get rests i ≡ Some x → x.slot ≢ k =
-    λ i x h same. let had = are.has i x h in let e = sym (set_at slots k Free fits) ∙ subst (λ m. RestsSince (slice_set slots k Free) m had.0 x.since) same had.1 in absurd (let f = same_Some Free (Resting had.0 x.since) e in cc) in
+    λ i x h same. let had = are.has i x h in let e = sym (set_at slots k Free fits) ∙ subst (λ m. RestsSince (slice_set slots k Free) m had.0 x.since) same had.1 in absurd
+    (let f = same_Some Free (Resting had.0 x.since) e in cc) in
     let was : (i : ℕ) (x : Rest) → slice_get rests i ≡ Some x → (u : Tuple) × RestsSince slots x.slot u x.since =
     λ i x h. let had = are.has i x h in (had.0, elim (set_from slots k x.slot Free (Resting had.0 x.since) had.1) [ inl p ↦ absurd (apart i x h p.0) | inr p ↦ p.1 ]) in
     record {
@@ -170,7 +174,8 @@ rests_inserted slots rest_order rests place k since t fits kept at are =
     }
 
 -- the first of the row has rested longest
-pub longest_is_first : (slots : List Slot) (rest_order : List ℕ) (rests : List Rest) (r : Rest) → slice_get rests 0 ≡ Some r → AreRests slots rest_order rests → HasRestedLongest (flows slots rest_order) r.slot
+pub longest_is_first : (slots : List Slot) (rest_order : List ℕ) (rests : List Rest) (r : Rest) → slice_get rests 0 ≡ Some r → AreRests slots rest_order rests → HasRestedLongest
+    (flows slots rest_order) r.slot
 longest_is_first slots rest_order rests r is are =
     let had = are.has 0 r is in
     record {
@@ -186,7 +191,8 @@ longest_is_first slots rest_order rests r is are =
       first = λ other t h.
           let w = are.all other t r.since h in
           elim (cases_eq w.0 0) [
-            | inl same ↦ let e = ap (λ (y : Rest). y.slot) (same_Some r (rest_of other r.since) (sym is ∙ ap (slice_get rests) (sym same) ∙ w.1)) in λ j stands. (j, (omega arith, stands ∙ ap Some (sym e)))
+            | inl same ↦ let e = ap (λ (y : Rest). y.slot) (same_Some r (rest_of other r.since) (sym is ∙ ap (slice_get rests) (sym same) ∙ w.1)) in λ j stands.
+                (j, (omega arith, stands ∙ ap Some (sym e)))
             | inr later ↦ (are.order 0 w.0 r (rest_of other r.since) (omega (arith, later)) is w.1).first refl
           ];
     }
@@ -195,11 +201,15 @@ pub none_rests : (slots : List Slot) (rest_order : List ℕ) → AreRests slots 
 none_rests slots rest_order are k t since h = cc ((are.all k t since h).1)
 
 -- a slot that rests stops, by what was read and by what was taken out
-pub rest_ended : (slots : List Slot) (rests left : List Rest) (k since place : ℕ) (t : Tuple) → slice_get rests place ≡ Some (rest_of k since) → left ≡ remove rests place → (rest_order : List ℕ) → AreRests slots rest_order rests → AreRests (slice_set slots k Free) rest_order left
-rest_ended slots rests left k since place t stands is rest_order are = subst (AreRests (slice_set slots k Free) rest_order) (sym is) (rests_removed slots rest_order rests place (rest_of k since) stands are)
+pub rest_ended : (slots : List Slot) (rests left : List Rest) (k since place : ℕ) (t : Tuple) → slice_get rests place ≡ Some (rest_of k since) → left ≡ remove rests place →
+    (rest_order : List ℕ) → AreRests slots rest_order rests → AreRests (slice_set slots k Free) rest_order left
+rest_ended slots rests left k since place t stands is rest_order are = subst (AreRests (slice_set slots k Free) rest_order) (sym is)
+    (rests_removed slots rest_order rests place (rest_of k since) stands are)
 
 pub read_rest : (slots : List Slot) (d : Slot) (k since : ℕ) (t : Tuple) → k < length slots → get_or slots k d ≡ Resting t since → RestsSince slots k t since
 read_rest slots d k since t within is = slice_get-get_or slots k d within ∙ ap Some is
 
-pub no_rest_ended : (slots : List Slot) (d : Slot) (k : ℕ) (rests : List Rest) → k < length slots → ((t : Tuple) (since : ℕ) → get_or slots k d ≡ Resting t since → ⊥) → (rest_order : List ℕ) → AreRests slots rest_order rests → AreRests (slice_set slots k Free) rest_order rests
-no_rest_ended slots d k rests within never rest_order are = rests_quiet slots rest_order rests k Free (λ t since h. never t since (get_or_from_slice_get slots k (Resting t since) d h)) (λ t since h. cc) are
+pub no_rest_ended : (slots : List Slot) (d : Slot) (k : ℕ) (rests : List Rest) → k < length slots → ((t : Tuple) (since : ℕ) → get_or slots k d ≡ Resting t since → ⊥) →
+    (rest_order : List ℕ) → AreRests slots rest_order rests → AreRests (slice_set slots k Free) rest_order rests
+no_rest_ended slots d k rests within never rest_order are = rests_quiet slots rest_order rests k Free
+    (λ t since h. never t since (get_or_from_slice_get slots k (Resting t since) d h)) (λ t since h. cc) are

@@ -1,5 +1,6 @@
 -- A table and its rows after each call.
-use Rattle.std.proofs.Common.{◌≡◌, ◌≢◌, ℕ, ◌+◌, ◌<◌, ◌≤◌, ◌^◌, List, [], ◌∷◌, ◌++◌, length, Option, Some, None, inl, inr, zero, suc, refl, sym, ap, ◌∙◌, subst, arith, replicate, length-set, length-append}
+use Rattle.std.proofs.Common.{◌≡◌, ◌≢◌, ℕ, ◌+◌, ◌<◌, ◌≤◌, ◌^◌, List, [], ◌∷◌, ◌++◌, length, Option, Some, None, inl, inr, zero, suc, refl, sym, ap, ◌∙◌, subst, arith, replicate}
+use Rattle.std.proofs.Common.{length-set, length-append}
 use Rattle.std.specs.Prelude.{slice_get, slice_set, IfSome, IfNone}
 use Rattle.std.specs.List.{insert, range_with_len}
 use Rattle.std.proofs.Math.Nat.{pow-succ'}
@@ -21,7 +22,8 @@ use Rattle.flow_table.proofs.Keeping.{has_within, moved_kept, set_kept, start_ke
 use Rattle.flow_table.proofs.Resting.{no_rests, rests_inserted, rests_quiet}
 use Rattle.flow_table.proofs.Tuples.{entries_inserted, entries_same, has_set, no_entries, no_tuple}
 
-pub start_table : (n : ℕ) (slots : List Slot) (rest_order free : List ℕ) (entries : List Entry) (rests : List Rest) (ce cr cf : ℕ) → slots ≡ replicate n Free → rest_order ≡ range_with_len 0 n → free ≡ range_with_len 0 n → entries ≡ [] → rests ≡ [] → n ≤ ce → n ≤ cr → n ≤ cf → IsTable slots rest_order entries rests free ce cr cf
+pub start_table : (n : ℕ) (slots : List Slot) (rest_order free : List ℕ) (entries : List Entry) (rests : List Rest) (ce cr cf : ℕ) → slots ≡ replicate n Free →
+    rest_order ≡ range_with_len 0 n → free ≡ range_with_len 0 n → entries ≡ [] → rests ≡ [] → n ≤ ce → n ≤ cr → n ≤ cf → IsTable slots rest_order entries rests free ce cr cf
 start_table n slots rest_order free entries rests ce cr cf is by_number all_free none no_one e r f =
     let size = length-replicate n Free in
     let long = length-range_with_len 0 n in
@@ -41,7 +43,8 @@ pub slot_has : (slots : List Slot) (entries : List Entry) (t : Tuple) (found : O
 slot_has slots entries t None are is = tt
 slot_has slots entries t (Some slot) are is = are.has is.0 (entry_of t slot) is.1
 
-pub slot_alone : (slots : List Slot) (rest_order : List ℕ) (entries : List Entry) (t : Tuple) (found : Option ℕ) → AreKept slots rest_order → AreEntries slots entries → IsSlotIn entries t found → IfSome found (λ slot. (other : ℕ) → HasTuple slots other t → other ≡ slot)
+pub slot_alone : (slots : List Slot) (rest_order : List ℕ) (entries : List Entry) (t : Tuple) (found : Option ℕ) → AreKept slots rest_order → AreEntries slots entries →
+    IsSlotIn entries t found → IfSome found (λ slot. (other : ℕ) → HasTuple slots other t → other ≡ slot)
 slot_alone slots rest_order entries t None kept are is = tt
 slot_alone slots rest_order entries t (Some slot) kept are is = λ other h. kept.apart other slot t h (are.has is.0 (entry_of t slot) is.1)
 
@@ -50,7 +53,8 @@ none_has slots entries t None are is = λ k h. let w = are.all k t h in is w.0 k
 none_has slots entries t (Some slot) are is = tt
 
 -- half of a power, and one more
-pub few_steps : (entries : List Entry) (free : List ℕ) (slots : List Slot) (before after : ℕ) → length entries + length free ≡ length slots → ((k : ℕ) → length entries < 2 ^ k → after ≤ before + k) → (k : ℕ) → length slots ≤ 2 ^ k → after ≤ before + k + 1
+pub few_steps : (entries : List Entry) (free : List ℕ) (slots : List Slot) (before after : ℕ) → length entries + length free ≡ length slots →
+    ((k : ℕ) → length entries < 2 ^ k → after ≤ before + k) → (k : ℕ) → length slots ≤ 2 ^ k → after ≤ before + k + 1
 few_steps entries free slots before after count few k enough =
     let p = pow-succ' 2 k in
     let some = positive k in
@@ -63,8 +67,10 @@ few_steps entries free slots before after count few k enough =
     positive (suc k) = let p = pow-succ' 2 k in let h = positive k in omega (arith, p, h)
 
 -- a slot is freed
-pub freed_table : (slots : List Slot) (rest_order free free_new : List ℕ) (entries entries_new : List Entry) (rests rests_new : List Rest) (k : ℕ) (t : Tuple) (ce cr cf ce_new cr_new cf_new : ℕ) → IsTable slots rest_order entries rests free ce cr cf → HasTuple slots k t
-    → AreEntries (slice_set slots k Free) entries_new → length entries_new + 1 ≡ length entries → ((rest_order : List ℕ) → AreRests slots rest_order rests → AreRests (slice_set slots k Free) rest_order rests_new) → free_new ≡ free ++ k ∷ [] → ce_new ≡ ce → cr_new ≡ cr → cf ≤ cf_new
+pub freed_table : (slots : List Slot) (rest_order free free_new : List ℕ) (entries entries_new : List Entry) (rests rests_new : List Rest) (k : ℕ) (t : Tuple)
+    (ce cr cf ce_new cr_new cf_new : ℕ) → IsTable slots rest_order entries rests free ce cr cf → HasTuple slots k t
+    → AreEntries (slice_set slots k Free) entries_new → length entries_new + 1 ≡ length entries → ((rest_order : List ℕ) → AreRests slots rest_order rests → AreRests
+    (slice_set slots k Free) rest_order rests_new) → free_new ≡ free ++ k ∷ [] → ce_new ≡ ce → cr_new ≡ cr → cf ≤ cf_new
     → IsTable (slice_set slots k Free) rest_order entries_new rests_new free_new ce_new cr_new cf_new
 freed_table slots rest_order free free_new entries entries_new rests rests_new k t ce cr cf ce_new cr_new cf_new table had by_tuple fewer by_rest pushed e r f =
     let size = length-set slots k Free in
@@ -81,7 +87,9 @@ freed_table slots rest_order free free_new entries entries_new rests rests_new k
     }
 
 -- nothing was taken
-pub same_table : (slots : List Slot) (rest_order free free_new : List ℕ) (entries entries_new : List Entry) (rests rests_new : List Rest) (ce cr cf ce_new cr_new cf_new : ℕ) → IsTable slots rest_order entries rests free ce cr cf → entries_new ≡ entries → rests_new ≡ rests → free_new ≡ free → ce_new ≡ ce → cr_new ≡ cr → cf_new ≡ cf → IsTable slots rest_order entries_new rests_new free_new ce_new cr_new cf_new
+pub same_table : (slots : List Slot) (rest_order free free_new : List ℕ) (entries entries_new : List Entry) (rests rests_new : List Rest) (ce cr cf ce_new cr_new cf_new : ℕ) →
+    IsTable slots rest_order entries rests free ce cr cf → entries_new ≡ entries → rests_new ≡ rests → free_new ≡ free → ce_new ≡ ce → cr_new ≡ cr → cf_new ≡ cf →
+    IsTable slots rest_order entries_new rests_new free_new ce_new cr_new cf_new
 same_table slots rest_order free free_new entries entries_new rests rests_new ce cr cf ce_new cr_new cf_new table e r f a b c = rw (e, r, f, a, b, c) table
 
 -- none has the tuple where one slot is free
@@ -92,8 +100,10 @@ busy : (t : Tuple) → Free ≡ InUse t → ⊥
 busy t e = cc
 
 -- a slot is taken
-pub taken_table : (slots : List Slot) (rest_order free free_new : List ℕ) (entries entries_left entries_new : List Entry) (rests rests_new : List Rest) (k place : ℕ) (t : Tuple) (ce cr cf ce_new cr_new cf_new : ℕ) → IsTable slots rest_order entries rests free ce cr cf → NoneHas slots t
-    → IsVacated slots k rests entries_left rests_new free_new → length entries_left + length free_new + 1 ≡ length entries + length free → BelongsAt entries_left place t → entries_new ≡ insert entries_left place (entry_of t k) → ce ≤ ce_new → cr_new ≡ cr → cf_new ≡ cf
+pub taken_table : (slots : List Slot) (rest_order free free_new : List ℕ) (entries entries_left entries_new : List Entry) (rests rests_new : List Rest) (k place : ℕ) (t : Tuple)
+    (ce cr cf ce_new cr_new cf_new : ℕ) → IsTable slots rest_order entries rests free ce cr cf → NoneHas slots t
+    → IsVacated slots k rests entries_left rests_new free_new → length entries_left + length free_new + 1 ≡ length entries + length free → BelongsAt entries_left place t →
+    entries_new ≡ insert entries_left place (entry_of t k) → ce ≤ ce_new → cr_new ≡ cr → cf_new ≡ cf
     → IsTable (slice_set slots k (InUse t)) rest_order entries_new rests_new free_new ce_new cr_new cf_new
 taken_table slots rest_order free free_new entries entries_left entries_new rests rests_new k place t ce cr cf ce_new cr_new cf_new table none out count belongs is e r f =
     let empty = slice_set slots k Free in
@@ -104,8 +114,11 @@ taken_table slots rest_order free free_new entries entries_left entries_new rest
     let more = ap (λ (x : List Entry). length x) is ∙ length-insert entries_left place (entry_of t k) belongs.within in
     record {
       kept = set_kept slots rest_order k (InUse t) (λ other u same h. absurd (none other (h ∙ sym same))) table.kept;
-      by_tuple = subst (λ (x : List Entry). AreEntries (slice_set slots k (InUse t)) x) (sym is) (subst (λ (s : List Slot). AreEntries s (insert entries_left place (entry_of t k))) twice (entries_inserted empty entries_left place k t fits (set_at slots k Free out.within) belongs out.by_tuple));
-      by_rest = subst (λ (s : List Slot). AreRests s rest_order rests_new) twice (rests_quiet empty rest_order rests_new k (InUse t) (λ u since h. let e = sym (set_at slots k Free out.within) ∙ h in cc) (λ u since h. cc) (out.by_rest rest_order table.by_rest));
+      by_tuple = subst (λ (x : List Entry). AreEntries (slice_set slots k (InUse t)) x) (sym is)
+          (subst (λ (s : List Slot). AreEntries s (insert entries_left place (entry_of t k))) twice (entries_inserted empty entries_left place k t fits
+          (set_at slots k Free out.within) belongs out.by_tuple));
+      by_rest = subst (λ (s : List Slot). AreRests s rest_order rests_new) twice (rests_quiet empty rest_order rests_new k (InUse t)
+          (λ u since h. let e = sym (set_at slots k Free out.within) ∙ h in cc) (λ u since h. cc) (out.by_rest rest_order table.by_rest));
       are_free = subst (λ (s : List Slot). AreFree s free_new) twice (last_taken empty free_new k (InUse t) (busy t) out.freed);
       count = omega (arith, table.count, count, more, size);
       entries_fit = omega (arith, size, e, table.entries_fit);
@@ -126,17 +139,22 @@ rests_below slots rest_order rests k fits are =
     fewer_than (λ (r : Rest). r.slot) rests (length slots) k fits within apart other
 
 -- a slot comes to rest
-pub rested_table : (slots : List Slot) (rest_order rest_order_new free : List ℕ) (entries : List Entry) (rests rests_left rests_new : List Rest) (k since place : ℕ) (t : Tuple) (ce cr cf cr_new : ℕ) → IsTable slots rest_order entries rests free ce cr cf → HasTuple slots k t
-    → ((rest_order : List ℕ) → AreRests slots rest_order rests → AreRests (slice_set slots k Free) rest_order rests_left) → IsFirstAfter rests_left since place → rests_new ≡ insert rests_left place (rest_of k since) → rest_order_new ≡ moved_last k rest_order → cr ≤ cr_new
+pub rested_table : (slots : List Slot) (rest_order rest_order_new free : List ℕ) (entries : List Entry) (rests rests_left rests_new : List Rest) (k since place : ℕ) (t : Tuple)
+    (ce cr cf cr_new : ℕ) → IsTable slots rest_order entries rests free ce cr cf → HasTuple slots k t
+    → ((rest_order : List ℕ) → AreRests slots rest_order rests → AreRests (slice_set slots k Free) rest_order rests_left) → IsFirstAfter rests_left since place →
+    rests_new ≡ insert rests_left place (rest_of k since) → rest_order_new ≡ moved_last k rest_order → cr ≤ cr_new
     → IsTable (slice_set slots k (Resting t since)) rest_order_new entries rests_new free ce cr_new cf
 rested_table slots rest_order rest_order_new free entries rests rests_left rests_new k since place t ce cr cf cr_new table had ended at is moved r =
     let fits = has_within slots k t had in
     let s = Resting t since in
     let size = length-set slots k s in
     record {
-      kept = subst (AreKept (slice_set slots k s)) (sym moved) (set_kept slots (moved_last k rest_order) k s (λ other u same h. table.kept.apart other k u h (had ∙ same)) (moved_kept slots rest_order k fits table.kept));
+      kept = subst (AreKept (slice_set slots k s)) (sym moved) (set_kept slots (moved_last k rest_order) k s (λ other u same h. table.kept.apart other k u h (had ∙ same))
+          (moved_kept slots rest_order k fits table.kept));
       by_tuple = entries_same slots entries k s t had refl fits table.by_tuple;
-      by_rest = subst (λ (x : List Rest). AreRests (slice_set slots k s) rest_order_new x) (sym is) (subst (λ (x : List ℕ). AreRests (slice_set slots k s) x (insert rests_left place (rest_of k since))) (sym moved) (rests_inserted slots rest_order rests_left place k since t fits table.kept at (ended rest_order table.by_rest)));
+      by_rest = subst (λ (x : List Rest). AreRests (slice_set slots k s) rest_order_new x) (sym is)
+          (subst (λ (x : List ℕ). AreRests (slice_set slots k s) x (insert rests_left place (rest_of k since))) (sym moved)
+          (rests_inserted slots rest_order rests_left place k since t fits table.kept at (ended rest_order table.by_rest)));
       are_free = still_free slots free k s t had (λ e. cc) table.are_free;
       count = omega (arith, table.count, size);
       entries_fit = omega (arith, size, table.entries_fit);

@@ -103,13 +103,15 @@ no_entries n = record {
   rise = λ i j a b less h g. cc;
 }
 
-pub entries_removed : (slots : List Slot) (entries : List Entry) (place k : ℕ) (t : Tuple) → slice_get entries place ≡ Some (entry_of t k) → AreEntries slots entries → AreEntries (slice_set slots k Free) (remove entries place)
+pub entries_removed : (slots : List Slot) (entries : List Entry) (place k : ℕ) (t : Tuple) → slice_get entries place ≡ Some (entry_of t k) → AreEntries slots entries → AreEntries
+    (slice_set slots k Free) (remove entries place)
 entries_removed slots entries place k t stands are = record {
   has = λ i e h.
       let r = removed_from entries place i e h in
       let had = are.has r.0 e r.1.0 in
       let moved : r.0 ≢ place = λ same. omega (arith, r.1.1, same) in
-      let other : e.slot ≢ k = λ same. moved (stands_once entries r.0 place e (entry_of t k) are.rise r.1.0 stands (one_tuple slots k e.tuple t (subst (λ n. HasTuple slots n e.tuple) same had) (are.has place (entry_of t k) stands))) in
+      let other : e.slot ≢ k = λ same. moved (stands_once entries r.0 place e (entry_of t k) are.rise r.1.0 stands
+      (one_tuple slots k e.tuple t (subst (λ n. HasTuple slots n e.tuple) same had) (are.has place (entry_of t k) stands))) in
       has_kept slots k e.slot Free e.tuple had other;
   all = λ j u h.
       elim (has_set slots k j Free u h) [
@@ -124,7 +126,8 @@ entries_removed slots entries place k t stands are = record {
       are.rise p.0 q.0 a b (omega (arith, p.1.1, q.1.1, less)) p.1.0 q.1.0;
 }
 
-pub entries_inserted : (slots : List Slot) (entries : List Entry) (place k : ℕ) (t : Tuple) → k < length slots → IsFree slots k → BelongsAt entries place t → AreEntries slots entries → AreEntries (slice_set slots k (InUse t)) (insert entries place (entry_of t k))
+pub entries_inserted : (slots : List Slot) (entries : List Entry) (place k : ℕ) (t : Tuple) → k < length slots → IsFree slots k → BelongsAt entries place t →
+    AreEntries slots entries → AreEntries (slice_set slots k (InUse t)) (insert entries place (entry_of t k))
 entries_inserted slots entries place k t fits is belongs are =
     let le = belongs.within in
     let new = entry_of t k in
@@ -154,7 +157,8 @@ entries_inserted slots entries place k t fits is belongs are =
     }
 
 -- a slot keeps its tuple
-pub entries_same : (slots : List Slot) (entries : List Entry) (k : ℕ) (s : Slot) (t : Tuple) → HasTuple slots k t → tuple_of s ≡ Some t → k < length slots → AreEntries slots entries → AreEntries (slice_set slots k s) entries
+pub entries_same : (slots : List Slot) (entries : List Entry) (k : ℕ) (s : Slot) (t : Tuple) → HasTuple slots k t → tuple_of s ≡ Some t → k < length slots →
+    AreEntries slots entries → AreEntries (slice_set slots k s) entries
 entries_same slots entries k s t had of fits are = record {
   has = λ i e h.
       let has = are.has i e h in
@@ -176,7 +180,8 @@ pub none_stands : (slots : List Slot) (entries : List Entry) (t : Tuple) → Are
 none_stands slots entries t are none i k h = none k (are.has i (entry_of t k) h)
 
 -- a slot leaves the row by its tuple
-pub entry_left : (slots : List Slot) (entries left : List Entry) (k place : ℕ) (t : Tuple) → HasTuple slots k t → StandsAt entries place t → left ≡ remove entries place → AreEntries slots entries → AreEntries (slice_set slots k Free) left
+pub entry_left : (slots : List Slot) (entries left : List Entry) (k place : ℕ) (t : Tuple) → HasTuple slots k t → StandsAt entries place t → left ≡ remove entries place →
+    AreEntries slots entries → AreEntries (slice_set slots k Free) left
 entry_left slots entries left k place t had stands is are =
     let w = are.all k t had in
     let here : w.0 ≡ place = stands_once entries w.0 place (entry_of t k) (entry_of t stands.0) are.rise w.1 stands.1 refl in

@@ -14,7 +14,8 @@ use Rattle.flow_table.proofs.Keeping.{at_end}
 use Rattle.flow_table.proofs.Resting.{longest_is_first}
 use Rattle.flow_table.proofs.Tuples.{has_at}
 
-pub vacated_free : (slots : List Slot) (entries : List Entry) (rests : List Rest) (free left : List ℕ) (k : ℕ) → free ≡ left ++ k ∷ [] → AreEntries slots entries → AreFree slots free → IsVacated slots k rests entries rests left
+pub vacated_free : (slots : List Slot) (entries : List Entry) (rests : List Rest) (free left : List ℕ) (k : ℕ) → free ≡ left ++ k ∷ [] → AreEntries slots entries →
+    AreFree slots free → IsVacated slots k rests entries rests left
 vacated_free slots entries rests free left k is by_tuple are =
     let whole = subst (AreFree slots) is are in
     let last = at_end left k in
@@ -28,8 +29,10 @@ vacated_free slots entries rests free left k is by_tuple are =
       freed = subst (λ (s : List Slot). AreFree s (left ++ k ∷ [])) same whole;
     }
 
-pub vacated_rest : (slots : List Slot) (entries : List Entry) (rests left : List Rest) (free free_left : List ℕ) (r : Rest) → free ≡ [] → free_left ≡ [] → slice_get rests 0 ≡ Some r → (rest_order : List ℕ) × AreRests slots rest_order rests
-    → AreEntries (slice_set slots r.slot Free) entries → ((rest_order : List ℕ) → AreRests slots rest_order rests → AreRests (slice_set slots r.slot Free) rest_order left) → AreFree slots free → IsVacated slots r.slot rests entries left free_left
+pub vacated_rest : (slots : List Slot) (entries : List Entry) (rests left : List Rest) (free free_left : List ℕ) (r : Rest) → free ≡ [] → free_left ≡ [] →
+    slice_get rests 0 ≡ Some r → (rest_order : List ℕ) × AreRests slots rest_order rests
+    → AreEntries (slice_set slots r.slot Free) entries → ((rest_order : List ℕ) → AreRests slots rest_order rests → AreRests (slice_set slots r.slot Free) rest_order left) →
+    AreFree slots free → IsVacated slots r.slot rests entries left free_left
 vacated_rest slots entries rests left free free_left r none none_left first some by_tuple by_rest are =
     let nothing = subst (AreFree slots) none are in
     let had = some.1.has 0 r first in

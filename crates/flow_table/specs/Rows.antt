@@ -13,7 +13,8 @@ use Rattle.flow_table.specs.Slots.{AreKept, HasTuple, IsFree, MayBeTaken, RestsS
 
 -- the order of tuples: by guest address, guest port, other address, other port
 abbrev pub tuple_cmp : Tuple → Tuple → Ordering
-tuple_cmp a b = ordering_then (nat_cmp a.guest.addr.0 b.guest.addr.0) (ordering_then (nat_cmp a.guest.port b.guest.port) (ordering_then (nat_cmp a.other.addr.0 b.other.addr.0) (nat_cmp a.other.port b.other.port)))
+tuple_cmp a b = ordering_then (nat_cmp a.guest.addr.0 b.guest.addr.0) (ordering_then (nat_cmp a.guest.port b.guest.port) (ordering_then (nat_cmp a.other.addr.0 b.other.addr.0)
+    (nat_cmp a.other.port b.other.port)))
 
 -- a tuple with its slot
 abbrev pub entry_of : Tuple → ℕ → Entry

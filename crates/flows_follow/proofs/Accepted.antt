@@ -1,5 +1,6 @@
 -- A peer comes to a port of the host that is given to a guest: the flow that begins has a slot of the core; or its socket is closed next.
-use Rattle.std.proofs.Common.{arith, ◌≡◌, ℕ, zero, suc, ◌+◌, ◌==◌, not, Bool, true, false, cond, List, [], ◌∷◌, length, set, slice_get, if◌then◌else◌, Option, Some, None, option_map, option_and_then, inl, inr, refl, sym, ◌∙◌, ap, subst}
+use Rattle.std.proofs.Common.{arith, ◌≡◌, ℕ, zero, suc, ◌+◌, ◌==◌, not, Bool, true, false, cond, List, [], ◌∷◌, length, set, slice_get, if◌then◌else◌, Option, Some, None, option_map}
+use Rattle.std.proofs.Common.{option_and_then, inl, inr, refl, sym, ◌∙◌, ap, subst}
 use Rattle.std.specs.Prelude.{Contains}
 use Rattle.std.proofs.lemmas.Bool.Decides.{nat_tests}
 use Rattle.std.proofs.lemmas.List.{length-set}
@@ -93,10 +94,12 @@ module _ (config : Config) (state : FlowsState Splice) (past : List Entry) (now 
 
     -- ---- the flow stands in a slot, and the others do that stood before, but for some that left
 
-    module _ (parts : List (Option Splice)) (stay : (j : ℕ) (r : Splice) → slice_get parts j ≡ Some (Some r) → slice_get state.slots j ≡ Some (Some r)) (k : ℕ) (q : Splice) (numbered : number_of q ≡ number)
+    module _ (parts : List (Option Splice)) (stay : (j : ℕ) (r : Splice) → slice_get parts j ≡ Some (Some r) → slice_get state.slots j ≡ Some (Some r)) (k : ℕ) (q : Splice)
+        (numbered : number_of q ≡ number)
         (learnt : (m : Mac) → q.mac ≡ Some m → Contains (taught config past) (guest.addr, m)) where
       -- the new flow's address was learnt, and the others' as before
-      learnt_then : (j : ℕ) (r : Splice) (h : Flow) (m : Mac) → slice_get (set parts k (Some q)) j ≡ Some (Some r) → flow_of (number_of r) (book config later).flows ≡ Some h → r.mac ≡ Some m → Contains (taught config later) (h.tuple.guest.addr, m)
+      learnt_then : (j : ℕ) (r : Splice) (h : Flow) (m : Mac) → slice_get (set parts k (Some q)) j ≡ Some (Some r) → flow_of (number_of r) (book config later).flows ≡ Some h →
+          r.mac ≡ Some m → Contains (taught config later) (h.tuple.guest.addr, m)
       learnt_then j r h m here found is_mac = elim (same_or_not j k) [
         | inl at_k ↦
             let one : r ≡ q = this_part r (subst (λ i. slice_get (set parts k (Some q)) i ≡ Some (Some r)) at_k here) in
@@ -106,7 +109,8 @@ module _ (config : Config) (state : FlowsState Splice) (past : List Entry) (now 
         | inr other ↦
             let was_here : slice_get state.slots j ≡ Some (Some r) = stay j r (sym (get_set_other parts k j (Some q) (differ j k other)) ∙ here) in
             let seat = holds.seats.seated j r was_here in
-            let apart : (number_of r == number) ≡ false = older (number_of r) (λ same. cc (sym (holds.seats.fresh number (omega arith)) ∙ ap (λ n. flow_of n (book config past).flows) (sym same) ∙ seat.2)) in
+            let apart : (number_of r == number) ≡ false = older (number_of r)
+            (λ same. cc (sym (holds.seats.fresh number (omega arith)) ∙ ap (λ n. flow_of n (book config past).flows) (sym same) ∙ seat.2)) in
             let old : flow_of (number_of r) (book config past).flows ≡ Some h =
             sym (ap (λ b. cond b (Some begun_flow) (flow_of (number_of r) (book config past).flows)) (swapped (number_of r) number apart))
             ∙ sym (ap (flow_of (number_of r)) flows_then) ∙ found in
@@ -134,7 +138,8 @@ module _ (config : Config) (state : FlowsState Splice) (past : List Entry) (now 
           first_of_all : flow_of number (begun_flow ∷ (book config past).flows) ≡ Some begun_flow
           first_of_all = ap (λ b. cond b (Some begun_flow) (flow_of number (book config past).flows)) (same number)
 
-      core_opened : (slots : List Slot) → length slots ≡ length state.table.slots → Seats number_of (Following config now) (flows slots state.table.rest_order) (set parts k (Some q)) (suc number) opened.flows opened.rests
+      core_opened : (slots : List Slot) → length slots ≡ length state.table.slots → Seats number_of (Following config now) (flows slots state.table.rest_order)
+          (set parts k (Some q)) (suc number) opened.flows opened.rests
           → CoreHolds config now false None (record { table = flows slots state.table.rest_order; slots = set parts k (Some q); opened = suc state.opened }) later
       core_opened slots long seats = record {
         seats = subst (λ n. Seats number_of (Following config now) (flows slots state.table.rest_order) (set parts k (Some q)) n (book config later).flows (book config later).rests) (one_more number)
@@ -174,7 +179,8 @@ module _ (config : Config) (state : FlowsState Splice) (past : List Entry) (now 
         abbrev rests : List Rest
         rests = (book config past).rests
 
-        resting : (r : Splice) × (f : Flow) × (slice_get state.slots i ≡ Some (Some r)) × (flow_of (number_of r) all ≡ Some f) × (owner ends all ≡ Some f) × (is_in_use f.story ≡ false) × (rests_among rests (owner ends all) ≡ true)
+        resting : (r : Splice) × (f : Flow) × (slice_get state.slots i ≡ Some (Some r)) × (flow_of (number_of r) all ≡ Some f) × (owner ends all ≡ Some f) ×
+            (is_in_use f.story ≡ false) × (rests_among rests (owner ends all) ≡ true)
         resting = slot_rests number_of (Following config now) state.table state.slots number all rests holds.seats sizes i ends since slot
 
         found : flow_of (number_of p) all ≡ Some resting.1
@@ -196,7 +202,8 @@ module _ (config : Config) (state : FlowsState Splice) (past : List Entry) (now 
           free = elim taken [ inl is ↦ is | inr not ↦ absurd (not.0 i (get_set_at state.table.slots i (Resting ends since) Free slot)) ]
 
           empty_there : slice_get left_state.slots k ≡ Some None
-          empty_there = elim (has_none number_of (Following config now) left_state.table left_state.slots number all (without (number_of p) rests) seats_left sizes_left k) [ inl is ↦ is | inr not ↦ absurd (not free) ]
+          empty_there = elim (has_none number_of (Following config now) left_state.table left_state.slots number all (without (number_of p) rests) seats_left sizes_left k)
+              [ inl is ↦ is | inr not ↦ absurd (not free) ]
 
           nobody : (j n : ℕ) → number_at number_of left_state.slots j ≡ Some n → option_map (λ (g : Flow). g.tuple) (flow_of n all) ≡ Some ends → ⊥
           nobody j n has is_on = by (flow_of n all) refl is_on
@@ -216,10 +223,13 @@ module _ (config : Config) (state : FlowsState Splice) (past : List Entry) (now 
               ∙ room_own config resting.1 (book config past) (ap (rests_among rests) (sym resting.4) ∙ resting.6)
               ∙ ap (λ n. without n rests) same_flow
 
-          seats_again : Seats number_of (Following config now) (flows (set left_state.table.slots k (InUse ends)) state.table.rest_order) (set left_state.slots k (Some q)) (suc number) opened.flows opened.rests
+          seats_again : Seats number_of (Following config now) (flows (set left_state.table.slots k (InUse ends)) state.table.rest_order) (set left_state.slots k (Some q))
+              (suc number) opened.flows opened.rests
           seats_again =
-              subst (Seats number_of (Following config now) (flows (set left_state.table.slots k (InUse ends)) state.table.rest_order) (set left_state.slots k (Some q)) (suc number) opened.flows) (sym room)
-              (seats_opened number_of (Following config now) left_state.table left_state.slots number all (without (number_of p) rests) k q begun_flow free empty_there refl numbered refl follows nobody seats_left)
+              subst (Seats number_of (Following config now) (flows (set left_state.table.slots k (InUse ends)) state.table.rest_order) (set left_state.slots k (Some q))
+              (suc number) opened.flows) (sym room)
+              (seats_opened number_of (Following config now) left_state.table left_state.slots number all
+              (without (number_of p) rests) k q begun_flow free empty_there refl numbered refl follows nobody seats_left)
 
           stay : (j : ℕ) (r : Splice) → slice_get left_state.slots j ≡ Some (Some r) → slice_get state.slots j ≡ Some (Some r)
           stay j r here = elim (same_or_not j i) [
@@ -232,4 +242,5 @@ module _ (config : Config) (state : FlowsState Splice) (past : List Entry) (now 
 
           pub core_accepted_again : CoreHolds config now false None (state_with left_state k ends q) later
           core_accepted_again =
-              core_opened left_state.slots stay k q numbered learnt (set left_state.table.slots k (InUse ends)) (length-set left_state.table.slots k (InUse ends) ∙ length-set state.table.slots i Free) seats_again
+              core_opened left_state.slots stay k q numbered learnt (set left_state.table.slots k (InUse ends)) (length-set left_state.table.slots k (InUse ends)
+              ∙ length-set state.table.slots i Free) seats_again

@@ -1,5 +1,6 @@
 -- A flow that was accepted asks for its guest's hardware address: the request may go out, and the slots stand for the flows of the record again.
-use Rattle.std.proofs.Common.{◌≡◌, ℕ, ◌*◌, ◌^◌, ◌<◌, ◌==◌, ◌&&◌, ◌||◌, not, Bool, true, false, List, [], ◌∷◌, drop, filter, length, map, set, slice_get, Some, None, option_map, if◌then◌else◌, inl, inr, refl, sym, ◌∙◌, ap, subst, arith}
+use Rattle.std.proofs.Common.{◌≡◌, ℕ, ◌*◌, ◌^◌, ◌<◌, ◌==◌, ◌&&◌, ◌||◌, not, Bool, true, false, List, [], ◌∷◌, drop, filter, length, map, set, slice_get, Some, None, option_map}
+use Rattle.std.proofs.Common.{if◌then◌else◌, inl, inr, refl, sym, ◌∙◌, ap, subst, arith}
 use Rattle.std.proofs.lemmas.Bool.Decides.{nat_tests}
 use Rattle.std.specs.List.{list_any}
 use Rattle.std.specs.Prelude.{Contains}
@@ -54,7 +55,8 @@ found_any : (p q : Flow → Bool) (n : ℕ) (flows : List Flow) (f : Flow) → f
 found_any p q n [] f is passes holds = absurd cc
 found_any p q n (g ∷ flows) f is passes holds = by (g.number == n) (p g) refl is (λ more. found_any p q n flows f more passes holds)
   where
-    by : (b c : Bool) → p g ≡ c → (if b then Some g else flow_of n flows) ≡ Some f → (flow_of n flows ≡ Some f → list_any q (filter p flows) ≡ true) → list_any q (if c then g ∷ filter p flows else filter p flows) ≡ true
+    by : (b c : Bool) → p g ≡ c → (if b then Some g else flow_of n flows) ≡ Some f → (flow_of n flows ≡ Some f → list_any q (filter p flows) ≡ true) → list_any q
+        (if c then g ∷ filter p flows else filter p flows) ≡ true
     by true true here is more = or_first (q g) (list_any q (filter p flows)) (ap q (some_same g f is) ∙ holds)
     by true false here is more = absurd (no_both here (ap p (some_same g f is) ∙ passes))
     by false true here is more = or_second (q g) (list_any q (filter p flows)) (more is)
@@ -84,10 +86,12 @@ module _ (config : Config) (face : Face) (f : Flow) (past : List Entry) (n : ℕ
   pub among : is_among f.number (accepted_numbers guest (book config past).flows) ≡ true
   among = found_among (λ (h : Flow). is_accepted h.story && (address h.tuple.guest == guest)) n (book config past).flows f was mine
 
-  module _ (unknown : is_known config guest past ≡ false) (few : times guest (requests config past) < 9 * length (accepted_for guest (book config past).flows)) (framed : MayFrame past (CallLinkWrite octets)) where
+  module _ (unknown : is_known config guest past ≡ false) (few : times guest (requests config past) < 9 * length (accepted_for guest (book config past).flows))
+      (framed : MayFrame past (CallLinkWrite octets)) where
     asks : may_ask config past frame (Some guest) ≡ true
     asks = and_both _ _
-        (and_both _ _ (and_both _ _ (request_written face config vhost) (found_any (λ (h : Flow). is_accepted h.story && (address h.tuple.guest == guest)) is_silent n (book config past).flows f was mine silent))
+        (and_both _ _ (and_both _ _ (request_written face config vhost) (found_any (λ (h : Flow). is_accepted h.story && (address h.tuple.guest == guest)) is_silent n
+        (book config past).flows f was mine silent))
         (ap not unknown))
         (grind (arith, nat_tests, few))
 
@@ -104,12 +108,14 @@ module _ (config : Config) (face : Face) (f : Flow) (past : List Entry) (n : ℕ
     writes_it : MayWrite (flow_settings config) (moment past) (book config past).flows (tail past) octets
     writes_it =
         subst (λ t. MayWrite (flow_settings config) (moment past) (book config past).flows t octets) (sym none)
-        (subst (λ x. MaySendOn (flow_settings config) (moment past) (book config past).flows (segment_in x)) (sym is) (subst (MaySendOn (flow_settings config) (moment past) (book config past).flows) (sym (no_segment face)) tt))
+        (subst (λ x. MaySendOn (flow_settings config) (moment past) (book config past).flows (segment_in x)) (sym is)
+        (subst (MaySendOn (flow_settings config) (moment past) (book config past).flows) (sym (no_segment face)) tt))
 
     must_write : MustWrite (flow_settings config) (moment past) (book config past).flows (tail past) octets
     must_write =
         subst (λ t. MustWrite (flow_settings config) (moment past) (book config past).flows t octets) (sym none)
-        (subst (λ x. MustSendOn (flow_settings config) (moment past) (book config past).flows (segment_in x)) (sym is) (subst (MustSendOn (flow_settings config) (moment past) (book config past).flows) (sym (no_segment face)) tt))
+        (subst (λ x. MustSendOn (flow_settings config) (moment past) (book config past).flows (segment_in x)) (sym is)
+        (subst (MustSendOn (flow_settings config) (moment past) (book config past).flows) (sym (no_segment face)) tt))
 
     pub may_request : May config past (CallLinkWrite octets)
     may_request = writes config past octets framed (due_is config past work ∙ asks_nothing.due) asks_nothing.stay (ap is_working work.working) begins work.open_yet (writes_it, must_write)
@@ -125,8 +131,10 @@ module _ (config : Config) (face : Face) (f : Flow) (past : List Entry) (n : ℕ
 
   -- ---- the slots
 
-  module _ (aged : Bool) (state : FlowsState Splice) (holds : CoreHolds config (moment past) aged None state past) (k : ℕ) (p q : Splice) (at : slice_get state.slots k ≡ Some (Some p)) (numbered : number_of p ≡ n)
-      (same_number : number_of q ≡ number_of p) (same_mac : q.mac ≡ p.mac) (used : is_in_use f.story ≡ true) (follows : Following config (moment past) q (At (moment past) AsksAddress ∷ f.story)) (count : ℕ) where
+  module _ (aged : Bool) (state : FlowsState Splice) (holds : CoreHolds config (moment past) aged None state past) (k : ℕ) (p q : Splice)
+      (at : slice_get state.slots k ≡ Some (Some p)) (numbered : number_of p ≡ n)
+      (same_number : number_of q ≡ number_of p) (same_mac : q.mac ≡ p.mac) (used : is_in_use f.story ≡ true)
+      (follows : Following config (moment past) q (At (moment past) AsksAddress ∷ f.story)) (count : ℕ) where
     abbrev later : List Entry
     later = LinkWrite octets (Done count) ∷ past
 
@@ -161,7 +169,8 @@ module _ (config : Config) (face : Face) (f : Flow) (past : List Entry) (n : ℕ
 
     pub core_asked : CoreHolds config now aged None state_asked later
     core_asked = record {
-      seats = seats_one number_of (Following config now) state.table state.slots (next_number later) (book config later).flows (book config later).flows (rests_at aged config later) k p q told told at same_number told_is used told_is used follows
+      seats = seats_one number_of (Following config now) state.table state.slots (next_number later) (book config later).flows (book config later).flows
+          (rests_at aged config later) k p q told told at same_number told_is used told_is used follows
           (record { same = refl; apart = λ other not. refl; differ = λ is. is; used = refl }) sought.seats;
       slots = sought.slots;
       opened = sought.opened;

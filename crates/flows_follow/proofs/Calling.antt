@@ -70,7 +70,8 @@ module _ (config : Config) (face : Face) (f : Flow) (past : List Entry) (work : 
   ]
 
   -- the flows' sentence, of a call on the socket that isn't a close
-  flows_let : (call : Call) (act : Act) → host_failed f.story ≡ false → (MustClose f.story → ⊥) → (MayAct (flow_settings config) (moment past) (flow_of face.number (book config past).flows) act → MayTouch config past call)
+  flows_let : (call : Call) (act : Act) → host_failed f.story ≡ false → (MustClose f.story → ⊥) →
+      (MayAct (flow_settings config) (moment past) (flow_of face.number (book config past).flows) act → MayTouch config past call)
       → (MustAct (flow_settings config) (moment past) (flow_of face.number (book config past).flows) act → MustTouch config past call)
       → MayOfOne (flow_settings config) f.story (moment past) act → MustOfOne (flow_settings config) f.story (moment past) act → MayFlow config past call
   flows_let call act well stay touch so may must = record {
@@ -81,25 +82,34 @@ module _ (config : Config) (face : Face) (f : Flow) (past : List Entry) (work : 
   }
 
   -- each of them may come where the story allows it and the report is there
-  pub may_look : MayOfOne (flow_settings config) f.story (moment past) AskConnected → MustOfOne (flow_settings config) f.story (moment past) AskConnected → writes (Tcp face.number) (agenda past) ≡ true → May config past (CallConnected face.number)
+  pub may_look : MayOfOne (flow_settings config) f.story (moment past) AskConnected → MustOfOne (flow_settings config) f.story (moment past) AskConnected → writes (Tcp face.number)
+      (agenda past) ≡ true → May config past (CallConnected face.number)
   may_look may must reported =
-      gathered config past (CallConnected face.number) tt (any_one config past (CallConnected face.number) (none_due may.closes_after_failure)) working (has.socket may.calls_open_socket) reported refl on_yet
+      gathered config past (CallConnected face.number) tt (any_one config past (CallConnected face.number) (none_due may.closes_after_failure)) working
+      (has.socket may.calls_open_socket) reported refl on_yet
       (flows_let (CallConnected face.number) AskConnected may.closes_after_failure must.closes_after_reset (λ m. m) (λ m. m) may must)
 
-  pub may_give : (octets : List ℕ) → MayOfOne (flow_settings config) f.story (moment past) (Write octets) → MustOfOne (flow_settings config) f.story (moment past) (Write octets) → writes (Tcp face.number) (agenda past) ≡ true → May config past (CallTcpWrite face.number octets)
+  pub may_give : (octets : List ℕ) → MayOfOne (flow_settings config) f.story (moment past) (Write octets) → MustOfOne (flow_settings config) f.story (moment past) (Write octets) →
+      writes (Tcp face.number) (agenda past) ≡ true → May config past (CallTcpWrite face.number octets)
   may_give octets may must reported =
-      gathered config past (CallTcpWrite face.number octets) tt (any_one config past (CallTcpWrite face.number octets) (none_due may.closes_after_failure)) working (has.socket may.calls_open_socket) reported refl on_yet
+      gathered config past (CallTcpWrite face.number octets) tt (any_one config past (CallTcpWrite face.number octets) (none_due may.closes_after_failure)) working
+      (has.socket may.calls_open_socket) reported refl on_yet
       (flows_let (CallTcpWrite face.number octets) (Write octets) may.closes_after_failure must.closes_after_reset (λ m. m) (λ m. m) may must)
 
-  pub may_end : MayOfOne (flow_settings config) f.story (moment past) EndHost → MustOfOne (flow_settings config) f.story (moment past) EndHost → (writes (Tcp face.number) (agenda past) || has_just_written face.number past) ≡ true → May config past (CallTcpEnd face.number)
+  pub may_end : MayOfOne (flow_settings config) f.story (moment past) EndHost → MustOfOne (flow_settings config) f.story (moment past) EndHost →
+      (writes (Tcp face.number) (agenda past) || has_just_written face.number past) ≡ true → May config past (CallTcpEnd face.number)
   may_end may must reported =
-      gathered config past (CallTcpEnd face.number) tt (any_one config past (CallTcpEnd face.number) (none_due may.closes_after_failure)) working (has.socket may.calls_open_socket) reported refl on_yet
+      gathered config past (CallTcpEnd face.number) tt (any_one config past (CallTcpEnd face.number) (none_due may.closes_after_failure)) working
+      (has.socket may.calls_open_socket) reported refl on_yet
       (flows_let (CallTcpEnd face.number) EndHost may.closes_after_failure must.closes_after_reset (λ m. m) (λ m. m) may must)
 
-  pub may_take : (asked : ℕ) → asked ≡ read_size (flow_settings config) f.story → MayOfOne (flow_settings config) f.story (moment past) Read → MustOfOne (flow_settings config) f.story (moment past) Read → reads (Tcp face.number) (agenda past) ≡ true → May config past (CallTcpRead face.number asked)
+  pub may_take : (asked : ℕ) → asked ≡ read_size (flow_settings config) f.story → MayOfOne (flow_settings config) f.story (moment past) Read → MustOfOne
+      (flow_settings config) f.story (moment past) Read → reads (Tcp face.number) (agenda past) ≡ true → May config past (CallTcpRead face.number asked)
   may_take asked size may must reported =
-      gathered config past (CallTcpRead face.number asked) tt (any_one config past (CallTcpRead face.number asked) (none_due may.closes_after_failure)) working (has.socket may.calls_open_socket) reported refl on_yet
-      (flows_let (CallTcpRead face.number asked) Read may.closes_after_failure must.closes_after_reset (λ m. m) (λ m. (m, subst (λ o. AsksForRoom (flow_settings config) o asked) (sym has.found) size)) may must)
+      gathered config past (CallTcpRead face.number asked) tt (any_one config past (CallTcpRead face.number asked) (none_due may.closes_after_failure)) working
+      (has.socket may.calls_open_socket) reported refl on_yet
+      (flows_let (CallTcpRead face.number asked) Read may.closes_after_failure must.closes_after_reset (λ m. m)
+      (λ m. (m, subst (λ o. AsksForRoom (flow_settings config) o asked) (sym has.found) size)) may must)
 
   -- ---- what the record has of the flow then
 
@@ -124,7 +134,8 @@ module _ (config : Config) (face : Face) (f : Flow) (past : List Entry) (work : 
         other = has.other;
         owned = owner_id f.tuple (book config (e ∷ past)).flows (book config past).flows only.same ∙ has.owned;
         socket = λ open_yet. same ∙ has.socket (sym (call.closed (moment past) f.story) ∙ open_yet);
-        due = ap (λ b. due_for_flows config b (next_number (e ∷ past))) new ∙ due_after (fails ev) (next_number (e ∷ past)) ∙ ap (λ t. close_if t face.number) (sym (call.failed (moment past) f.story));
+        due = ap (λ b. due_for_flows config b (next_number (e ∷ past))) new ∙ due_after (fails ev) (next_number (e ∷ past)) ∙ ap (λ t. close_if t face.number)
+            (sym (call.failed (moment past) f.story));
         others = λ number g other found. has.others number g other (sym (only.apart number other) ∙ found);
       }
 
@@ -192,7 +203,8 @@ module _ (config : Config) (face : Face) (f : Flow) (past : List Entry) (work : 
     pub may_part_then : parts config past face.number ≡ true
     may_part_then =
         ap (may_part config past face.number)
-        (kind_is (kind_for config face.number past) (same_flow config face.number past ∙ second_of (is_among face.number (open_sockets past)) (is_flow (kind_of face.number past)) (has.socket open_yet)))
+        (kind_is (kind_for config face.number past) (same_flow config face.number past ∙ second_of (is_among face.number (open_sockets past)) (is_flow (kind_of face.number past))
+        (has.socket open_yet)))
         ∙ ap (may_leave (scene config past) (book config past) face.number) has.found
         ∙ may_leave_then cause
 
@@ -221,7 +233,12 @@ module _ (config : Config) (face : Face) (f : Flow) (past : List Entry) (work : 
         closes config past face.number (close_is_due (host_failed f.story) refl) (ap (λ p. is_working p || is_over p) work.working)
         (and_both (is_among face.number (open_sockets past)) _ (first_of (is_among face.number (open_sockets past)) (is_flow (kind_of face.number past)) (has.socket open_yet))
         (closes_it (is_closing config past) (parts config past face.number) (is_ended config past) (is_least face.number (open_sockets past)) work.open_yet may_part_then))
-        (record { due = flows_close (host_failed f.story) refl; touches = subst (MayShut (flow_settings config) (scene config past) (book config past).came) (sym has.found) may; must = tt; at_once = closes_only })
+        (record {
+          due = flows_close (host_failed f.story) refl;
+          touches = subst (MayShut (flow_settings config) (scene config past) (book config past).came) (sym has.found) may;
+          must = tt;
+          at_once = closes_only;
+        })
 
   -- the record has it closed then, and it asks for nothing
   pub after_close : Differ (book config past).flows → HasFlow config face (shuts (scene config past) (book config past).came f) (Close face.number ∷ past)
@@ -243,7 +260,8 @@ module _ (config : Config) (face : Face) (f : Flow) (past : List Entry) (work : 
   by_rest true now number = ap (λ n. (book config past).rests ++ rest n now ∷ []) number
   by_rest false now number = refl
 
-  pub rests_closed : Differ (book config past).flows → (now : ℕ) (directly ended known : Bool) → moment past ≡ now → shuts (scene config past) (book config past).came f ≡ with_event now (Closes directly ended known) f
+  pub rests_closed : Differ (book config past).flows → (now : ℕ) (directly ended known : Bool) → moment past ≡ now → shuts (scene config past)
+      (book config past).came f ≡ with_event now (Closes directly ended known) f
       → (book config (Close face.number ∷ past)).rests ≡ with_rest (rests_since (At now (Closes directly ended known) ∷ f.story)) face.number (book config past).rests
   rests_closed differ now directly ended known at shuts_is =
       ap (λ m. rests_after m (flow_of face.number (book config (Close face.number ∷ past)).flows) (book config past).rests) at

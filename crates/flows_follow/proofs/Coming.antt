@@ -127,14 +127,16 @@ module _ (config : Config) (face : Face) (mac : Option Mac) (f : Flow) (past : L
 
   module _ (ready : Ready config face f past now ended known) (came : comes_directly (book config past).came f ≡ directly) where
     -- after a segment of the flow, or at a tick
-    pub closes_or_not : (made : List Entry) (beats : Story) → is_at_most_a_close made ≡ true → Makes made beats → IsInOrder (flow_settings config) (beats ++ f.story) → Called config face f past now ended known made beats
+    pub closes_or_not : (made : List Entry) (beats : Story) → is_at_most_a_close made ≡ true → Makes made beats → IsInOrder (flow_settings config) (beats ++ f.story) →
+        Called config face f past now ended known made beats
     closes_or_not [] beats is are lawful = subst (Called config face f past now ended known []) (sym are) (none_made config face f past now ended known ready)
     closes_or_not (Close socket ∷ []) beats is (rest, none, (number, is_beats, cause)) lawful =
         let now_none : beats ≡ At now (Closes directly ended known) ∷ [] = is_beats ∙ ap (λ r. At now (Closes directly ended known) ∷ r) none in
         let now_lawful = subst (λ b. IsInOrder (flow_settings config) (b ++ f.story)) now_none lawful in
         subst (λ n. Called config face f past now ended known (Close n ∷ []) beats) (sym number)
         (subst (Called config face f past now ended known (Close face.number ∷ [])) (sym now_none)
-        (shut_it config face f past now ended known [] [] (none_made config face f past now ended known ready) directly came (subst (λ r. HasCause directly false known now (r ++ f.story)) none cause) now_lawful.0.0))
+        (shut_it config face f past now ended known [] [] (none_made config face f past now ended known ready) directly came
+        (subst (λ r. HasCause directly false known now (r ++ f.story)) none cause) now_lawful.0.0))
     closes_or_not (_ ∷ made) beats is are lawful = absurd cc
 
   -- the reports are as they were

@@ -205,7 +205,8 @@ pub all_used : (slots : List Slot) → NoneIsFree slots → in_use_slots slots +
 all_used [] none = refl
 all_used (s ∷ slots) none = by_slot s (none 0) (all_used slots (λ k is. none (suc k) is))
   where
-    by_slot : (s : Slot) → (Some s ≡ Some Free → ⊥) → in_use_slots slots + resting_slots slots ≡ length slots → count_used s (in_use_slots slots) + count_resting s (resting_slots slots) ≡ suc (length slots)
+    by_slot : (s : Slot) → (Some s ≡ Some Free → ⊥) → in_use_slots slots + resting_slots slots ≡ length slots → count_used s (in_use_slots slots) + count_resting s
+        (resting_slots slots) ≡ suc (length slots)
     by_slot Free not rest = absurd (not refl)
     by_slot (InUse t) not rest = omega (arith, rest)
     by_slot (Resting t since) not rest = omega (arith, rest)

@@ -22,7 +22,8 @@ use Rattle.flows_follow.proofs.Options.{true_false}
 use Rattle.halves_follow.proofs.Acts.{may_close}
 
 -- a flow that is closed has no open socket
-pub closed_has_none : (config : Config) (past : List Entry) (n : ℕ) (f : Flow) → Lawful config past → flow_of n (book config past).flows ≡ Some f → is_closed f.story ≡ true → is_among n (open_sockets past) ≡ false
+pub closed_has_none : (config : Config) (past : List Entry) (n : ℕ) (f : Flow) → Lawful config past → flow_of n (book config past).flows ≡ Some f → is_closed f.story ≡ true →
+    is_among n (open_sockets past) ≡ false
 closed_has_none config past n f lawful is shut =
     subst (λ m. is_among m (open_sockets past) ≡ false) (found_number n (book config past).flows f is)
     ((each_found (InStep past) (is_numbered n) (book config past).flows f (each_in_step config past lawful) is).shut shut)
@@ -69,7 +70,8 @@ module _ (config : Config) (past : List Entry) (lawful : Lawful config past) (en
   pub may_close_least : MayDue config past (CallClose n) → (is_working (phase config past) || is_over (phase config past)) ≡ true → FlowsAskNothing config past → May config past (CallClose n)
   may_close_least due place nothing =
       closes config past n due place
-      (and_both (is_among n (open_sockets past)) _ open_yet (at_the_end (is_closing config past) (parts config past n) (is_ended config past) (is_least n (open_sockets past)) ended (least_first (open_sockets past) n least)))
+      (and_both (is_among n (open_sockets past)) _ open_yet (at_the_end (is_closing config past) (parts config past n) (is_ended config past) (is_least n (open_sockets past)) ended
+      (least_first (open_sockets past) n least)))
       (record {
         due = subst (λ o. MatchOption o (Unit {0}) (λ d. CallClose n ≡ d)) (sym nothing.due) tt;
         touches = may_shut (flow_of n (book config past).flows) refl;

@@ -65,7 +65,8 @@ of_then config n past [] e one are = (one, tt)
 of_then config n past (d ∷ made) e one are =
     (subst (λ (l : List Entry). IsOf n (book config l) (doing config l d)) (sym (append_assoc made (e ∷ []) past)) are.0, of_then config n past made e one are.1)
 
-module _ (config : Config) (state : FlowsState Splice) (past : List Entry) (now : ℕ) (holds : CoreHolds config now false None state past) (moment_is : moment past ≡ now) (lawful_before : Lawful config past)
+module _ (config : Config) (state : FlowsState Splice) (past : List Entry) (now : ℕ) (holds : CoreHolds config now false None state past) (moment_is : moment past ≡ now)
+    (lawful_before : Lawful config past)
     (k : ℕ) (p q : Splice) (t : Tuple) (f : Flow) (at : slice_get state.slots k ≡ Some (Some p)) (slot : slice_get state.table.slots k ≡ Some (slot_at p.place t)) (same : q.face ≡ p.face)
     (was : flow_of (number_of p) (book config past).flows ≡ Some f) (ends : f.tuple ≡ ends_of p.face) (once : Once state.table.rest_order)
     (e : Entry) (on : OnTuple) (comes : doing config past e ≡ Comes on) (on_ends : on.tuple ≡ ends_of p.face) (next_is : next_number (e ∷ past) ≡ next_number past)
@@ -91,7 +92,8 @@ module _ (config : Config) (state : FlowsState Splice) (past : List Entry) (now 
   seat_slot : (s : Slot) → slice_get state.table.slots k ≡ Some s → IsSlotOf (book config past).rests f s
   seat_slot s here =
       let seat = holds.seats.seated k p at in
-      subst (λ (x : Slot). IsSlotOf (book config past).rests f x) (some_same seat.1 s (sym seat.5 ∙ here)) (subst (λ (x : Flow). IsSlotOf (book config past).rests x seat.1) (some_same seat.0 f (sym seat.2 ∙ was)) seat.6)
+      subst (λ (x : Slot). IsSlotOf (book config past).rests f x) (some_same seat.1 s (sym seat.5 ∙ here)) (subst (λ (x : Flow). IsSlotOf (book config past).rests x seat.1)
+      (some_same seat.0 f (sym seat.2 ∙ was)) seat.6)
 
   followed : Following config now p f.story
   followed = let seat = holds.seats.seated k p at in subst (λ (x : Flow). Following config now p x.story) (some_same seat.0 f (sym seat.2 ∙ was)) seat.4
@@ -104,7 +106,8 @@ module _ (config : Config) (state : FlowsState Splice) (past : List Entry) (now 
 
   -- ---- a flow that is in use
 
-  module _ (in_use : is_in_use f.story ≡ true) (lawful : Lawful config (e ∷ past)) (work : InWork config (e ∷ past)) (moment_then : moment (e ∷ past) ≡ now) (same_socket : joins (e ∷ past) (number_of p) ≡ joins past (number_of p))
+  module _ (in_use : is_in_use f.story ≡ true) (lawful : Lawful config (e ∷ past)) (work : InWork config (e ∷ past)) (moment_then : moment (e ∷ past) ≡ now)
+      (same_socket : joins (e ∷ past) (number_of p) ≡ joins past (number_of p))
       (awake : rests_among (book config past).rests (Some f) ≡ false) (mac : Option Mac) (ident : ℕ) (made : List Entry) (beats : Story) (few : is_at_most_a_close made ≡ true) where
     abbrev pub ended : Bool
     ended = comes_last (scene config (e ∷ past)) told
@@ -116,16 +119,19 @@ module _ (config : Config) (state : FlowsState Splice) (past : List Entry) (now 
     rests_same =
         ap (λ (b : Book). b.rests) new
         ∙ ap (λ o. after_segment (moment past) on.segment o (book config past).rests) owner_here
-        ∙ ap (λ b. if not b then (book config past).rests else (if ends_rest f.story on.segment then without f.number (book config past).rests else (if renews on.segment then without f.number (book config past).rests ++ (rest f.number (moment past) ∷ []) else (book config past).rests))) awake
+        ∙ ap (λ b. if not b then (book config past).rests else (if ends_rest f.story on.segment then without f.number (book config past).rests else
+        (if renews on.segment then without f.number (book config past).rests ++ (rest f.number (moment past) ∷ []) else (book config past).rests))) awake
 
     has_then : HasFlow config p.face told (e ∷ past)
-    has_then = subst (λ m. HasFlow config p.face (with_event m (Arrives on.segment) f) (e ∷ past)) moment_is (after_arrival config p.face f past e on has holds.seats.differ comes on_ends same_socket (inl in_use))
+    has_then = subst (λ m. HasFlow config p.face (with_event m (Arrives on.segment) f) (e ∷ past)) moment_is
+        (after_arrival config p.face f past e on has holds.seats.differ comes on_ends same_socket (inl in_use))
 
     ready : Ready config p.face told (e ∷ past) now ended known
     ready = record { lawful = lawful; work = work; has = has_then; at = moment_then; knows = refl; last = λ open_yet. refl }
 
     direct : (book config (e ∷ past)).came ≡ Some on → comes_directly (book config (e ∷ past)).came told ≡ true
-    direct came = subst (λ m. comes_directly (book config (e ∷ past)).came (with_event m (Arrives on.segment) f) ≡ true) moment_is (came_directly config p.face f past e on has holds.seats.differ comes on_ends)
+    direct came = subst (λ m. comes_directly (book config (e ∷ past)).came (with_event m (Arrives on.segment) f) ≡ true) moment_is
+        (came_directly config p.face f past e on has holds.seats.differ comes on_ends)
 
     module _ (are : AreEvents (flow_settings config) p.face mac true ended known ident now beat made beats) (follows : Following config now q (beats ++ beat)) where
       pub then_called : CalledThen config p.face told (e ∷ past) now ended known made beats
@@ -148,12 +154,15 @@ module _ (config : Config) (state : FlowsState Splice) (past : List Entry) (now 
       called : Called config p.face f past now all_made all_beats
       called = record {
         lawful = subst (Lawful config) (sym lists) then_called.lawful;
-        found = ap (λ (l : List Entry). flow_of (number_of p) (book config l).flows) lists ∙ then_called.has.found ∙ ap (λ (x : Story). Some (record { number = f.number; tuple = f.tuple; story = x })) (sym stories);
+        found = ap (λ (l : List Entry). flow_of (number_of p) (book config l).flows) lists ∙ then_called.has.found ∙ ap
+            (λ (x : Story). Some (record { number = f.number; tuple = f.tuple; story = x })) (sym stories);
         of = of_then config (number_of p) past made e of_it then_called.of;
         at = ap moment lists ∙ then_called.at;
-        asks = ap (λ (l : List Entry). due_for_flows config (book config l) (next_number l)) lists ∙ then_called.has.due ∙ ap (λ b. close_if b (number_of p)) (follows_well config now q (beats ++ beat) follows);
+        asks = ap (λ (l : List Entry). due_for_flows config (book config l) (next_number l)) lists ∙ then_called.has.due ∙ ap (λ b. close_if b (number_of p))
+            (follows_well config now q (beats ++ beat) follows);
         next = ap next_number lists ∙ then_called.next ∙ next_is;
-        rests = λ open_yet. ap (λ (l : List Entry). (book config l).rests) lists ∙ then_called.rests open_yet ∙ ap (λ (r : List Rest). with_rest (rests_since (beats ++ beat)) (number_of p) r) rests_same
+        rests = λ open_yet. ap (λ (l : List Entry). (book config l).rests) lists ∙ then_called.rests open_yet ∙ ap (λ (r : List Rest). with_rest (rests_since (beats ++ beat))
+            (number_of p) r) rests_same
             ∙ ap (λ (x : Story). with_rest (rests_since x) (number_of p) (book config past).rests) (sym stories);
         rests_on = λ shut. ap (λ (l : List Entry). (book config l).rests) lists ∙ then_called.rests_on shut ∙ rests_same;
         rests_still = λ shut. ap rests_since stories ∙ then_called.rests_still shut ∙ still_none ∙ sym (in_use_awake f.story in_use);
@@ -163,7 +172,8 @@ module _ (config : Config) (state : FlowsState Splice) (past : List Entry) (now 
           still_none : rests_since beat ≡ None
           still_none = by (ends_rest f.story on.segment) (ap (renewed (renews on.segment) now) (in_use_awake f.story in_use))
             where
-              by : (b : Bool) → renewed (renews on.segment) now (rests_since f.story) ≡ renewed (renews on.segment) now None → (if b then None else renewed (renews on.segment) now (rests_since f.story)) ≡ None
+              by : (b : Bool) → renewed (renews on.segment) now (rests_since f.story) ≡ renewed (renews on.segment) now None → (if b then None else renewed (renews on.segment) now
+                  (rests_since f.story)) ≡ None
               by true is = refl
               by false is = is ∙ renews_none (renews on.segment)
                 where
@@ -177,7 +187,8 @@ module _ (config : Config) (state : FlowsState Splice) (past : List Entry) (now 
       -- the core's relation holds after the segment and what was called for it
       pub core_heard : CoreHolds config now false None (state_at state k t p q) (made ++ (e ∷ past))
       core_heard = subst (CoreHolds config now false None (state_at state k t p q)) lists
-          (core_called config state past now false None holds moment_is lawful_before k p q t f at slot same was once all_made all_beats called (subst (Following config now q) (sym stories) follows) mac_learnt)
+          (core_called config state past now false None holds moment_is lawful_before k p q t f at slot same was once all_made all_beats called
+          (subst (Following config now q) (sym stories) follows) mac_learnt)
 
   -- ---- a flow that rests
 
@@ -220,8 +231,10 @@ module _ (config : Config) (state : FlowsState Splice) (past : List Entry) (now 
     rests_by =
         ap (λ (b : Book). b.rests) new
         ∙ ap (λ o. after_segment (moment past) on.segment o (book config past).rests) owner_here
-        ∙ ap (λ b. if not b then (book config past).rests else (if ends_rest f.story on.segment then without f.number (book config past).rests else (if renews on.segment then without f.number (book config past).rests ++ (rest f.number (moment past) ∷ []) else (book config past).rests))) among
-        ∙ (λ i. if ends_rest f.story on.segment then without (number_is i) (book config past).rests else (if renews on.segment then without (number_is i) (book config past).rests ++ (rest (number_is i) (moment_is i) ∷ []) else (book config past).rests))
+        ∙ ap (λ b. if not b then (book config past).rests else (if ends_rest f.story on.segment then without f.number (book config past).rests else
+        (if renews on.segment then without f.number (book config past).rests ++ (rest f.number (moment past) ∷ []) else (book config past).rests))) among
+        ∙ (λ i. if ends_rest f.story on.segment then without (number_is i) (book config past).rests else (if renews on.segment then without (number_is i) (book config past).rests
+        ++ (rest (number_is i) (moment_is i) ∷ []) else (book config past).rests))
 
     begun : rests_since f.story ≡ Some since
     begun = rest_is (flow_settings config) p f.story now since followed at_rest
@@ -239,9 +252,12 @@ module _ (config : Config) (state : FlowsState Splice) (past : List Entry) (now 
     -- it left
     left_it : q.place ≡ Empty → (b : Bool) → ends_rest f.story on.segment ≡ b → Goal (rested_at Empty (renews on.segment))
     left_it place true ends_it =
-        subst (λ (r : List Rest). Seats number_of (Following config now) (flows (set state.table.slots k Free) state.table.rest_order) (set state.slots k None) (next_number past) (book config (e ∷ past)).flows r)
-        (sym (rests_by ∙ ap (λ b. if b then without (number_of p) (book config past).rests else (if renews on.segment then without (number_of p) (book config past).rests ++ (rest (number_of p) now ∷ []) else (book config past).rests)) ends_it))
-        (seats_woken number_of (Following config now) state.table state.slots (next_number past) (book config past).flows (book config (e ∷ past)).flows (book config past).rests k p t since at here unused_before (ap uses told_is ∙ unused_then) only holds.seats)
+        subst (λ (r : List Rest). Seats number_of (Following config now) (flows (set state.table.slots k Free) state.table.rest_order) (set state.slots k None) (next_number past)
+        (book config (e ∷ past)).flows r)
+        (sym (rests_by ∙ ap (λ b. if b then without (number_of p) (book config past).rests else (if renews on.segment then without (number_of p) (book config past).rests ++
+        (rest (number_of p) now ∷ []) else (book config past).rests)) ends_it))
+        (seats_woken number_of (Following config now) state.table state.slots (next_number past) (book config past).flows (book config (e ∷ past)).flows
+        (book config past).rests k p t since at here unused_before (ap uses told_is ∙ unused_then) only holds.seats)
     left_it place false not_yet =
         let none = rest_none (flow_settings config) q beat now follows (ap is_at_rest place) in
         let some = since_then ∙ ap (λ b. if b then None else renewed (renews on.segment) now (Some since)) not_yet in
@@ -258,17 +274,22 @@ module _ (config : Config) (state : FlowsState Splice) (past : List Entry) (now 
     rests_on_it m place false not_yet true again =
         let is : rests_since beat ≡ Some now = since_then ∙ ap (λ b. if b then None else renewed (renews on.segment) now (Some since)) not_yet ∙ ap (λ b. renewed b now (Some since)) again in
         let m_is : m ≡ now = some_same m now (sym (rest_is (flow_settings config) q beat now m follows place) ∙ is) in
-        subst (λ (r : List Rest). Seats number_of (Following config now) (flows (set state.table.slots k (Resting t m)) (moved_last k state.table.rest_order)) (set state.slots k (Some q)) (next_number past) (book config (e ∷ past)).flows r)
+        subst (λ (r : List Rest). Seats number_of (Following config now) (flows (set state.table.slots k (Resting t m)) (moved_last k state.table.rest_order))
+        (set state.slots k (Some q)) (next_number past) (book config (e ∷ past)).flows r)
         (ap (λ n. without (number_of p) (book config past).rests ++ (rest (number_of p) n ∷ [])) m_is
-        ∙ sym (rests_by ∙ ap (λ b. if b then without (number_of p) (book config past).rests else (if renews on.segment then without (number_of p) (book config past).rests ++ (rest (number_of p) now ∷ []) else (book config past).rests)) not_yet
+        ∙ sym (rests_by ∙ ap (λ b. if b then without (number_of p) (book config past).rests else (if renews on.segment then without (number_of p) (book config past).rests ++
+        (rest (number_of p) now ∷ []) else (book config past).rests)) not_yet
         ∙ ap (λ b. if b then without (number_of p) (book config past).rests ++ (rest (number_of p) now ∷ []) else (book config past).rests) again))
-        (seats_renewed number_of (Following config now) state.table state.slots (next_number past) (book config past).flows (book config (e ∷ past)).flows (book config past).rests k p q told t since m at here
+        (seats_renewed number_of (Following config now) state.table state.slots (next_number past) (book config past).flows (book config (e ∷ past)).flows
+        (book config past).rests k p q told t since m at here
         (ap (λ (x : Face). x.number) same) unused_before told_is unused_then follow_place only once holds.seats)
     rests_on_it m place false not_yet false again =
         subst (λ (r : List Rest). Seats number_of (Following config now) state.table (set state.slots k (Some q)) (next_number past) (book config (e ∷ past)).flows r)
-        (sym (rests_by ∙ ap (λ b. if b then without (number_of p) (book config past).rests else (if renews on.segment then without (number_of p) (book config past).rests ++ (rest (number_of p) now ∷ []) else (book config past).rests)) not_yet
+        (sym (rests_by ∙ ap (λ b. if b then without (number_of p) (book config past).rests else (if renews on.segment then without (number_of p) (book config past).rests ++
+        (rest (number_of p) now ∷ []) else (book config past).rests)) not_yet
         ∙ ap (λ b. if b then without (number_of p) (book config past).rests ++ (rest (number_of p) now ∷ []) else (book config past).rests) again))
-        (seats_kept number_of (Following config now) state.table state.slots (next_number past) (book config past).flows (book config (e ∷ past)).flows (book config past).rests k p q f told t since at here
+        (seats_kept number_of (Following config now) state.table state.slots (next_number past) (book config past).flows (book config (e ∷ past)).flows
+        (book config past).rests k p q f told t since at here
         (ap (λ (x : Face). x.number) same) was slot_here.2 told_is unused_then follow_place only holds.seats)
 
     by_place : (x : Place) → q.place ≡ x → (r : Bool) → renews on.segment ≡ r → Goal (rested_at x r)
@@ -287,7 +308,8 @@ module _ (config : Config) (state : FlowsState Splice) (past : List Entry) (now 
     size_then (Rests m) true = length-set state.table.slots k (Resting t m)
     size_then (Rests m) false = refl
 
-    learnt_set : (x : Option Splice) → ((r : Splice) → x ≡ Some r → r ≡ q) → (j : ℕ) (r : Splice) (h : Flow) (m : Mac) → slice_get (set state.slots k x) j ≡ Some (Some r) → flow_of (number_of r) (book config (e ∷ past)).flows ≡ Some h → r.mac ≡ Some m
+    learnt_set : (x : Option Splice) → ((r : Splice) → x ≡ Some r → r ≡ q) → (j : ℕ) (r : Splice) (h : Flow) (m : Mac) → slice_get (set state.slots k x) j ≡ Some (Some r) → flow_of
+        (number_of r) (book config (e ∷ past)).flows ≡ Some h → r.mac ≡ Some m
         → Contains (taught config (e ∷ past)) (h.tuple.guest.addr, m)
     learnt_set x only_q j r h m has_r found is_mac = elim (same_or_not j k) [
       | inl at_k ↦
@@ -297,14 +319,16 @@ module _ (config : Config) (state : FlowsState Splice) (past : List Entry) (now 
           subst (λ (y : Flow). Contains (taught config (e ∷ past)) (y.tuple.guest.addr, m)) (sym this) (learnt m (ap mac_of (sym one) ∙ is_mac))
       | inr other ↦
           let was_here : slice_get state.slots j ≡ Some (Some r) = sym (get_set_other state.slots k j x (differ j k other)) ∙ has_r in
-          let apart : (number_of r == number_of p) ≡ false = not_one j k (number_of r) (number_of p) other (λ one. holds.seats.numbers j k (number_of p) (ap (number_in number_of) was_here ∙ ap Some one) (ap (number_in number_of) at)) in
+          let apart : (number_of r == number_of p) ≡ false = not_one j k (number_of r) (number_of p) other
+          (λ one. holds.seats.numbers j k (number_of p) (ap (number_in number_of) was_here ∙ ap Some one) (ap (number_in number_of) at)) in
           taught_on config past (e ∷ []) (h.tuple.guest.addr, m) (holds.learnt j r h m was_here (sym (only.apart (number_of r) apart) ∙ found) is_mac)
     ]
       where
         not_one : (j k m n : ℕ) → (j == k) ≡ false → (m ≡ n → j ≡ k) → (m == n) ≡ false
         not_one j k m n other one = elim (same_or_not m n) [ inl is ↦ absurd (differ j k other (one is)) | inr not ↦ not ]
 
-    learnt_then : (x : Place) (r : Bool) → q.place ≡ x → (j : ℕ) (s : Splice) (h : Flow) (m : Mac) → slice_get (rested_at x r).slots j ≡ Some (Some s) → flow_of (number_of s) (book config (e ∷ past)).flows ≡ Some h → s.mac ≡ Some m
+    learnt_then : (x : Place) (r : Bool) → q.place ≡ x → (j : ℕ) (s : Splice) (h : Flow) (m : Mac) → slice_get (rested_at x r).slots j ≡ Some (Some s) → flow_of (number_of s)
+        (book config (e ∷ past)).flows ≡ Some h → s.mac ≡ Some m
         → Contains (taught config (e ∷ past)) (h.tuple.guest.addr, m)
     learnt_then Empty r place = learnt_set None (λ s is. cc)
     learnt_then (Rests m) true place = learnt_set (Some q) (λ s is. cc)
@@ -319,7 +343,8 @@ module _ (config : Config) (state : FlowsState Splice) (past : List Entry) (now 
     -- the core's relation holds after the segment, with the call that it asks for where it ended the rest
     pub core_rested : CoreHolds config now false (due_for_flows config (book config (e ∷ past)) (next_number (e ∷ past))) state_rested (e ∷ past)
     core_rested = record {
-      seats = subst (λ n. Seats number_of (Following config now) state_rested.table state_rested.slots n (book config (e ∷ past)).flows (book config (e ∷ past)).rests) (sym next_is) (by_place q.place refl (renews on.segment) refl);
+      seats = subst (λ n. Seats number_of (Following config now) state_rested.table state_rested.slots n (book config (e ∷ past)).flows (book config (e ∷ past)).rests)
+          (sym next_is) (by_place q.place refl (renews on.segment) refl);
       slots = size_then q.place (renews on.segment) ∙ holds.slots;
       opened = as_many (book config (e ∷ past)).flows (book config past).flows only.same ∙ holds.opened;
       asked = refl;

@@ -62,7 +62,8 @@ module _ {P : Type 0} (number : P → ℕ) (mac : P → Option Mac) (Follows : P
       record {
         seats = subst (λ n. Seats number Follows state.table (set state.slots k (Some q)) n (book config (made ++ past)).flows (book config (made ++ past)).rests) (sym numbers)
             (subst (λ (r : List Rest). Seats number Follows state.table (set state.slots k (Some q)) (next_number past) (book config (made ++ past)).flows r) (sym rests)
-            (seats_one number Follows state.table state.slots (next_number past) (book config past).flows (book config (made ++ past)).flows (book config past).rests k p q f g at same was was_used is is_used follows only holds.seats));
+            (seats_one number Follows state.table state.slots (next_number past) (book config past).flows (book config (made ++ past)).flows
+            (book config past).rests k p q f g at same was was_used is is_used follows only holds.seats));
         slots = holds.slots;
         opened = as_many (book config (made ++ past)).flows (book config past).flows only.same ∙ holds.opened;
         asked = asks;
@@ -70,11 +71,13 @@ module _ {P : Type 0} (number : P → ℕ) (mac : P → Option Mac) (Follows : P
           | inl at_k ↦
               let one : r ≡ q = part_here k p q r at (subst (λ i. slice_get (set state.slots k (Some q)) i ≡ Some (Some r)) at_k here) in
               let this : flow_of (number p) (book config (made ++ past)).flows ≡ Some h = ap (λ n. flow_of n (book config (made ++ past)).flows) (sym same ∙ ap number (sym one)) ∙ found in
-              let guest : f.tuple.guest.addr ≡ h.tuple.guest.addr = same_guests f h (sym (ap (option_map (λ (x : Flow). x.tuple)) this) ∙ found_id (number p) (book config (made ++ past)).flows (book config past).flows only.same ∙ ap (option_map (λ (x : Flow). x.tuple)) was) in
+              let guest : f.tuple.guest.addr ≡ h.tuple.guest.addr = same_guests f h (sym (ap (option_map (λ (x : Flow). x.tuple)) this) ∙ found_id (number p)
+              (book config (made ++ past)).flows (book config past).flows only.same ∙ ap (option_map (λ (x : Flow). x.tuple)) was) in
               subst (λ (a : Ip4). Contains (taught config (made ++ past)) (a, m)) guest (learnt m (ap mac (sym one) ∙ is_mac))
           | inr other ↦
               let was_here : slice_get state.slots j ≡ Some (Some r) = sym (get_set_other state.slots k j (Some q) (differ j k other)) ∙ here in
-              let apart : (number r == number p) ≡ false = not_one j k (number r) (number p) other (λ one. holds.seats.numbers j k (number p) (ap (number_in number) was_here ∙ ap Some one) (ap (number_in number) at)) in
+              let apart : (number r == number p) ≡ false = not_one j k (number r) (number p) other
+              (λ one. holds.seats.numbers j k (number p) (ap (number_in number) was_here ∙ ap Some one) (ap (number_in number) at)) in
               taught_on config past made (h.tuple.guest.addr, m) (holds.learnt j r h m was_here (sym (only.apart (number r) apart) ∙ found) is_mac)
         ];
       }

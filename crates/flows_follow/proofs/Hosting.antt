@@ -224,17 +224,20 @@ module _ (config : Config) (face : Face) (f : Flow) (past : List Entry) (now : �
     }
 
     -- octets are offered to it
-    pub gave_it : (octets : List ℕ) (answer : Io) → MayHappen (flow_settings config) (rest ++ f.story) (At now (was_written octets answer)) → MustHappen (flow_settings config) (rest ++ f.story) (At now (was_written octets answer))
+    pub gave_it : (octets : List ℕ) (answer : Io) → MayHappen (flow_settings config) (rest ++ f.story) (At now (was_written octets answer)) → MustHappen (flow_settings config)
+        (rest ++ f.story) (At now (was_written octets answer))
         → writes (Tcp face.number) (agenda before) ≡ true → Called (TcpWrite face.number octets answer ∷ made) (At now (was_written octets answer) ∷ rest)
     gave_it octets answer may must reported = record {
       lawful = (
-        may_give config face g before called.work called.has octets (here (Write octets) (may_of (flow_settings config) (rest ++ f.story) now (was_written octets answer) (Write octets) (write_act answer octets) may))
+        may_give config face g before called.work called.has octets (here (Write octets) (may_of (flow_settings config) (rest ++ f.story) now (was_written octets answer)
+            (Write octets) (write_act answer octets) may))
             (must_here (Write octets) (must_of (flow_settings config) (rest ++ f.story) now (was_written octets answer) (Write octets) (write_act answer octets) must)) reported,
         called.lawful,
       );
       work = record { working = called.work.working; errand = called.work.errand; services = quest_none config before called.work.services; open_yet = called.work.open_yet };
       has = subst (λ m. HasFlow config face (with_event m (was_written octets answer) g) (TcpWrite face.number octets answer ∷ before)) called.at
-          (after_call config face g before called.work called.has (TcpWrite face.number octets answer) (was_written octets answer) (ap (Calls face.number) (same_written answer octets)) (write_call answer octets) refl differ);
+          (after_call config face g before called.work called.has (TcpWrite face.number octets answer) (was_written octets answer)
+          (ap (Calls face.number) (same_written answer octets)) (write_call answer octets) refl differ);
       at = called.at;
       of = (refl, called.of);
       knows = called.knows;
@@ -280,8 +283,10 @@ module _ (config : Config) (face : Face) (f : Flow) (past : List Entry) (now : �
     }
 
     -- it is read
-    pub took_it : (asked : ℕ) (answer : Io) (octets : List ℕ) → asked ≡ read_size (flow_settings config) (rest ++ f.story) → MayHappen (flow_settings config) (rest ++ f.story) (At now (was_read answer octets))
-        → MustHappen (flow_settings config) (rest ++ f.story) (At now (was_read answer octets)) → reads (Tcp face.number) (agenda before) ≡ true → Called (TcpRead face.number asked answer octets ∷ made) (At now (was_read answer octets) ∷ rest)
+    pub took_it : (asked : ℕ) (answer : Io) (octets : List ℕ) → asked ≡ read_size (flow_settings config) (rest ++ f.story) → MayHappen (flow_settings config) (rest ++ f.story)
+        (At now (was_read answer octets))
+        → MustHappen (flow_settings config) (rest ++ f.story) (At now (was_read answer octets)) → reads (Tcp face.number) (agenda before) ≡ true → Called
+        (TcpRead face.number asked answer octets ∷ made) (At now (was_read answer octets) ∷ rest)
     took_it asked answer octets size may must reported = record {
       lawful = (
         may_take config face g before called.work called.has asked size (here Read (may_of (flow_settings config) (rest ++ f.story) now (was_read answer octets) Read (read_act answer octets) may))
@@ -290,7 +295,8 @@ module _ (config : Config) (face : Face) (f : Flow) (past : List Entry) (now : �
       );
       work = record { working = called.work.working; errand = called.work.errand; services = quest_none config before called.work.services; open_yet = called.work.open_yet };
       has = subst (λ m. HasFlow config face (with_event m (was_read answer octets) g) (TcpRead face.number asked answer octets ∷ before)) called.at
-          (after_call config face g before called.work called.has (TcpRead face.number asked answer octets) (was_read answer octets) (ap (Calls face.number) (same_read answer octets)) (read_call answer octets) refl differ);
+          (after_call config face g before called.work called.has (TcpRead face.number asked answer octets) (was_read answer octets)
+          (ap (Calls face.number) (same_read answer octets)) (read_call answer octets) refl differ);
       at = called.at;
       of = (refl, called.of);
       knows = called.knows;
@@ -356,7 +362,8 @@ module _ (config : Config) (face : Face) (f : Flow) (past : List Entry) (now : �
             (called.rests was_open ∙ ap (λ o. with_rest o face.number (book config past).rests) (open_none (rest ++ f.story) open_yet));
         rests_on = λ shut. absurd (shut_before shut);
         rests_still = λ shut. absurd (shut_before shut);
-        since = λ was_open m is. since_now config face g before called.work called.has (is_done (rest ++ f.story) && not (follows_reset directly (rest ++ f.story)) && ended_first (rest ++ f.story)) now m is;
+        since = λ was_open m is. since_now config face g before called.work called.has (is_done (rest ++ f.story) && not (follows_reset directly (rest ++ f.story)) && ended_first
+            (rest ++ f.story)) now m is;
       }
         where
           shut_before : is_closed f.story ≡ true → ⊥
@@ -368,7 +375,8 @@ module _ (config : Config) (face : Face) (f : Flow) (past : List Entry) (now : �
 -- ---- which calls they are
 
 which_writes : (e : Entry) → is_for_writing e ≡ true
-    → ((socket : ℕ) × (answer : Joined) × (e ≡ Connected socket answer)) ⊎ (((socket : ℕ) × (octets : List ℕ) × (answer : Io) × (e ≡ TcpWrite socket octets answer)) ⊎ ((socket : ℕ) × (answer : Made) × (e ≡ TcpEnd socket answer)))
+    → ((socket : ℕ) × (answer : Joined) × (e ≡ Connected socket answer)) ⊎ (((socket : ℕ) × (octets : List ℕ) × (answer : Io) × (e ≡ TcpWrite socket octets answer)) ⊎
+    ((socket : ℕ) × (answer : Made) × (e ≡ TcpEnd socket answer)))
 which_writes (Connected socket answer) is = inl (socket, answer, refl)
 which_writes (TcpWrite socket octets answer) is = inr (inl (socket, octets, answer, refl))
 which_writes (TcpEnd socket answer) is = inr (inr (socket, answer, refl))
@@ -398,7 +406,8 @@ module _ (config : Config) (past : List Entry) where
   quiet_write : (e : Entry) → is_for_writing e ≡ true → (book config (e ∷ past)).came ≡ None
   quiet_write e is = by_kind (which_writes e is)
     where
-      by_kind : ((socket : ℕ) × (answer : Joined) × (e ≡ Connected socket answer)) ⊎ (((socket : ℕ) × (octets : List ℕ) × (answer : Io) × (e ≡ TcpWrite socket octets answer)) ⊎ ((socket : ℕ) × (answer : Made) × (e ≡ TcpEnd socket answer)))
+      by_kind : ((socket : ℕ) × (answer : Joined) × (e ≡ Connected socket answer)) ⊎ (((socket : ℕ) × (octets : List ℕ) × (answer : Io) × (e ≡ TcpWrite socket octets answer)) ⊎
+          ((socket : ℕ) × (answer : Made) × (e ≡ TcpEnd socket answer)))
           → (book config (e ∷ past)).came ≡ None
       by_kind (inl w) = subst (λ x. (book config (x ∷ past)).came ≡ None) (sym w.2) refl
       by_kind (inr (inl w)) = subst (λ x. (book config (x ∷ past)).came ≡ None) (sym w.3) refl
@@ -582,7 +591,8 @@ module _ (config : Config) (face : Face) (mac : Option Mac) (f : Flow) (past : L
   weaker made beats faces = record { called = faces.called; agenda = faces.agenda.0 }
 
   module _ (made : List Entry) (beats : Story) where
-    look_next : (socket : ℕ) (answer : Joined) → Before made (Facing ForWriting made) → Makes (Connected socket answer ∷ made) beats → IsWell beats → Facing There (Connected socket answer ∷ made) beats
+    look_next : (socket : ℕ) (answer : Joined) → Before made (Facing ForWriting made) → Makes (Connected socket answer ∷ made) beats → IsWell beats → Facing There
+        (Connected socket answer ∷ made) beats
     look_next socket answer go_on (rest, are, (number, is_beats)) lawful =
         let now_lawful = subst IsWell is_beats lawful in
         let faces = go_on rest are (now_lawful.0.1, now_lawful.1.1) in
@@ -593,14 +603,16 @@ module _ (config : Config) (face : Face) (mac : Option Mac) (f : Flow) (past : L
           agenda = written_of face.number read items (agenda (made ++ past)) faces.agenda;
         }))
 
-    give_next : (socket : ℕ) (octets : List ℕ) (answer : Io) → Before made (Facing ForWriting made) → Makes (TcpWrite socket octets answer ∷ made) beats → IsWell beats → Facing ForEnding (TcpWrite socket octets answer ∷ made) beats
+    give_next : (socket : ℕ) (octets : List ℕ) (answer : Io) → Before made (Facing ForWriting made) → Makes (TcpWrite socket octets answer ∷ made) beats → IsWell beats →
+        Facing ForEnding (TcpWrite socket octets answer ∷ made) beats
     give_next socket octets answer go_on (rest, are, (number, is_beats)) lawful =
         let now_lawful = subst IsWell is_beats lawful in
         let faces = go_on rest are (now_lawful.0.1, now_lawful.1.1) in
         subst (λ n. Facing ForEnding (TcpWrite n octets answer ∷ made) beats) (sym number)
         (subst (Facing ForEnding (TcpWrite face.number octets answer ∷ made)) (sym is_beats)
         (record {
-          called = gave_it config face f past now ended known made rest faces.called octets answer now_lawful.0.0 now_lawful.1.0 (writes_of face.number read items (agenda (made ++ past)) faces.agenda);
+          called = gave_it config face f past now ended known made rest faces.called octets answer now_lawful.0.0 now_lawful.1.0
+              (writes_of face.number read items (agenda (made ++ past)) faces.agenda);
           agenda = (written_of face.number read items (agenda (made ++ past)) faces.agenda, front_of face.number read items (agenda (made ++ past)) faces.agenda);
         }))
 
@@ -638,11 +650,13 @@ module _ (config : Config) (face : Face) (mac : Option Mac) (f : Flow) (past : L
         subst (λ n. Facing (IsLast items) (TcpRead n asked answer octets ∷ made) beats) (sym number)
         (subst (Facing (IsLast items) (TcpRead face.number asked answer octets ∷ made)) (sym is_beats)
         (record {
-          called = took_it config face f past now ended known made rest faces.called asked answer octets size now_lawful.0.0 now_lawful.1.0 (reads_of face.number read items (agenda (made ++ past)) reported faces.agenda);
+          called = took_it config face f past now ended known made rest faces.called asked answer octets size now_lawful.0.0 now_lawful.1.0
+              (reads_of face.number read items (agenda (made ++ past)) reported faces.agenda);
           agenda = behind_of face.number read items (agenda (made ++ past)) reported faces.agenda;
         }))
 
-    close_next : (Left : List Want → Type 0) (socket : ℕ) → (book config (made ++ past)).came ≡ None → Before made (Facing Left made) → Makes (Close socket ∷ made) beats → IsWell beats → Facing Left (Close socket ∷ made) beats
+    close_next : (Left : List Want → Type 0) (socket : ℕ) → (book config (made ++ past)).came ≡ None → Before made (Facing Left made) → Makes (Close socket ∷ made) beats →
+        IsWell beats → Facing Left (Close socket ∷ made) beats
     close_next Left socket came go_on (rest, are, (number, is_beats, cause)) lawful =
         let now_lawful = subst IsWell is_beats lawful in
         let faces = go_on rest are (now_lawful.0.1, now_lawful.1.1) in
@@ -658,10 +672,12 @@ module _ (config : Config) (face : Face) (mac : Option Mac) (f : Flow) (past : L
     writes_next : (e : Entry) → is_for_writing e ≡ true → Before made (Facing ForWriting made) → Makes (e ∷ made) beats → IsWell beats → Facing There (e ∷ made) beats
     writes_next e is go_on are lawful = by_kind (which_writes e is)
       where
-        by_kind : ((socket : ℕ) × (answer : Joined) × (e ≡ Connected socket answer)) ⊎ (((socket : ℕ) × (octets : List ℕ) × (answer : Io) × (e ≡ TcpWrite socket octets answer)) ⊎ ((socket : ℕ) × (answer : Made) × (e ≡ TcpEnd socket answer)))
+        by_kind : ((socket : ℕ) × (answer : Joined) × (e ≡ Connected socket answer)) ⊎ (((socket : ℕ) × (octets : List ℕ) × (answer : Io) × (e ≡ TcpWrite socket octets answer)) ⊎
+            ((socket : ℕ) × (answer : Made) × (e ≡ TcpEnd socket answer)))
             → Facing There (e ∷ made) beats
         by_kind (inl w) = subst (λ x. Makes (x ∷ made) beats → Facing There (x ∷ made) beats) (sym w.2) (λ a. look_next w.0 w.1 go_on a lawful) are
-        by_kind (inr (inl w)) = subst (λ x. Makes (x ∷ made) beats → Facing There (x ∷ made) beats) (sym w.3) (λ a. weaker (TcpWrite w.0 w.1 w.2 ∷ made) beats (give_next w.0 w.1 w.2 go_on a lawful)) are
+        by_kind (inr (inl w)) = subst (λ x. Makes (x ∷ made) beats → Facing There (x ∷ made) beats) (sym w.3) (λ a. weaker (TcpWrite w.0 w.1 w.2 ∷ made) beats
+            (give_next w.0 w.1 w.2 go_on a lawful)) are
         by_kind (inr (inr w)) = subst (λ x. Makes (x ∷ made) beats → Facing There (x ∷ made) beats) (sym w.2) (λ a. end_next w.0 w.1 go_on a lawful) are
 
     gives_next : (e : Entry) → gives e ≡ true → Before made (Facing ForWriting made) → Makes (e ∷ made) beats → IsWell beats → Facing ForEnding (e ∷ made) beats
@@ -669,7 +685,8 @@ module _ (config : Config) (face : Face) (mac : Option Mac) (f : Flow) (past : L
         let w = which_gives e is in
         subst (λ x. Makes (x ∷ made) beats → Facing ForEnding (x ∷ made) beats) (sym w.3) (λ a. give_next w.0 w.1 w.2 go_on a lawful) are
 
-    ends_next : (e : Entry) → ends e ≡ true → has_just_written face.number (made ++ past) ≡ true → Before made (Facing ForEnding made) → Makes (e ∷ made) beats → IsWell beats → Facing There (e ∷ made) beats
+    ends_next : (e : Entry) → ends e ≡ true → has_just_written face.number (made ++ past) ≡ true → Before made (Facing ForEnding made) → Makes (e ∷ made) beats → IsWell beats →
+        Facing There (e ∷ made) beats
     ends_next e is wrote go_on are lawful =
         let w = which_ends e is in
         subst (λ x. Makes (x ∷ made) beats → Facing There (x ∷ made) beats) (sym w.2) (λ a. end_behind w.0 w.1 wrote go_on a lawful) are
@@ -679,7 +696,8 @@ module _ (config : Config) (face : Face) (mac : Option Mac) (f : Flow) (past : L
         let k = which_takes e is in
         subst (λ x. Makes (x ∷ made) beats → Facing (IsLast items) (x ∷ made) beats) (sym k.4) (λ a. take_next k.0 k.1 k.2 k.3 reported go_on a lawful) are
 
-    shuts_next : (Left : List Want → Type 0) (e : Entry) → is_shut e ≡ true → (book config (made ++ past)).came ≡ None → Before made (Facing Left made) → Makes (e ∷ made) beats → IsWell beats → Facing Left (e ∷ made) beats
+    shuts_next : (Left : List Want → Type 0) (e : Entry) → is_shut e ≡ true → (book config (made ++ past)).came ≡ None → Before made (Facing Left made) → Makes (e ∷ made) beats →
+        IsWell beats → Facing Left (e ∷ made) beats
     shuts_next Left e is came go_on are lawful =
         let w = which_shuts e is in
         subst (λ x. Makes (x ∷ made) beats → Facing Left (x ∷ made) beats) (sym w.1) (λ a. close_next Left w.0 came go_on a lawful) are

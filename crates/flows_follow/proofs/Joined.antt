@@ -1,5 +1,6 @@
 -- A socket connects for a guest's SYN: that is due, and the flow that begins has a slot of the core.
-use Rattle.std.proofs.Common.{arith, ◌≡◌, ℕ, zero, suc, ◌+◌, ◌==◌, ◌||◌, not, Bool, false, cond, List, [], ◌∷◌, length, set, slice_get, is_some, MatchOption, Option, Some, None, ◌⊎◌, inl, inr, refl, sym, ◌∙◌, ap, subst}
+use Rattle.std.proofs.Common.{arith, ◌≡◌, ℕ, zero, suc, ◌+◌, ◌==◌, ◌||◌, not, Bool, false, cond, List, [], ◌∷◌, length, set, slice_get, is_some, MatchOption, Option, Some, None, ◌⊎◌, inl}
+use Rattle.std.proofs.Common.{inr, refl, sym, ◌∙◌, ap, subst}
 use Rattle.std.specs.Prelude.{Contains}
 use Rattle.std.proofs.lemmas.Bool.Decides.{nat_tests}
 use Rattle.std.proofs.lemmas.List.{length-set}
@@ -40,7 +41,8 @@ use Rattle.flows_follow.proofs.Options.{some_same}
 use Rattle.flows_follow.proofs.Staying.{core_stays}
 
 -- a slot that is free has no part
-pub has_none : {P : Type 0} (number : P → ℕ) (Follows : P → Story → Type 0) (table : Flows) (parts : List (Option P)) (next : ℕ) (all : List Flow) (rests : List Rest) → Seats number Follows table parts next all rests
+pub has_none : {P : Type 0} (number : P → ℕ) (Follows : P → Story → Type 0) (table : Flows) (parts : List (Option P)) (next : ℕ) (all : List Flow) (rests : List Rest) →
+    Seats number Follows table parts next all rests
     → length parts ≡ length table.slots → (k : ℕ) → slice_get parts k ≡ Some None ⊎ (IsFree table.slots k → ⊥)
 has_none {P} number Follows table parts next all rests seats sizes k = by (slice_get parts k) refl
   where
@@ -74,9 +76,15 @@ module _ (config : Config) (state : FlowsState Splice) (past : List Entry) (now 
   may_connect =
       gathered config past (CallConnect (next_number past) to) tt (this_one config past (CallConnect (next_number past) to) is_due) (ap is_some is_due) (same (next_number past)) refl refl
       (ap (λ (c : Bool). not c || false) work.open_yet)
-      (record { due = subst (λ o. MatchOption o (Unit {0}) (λ d. CallConnect (next_number past) to ≡ d)) (sym holds.asked) refl; touches = holds.asked; must = tt; at_once = λ number f found must. absurd (core_stays config now false (Some (CallConnect (next_number past) to)) state past holds number f found must) })
+      (record {
+        due = subst (λ o. MatchOption o (Unit {0}) (λ d. CallConnect (next_number past) to ≡ d)) (sym holds.asked) refl;
+        touches = holds.asked;
+        must = tt;
+        at_once = λ number f found must. absurd (core_stays config now false (Some (CallConnect (next_number past) to)) state past holds number f found must);
+      })
 
-  module _ (moment_is : moment past ≡ now) (on : OnTuple) (came : (book config past).came ≡ Some on) (kept : AreKept state.table.slots state.table.rest_order) (sizes : length state.slots ≡ length state.table.slots)
+  module _ (moment_is : moment past ≡ now) (on : OnTuple) (came : (book config past).came ≡ Some on) (kept : AreKept state.table.slots state.table.rest_order)
+      (sizes : length state.slots ≡ length state.table.slots)
       (none : NoneHas state.table.slots on.tuple) (k : ℕ) (taken : MayBeTaken state.table k) (q : Splice) (numbered : number_of q ≡ next_number past)
       (follows : Following config now q (At now (Connects (first_number now state.opened) on.segment) ∷ []))
       (learnt : (m : Mac) → q.mac ≡ Some m → Contains (taught config past) (on.tuple.guest.addr, m)) where
@@ -93,7 +101,8 @@ module _ (config : Config) (state : FlowsState Splice) (past : List Entry) (now 
         ∙ ap (λ m. opens config m (next_number past) on.tuple (Connects (first_number m (length (book config past).flows)) on.segment) (book config past)) moment_is
         ∙ ap (λ n. opens config now (next_number past) on.tuple (Connects (first_number now n) on.segment) (book config past)) holds.opened
 
-    seats_then : Seats number_of (Following config now) (flows (set state.table.slots k (InUse on.tuple)) state.table.rest_order) (set state.slots k (Some q)) (suc (next_number past)) opened.flows opened.rests
+    seats_then : Seats number_of (Following config now) (flows (set state.table.slots k (InUse on.tuple)) state.table.rest_order) (set state.slots k (Some q))
+        (suc (next_number past)) opened.flows opened.rests
     seats_then =
         seats_joined number_of (Following config now) state.table state.slots (next_number past) config (book config past) holds.seats kept sizes holds.slots (rests_rise config past).0
         k q now on.tuple (Connects (first_number now state.opened) on.segment) none
@@ -104,7 +113,8 @@ module _ (config : Config) (state : FlowsState Splice) (past : List Entry) (now 
     one_more n = omega arith
 
     -- the new flow's address was learnt, and the others' as before
-    learnt_then : (j : ℕ) (r : Splice) (h : Flow) (m : Mac) → slice_get (set state.slots k (Some q)) j ≡ Some (Some r) → flow_of (number_of r) (book config later).flows ≡ Some h → r.mac ≡ Some m → Contains (taught config later) (h.tuple.guest.addr, m)
+    learnt_then : (j : ℕ) (r : Splice) (h : Flow) (m : Mac) → slice_get (set state.slots k (Some q)) j ≡ Some (Some r) → flow_of (number_of r) (book config later).flows ≡ Some h →
+        r.mac ≡ Some m → Contains (taught config later) (h.tuple.guest.addr, m)
     learnt_then j r h m here found is_mac = elim (same_or_not j k) [
       | inl at_k ↦
           let one : r ≡ q = this_part r (subst (λ i. slice_get (set state.slots k (Some q)) i ≡ Some (Some r)) at_k here) in
@@ -114,9 +124,11 @@ module _ (config : Config) (state : FlowsState Splice) (past : List Entry) (now 
       | inr other ↦
           let was_here : slice_get state.slots j ≡ Some (Some r) = sym (get_set_other state.slots k j (Some q) (differ j k other)) ∙ here in
           let seat = holds.seats.seated j r was_here in
-          let apart : (number_of r == next_number past) ≡ false = older (number_of r) (λ same. cc (sym (holds.seats.fresh (next_number past) (omega arith)) ∙ ap (λ n. flow_of n (book config past).flows) (sym same) ∙ seat.2)) in
+          let apart : (number_of r == next_number past) ≡ false = older (number_of r)
+          (λ same. cc (sym (holds.seats.fresh (next_number past) (omega arith)) ∙ ap (λ n. flow_of n (book config past).flows) (sym same) ∙ seat.2)) in
           let old : flow_of (number_of r) (book config past).flows ≡ Some h =
-          sym (ap (λ b. cond b (Some (record { number = next_number past; tuple = on.tuple; story = At now (Connects (first_number now state.opened) on.segment) ∷ [] })) (flow_of (number_of r) (book config past).flows)) (swapped (number_of r) (next_number past) apart))
+          sym (ap (λ b. cond b (Some (record { number = next_number past; tuple = on.tuple; story = At now (Connects (first_number now state.opened) on.segment) ∷ [] }))
+          (flow_of (number_of r) (book config past).flows)) (swapped (number_of r) (next_number past) apart))
           ∙ sym (ap (λ (b : Book). flow_of (number_of r) b.flows) book_is) ∙ found in
           taught_on config past (Connect (next_number past) to Done ∷ []) (h.tuple.guest.addr, m) (holds.learnt j r h m was_here old is_mac)
     ]
@@ -139,14 +151,18 @@ module _ (config : Config) (state : FlowsState Splice) (past : List Entry) (now 
         swapped : (a b : ℕ) → (a == b) ≡ false → (b == a) ≡ false
         swapped a b not = grind (arith, nat_tests, not)
 
-        first_of_all : flow_of (next_number past) opened.flows ≡ Some (record { number = next_number past; tuple = on.tuple; story = At now (Connects (first_number now state.opened) on.segment) ∷ [] })
-        first_of_all = ap (λ b. cond b (Some (record { number = next_number past; tuple = on.tuple; story = At now (Connects (first_number now state.opened) on.segment) ∷ [] })) (flow_of (next_number past) (book config past).flows)) (same (next_number past))
+        first_of_all : flow_of (next_number past) opened.flows ≡ Some
+            (record { number = next_number past; tuple = on.tuple; story = At now (Connects (first_number now state.opened) on.segment) ∷ [] })
+        first_of_all = ap (λ b. cond b (Some (record { number = next_number past; tuple = on.tuple; story = At now (Connects (first_number now state.opened) on.segment) ∷ [] }))
+            (flow_of (next_number past) (book config past).flows)) (same (next_number past))
 
     -- the core's relation holds after it
     pub core_joined : CoreHolds config now false None (state_with state k on.tuple q) later
     core_joined = record {
-      seats = subst (λ n. Seats number_of (Following config now) (state_with state k on.tuple q).table (state_with state k on.tuple q).slots n (book config later).flows (book config later).rests) (one_more (next_number past))
-          (subst (λ (b : Book). Seats number_of (Following config now) (state_with state k on.tuple q).table (state_with state k on.tuple q).slots (suc (next_number past)) b.flows b.rests) (sym book_is) seats_then);
+      seats = subst (λ n. Seats number_of (Following config now) (state_with state k on.tuple q).table (state_with state k on.tuple q).slots n (book config later).flows
+          (book config later).rests) (one_more (next_number past))
+          (subst (λ (b : Book). Seats number_of (Following config now) (state_with state k on.tuple q).table (state_with state k on.tuple q).slots
+          (suc (next_number past)) b.flows b.rests) (sym book_is) seats_then);
       slots = length-set state.table.slots k (InUse on.tuple) ∙ holds.slots;
       opened = ap (λ (b : Book). length b.flows) book_is ∙ ap suc holds.opened;
       asked = ap (λ b. due_for_flows config b (next_number later)) book_is;

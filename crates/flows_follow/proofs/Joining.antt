@@ -21,7 +21,8 @@ part_with number (Some None) n is = absurd (none_some is)
 part_with number (Some (Some p)) n is = (p, refl, some_same (number p) n is)
 
 module _ {P : Type 0} (number : P → ℕ) (Follows : P → Story → Type 0) (table : Flows) (parts : List (Option P)) (next : ℕ) (config : Config) (b : Book)
-    (seats : Seats number Follows table parts next b.flows b.rests) (kept : AreKept table.slots table.rest_order) (sizes : length parts ≡ length table.slots) (slots : length table.slots ≡ config.flows)
+    (seats : Seats number Follows table parts next b.flows b.rests) (kept : AreKept table.slots table.rest_order) (sizes : length parts ≡ length table.slots)
+    (slots : length table.slots ≡ config.flows)
     (rise : Rise b.rests) where
   -- where no slot has a tuple, no part's flow has it
   nobody_has : (t : Tuple) → NoneHas table.slots t → (j n : ℕ) → number_at number parts j ≡ Some n → option_map (λ (g : Flow). g.tuple) (flow_of n b.flows) ≡ Some t → ⊥
@@ -49,7 +50,8 @@ module _ {P : Type 0} (number : P → ℕ) (Follows : P → Story → Type 0) (t
   seats_joined k q now t e none awake (inr longest) empty is uses follows =
       subst (λ (l : List Rest). Seats number Follows (flows (set table.slots k (InUse t)) table.rest_order) (set parts k (Some q)) (suc next) (opens config now next t e b).flows l)
       (sym (room_else config (owner t b.flows) b awake ∙ room_full number Follows table parts next config b seats kept sizes slots longest.0))
-      (seats_taken_longest number Follows table parts next b.flows b.rests seats k q (record { number = next; tuple = t; story = At now e ∷ [] }) sizes kept rise longest.1 refl is uses follows (nobody_has t none))
+      (seats_taken_longest number Follows table parts next b.flows b.rests seats k q
+      (record { number = next; tuple = t; story = At now e ∷ [] }) sizes kept rise longest.1 refl is uses follows (nobody_has t none))
 
   -- A flow is opened on a tuple whose flow rests: it takes that slot, and that rest ends.
   pub seats_joined_again : (k : ℕ) (p q : P) (now : ℕ) (t : Tuple) (since : ℕ) (e : Event) (f : Flow) → slice_get parts k ≡ Some (Some p) → slice_get table.slots k ≡ Some (Resting t since)

@@ -83,16 +83,19 @@ taught_is_learnt config past guest mac c =
     (c.0, (guest, mac), c.1, c.2, and_both (guest.0 == guest.0) (bytes_eq mac.0 mac.0) (same guest.0) (same_octets mac.0))
 
 -- of a guest's end
-pub end_is_learnt : (config : Config) (past : List Entry) (guest : Endpoint) (mac : Mac) → Contains (taught config past) (guest.addr, mac) → list_any (is_pair (address guest) mac.0) (taught config past) ≡ true
+pub end_is_learnt : (config : Config) (past : List Entry) (guest : Endpoint) (mac : Mac) → Contains (taught config past) (guest.addr, mac) → list_any
+    (is_pair (address guest) mac.0) (taught config past) ≡ true
 end_is_learnt config past guest mac c = taught_is_learnt config past guest.addr mac c
 
-pub known_is_learnt : (config : Config) (past : List Entry) (guest : Endpoint) (mac : Mac) → mac_of guest.addr (known config past) ≡ Some mac → list_any (is_pair (address guest) mac.0) (taught config past) ≡ true
+pub known_is_learnt : (config : Config) (past : List Entry) (guest : Endpoint) (mac : Mac) → mac_of guest.addr (known config past) ≡ Some mac → list_any
+    (is_pair (address guest) mac.0) (taught config past) ≡ true
 known_is_learnt config past guest mac is = end_is_learnt config past guest mac (known_was_taught config past guest.addr mac is)
 
 -- ---- the one that was learnt last
 
 -- A flow that is told the hardware address that is known of its guest, if one is, has the one that was learnt last.
-pub latest_is : (config : Config) (past : List Entry) (guest : Ip4) (had : Option Mac) (to : Mac) → or_known (mac_of guest (known config past)) had ≡ Some to → is_latest to.0 (mac_of guest (known config past)) ≡ true
+pub latest_is : (config : Config) (past : List Entry) (guest : Ip4) (had : Option Mac) (to : Mac) → or_known (mac_of guest (known config past)) had ≡ Some to → is_latest to.0
+    (mac_of guest (known config past)) ≡ true
 latest_is config past guest had to is = by (mac_of guest (known config past)) is
   where
     by : (o : Option Mac) → or_known o had ≡ Some to → is_latest to.0 o ≡ true
@@ -100,7 +103,8 @@ latest_is config past guest had to is = by (mac_of guest (known config past)) is
     by (Some latest) is = ap (λ (m : Mac). bytes_eq to.0 m.0) (some_same latest to is) ∙ same_octets to.0
 
 -- and one from which it was learnt, where what it had was
-pub latest_was_taught : (config : Config) (past : List Entry) (guest : Ip4) (had : Option Mac) (to : Mac) → ((m : Mac) → had ≡ Some m → Contains (taught config past) (guest, m)) → or_known (mac_of guest (known config past)) had ≡ Some to
+pub latest_was_taught : (config : Config) (past : List Entry) (guest : Ip4) (had : Option Mac) (to : Mac) → ((m : Mac) → had ≡ Some m → Contains (taught config past) (guest, m)) →
+    or_known (mac_of guest (known config past)) had ≡ Some to
     → Contains (taught config past) (guest, to)
 latest_was_taught config past guest had to before is = by (mac_of guest (known config past)) refl is
   where

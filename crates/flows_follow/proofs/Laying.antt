@@ -38,8 +38,10 @@ module _ {P : Type 0} (number : P → ℕ) (Follows : P → Story → Type 0) (t
       → Seats number Follows table parts next all rests
       → Seats number Follows (flows (set table.slots k (Resting t m)) (moved_last k table.rest_order)) (set parts k (Some q)) next all (rests ++ rest (number q) m ∷ [])
   seats_laid k q g t m free none found_g g_tuple unused follows own nobody once seats =
-      let kept : (j : ℕ) → (j == k) ≡ false → number_at number (set parts k (Some q)) j ≡ number_at number parts j = λ j other. ap (number_in number) (get_set_other parts k j (Some q) (differ j k other)) in
-      let put : (j : ℕ) → j ≡ k → number_at number (set parts k (Some q)) j ≡ Some (number q) = λ j at_k. ap (λ i. number_at number (set parts k (Some q)) i) at_k ∙ ap (number_in number) (get_set_at parts k None (Some q) none) in
+      let kept : (j : ℕ) → (j == k) ≡ false → number_at number (set parts k (Some q)) j ≡ number_at number parts j = λ j other. ap (number_in number)
+      (get_set_other parts k j (Some q) (differ j k other)) in
+      let put : (j : ℕ) → j ≡ k → number_at number (set parts k (Some q)) j ≡ Some (number q) = λ j at_k. ap (λ i. number_at number (set parts k (Some q)) i) at_k ∙ ap
+      (number_in number) (get_set_at parts k None (Some q) none) in
       record {
         seated = λ j r here. elim (same_or_not j k) [
           | inl at_k ↦
@@ -83,10 +85,12 @@ module _ {P : Type 0} (number : P → ℕ) (Follows : P → Story → Type 0) (t
             let had = seats.found n in_use in
             (had.0, kept had.0 (elsewhere had.0 n had.1) ∙ had.1);
         order = numbers_last rests (rest (number q) m) ∙ ap (λ l. l ++ number q ∷ []) seats.order
-            ∙ sym (comes_last (λ j. rests_at (slice_get table.slots j) (number_at number parts j)) (λ j. rests_at (slice_get (set table.slots k (Resting t m)) j) (number_at number (set parts k (Some q)) j))
+            ∙ sym (comes_last (λ j. rests_at (slice_get table.slots j) (number_at number parts j)) (λ j. rests_at (slice_get (set table.slots k (Resting t m)) j)
+            (number_at number (set parts k (Some q)) j))
             k (number q) table.rest_order once (ap (λ s. rests_at s (number_at number parts k)) free)
             (ap (λ s. rests_at s (number_at number (set parts k (Some q)) k)) (get_set_at table.slots k Free (Resting t m) free) ∙ put k refl)
-            (λ j other. ap (λ s. rests_at s (number_at number (set parts k (Some q)) j)) (get_set_other table.slots k j (Resting t m) (differ j k other)) ∙ ap (rests_at (slice_get table.slots j)) (kept j other)));
+            (λ j other. ap (λ s. rests_at s (number_at number (set parts k (Some q)) j)) (get_set_other table.slots k j (Resting t m) (differ j k other)) ∙ ap
+            (rests_at (slice_get table.slots j)) (kept j other)));
         counted = seats.counted ∙ sym (used_laid table.slots k t m free);
         differ = seats.differ;
         fresh = seats.fresh;
@@ -115,9 +119,12 @@ seats_renewed {P} number Follows table parts next old new rests k p q g t since 
     let laid = seats_laid number Follows (flows (set table.slots k Free) table.rest_order) (set parts k None) next new (without (number p) rests) k q g t m
     (get_set_at table.slots k (Resting t since) Free slot) (get_set_at parts k (Some p) None at) (ap (λ n. flow_of n new) same ∙ is) is_on unused follows
     (own ∙ ap Some (sym same)) (λ j has. alone j (has ∙ ap Some same)) once woken in
-    subst (λ (l : List Slot). Seats number Follows (flows l (moved_last k table.rest_order)) (set parts k (Some q)) next new (without (number p) rests ++ rest (number p) m ∷ [])) (set_twice table.slots k Free (Resting t m))
-    (subst (λ (l : List (Option P)). Seats number Follows (flows (set (set table.slots k Free) k (Resting t m)) (moved_last k table.rest_order)) l next new (without (number p) rests ++ rest (number p) m ∷ [])) (set_twice parts k None (Some q))
-    (subst (λ n. Seats number Follows (flows (set (set table.slots k Free) k (Resting t m)) (moved_last k table.rest_order)) (set (set parts k None) k (Some q)) next new (without (number p) rests ++ rest n m ∷ [])) same laid))
+    subst (λ (l : List Slot). Seats number Follows (flows l (moved_last k table.rest_order)) (set parts k (Some q)) next new (without (number p) rests ++ rest (number p) m ∷ []))
+    (set_twice table.slots k Free (Resting t m))
+    (subst (λ (l : List (Option P)). Seats number Follows (flows (set (set table.slots k Free) k (Resting t m)) (moved_last k table.rest_order)) l next new
+    (without (number p) rests ++ rest (number p) m ∷ [])) (set_twice parts k None (Some q))
+    (subst (λ n. Seats number Follows (flows (set (set table.slots k Free) k (Resting t m)) (moved_last k table.rest_order)) (set (set parts k None) k (Some q)) next new
+    (without (number p) rests ++ rest n m ∷ [])) same laid))
   where
     alone : (j : ℕ) → number_at number (set parts k None) j ≡ Some (number p) → ⊥
     alone j has = elim (same_or_not j k) [

@@ -1,5 +1,6 @@
 -- In a lawful record a listener is for a port of the host that is given to a guest: each was opened for the next of the forwards of the settings.
-use Rattle.std.proofs.Common.{◌≡◌, ℕ, zero, suc, ◌+◌, ◌==◌, nat_lt, Bool, true, false, List, [], ◌∷◌, drop, slice_get, is_some, MatchOption, Option, Some, None, option_and_then, option_map, if◌then◌else◌, refl, sym, ◌∙◌, ap, subst, arith}
+use Rattle.std.proofs.Common.{◌≡◌, ℕ, zero, suc, ◌+◌, ◌==◌, nat_lt, Bool, true, false, List, [], ◌∷◌, drop, slice_get, is_some, MatchOption, Option, Some, None, option_and_then}
+use Rattle.std.proofs.Common.{option_map, if◌then◌else◌, refl, sym, ◌∙◌, ap, subst, arith}
 use Rattle.world_face.specs.Journal.{Entry, Call, Now, Wait, Connect, Listen, Accept, UdpOpen, CallNow, CallConnect, CallListen, CallAccept, CallClose, CallUdpOpen, call_of}
 use Rattle.world_face.specs.Frames.{Ending, ending, partial}
 use Rattle.world_face.specs.declared.Made.{Made}
@@ -64,7 +65,8 @@ asked config past = unless_due (due_for config (step config past) (next_number p
 
 asked_listens : (config : Config) (past : List Entry) → listens (asked config past) ≡ false
 asked_listens config past =
-    neither_listens (due_for config (step config past) (next_number past)) (unless_due (due_for_services config past) (due_for_flows config (book config past) (next_number past))) (step_listens config (step config past) (next_number past))
+    neither_listens (due_for config (step config past) (next_number past)) (unless_due (due_for_services config past) (due_for_flows config (book config past) (next_number past)))
+    (step_listens config (step config past) (next_number past))
     (neither_listens (due_for_services config past) (due_for_flows config (book config past) (next_number past))
     (neither_listens (due_for_answer (answered config past)) (call_for (serving config past).files.quest) (answer_listens (answered config past)) (quest_listens (serving config past).files.quest))
     (flow_listens (book config past).doomed (connects_to config (book config past)) (next_number past)))
@@ -185,13 +187,15 @@ the_due None call some is = cc
 the_due (Some d) call some is = ap Some (sym is)
 
 module _ (config : Config) (past : List Entry) (socket : ℕ) (at : Endpoint) where
-  for_port : (f : Forward) (proto : Proto) → f.proto ≡ proto → slice_get config.forwards (next_number past) ≡ Some f → opening_of proto (next_number past) f ≡ CallListen socket at → HasPort config socket
+  for_port : (f : Forward) (proto : Proto) → f.proto ≡ proto → slice_get config.forwards (next_number past) ≡ Some f → opening_of proto
+      (next_number past) f ≡ CallListen socket at → HasPort config socket
   for_port f Tcp tcp got is =
       let number : next_number past ≡ socket = cc in
       ap (λ o. is_some (option_and_then (λ (g : Forward). port_by g.proto g.guest) o)) (ap (slice_get config.forwards) (sym number) ∙ got) ∙ ap (λ proto. is_some (port_by proto f.guest)) tcp
   for_port f ByUdp udp got is = cc
 
-  listens_for : (p : Phase) (other : Option Call) → listens other ≡ false → AreLeft config.forwards (next_number past) p → unless_due (due_in p past) other ≡ Some (CallListen socket at) → HasPort config socket
+  listens_for : (p : Phase) (other : Option Call) → listens other ≡ false → AreLeft config.forwards (next_number past) p → unless_due (due_in p past) other ≡ Some
+      (CallListen socket at) → HasPort config socket
   listens_for (Opening count []) other none left is = cc
   listens_for (Opening count (f ∷ forwards)) other none left is =
       for_port f f.proto refl (first_left (next_number past) config.forwards f forwards left).0 (some_same (opening_of f.proto (next_number past) f) (CallListen socket at) is)

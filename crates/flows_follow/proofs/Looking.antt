@@ -1,5 +1,6 @@
 -- What the table of slots tells of a tuple is what the record does: whether a flow on it is in use, or rests.
-use Rattle.std.proofs.Common.{◌≡◌, ℕ, zero, suc, ◌==◌, ◌||◌, Bool, true, false, cond, List, [], ◌∷◌, length, map, slice_get, Option, Some, None, option_map, option_and_then, refl, sym, ◌∙◌, ap, subst, arith}
+use Rattle.std.proofs.Common.{◌≡◌, ℕ, zero, suc, ◌==◌, ◌||◌, Bool, true, false, cond, List, [], ◌∷◌, length, map, slice_get, Option, Some, None, option_map, option_and_then, refl, sym}
+use Rattle.std.proofs.Common.{◌∙◌, ap, subst, arith}
 use Rattle.std.proofs.lemmas.Bool.Decides.{nat_tests}
 use Rattle.std.specs.Prelude.{filter_map, Contains}
 use Rattle.std.specs.List.{cons_option, list_any}
@@ -43,7 +44,8 @@ module _ (F : ℕ → Option ℕ) where
       equal : (a b : ℕ) → (a == b) ≡ true → a ≡ b
       equal a b is = grind (arith, nat_tests, is)
 
-      by_test : (m : ℕ) (b : Bool) → (n == m) ≡ b → F x ≡ Some m → (b || is_among n (filter_map F xs)) ≡ true → (is_among n (filter_map F xs) ≡ true → (j : ℕ) × (F j ≡ Some n)) → (j : ℕ) × (F j ≡ Some n)
+      by_test : (m : ℕ) (b : Bool) → (n == m) ≡ b → F x ≡ Some m → (b || is_among n (filter_map F xs)) ≡ true → (is_among n (filter_map F xs) ≡ true → (j : ℕ) × (F j ≡ Some n)) →
+          (j : ℕ) × (F j ≡ Some n)
       by_test m true same gives is rest = (x, gives ∙ ap Some (sym (equal n m same)))
       by_test m false other gives is rest = rest is
 
@@ -59,7 +61,8 @@ among_rests n (r ∷ rests) is = by (r.number == n) (turned r.number n) is (amon
     turned : (a b : ℕ) → (b == a) ≡ (a == b)
     turned a b = grind (arith, nat_tests)
 
-    by : (b : Bool) → (n == r.number) ≡ (r.number == n) → (b || list_any (λ (x : Rest). x.number == n) rests) ≡ true → (list_any (λ (x : Rest). x.number == n) rests ≡ true → is_among n (map (λ (x : Rest). x.number) rests) ≡ true)
+    by : (b : Bool) → (n == r.number) ≡ (r.number == n) → (b || list_any (λ (x : Rest). x.number == n) rests) ≡ true → (list_any (λ (x : Rest). x.number == n) rests ≡ true →
+        is_among n (map (λ (x : Rest). x.number) rests) ≡ true)
         → (b ≡ (r.number == n)) → ((n == r.number) || is_among n (map (λ (x : Rest). x.number) rests)) ≡ true
     by true same is go_on b_is = ap (λ c. c || is_among n (map (λ (x : Rest). x.number) rests)) (same ∙ sym b_is)
     by false same is go_on b_is = ap (λ c. c || is_among n (map (λ (x : Rest). x.number) rests)) (same ∙ sym b_is) ∙ go_on is
@@ -67,7 +70,8 @@ among_rests n (r ∷ rests) is = by (r.number == n) (turned r.number n) is (amon
 -- and one among the rests is found there
 pub rests_any : (r : Rest) (rests : List Rest) → Contains rests r → list_any (λ (x : Rest). x.number == r.number) rests ≡ true
 rests_any r [] (i, below, at) = absurd (omega (arith, below))
-rests_any r (x ∷ rests) (zero, below, at) = let one : x ≡ r = cc in ap (λ (y : Rest). (y.number == r.number) || list_any (λ (z : Rest). z.number == r.number) rests) one ∙ ap (λ b. b || list_any (λ (z : Rest). z.number == r.number) rests) (is_number r.number)
+rests_any r (x ∷ rests) (zero, below, at) = let one : x ≡ r = cc in ap (λ (y : Rest). (y.number == r.number) || list_any (λ (z : Rest). z.number == r.number) rests) one ∙ ap
+    (λ b. b || list_any (λ (z : Rest). z.number == r.number) rests) (is_number r.number)
 rests_any r (x ∷ rests) (suc i, below, at) = or_true (x.number == r.number) (list_any (λ (z : Rest). z.number == r.number) rests) (rests_any r rests (i, omega (arith, below), at))
   where
     or_true : (a b : Bool) → b ≡ true → (a || b) ≡ true
@@ -152,7 +156,8 @@ module _ {P : Type 0} (number : P → ℕ) (Follows : P → Story → Type 0) (t
           is ∙ ap Some (some_same g f (sym (owner_found f.tuple g is) ∙ ap (λ n. flow_of n flows) same ∙ found))
 
   -- a slot in use: so is the flow on its tuple
-  pub slot_used : (k : ℕ) (t : Tuple) → slice_get table.slots k ≡ Some (InUse t) → (p : P) × (f : Flow) × (slice_get parts k ≡ Some (Some p)) × (flow_of (number p) flows ≡ Some f) × (owner t flows ≡ Some f) × (is_in_use f.story ≡ true)
+  pub slot_used : (k : ℕ) (t : Tuple) → slice_get table.slots k ≡ Some (InUse t) → (p : P) × (f : Flow) × (slice_get parts k ≡ Some (Some p)) ×
+      (flow_of (number p) flows ≡ Some f) × (owner t flows ≡ Some f) × (is_in_use f.story ≡ true)
   slot_used k t at =
       let part = part_in k (InUse t) at (λ is. cc) in
       let seat = seats.seated k part.0 part.1 in
@@ -161,7 +166,8 @@ module _ {P : Type 0} (number : P → ℕ) (Follows : P → Story → Type 0) (t
 
   -- a slot at rest: so is the flow on its tuple
   pub slot_rests : (k : ℕ) (t : Tuple) (since : ℕ) → slice_get table.slots k ≡ Some (Resting t since)
-      → (p : P) × (f : Flow) × (slice_get parts k ≡ Some (Some p)) × (flow_of (number p) flows ≡ Some f) × (owner t flows ≡ Some f) × (is_in_use f.story ≡ false) × (rests_among rests (owner t flows) ≡ true)
+      → (p : P) × (f : Flow) × (slice_get parts k ≡ Some (Some p)) × (flow_of (number p) flows ≡ Some f) × (owner t flows ≡ Some f) × (is_in_use f.story ≡ false) ×
+      (rests_among rests (owner t flows) ≡ true)
   slot_rests k t since at =
       let part = part_in k (Resting t since) at (λ is. cc) in
       let seat = seats.seated k part.0 part.1 in

@@ -1,5 +1,6 @@
 -- What is about one flow changes that flow alone.
-use Rattle.std.proofs.Common.{◌≡◌, ℕ, ◌+◌, ◌==◌, ◌&&◌, not, Bool, true, false, cond, List, [], ◌∷◌, ◌++◌, length, filter, find, Option, Some, None, option_map, if◌then◌else◌, refl, sym, ◌∙◌, ap, subst, arith}
+use Rattle.std.proofs.Common.{◌≡◌, ℕ, ◌+◌, ◌==◌, ◌&&◌, not, Bool, true, false, cond, List, [], ◌∷◌, ◌++◌, length, filter, find, Option, Some, None, option_map, if◌then◌else◌, refl, sym}
+use Rattle.std.proofs.Common.{◌∙◌, ap, subst, arith}
 use Rattle.std.proofs.lemmas.Bool.Decides.{nat_tests}
 use Rattle.world_face.specs.Journal.{Entry}
 use Rattle.host_policy.specs.Addresses.{Config}
@@ -107,7 +108,8 @@ module _ (test : Flow → Bool) (change : Flow → Flow) (numbers : (f : Flow) �
   tell_none [] none = refl
   tell_none (f ∷ flows) none = by_test (test f) none (tell_none flows)
     where
-      by_test : (b : Bool) → cond b (Some f) (find test flows) ≡ None → (find test flows ≡ None → tell test change flows ≡ flows) → (if b then change f ∷ flows else f ∷ tell test change flows) ≡ f ∷ flows
+      by_test : (b : Bool) → cond b (Some f) (find test flows) ≡ None → (find test flows ≡ None → tell test change flows ≡ flows) →
+          (if b then change f ∷ flows else f ∷ tell test change flows) ≡ f ∷ flows
       by_test true none rest = absurd cc
       by_test false none rest = ap (λ l. f ∷ l) (rest none)
 
@@ -187,9 +189,11 @@ module _ (config : Config) (scene : Scene) (number : ℕ) (book : Book) (differ 
   only_happens (Comes on) is = on_tuple on.tuple (with_event scene.moment (Arrives on.segment)) (λ f. refl) (λ f. refl) (owner on.tuple book.flows) refl is
   only_happens (Goes on) is = on_tuple on.tuple (sends scene.moment on.segment) (sends_number scene.moment on.segment) (sends_tuple scene.moment on.segment) (owner on.tuple book.flows) refl is
   only_happens (Calls socket event) is =
-      subst (λ n. Only number book.flows (tell (is_numbered n) (with_event scene.moment event) book.flows)) (sym is) (on_socket (with_event scene.moment event) (λ f. refl) (λ f. refl) (flow_of number book.flows) refl)
+      subst (λ n. Only number book.flows (tell (is_numbered n) (with_event scene.moment event) book.flows)) (sym is) (on_socket (with_event scene.moment event) (λ f. refl)
+      (λ f. refl) (flow_of number book.flows) refl)
   only_happens (Shuts socket) is =
-      subst (λ n. Only number book.flows (tell (is_numbered n) (shuts scene book.came) book.flows)) (sym is) (on_socket (shuts scene book.came) (λ f. refl) (λ f. refl) (flow_of number book.flows) refl)
+      subst (λ n. Only number book.flows (tell (is_numbered n) (shuts scene book.came) book.flows)) (sym is) (on_socket (shuts scene book.came) (λ f. refl) (λ f. refl)
+      (flow_of number book.flows) refl)
   only_happens (Seeks guest) is = absurd is
   only_happens Pauses is = absurd is
   only_happens (Joins socket) is = absurd is
@@ -197,7 +201,8 @@ module _ (config : Config) (scene : Scene) (number : ℕ) (book : Book) (differ 
 
 -- ---- entries
 
-pub only_made : (config : Config) (number : ℕ) (past made : List Entry) → Differ (book config past).flows → AreOf config number past made → Only number (book config past).flows (book config (made ++ past)).flows
+pub only_made : (config : Config) (number : ℕ) (past made : List Entry) → Differ (book config past).flows → AreOf config number past made → Only number (book config past).flows
+    (book config (made ++ past)).flows
 only_made config number past [] differ are = only_none number (book config past).flows
 only_made config number past (e ∷ made) differ are =
     let before = only_made config number past made differ are.1 in

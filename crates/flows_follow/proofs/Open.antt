@@ -1,5 +1,6 @@
 -- In a lawful record each open socket of a connection has a flow that isn't closed, unless its peer was refused; and the core has a slot for it.
-use Rattle.std.proofs.Common.{◌≡◌, ℕ, ◌<◌, ◌==◌, ◌&&◌, ◌||◌, not, nat_lt, Bool, true, false, cond, List, [], ◌∷◌, length, map, is_some, slice_get, MatchOption, Option, Some, None, option_map, option_and_then, if◌then◌else◌, ◌⊎◌, inl, inr, refl, sym, ◌∙◌, ap, subst, arith}
+use Rattle.std.proofs.Common.{◌≡◌, ℕ, ◌<◌, ◌==◌, ◌&&◌, ◌||◌, not, nat_lt, Bool, true, false, cond, List, [], ◌∷◌, length, map, is_some, slice_get, MatchOption, Option, Some, None}
+use Rattle.std.proofs.Common.{option_map, option_and_then, if◌then◌else◌, ◌⊎◌, inl, inr, refl, sym, ◌∙◌, ap, subst, arith}
 use Rattle.std.proofs.lemmas.Bool.Decides.{nat_tests}
 use Rattle.net_octets.specs.declared.Endpoint.{Endpoint}
 use Rattle.world_face.specs.Journal.{Entry, Call, Connect, Listen, Accept, Close, UdpOpen, CallConnect, CallClose, call_of}
@@ -10,7 +11,8 @@ use Rattle.world_face.specs.declared.Made.TheVariants.{Done, Failed}
 use Rattle.host_policy.specs.Addresses.{Config}
 use Rattle.flow_table.specs.declared.Tuple.{Tuple}
 use Rattle.run_laws.specs.Moments.{moment, waits}
-use Rattle.run_laws.specs.Sockets.{Kind, Association, DnsSocket, Forward, Listener, Flow as OfFlow, datagram_kind, is_among, is_association, is_flow, kind_of, next_number, open_sockets, with_made, with_peer}
+use Rattle.run_laws.specs.Sockets.{Kind, Association, DnsSocket, Forward, Listener, Flow as OfFlow, datagram_kind, is_among, is_association, is_flow, kind_of, next_number, open_sockets}
+use Rattle.run_laws.specs.Sockets.{with_made, with_peer}
 use Rattle.flow_laws.specs.Close.{owes_reset}
 use Rattle.flow_laws.specs.Event.{Event, Connects, Accepts, Arrives, Story}
 use Rattle.flow_laws.specs.Flow.{first_number, is_closed}
@@ -190,7 +192,8 @@ module _ (config : Config) (past : List Entry) (lawful : Lawful config past) (n 
 
       by : (t : Bool) → (socket == n) ≡ t → IsMet config n (book config (Connect socket to Done ∷ past))
       by true this = subst (λ m. IsMet config m (book config (Connect socket to Done ∷ past))) (equal socket n this) opened
-      by false other = stays_met (Connect socket to Done) may (λ is. cc) (joined_before socket (Some OfFlow) (with_made Done socket (open_sockets past)) other (made_before Done n socket (open_sockets past) other) joined)
+      by false other = stays_met (Connect socket to Done) may (λ is. cc) (joined_before socket (Some OfFlow) (with_made Done socket (open_sockets past)) other
+          (made_before Done n socket (open_sockets past) other) joined)
 
   peer_met : (listener socket : ℕ) (peer : Endpoint) → May config past (call_of (Accept listener socket (From peer))) → joins (Accept listener socket (From peer) ∷ past) n ≡ true
       → IsMet config n (book config (Accept listener socket (From peer) ∷ past))
@@ -314,7 +317,8 @@ flow_or_association (Some OfFlow) is = refl
 -- the number of a connection is no association's
 pub joins_carries_none : (past : List Entry) (n : ℕ) → joins past n ≡ true → carries past n ≡ false
 joins_carries_none past n joined =
-    ap (λ b. is_among n (open_sockets past) && b) (flow_or_association (kind_of n past) (second_of (is_among n (open_sockets past)) (is_flow (kind_of n past)) joined)) ∙ and_false (is_among n (open_sockets past))
+    ap (λ b. is_among n (open_sockets past) && b) (flow_or_association (kind_of n past) (second_of (is_among n (open_sockets past)) (is_flow (kind_of n past)) joined)) ∙ and_false
+    (is_among n (open_sockets past))
 
 -- and the other way round
 pub carries_joins_none : (past : List Entry) (n : ℕ) → carries past n ≡ true → joins past n ≡ false

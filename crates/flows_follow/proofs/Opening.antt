@@ -1,5 +1,6 @@
 -- A flow is opened and gets a free slot.
-use Rattle.std.proofs.Common.{◌≡◌, ℕ, zero, suc, ◌≤◌, ◌==◌, ◌&&◌, Bool, true, false, cond, List, [], ◌∷◌, length, filter, set, slice_get, Option, Some, None, option_map, inl, inr, refl, sym, ◌∙◌, ap, subst, arith}
+use Rattle.std.proofs.Common.{◌≡◌, ℕ, zero, suc, ◌≤◌, ◌==◌, ◌&&◌, Bool, true, false, cond, List, [], ◌∷◌, length, filter, set, slice_get, Option, Some, None, option_map, inl, inr, refl}
+use Rattle.std.proofs.Common.{sym, ◌∙◌, ap, subst, arith}
 use Rattle.std.proofs.lemmas.Bool.Decides.{nat_tests}
 use Rattle.std.specs.Prelude.{filter_map}
 use Rattle.net_octets.specs.declared.Endpoint.{Endpoint}
@@ -88,8 +89,10 @@ module _ {P : Type 0} (number : P → ℕ) (Follows : P → Story → Type 0) (t
       λ n not. ap (λ b. cond b (Some f) (flow_of n old)) (ap (λ m. m == n) f_next ∙ swapped n next not) in
       let this : flow_of next (f ∷ old) ≡ Some f = ap (λ b. cond b (Some f) (flow_of next old)) here_is in
       let before : (j r : ℕ) → number_at number parts j ≡ Some r → (r == next) ≡ false = λ j r at. not_next j r at in
-      let kept : (j : ℕ) → (j == k) ≡ false → number_at number (set parts k (Some q)) j ≡ number_at number parts j = λ j other. ap (number_in number) (get_set_other parts k j (Some q) (differ j k other)) in
-      let put : (j : ℕ) → j ≡ k → number_at number (set parts k (Some q)) j ≡ Some next = λ j at_k. ap (λ i. number_at number (set parts k (Some q)) i) at_k ∙ (ap (number_in number) (get_set_at parts k None (Some q) none) ∙ ap Some q_next) in
+      let kept : (j : ℕ) → (j == k) ≡ false → number_at number (set parts k (Some q)) j ≡ number_at number parts j = λ j other. ap (number_in number)
+      (get_set_other parts k j (Some q) (differ j k other)) in
+      let put : (j : ℕ) → j ≡ k → number_at number (set parts k (Some q)) j ≡ Some next = λ j at_k. ap (λ i. number_at number (set parts k (Some q)) i) at_k ∙
+      (ap (number_in number) (get_set_at parts k None (Some q) none) ∙ ap Some q_next) in
       record {
         seated = λ j r here. elim (same_or_not j k) [
           | inl at_k ↦
@@ -105,8 +108,16 @@ module _ {P : Type 0} (number : P → ℕ) (Follows : P → Story → Type 0) (t
               )
           | inr other ↦
               let was_here : slice_get parts j ≡ Some (Some r) = sym (get_set_other parts k j (Some q) (differ j k other)) ∙ here in
-              let seat = seats.seated j r was_here in
-              (seat.0, seat.1, others (number r) (before j (number r) (ap (number_in number) was_here)) ∙ seat.2, seat.3, seat.4, get_set_other table.slots k j (InUse f.tuple) (differ j k other) ∙ seat.5, seat.6)
+              let seat = seats.seated j r was_here in (
+                seat.0,
+                seat.1,
+                others (number r) (before j (number r) (ap (number_in number) was_here)) ∙ seat.2,
+                seat.3,
+                seat.4,
+                get_set_other table.slots k j (InUse f.tuple)
+                    (differ j k other) ∙ seat.5,
+                seat.6,
+              )
         ];
         empty = λ j nothing. elim (same_or_not j k) [
           | inl at_k ↦ absurd (not_both (sym (ap (λ i. slice_get (set parts k (Some q)) i) at_k ∙ get_set_at parts k None (Some q) none) ∙ nothing))
@@ -140,7 +151,8 @@ module _ {P : Type 0} (number : P → ℕ) (Follows : P → Story → Type 0) (t
               (had.0, kept had.0 (elsewhere had.0 n had.1) ∙ had.1)
         ];
         order = seats.order ∙ (λ i. filter_map (λ j. sym (as_before j) i) table.rest_order);
-        counted = ap (λ b. length (cond b (f ∷ filter (λ (g : Flow). is_in_use g.story) old) (filter (λ (g : Flow). is_in_use g.story) old))) in_use ∙ ap suc seats.counted ∙ sym (used_put table.slots k f.tuple free);
+        counted = ap (λ b. length (cond b (f ∷ filter (λ (g : Flow). is_in_use g.story) old) (filter (λ (g : Flow). is_in_use g.story) old))) in_use ∙ ap suc seats.counted ∙ sym
+            (used_put table.slots k f.tuple free);
         differ = (seats.fresh f.number (subst (λ n. next ≤ n) (sym f_next) (omega arith)), seats.differ);
         fresh = λ n past. others n (later n past) ∙ seats.fresh n (omega (arith, past));
       }

@@ -23,7 +23,8 @@ less_then a b c one two = omega (arith, one, two)
 
 module _ {P : Type 0} (number : P → ℕ) (F G : P → Story → Type 0) (table : Flows) (parts : List (Option P)) where
   -- each part follows its story on, and numbers were drawn
-  pub seats_on : (next later : ℕ) (flows : List Flow) (rests : List Rest) → next ≤ later → ((p : P) (story : Story) → F p story → G p story) → Seats number F table parts next flows rests → Seats number G table parts later flows rests
+  pub seats_on : (next later : ℕ) (flows : List Flow) (rests : List Rest) → next ≤ later → ((p : P) (story : Story) → F p story → G p story) →
+      Seats number F table parts next flows rests → Seats number G table parts later flows rests
   seats_on next later flows rests on goes seats = record {
     seated = λ k p at. let seat = seats.seated k p at in (seat.0, seat.1, seat.2, seat.3, goes p seat.0.story seat.4, seat.5, seat.6);
     empty = seats.empty;

@@ -1,5 +1,6 @@
 -- One flow of the core was pumped: what that made is lawful, and the core's slots stand for the flows of the record again.
-use Rattle.std.proofs.Common.{◌≡◌, ℕ, ◌+◌, ◌%◌, ◌^◌, ◌<◌, ◌==◌, ◌||◌, not, Bool, true, false, List, [], ◌∷◌, ◌++◌, filter, length, set, slice_get, Option, Some, None, option_map, if◌then◌else◌, inl, inr, refl, sym, ◌∙◌, ap, subst, arith}
+use Rattle.std.proofs.Common.{◌≡◌, ℕ, ◌+◌, ◌%◌, ◌^◌, ◌<◌, ◌==◌, ◌||◌, not, Bool, true, false, List, [], ◌∷◌, ◌++◌, filter, length, set, slice_get, Option, Some, None, option_map}
+use Rattle.std.proofs.Common.{if◌then◌else◌, inl, inr, refl, sym, ◌∙◌, ap, subst, arith}
 use Rattle.std.specs.List.{list_any}
 use Rattle.std.specs.Prelude.{Contains}
 use Rattle.std.proofs.lemmas.Bool.Decides.{nat_tests}
@@ -87,7 +88,8 @@ closed_by : (b o : Bool) → (not b || o) ≡ false → b ≡ true
 closed_by true o is = refl
 closed_by false o is = cc
 
-module _ (config : Config) (state : FlowsState Splice) (past : List Entry) (now : ℕ) (aged : Bool) (task : Option Call) (holds : CoreHolds config now aged task state past) (moment_is : moment past ≡ now) (lawful : Lawful config past)
+module _ (config : Config) (state : FlowsState Splice) (past : List Entry) (now : ℕ) (aged : Bool) (task : Option Call) (holds : CoreHolds config now aged task state past)
+    (moment_is : moment past ≡ now) (lawful : Lawful config past)
     (k : ℕ) (p q : Splice) (t : Tuple) (f : Flow) (at : slice_get state.slots k ≡ Some (Some p)) (slot : slice_get state.table.slots k ≡ Some (slot_at p.place t)) (same : q.face ≡ p.face)
     (was : flow_of (number_of p) (book config past).flows ≡ Some f) (once : Once state.table.rest_order)
     (made : List Entry) (beats : Story) (called : Called config p.face f past now made beats) (follows : Following config now q (beats ++ f.story))
@@ -126,7 +128,8 @@ module _ (config : Config) (state : FlowsState Splice) (past : List Entry) (now 
       last_young : (m : ℕ) → m ≡ now → filter (is_young now) (rest (number_of p) m ∷ []) ≡ rest (number_of p) m ∷ []
       last_young m is = ap (λ b. if b then rest (number_of p) m ∷ [] else []) (ap (λ n. is_young now (rest (number_of p) n)) is ∙ young_now now (number_of p))
 
-      filtered : (o : Option ℕ) → ((m : ℕ) → o ≡ Some m → m ≡ now) → filter (is_young now) (with_rest o (number_of p) (book config past).rests) ≡ with_rest o (number_of p) (filter (is_young now) (book config past).rests)
+      filtered : (o : Option ℕ) → ((m : ℕ) → o ≡ Some m → m ≡ now) → filter (is_young now) (with_rest o (number_of p) (book config past).rests) ≡ with_rest o (number_of p)
+          (filter (is_young now) (book config past).rests)
       filtered None young = refl
       filtered (Some m) young =
           filter-append (is_young now) (book config past).rests (rest (number_of p) m ∷ [])
@@ -181,7 +184,8 @@ module _ (config : Config) (state : FlowsState Splice) (past : List Entry) (now 
   size_of (Rests since) y = refl
 
   -- each part has its address from a frame of its guest
-  learnt_in : (x : Option Splice) → ((r : Splice) → x ≡ Some r → r ≡ q) → (j : ℕ) (r : Splice) (h : Flow) (m : Mac) → slice_get (set state.slots k x) j ≡ Some (Some r) → flow_of (number_of r) (book config (made ++ past)).flows ≡ Some h → r.mac ≡ Some m
+  learnt_in : (x : Option Splice) → ((r : Splice) → x ≡ Some r → r ≡ q) → (j : ℕ) (r : Splice) (h : Flow) (m : Mac) → slice_get (set state.slots k x) j ≡ Some (Some r) → flow_of
+      (number_of r) (book config (made ++ past)).flows ≡ Some h → r.mac ≡ Some m
       → Contains (taught config (made ++ past)) (h.tuple.guest.addr, m)
   learnt_in x only_q j r h m here found is_mac = elim (same_or_not j k) [
     | inl at_k ↦
@@ -191,19 +195,22 @@ module _ (config : Config) (state : FlowsState Splice) (past : List Entry) (now 
         subst (λ (y : Flow). Contains (taught config (made ++ past)) (y.tuple.guest.addr, m)) (sym this) (learnt m (ap mac_of (sym one) ∙ is_mac))
     | inr other ↦
         let was_here : slice_get state.slots j ≡ Some (Some r) = sym (get_set_other state.slots k j x (differ j k other)) ∙ here in
-        let apart : (number_of r == number_of p) ≡ false = not_one j k (number_of r) (number_of p) other (λ one. holds.seats.numbers j k (number_of p) (ap (number_in number_of) was_here ∙ ap Some one) (ap (number_in number_of) at)) in
+        let apart : (number_of r == number_of p) ≡ false = not_one j k (number_of r) (number_of p) other
+        (λ one. holds.seats.numbers j k (number_of p) (ap (number_in number_of) was_here ∙ ap Some one) (ap (number_in number_of) at)) in
         taught_on config past made (h.tuple.guest.addr, m) (holds.learnt j r h m was_here (sym (only.apart (number_of r) apart) ∙ found) is_mac)
   ]
     where
       not_one : (j k m n : ℕ) → (j == k) ≡ false → (m ≡ n → j ≡ k) → (m == n) ≡ false
       not_one j k m n other one = elim (same_or_not m n) [ inl same ↦ absurd (differ j k other (one same)) | inr not ↦ not ]
 
-  learnt_then : (x y : Place) → p.place ≡ x → q.place ≡ y → (j : ℕ) (r : Splice) (h : Flow) (m : Mac) → slice_get (seated_at x state.table state.slots k t q).slots j ≡ Some (Some r) → flow_of (number_of r) (book config (made ++ past)).flows ≡ Some h → r.mac ≡ Some m
+  learnt_then : (x y : Place) → p.place ≡ x → q.place ≡ y → (j : ℕ) (r : Splice) (h : Flow) (m : Mac) → slice_get (seated_at x state.table state.slots k t q).slots j ≡ Some
+      (Some r) → flow_of (number_of r) (book config (made ++ past)).flows ≡ Some h → r.mac ≡ Some m
       → Contains (taught config (made ++ past)) (h.tuple.guest.addr, m)
   learnt_then Empty y was_at is_at = absurd (slot_is Free (slot ∙ ap (λ x. Some (slot_at x t)) was_at))
   learnt_then At y was_at is_at = by y is_at
     where
-      by : (y : Place) → q.place ≡ y → (j : ℕ) (r : Splice) (h : Flow) (m : Mac) → slice_get (seated_from_use state.table state.slots k t q q.place).slots j ≡ Some (Some r) → flow_of (number_of r) (book config (made ++ past)).flows ≡ Some h → r.mac ≡ Some m
+      by : (y : Place) → q.place ≡ y → (j : ℕ) (r : Splice) (h : Flow) (m : Mac) → slice_get (seated_from_use state.table state.slots k t q q.place).slots j ≡ Some (Some r) →
+          flow_of (number_of r) (book config (made ++ past)).flows ≡ Some h → r.mac ≡ Some m
           → Contains (taught config (made ++ past)) (h.tuple.guest.addr, m)
       by At here = λ j r h m has. learnt_in (Some q) (λ r is. cc) j r h m (subst (λ z. slice_get (seated_from_use state.table state.slots k t q z).slots j ≡ Some (Some r)) here has)
       by (Rests since) here = λ j r h m has. learnt_in (Some q) (λ r is. cc) j r h m (subst (λ z. slice_get (seated_from_use state.table state.slots k t q z).slots j ≡ Some (Some r)) here has)
@@ -213,7 +220,8 @@ module _ (config : Config) (state : FlowsState Splice) (past : List Entry) (now 
   -- the core's relation goes on
   pub core_called : CoreHolds config now aged None (state_at state k t p q) (made ++ past)
   core_called = record {
-    seats = subst (λ n. Seats number_of (Following config now) (state_at state k t p q).table (state_at state k t p q).slots n (book config (made ++ past)).flows new_rests) (sym called.next) (by_place p.place refl);
+    seats = subst (λ n. Seats number_of (Following config now) (state_at state k t p q).table (state_at state k t p q).slots n (book config (made ++ past)).flows new_rests)
+        (sym called.next) (by_place p.place refl);
     slots = size_of p.place q.place ∙ holds.slots;
     opened = as_many (book config (made ++ past)).flows (book config past).flows only.same ∙ holds.opened;
     asked = called.asks;
@@ -230,7 +238,8 @@ any_filtered : {X : Type 0} (test q : X → Bool) (xs : List X) → list_any tes
 any_filtered test q [] is = is
 any_filtered test q (x ∷ xs) is = by (q x) (test x) refl is (any_filtered test q xs)
   where
-    by : (b c : Bool) → test x ≡ c → list_any test (if b then x ∷ filter q xs else filter q xs) ≡ true → (list_any test (filter q xs) ≡ true → list_any test xs ≡ true) → (test x || list_any test xs) ≡ true
+    by : (b c : Bool) → test x ≡ c → list_any test (if b then x ∷ filter q xs else filter q xs) ≡ true → (list_any test (filter q xs) ≡ true → list_any test xs ≡ true) →
+        (test x || list_any test xs) ≡ true
     by b true here is behind = ap (λ c. c || list_any test xs) here
     by true false here is behind = ap (λ c. c || list_any test xs) here ∙ behind (sym (ap (λ c. c || list_any test (filter q xs)) here) ∙ is)
     by false false here is behind = ap (λ c. c || list_any test xs) here ∙ behind is
@@ -265,8 +274,10 @@ module _ (config : Config) (state : FlowsState Splice) (past : List Entry) (now 
     others = λ number g other. core_stays config now aged None state past holds number g;
   }
 
-module _ (config : Config) (state : FlowsState Splice) (past : List Entry) (now : ℕ) (aged : Bool) (holds : CoreHolds config now aged None state past) (moment_is : moment past ≡ now) (lawful : Lawful config past) (work : InWork config past)
-    (k : ℕ) (p q : Splice) (t : Tuple) (f : Flow) (at : slice_get state.slots k ≡ Some (Some p)) (slot : slice_get state.table.slots k ≡ Some (slot_at p.place t)) (ends : f.tuple ≡ ends_of p.face) (same : q.face ≡ p.face)
+module _ (config : Config) (state : FlowsState Splice) (past : List Entry) (now : ℕ) (aged : Bool) (holds : CoreHolds config now aged None state past)
+    (moment_is : moment past ≡ now) (lawful : Lawful config past) (work : InWork config past)
+    (k : ℕ) (p q : Splice) (t : Tuple) (f : Flow) (at : slice_get state.slots k ≡ Some (Some p)) (slot : slice_get state.table.slots k ≡ Some (slot_at p.place t))
+    (ends : f.tuple ≡ ends_of p.face) (same : q.face ≡ p.face)
     (was : flow_of (number_of p) (book config past).flows ≡ Some f) (once : Once state.table.rest_order) (vhost : config.vhost ≡ p.face.vhost.0)
     (to : Mac) (mac_is : q.mac ≡ Some to) (taught_is : Contains (taught config past) (f.tuple.guest.addr, to)) (learnt : list_any (is_pair (address p.face.guest) to.0) (taught config past) ≡ true)
     (latest : is_latest to.0 (learnt_for p.face.guest.addr (known_guests config past)) ≡ true)
@@ -281,7 +292,8 @@ module _ (config : Config) (state : FlowsState Splice) (past : List Entry) (now 
   slot_of : (s : Slot) → slice_get state.table.slots k ≡ Some s → IsSlotOf (rests_at aged config past) f s
   slot_of s here =
       let seat = holds.seats.seated k p at in
-      subst (λ (x : Slot). IsSlotOf (rests_at aged config past) f x) (some_same seat.1 s (sym seat.5 ∙ here)) (subst (λ (x : Flow). IsSlotOf (rests_at aged config past) x seat.1) (some_same seat.0 f (sym seat.2 ∙ was)) seat.6)
+      subst (λ (x : Slot). IsSlotOf (rests_at aged config past) f x) (some_same seat.1 s (sym seat.5 ∙ here)) (subst (λ (x : Flow). IsSlotOf (rests_at aged config past) x seat.1)
+      (some_same seat.0 f (sym seat.2 ∙ was)) seat.6)
 
   -- a flow that rests by its story has a slot that rests, and so it is among those that rest
   rested_at : (x : Place) → p.place ≡ x → (since : ℕ) → rests_since f.story ≡ Some since → rests_among (book config past).rests (Some f) ≡ true
@@ -318,7 +330,8 @@ module _ (config : Config) (state : FlowsState Splice) (past : List Entry) (now 
     well = core_well config state past now aged holds lawful k p f at was ends;
   }
 
-  module _ (made : List Entry) (beats : Story) (sending : are_sending made ≡ true) (allowed : AreAllowed made) (are : AreEvents (flow_settings config) p.face (Some to) false ended known first now f.story made beats)
+  module _ (made : List Entry) (beats : Story) (sending : are_sending made ≡ true) (allowed : AreAllowed made)
+      (are : AreEvents (flow_settings config) p.face (Some to) false ended known first now f.story made beats)
       (follows : Following config now q (beats ++ f.story)) (framed : AreFollowing MayFrame (made ++ past)) where
     pub pump_sent : Sent config p.face to f past first now ended known made beats
     pump_sent =

@@ -1,5 +1,6 @@
 -- What a pump of one flow makes is lawful, and the record has it as the flow's events.
-use Rattle.std.proofs.Common.{◌||◌, is_some, ◌≡◌, ℕ, ◌+◌, ◌%◌, ◌^◌, ◌<◌, ◌≤◌, ◌&&◌, not, nat_lt, Bool, true, false, List, [], ◌∷◌, ◌++◌, drop, length, Option, Some, None, if◌then◌else◌, ◌==◌, IsTrue, ◌⊎◌, inl, inr, refl, sym, ◌∙◌, ap, subst, arith}
+use Rattle.std.proofs.Common.{◌||◌, is_some, ◌≡◌, ℕ, ◌+◌, ◌%◌, ◌^◌, ◌<◌, ◌≤◌, ◌&&◌, not, nat_lt, Bool, true, false, List, [], ◌∷◌, ◌++◌, drop, length, Option, Some, None, if◌then◌else◌}
+use Rattle.std.proofs.Common.{◌==◌, IsTrue, ◌⊎◌, inl, inr, refl, sym, ◌∙◌, ap, subst, arith}
 use Rattle.std.specs.List.{list_any}
 use Rattle.std.proofs.lemmas.Bool.Decides.{nat_tests}
 use Rattle.std.proofs.lemmas.List.{drop_all}
@@ -165,7 +166,8 @@ module _ (config : Config) (face : Face) (to : Mac) (f : Flow) (past : List Entr
 
     -- ---- a segment is offered
 
-    module _ (octets : List ℕ) (seg : Segment) (vhost : config.vhost ≡ face.vhost.0) (offers : OffersSegment (flow_settings config) face (Some to) (ident_after ident rest) now (rest ++ f.story) octets seg)
+    module _ (octets : List ℕ) (seg : Segment) (vhost : config.vhost ≡ face.vhost.0) (offers : OffersSegment (flow_settings config) face (Some to) (ident_after ident rest) now
+        (rest ++ f.story) octets seg)
         (framed : MayFrame before (CallLinkWrite octets)) where
       abbrev frame : List ℕ
       frame = segment_frame face to (ident_after ident rest) seg
@@ -248,7 +250,8 @@ module _ (config : Config) (face : Face) (to : Mac) (f : Flow) (past : List Entr
         has = subst (λ m. HasFlow config face (with_event m (Departs seg) (with_beats f rest)) (LinkWrite octets (Done n) ∷ before)) sent.at (has_after (Done n));
         at = sent.at;
         of = (of_after (Done n), sent.of);
-        left = ap (taken (goes_out (LinkWrite octets (Done n)) before) again) sent.left ∙ taken_none again frame (on_ends face to seg) (goes_out (LinkWrite octets (Done n)) before) carries.carried (inr (ap (λ t. opens (LinkWrite octets (Done n)) t) none ∙ ap Some is));
+        left = ap (taken (goes_out (LinkWrite octets (Done n)) before) again) sent.left ∙ taken_none again frame (on_ends face to seg)
+            (goes_out (LinkWrite octets (Done n)) before) carries.carried (inr (ap (λ t. opens (LinkWrite octets (Done n)) t) none ∙ ap Some is));
         clear = λ free. drop_all n octets (all_was n (length octets) free);
         counted = ident_taken n;
         learnt = sent.learnt;
@@ -271,7 +274,8 @@ module _ (config : Config) (face : Face) (to : Mac) (f : Flow) (past : List Entr
         has = has_after NotYet;
         at = sent.at;
         of = (of_after NotYet, sent.of);
-        left = ap (taken (goes_out (LinkWrite octets NotYet) before) again) sent.left ∙ taken_none again frame (on_ends face to seg) (goes_out (LinkWrite octets NotYet) before) carries.carried (inl (ap (λ t. opens (LinkWrite octets NotYet) t) none));
+        left = ap (taken (goes_out (LinkWrite octets NotYet) before) again) sent.left ∙ taken_none again frame (on_ends face to seg)
+            (goes_out (LinkWrite octets NotYet) before) carries.carried (inl (ap (λ t. opens (LinkWrite octets NotYet) t) none));
         clear = λ free. none;
         counted = ident_none;
         learnt = sent.learnt;
@@ -295,12 +299,14 @@ module _ (config : Config) (face : Face) (to : Mac) (f : Flow) (past : List Entr
       offered_it Failed beats ok may is_beats = absurd cc
 
       -- the link failed with it: the run is over
-      pub failed_it : (Lawful config (LinkWrite octets Failed ∷ before)) × (phase config (LinkWrite octets Failed ∷ before) ≡ Over (By LinkFailed)) × HasFlow config face (with_beats f rest) (LinkWrite octets Failed ∷ before)
+      pub failed_it : (Lawful config (LinkWrite octets Failed ∷ before)) × (phase config (LinkWrite octets Failed ∷ before) ≡ Over (By LinkFailed)) × HasFlow config face
+          (with_beats f rest) (LinkWrite octets Failed ∷ before)
       failed_it = ((may_offer, sent.lawful), ap (λ p. unless_over p LinkFailed) sent.work.working, has_after Failed)
 
     -- ---- the socket is closed
 
-    module _ (came : (book config before).came ≡ None) (cause : HasCause false false known now (rest ++ f.story)) (may : MayOfOne (flow_settings config) (rest ++ f.story) now (CloseAct false ended known)) where
+    module _ (came : (book config before).came ≡ None) (cause : HasCause false false known now (rest ++ f.story)) (may : MayOfOne (flow_settings config) (rest ++ f.story) now
+        (CloseAct false ended known)) where
       abbrev g : Flow
       g = with_beats f rest
 
@@ -322,7 +328,8 @@ module _ (config : Config) (face : Face) (to : Mac) (f : Flow) (past : List Entr
       closing_is = λ i. CloseAct (directly_is i) (last_is i) (sent.knows i)
 
       may_here : MayOfOne (flow_settings config) g.story (moment before) (closing (scene config before) (book config before).came g)
-      may_here = subst (MayOfOne (flow_settings config) g.story (moment before)) (sym closing_is) (subst (λ m. MayOfOne (flow_settings config) g.story m (CloseAct false ended known)) (sym sent.at) may)
+      may_here = subst (MayOfOne (flow_settings config) g.story (moment before)) (sym closing_is)
+          (subst (λ m. MayOfOne (flow_settings config) g.story m (CloseAct false ended known)) (sym sent.at) may)
 
       shuts_is : shuts (scene config before) (book config before).came g ≡ with_beats f (At now (Closes false ended known) ∷ rest)
       shuts_is = λ i. with_event (sent.at i) (Closes (directly_is i) (last_is i) (sent.knows i)) g
@@ -365,7 +372,8 @@ module _ (config : Config) (face : Face) (to : Mac) (f : Flow) (past : List Entr
         rests = λ was_open. closed_rests was_open;
         rests_on = λ shut. absurd (shut_before made rest shut open_yet);
         rests_still = λ shut. absurd (shut_before made rest shut open_yet);
-        since = λ was_open m is_since. since_now config face g before sent.work sent.has (is_done (rest ++ f.story) && not (follows_reset false (rest ++ f.story)) && ended_first (rest ++ f.story)) now m is_since;
+        since = λ was_open m is_since. since_now config face g before sent.work sent.has (is_done (rest ++ f.story) && not (follows_reset false (rest ++ f.story)) && ended_first
+            (rest ++ f.story)) now m is_since;
         next = sent.next;
         well = refl;
       }
@@ -373,7 +381,8 @@ module _ (config : Config) (face : Face) (to : Mac) (f : Flow) (past : List Entr
   -- ---- all of them
 
   -- what was lawful before what was offered
-  lawful_before : (octets : List ℕ) (answer : Io) (rest beats : Story) (seg : Segment) → MayWrite (length octets) answer → beats ≡ went answer now (Departs seg) rest → IsInOrder (flow_settings config) (beats ++ f.story)
+  lawful_before : (octets : List ℕ) (answer : Io) (rest beats : Story) (seg : Segment) → MayWrite (length octets) answer → beats ≡ went answer now (Departs seg) rest → IsInOrder
+      (flow_settings config) (beats ++ f.story)
       → IsInOrder (flow_settings config) (rest ++ f.story)
   lawful_before octets (Done n) rest beats seg may is lawful =
       let both = subst (λ b. IsInOrder (flow_settings config) (b ++ f.story)) (is ∙ ap (λ b. if b then At now (Departs seg) ∷ rest else rest) (some_was n may.0)) lawful in
@@ -401,7 +410,8 @@ module _ (config : Config) (face : Face) (to : Mac) (f : Flow) (past : List Entr
         offered_it made rest (go_on rest are (lawful_before octets answer rest beats seg may is lawful)) octets seg vhost offers framed answer beats ok may is
     write_next octets answer made beats go_on ok may (rest, are, inr (request, is)) lawful framed = known_guest request.unknown
 
-    close_next : (socket : ℕ) (made : List Entry) (beats : Story) → Before made → (book config (made ++ past)).came ≡ None → Made (Close socket ∷ made) beats → IsInOrder (flow_settings config) (beats ++ f.story)
+    close_next : (socket : ℕ) (made : List Entry) (beats : Story) → Before made → (book config (made ++ past)).came ≡ None → Made (Close socket ∷ made) beats → IsInOrder
+        (flow_settings config) (beats ++ f.story)
         → Sent (Close socket ∷ made) beats
     close_next socket made beats go_on came (rest, are, (number, is, cause)) lawful =
         let now_lawful = subst (λ b. IsInOrder (flow_settings config) (b ++ f.story)) is lawful in
@@ -427,7 +437,8 @@ module _ (config : Config) (face : Face) (to : Mac) (f : Flow) (past : List Entr
     nothing_came socket [] is = absurd cc
     nothing_came socket (d ∷ made) is = quiet_sending config d (made ++ past) (head_sends d made is)
 
-    one_next : (e : Entry) (made : List Entry) (beats : Story) → Before made → are_sending (e ∷ made) ≡ true → AreAllowed (e ∷ made) → Made (e ∷ made) beats → IsInOrder (flow_settings config) (beats ++ f.story)
+    one_next : (e : Entry) (made : List Entry) (beats : Story) → Before made → are_sending (e ∷ made) ≡ true → AreAllowed (e ∷ made) → Made (e ∷ made) beats → IsInOrder
+        (flow_settings config) (beats ++ f.story)
         → Follows MayFrame (e ∷ made ++ past) → Sent (e ∷ made) beats
     one_next e made beats go_on sending allowed are lawful framed = elim (which e (head_sends e made sending)) [
       | inl w ↦
@@ -439,7 +450,8 @@ module _ (config : Config) (face : Face) (to : Mac) (f : Flow) (past : List Entr
     ]
 
     -- what was made is lawful, where the flow's events were
-    pub sends : (made : List Entry) (beats : Story) → Sent [] [] → are_sending made ≡ true → AreAllowed made → Made made beats → IsInOrder (flow_settings config) (beats ++ f.story) → Follows MayFrame (made ++ past) → Sent made beats
+    pub sends : (made : List Entry) (beats : Story) → Sent [] [] → are_sending made ≡ true → AreAllowed made → Made made beats → IsInOrder (flow_settings config)
+        (beats ++ f.story) → Follows MayFrame (made ++ past) → Sent made beats
     sends [] beats begins sending allowed are lawful framed = subst (Sent []) (sym are) begins
     sends (e ∷ made) beats begins sending allowed are lawful framed =
         one_next e made beats (λ rest r l. sends made rest begins (tail_sends e made sending) allowed.1 r l framed.1) sending allowed are lawful framed
@@ -451,7 +463,8 @@ module _ (config : Config) (face : Face) (to : Mac) (f : Flow) (past : List Entr
       pub has : HasFlow config face (with_beats f beats) (LinkWrite octets Failed ∷ made ++ past)
       pub sent : Sent made beats
 
-    pub breaks : (octets : List ℕ) (made : List Entry) (beats : Story) → Sent [] [] → are_sending made ≡ true → AreAllowed (LinkWrite octets Failed ∷ made) → Made (LinkWrite octets Failed ∷ made) beats
+    pub breaks : (octets : List ℕ) (made : List Entry) (beats : Story) → Sent [] [] → are_sending made ≡ true → AreAllowed (LinkWrite octets Failed ∷ made) → Made
+        (LinkWrite octets Failed ∷ made) beats
         → IsInOrder (flow_settings config) (beats ++ f.story) → Follows MayFrame (LinkWrite octets Failed ∷ made ++ past) → Broke octets made beats
     breaks octets made beats begins sending allowed (rest, are, inl (seg, offers, is)) lawful framed =
         let sent = sends made rest begins sending allowed.1 are (subst (λ b. IsInOrder (flow_settings config) (b ++ f.story)) is lawful) framed.1 in

@@ -28,9 +28,11 @@ use Rattle.flows_follow.proofs.Heard.{follows_well}
 use Rattle.flows_follow.proofs.Hosting.{Called as CalledThen, Heard, Ready, hears, item}
 use Rattle.flows_follow.proofs.Pumped.{Called, core_called, core_has, state_at}
 
-module _ (config : Config) (state : FlowsState Splice) (past : List Entry) (now : ℕ) (aged : Bool) (holds : CoreHolds config now aged None state past) (moment_is : moment past ≡ now) (lawful : Lawful config past) (work : InWork config past)
+module _ (config : Config) (state : FlowsState Splice) (past : List Entry) (now : ℕ) (aged : Bool) (holds : CoreHolds config now aged None state past)
+    (moment_is : moment past ≡ now) (lawful : Lawful config past) (work : InWork config past)
     (k : ℕ) (p q : Splice) (t : Tuple) (f : Flow) (at : slice_get state.slots k ≡ Some (Some p)) (slot : slice_get state.table.slots k ≡ Some (slot_at p.place t)) (same : q.face ≡ p.face)
-    (was : flow_of (number_of p) (book config past).flows ≡ Some f) (ends : f.tuple ≡ ends_of p.face) (once : Once state.table.rest_order) (learnt : (m : Mac) → q.mac ≡ Some m → Contains (taught config past) (f.tuple.guest.addr, m))
+    (was : flow_of (number_of p) (book config past).flows ≡ Some f) (ends : f.tuple ≡ ends_of p.face) (once : Once state.table.rest_order)
+    (learnt : (m : Mac) → q.mac ≡ Some m → Contains (taught config past) (f.tuple.guest.addr, m))
     (mac : Option Mac) (ident : ℕ) (made : List Entry) (beats : Story) (follows : Following config now q (beats ++ f.story)) where
   abbrev pub ended : Bool
   ended = comes_last (scene config past) f
@@ -78,7 +80,8 @@ module _ (config : Config) (state : FlowsState Splice) (past : List Entry) (now 
 
   -- ---- the time
 
-  module _ (few : is_at_most_a_close made ≡ true) (directly : Bool) (came : comes_directly (book config past).came f ≡ directly) (are : AreEvents (flow_settings config) p.face mac directly ended known ident now f.story made beats) where
+  module _ (few : is_at_most_a_close made ≡ true) (directly : Bool) (came : comes_directly (book config past).came f ≡ directly)
+      (are : AreEvents (flow_settings config) p.face mac directly ended known ident now f.story made beats) where
     pub ticked : CalledThen config p.face f past now ended known made beats
     ticked = closes_or_not config p.face mac f past ident now directly ended known ready came made beats few are (lawful_is (flow_settings config) q (beats ++ f.story) now follows)
 

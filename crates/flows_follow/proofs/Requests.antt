@@ -1,5 +1,6 @@
 -- A flow asks for its guest's hardware address: it may, all flows that were accepted for that guest are told, and the count goes on.
-use Rattle.std.proofs.Common.{◌≡◌, ℕ, suc, ◌+◌, ◌*◌, ◌<◌, ◌≤◌, ◌==◌, ◌&&◌, ◌||◌, Bool, true, false, List, [], ◌∷◌, length, map, filter, set, slice_get, Option, Some, option_map, if◌then◌else◌, ◌⊎◌, inl, inr, refl, sym, ◌∙◌, ap, subst, arith}
+use Rattle.std.proofs.Common.{◌≡◌, ℕ, suc, ◌+◌, ◌*◌, ◌<◌, ◌≤◌, ◌==◌, ◌&&◌, ◌||◌, Bool, true, false, List, [], ◌∷◌, length, map, filter, set, slice_get, Option, Some, option_map}
+use Rattle.std.proofs.Common.{if◌then◌else◌, ◌⊎◌, inl, inr, refl, sym, ◌∙◌, ap, subst, arith}
 use Rattle.std.proofs.lemmas.List.{length-map}
 use Rattle.world_face.specs.Journal.{Entry}
 use Rattle.world_face.specs.Frames.{goes_out}
@@ -59,7 +60,8 @@ pub raised_sum : (n : ℕ) (asks : ℕ → ℕ) (ns : List ℕ) → is_among n n
 raised_sum n asks [] among = cc
 raised_sum n asks (m ∷ ns) among = by (m == n) refl (λ more. raised_sum n asks ns more)
   where
-    by : (b : Bool) → (m == n) ≡ b → (is_among n ns ≡ true → suc (sum_of asks ns) ≤ sum_of (raised n asks) ns) → suc (asks m + sum_of asks ns) ≤ (if b then suc (asks m) else asks m) + sum_of (raised n asks) ns
+    by : (b : Bool) → (m == n) ≡ b → (is_among n ns ≡ true → suc (sum_of asks ns) ≤ sum_of (raised n asks) ns) → suc (asks m + sum_of asks ns) ≤
+        (if b then suc (asks m) else asks m) + sum_of (raised n asks) ns
     by true this more = let rest = raised_more n asks ns in omega (arith, rest)
     by false other more = let rest = more (sym (ap (λ b. b || is_among n ns) (turned m n false other)) ∙ among) in omega (arith, rest)
 
@@ -79,7 +81,8 @@ module _ (now guest : ℕ) where
   pub numbers_asked : (g : ℕ) (flows : List Flow) → accepted_numbers g (map (seeks_for now guest) flows) ≡ accepted_numbers g flows
   numbers_asked g [] = refl
   numbers_asked g (f ∷ flows) =
-      ap (λ (b : Bool). map (λ (h : Flow). h.number) (if b then seeks_for now guest f ∷ accepted_for g (map (seeks_for now guest) flows) else accepted_for g (map (seeks_for now guest) flows))) (by_asking (λ h. is_for g h ≡ is_for g f) f refl refl)
+      ap (λ (b : Bool). map (λ (h : Flow). h.number) (if b then seeks_for now guest f ∷ accepted_for g (map (seeks_for now guest) flows) else accepted_for g
+      (map (seeks_for now guest) flows))) (by_asking (λ h. is_for g h ≡ is_for g f) f refl refl)
       ∙ by_test (is_for g f) (numbers_asked g flows)
     where
       by_test : (b : Bool) → accepted_numbers g (map (seeks_for now guest) flows) ≡ accepted_numbers g flows
@@ -90,7 +93,8 @@ module _ (now guest : ℕ) where
 
 -- ---- the count goes on
 
-module _ (config : Config) (past : List Entry) (parts : List (Option Splice)) (k : ℕ) (p q : Splice) (at : slice_get parts k ≡ Some (Some p)) (same_number : number_of q ≡ number_of p) (once_more : q.asked ≡ p.asked + 1) (less : p.asked < 9)
+module _ (config : Config) (past : List Entry) (parts : List (Option Splice)) (k : ℕ) (p q : Splice) (at : slice_get parts k ≡ Some (Some p))
+    (same_number : number_of q ≡ number_of p) (once_more : q.asked ≡ p.asked + 1) (less : p.asked < 9)
     (only : (j : ℕ) (r : Splice) → slice_get parts j ≡ Some (Some r) → number_of r ≡ number_of p → j ≡ k) (a : AreAsked config parts past) where
   own_now : (j : ℕ) (r : Splice) → slice_get (set parts k (Some q)) j ≡ Some (Some r) → raised (number_of p) a.asks (number_of r) ≤ r.asked
   own_now j r here = elim (same_or_not j k) [
@@ -109,7 +113,8 @@ module _ (config : Config) (past : List Entry) (parts : List (Option Splice)) (k
           let own = a.own k p at in
           omega (arith, raise, own, once_more)
 
-      not_it : (j : ℕ) (r : Splice) → (j == k) ≡ false → slice_get parts j ≡ Some (Some r) → (b : Bool) → (number_of r == number_of p) ≡ b → (if b then suc (a.asks (number_of r)) else a.asks (number_of r)) ≤ r.asked
+      not_it : (j : ℕ) (r : Splice) → (j == k) ≡ false → slice_get parts j ≡ Some (Some r) → (b : Bool) → (number_of r == number_of p) ≡ b →
+          (if b then suc (a.asks (number_of r)) else a.asks (number_of r)) ≤ r.asked
       not_it j r other was false is = a.own j r was
       not_it j r other was true is = absurd (differ j k other (only j r was (equal (number_of r) (number_of p) is)))
 
@@ -121,12 +126,14 @@ module _ (config : Config) (past : List Entry) (parts : List (Option Splice)) (k
       by true this = let own = a.own k p at in let here = ap a.asks (equal n (number_of p) this) in omega (arith, own, here, less)
 
   -- it may ask: its guest was asked for less than nine times for each flow that was accepted for it
-  pub may_ask_more : (guest : ℕ) → is_among (number_of p) (accepted_numbers guest (book config past).flows) ≡ true → times guest (requests config past) < 9 * length (accepted_for guest (book config past).flows)
+  pub may_ask_more : (guest : ℕ) → is_among (number_of p) (accepted_numbers guest (book config past).flows) ≡ true → times guest (requests config past) < 9 * length
+      (accepted_for guest (book config past).flows)
   may_ask_more guest among =
       let own = a.own k p at in
       let sum = less_sum a.asks a.few (number_of p) (accepted_numbers guest (book config past).flows) among (omega (arith, own, less)) in
       let counted = a.counted guest in
-      let long : length (accepted_numbers guest (book config past).flows) ≡ length (accepted_for guest (book config past).flows) = length-map (accepted_for guest (book config past).flows) (λ (f : Flow). f.number) in
+      let long : length (accepted_numbers guest (book config past).flows) ≡ length (accepted_for guest (book config past).flows) = length-map
+      (accepted_for guest (book config past).flows) (λ (f : Flow). f.number) in
       omega (arith, sum, counted, long)
 
   -- and once it has asked the count goes on
@@ -149,7 +156,8 @@ module _ (config : Config) (past : List Entry) (parts : List (Option Splice)) (k
             ≤ sum_of (raised (number_of p) a.asks) (accepted_numbers g (book config past).flows)
         by true this =
             let before = a.counted g in
-            let more = raised_sum (number_of p) a.asks (accepted_numbers g (book config past).flows) (ap (λ n. is_among (number_of p) (accepted_numbers n (book config past).flows)) (sym (equal guest g this)) ∙ among) in
+            let more = raised_sum (number_of p) a.asks (accepted_numbers g (book config past).flows) (ap (λ n. is_among (number_of p) (accepted_numbers n (book config past).flows))
+            (sym (equal guest g this)) ∙ among) in
             omega (arith, before, more)
         by false other = let before = a.counted g in let more = raised_more (number_of p) a.asks (accepted_numbers g (book config past).flows) in omega (arith, before, more)
 
@@ -167,7 +175,8 @@ asked_on config past e parts new silent same from a = record {
   asks = a.asks;
   few = a.few;
   own = λ k q here. let old = from k q here in let own = a.own old.1 old.0 old.2 in let more = old.4 in let number = ap a.asks old.3 in omega (arith, own, more, number);
-  counted = λ guest. subst (λ ns. times guest (requests config (e ∷ past)) ≤ sum_of a.asks ns) (sym (same guest)) (subst (λ l. times guest l ≤ sum_of a.asks (accepted_numbers guest (book config past).flows)) (sym silent) (a.counted guest));
+  counted = λ guest. subst (λ ns. times guest (requests config (e ∷ past)) ≤ sum_of a.asks ns) (sym (same guest))
+      (subst (λ l. times guest l ≤ sum_of a.asks (accepted_numbers guest (book config past).flows)) (sym silent) (a.counted guest));
 }
 
 -- ---- and where a flow begins, which has asked for nothing yet
@@ -179,15 +188,18 @@ zeroed_sum : (n : ℕ) (asks : ℕ → ℕ) (ns : List ℕ) → is_among n ns �
 zeroed_sum n asks [] none = refl
 zeroed_sum n asks (m ∷ ns) none = by (m == n) (n == m) refl (turned m n (m == n) refl) none (λ more. zeroed_sum n asks ns more)
   where
-    by : (b c : Bool) → (m == n) ≡ b → c ≡ b → (c || is_among n ns) ≡ false → (is_among n ns ≡ false → sum_of (zeroed n asks) ns ≡ sum_of asks ns) → (if b then 0 else asks m) + sum_of (zeroed n asks) ns ≡ asks m + sum_of asks ns
+    by : (b c : Bool) → (m == n) ≡ b → c ≡ b → (c || is_among n ns) ≡ false → (is_among n ns ≡ false → sum_of (zeroed n asks) ns ≡ sum_of asks ns) →
+        (if b then 0 else asks m) + sum_of (zeroed n asks) ns ≡ asks m + sum_of asks ns
     by true true this turned_is none more = cc
     by false false other turned_is none more = ap (λ k. asks m + k) (more none)
     by true false this turned_is none more = cc
     by false true other turned_is none more = cc
 
 -- `called`: the flow was accepted for this guest.
-pub asked_begun : (config : Config) (past : List Entry) (e : Entry) (parts : List (Option Splice)) (n k : ℕ) (q : Splice) (called : ℕ → Bool) → number_of q ≡ n → q.asked ≡ 0 → requests config (e ∷ past) ≡ requests config past
-    → ((guest : ℕ) → accepted_numbers guest (book config (e ∷ past)).flows ≡ (if called guest then n ∷ accepted_numbers guest (book config past).flows else accepted_numbers guest (book config past).flows))
+pub asked_begun : (config : Config) (past : List Entry) (e : Entry) (parts : List (Option Splice)) (n k : ℕ) (q : Splice) (called : ℕ → Bool) → number_of q ≡ n → q.asked ≡ 0 →
+    requests config (e ∷ past) ≡ requests config past
+    → ((guest : ℕ) → accepted_numbers guest (book config (e ∷ past)).flows ≡ (if called guest then n ∷ accepted_numbers guest (book config past).flows else accepted_numbers guest
+    (book config past).flows))
     → ((guest : ℕ) → is_among n (accepted_numbers guest (book config past).flows) ≡ false)
     → ((j : ℕ) (r : Splice) → slice_get (set parts k (Some q)) j ≡ Some (Some r) → (r ≡ q) ⊎ (slice_get parts j ≡ Some (Some r)))
     → AreAsked config parts past → AreAsked config (set parts k (Some q)) (e ∷ past)
@@ -203,7 +215,8 @@ asked_begun config past e parts n k q called numbered new silent grown fresh whi
     own_then : (j : ℕ) (r : Splice) → slice_get (set parts k (Some q)) j ≡ Some (Some r) → zeroed n a.asks (number_of r) ≤ r.asked
     own_then j r here = elim (which j r here) [
       | inl it ↦
-          let zero : zeroed n a.asks (number_of r) ≡ 0 = ap (λ (x : Splice). zeroed n a.asks (number_of x)) it ∙ ap (zeroed n a.asks) numbered ∙ ap (λ (b : Bool). if b then 0 else a.asks n) (same n) in
+          let zero : zeroed n a.asks (number_of r) ≡ 0 = ap (λ (x : Splice). zeroed n a.asks (number_of x)) it ∙ ap (zeroed n a.asks) numbered ∙ ap
+          (λ (b : Bool). if b then 0 else a.asks n) (same n) in
           omega (arith, zero)
       | inr was ↦ below (number_of r == n) (a.asks (number_of r)) r.asked (a.own j r was)
     ]
@@ -234,7 +247,9 @@ pub seats_sought : (s : Settings) (now guest : ℕ) (table : Flows) (parts : Lis
     → Seats number_of (λ x story. Follows s x story now) table (set parts k (Some q)) next (map (seeks_for now guest) flows) rests
 seats_sought s now guest table parts next flows rests k p q f at same_number was used mine follows seats =
     let told : flow_of (number_of p) (map (seeks_for now guest) flows) ≡ Some (with_event now AsksAddress f) =
-    map_found (number_of p) (seeks_for now guest) (seeks_number now guest) flows ∙ ap (option_map (seeks_for now guest)) was ∙ ap (λ (b : Bool). Some (if b then with_event now AsksAddress f else f)) mine in
-    seats_one number_of (λ x story. Follows s x story now) table parts next (map (seeks_for now guest) flows) (map (seeks_for now guest) flows) rests k p q (with_event now AsksAddress f) (with_event now AsksAddress f)
+    map_found (number_of p) (seeks_for now guest) (seeks_number now guest) flows ∙ ap (option_map (seeks_for now guest)) was ∙ ap
+    (λ (b : Bool). Some (if b then with_event now AsksAddress f else f)) mine in
+    seats_one number_of (λ x story. Follows s x story now) table parts next (map (seeks_for now guest) flows) (map (seeks_for now guest) flows) rests k p q
+    (with_event now AsksAddress f) (with_event now AsksAddress f)
     at same_number told used told used follows (record { same = refl; apart = λ other not. refl; differ = λ is. is; used = refl })
     (seats_asked now guest number_of (λ x story. Follows s x story now) table parts next flows rests (λ x story is. asked_follows s x story now now (omega arith) is) seats)

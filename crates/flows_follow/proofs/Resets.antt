@@ -1,5 +1,6 @@
 -- The first frame that is left, where a segment is read in it, is the reset that answers what came last.
-use Rattle.std.proofs.Common.{◌≡◌, ℕ, ◌+◌, ◌-◌, ◌^◌, ◌<◌, ◌≤◌, ◌==◌, ◌&&◌, not, Bool, true, false, List, [], ◌∷◌, length, take, drop, Option, Some, None, if◌then◌else◌, refl, sym, ◌∙◌, ap, subst, arith}
+use Rattle.std.proofs.Common.{◌≡◌, ℕ, ◌+◌, ◌-◌, ◌^◌, ◌<◌, ◌≤◌, ◌==◌, ◌&&◌, not, Bool, true, false, List, [], ◌∷◌, length, take, drop, Option, Some, None, if◌then◌else◌, refl, sym, ◌∙◌, ap}
+use Rattle.std.proofs.Common.{subst, arith}
 use Rattle.std.proofs.lemmas.List.{take_all}
 use Rattle.std.proofs.lemmas.Nat.{from_be_bytes-to_be_bytes_2, from_be_bytes-to_be_bytes_4}
 use Rattle.net_octets.specs.declared.Endpoint.{Endpoint}
@@ -17,7 +18,8 @@ use Rattle.flow_laws.specs.Event.{Segment}
 use Rattle.record_flows.specs.Lots.{reset_to}
 use Rattle.record_flows.specs.Segments.{OnTuple, from_guest, segment_by, segment_in, tcp_of, to_guest}
 use Rattle.run_laws.specs.Packets.{Datagram, Packet, Unheard, ArpPacket, Message, DatagramPacket, Segment as SegmentPacket}
-use Rattle.slirp_laws.specs.Answers.{Serving, answers_of, served_file, told_of_files, Answer, ArpAnswer, IpAnswer, arp_reply, frames_for, is_untold, left, no_network, owed_for_fate, owed_for_icmp, owed_for_packet, owed_for_segment, part_frame, reply_for, told_about, uncut}
+use Rattle.slirp_laws.specs.Answers.{Serving, answers_of, served_file, told_of_files, Answer, ArpAnswer, IpAnswer, arp_reply, frames_for, is_untold, left, no_network, owed_for_fate}
+use Rattle.slirp_laws.specs.Answers.{owed_for_icmp, owed_for_packet, owed_for_segment, part_frame, reply_for, told_about, uncut}
 use Rattle.slirp_laws.specs.Datagrams.{Fate, Ignored, Refused, ForLeases, ForFiles, GoesTo, fate}
 use Rattle.slirp_laws.specs.Leasing.{Sending, lease_reply}
 use Rattle.tftp_server.specs.Transfers.{Said}
@@ -133,7 +135,8 @@ record IpBack (source guest : ℕ) (body : List ℕ) (ip : Ip) : Type 0 where
   its_guest : ip.to ≡ guest
   its_body : ip.body ≡ body
 
-ip_back : (ident proto source guest : ℕ) (body : List ℕ) (ip : Ip) → source < 2 ^ 32 → guest < 2 ^ 32 → 20 + length body < 2 ^ 16 → read_ip (ip_octets ident 0 proto source guest body) ≡ Some ip → IpBack source guest body ip
+ip_back : (ident proto source guest : ℕ) (body : List ℕ) (ip : Ip) → source < 2 ^ 32 → guest < 2 ^ 32 → 20 + length body < 2 ^ 16 → read_ip
+    (ip_octets ident 0 proto source guest body) ≡ Some ip → IpBack source guest body ip
 ip_back ident proto source guest body ip source_fits guest_fits fits is =
     let octets = ip_octets ident 0 proto source guest body in
     let found = spelt octets ip is in
@@ -176,7 +179,8 @@ pub record Answering (o : Option OnTuple) (on : OnTuple) : Type 0 where
   pub ack : on.segment.ack ≡ not asked.segment.ack
 
 -- of the segment that a frame of an answer carries
-of_answer : (config : Config) (past : List Entry) (o : Option OnTuple) (a : Answer) (k : ℕ) (frame : List ℕ) (rest : List (List ℕ)) (mac : List ℕ) (ip : Ip) (tcp : Tcp) → 28 ≤ config.mtu → SixAnswer a → AreEnds o → IsFor o a
+of_answer : (config : Config) (past : List Entry) (o : Option OnTuple) (a : Answer) (k : ℕ) (frame : List ℕ) (rest : List (List ℕ)) (mac : List ℕ) (ip : Ip) (tcp : Tcp) →
+    28 ≤ config.mtu → SixAnswer a → AreEnds o → IsFor o a
     → drop k (frames_for config (identification_with k past) a) ≡ frame ∷ rest → Carries frame ip → tcp_of ip ≡ Some tcp → Answering o (to_guest mac ip tcp)
 of_answer config past o (ArpAnswer to arp) k frame rest mac ip tcp fits six ends is_for is c read = absurd (carries_no_arp config (identification_with k past) k to arp frame rest ip six is c)
 of_answer config past o (IpAnswer to proto source guest body) k frame rest mac ip tcp fits six ends is_for is c read =
@@ -231,7 +235,8 @@ pub ends_allowed : (config : Config) (past : List Entry) → AreAllowed past →
 ends_allowed config past allowed = has_ends config past (ends_last config past allowed)
 
 -- the first frame that is left, where a segment is read in it, is the reset that answers what came last
-pub left_answers : (config : Config) (past : List Entry) (frame : List ℕ) (rest : List (List ℕ)) (on : OnTuple) → 28 ≤ config.mtu → Lawful config past → HasEnds config past → left config past ≡ frame ∷ rest → segment_in frame ≡ Some on
+pub left_answers : (config : Config) (past : List Entry) (frame : List ℕ) (rest : List (List ℕ)) (on : OnTuple) → 28 ≤ config.mtu → Lawful config past → HasEnds config past →
+    left config past ≡ frame ∷ rest → segment_in frame ≡ Some on
     → Answering (answered (last_occasion config past)) on
 left_answers config past frame rest on fits lawful ends is read =
     let a = next_left config past frame rest fits lawful is in

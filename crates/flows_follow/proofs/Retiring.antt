@@ -39,7 +39,8 @@ slot_more rests r f (Resting t since) is = (is.0, Contains-append_left rests (r 
 
 module _ {P : Type 0} (number : P → ℕ) (Follows : P → Story → Type 0) (table : Flows) (parts : List (Option P)) (next : ℕ) (old new : List Flow) (rests : List Rest) where
   pub seats_retired : (k : ℕ) (p q : P) (f g : Flow) (t : Tuple) (m : ℕ) → slice_get parts k ≡ Some (Some p) → slice_get table.slots k ≡ Some (InUse t) → number q ≡ number p → Once table.rest_order
-      → flow_of (number p) old ≡ Some f → f.tuple ≡ t → uses (flow_of (number p) old) ≡ true → flow_of (number p) new ≡ Some g → uses (flow_of (number p) new) ≡ false → Follows q g.story → Only (number p) old new
+      → flow_of (number p) old ≡ Some f → f.tuple ≡ t → uses (flow_of (number p) old) ≡ true → flow_of (number p) new ≡ Some g → uses (flow_of (number p) new) ≡ false →
+      Follows q g.story → Only (number p) old new
       → Seats number Follows table parts next old rests
       → Seats number Follows (flows (set table.slots k (Resting t m)) (moved_last k table.rest_order)) (set parts k (Some q)) next new (rests ++ rest (number p) m ∷ [])
   seats_retired k p q f g t m at slot same once was f_tuple was_used is is_unused follows only seats =
@@ -47,7 +48,8 @@ module _ {P : Type 0} (number : P → ℕ) (Follows : P → Story → Type 0) (t
       let put : (j : ℕ) → number_at number (set parts k (Some q)) j ≡ number_at number parts j = number_put number parts k p q at same in
       let here_is : number_at number parts k ≡ Some (number p) = ap (number_in number) at in
       let g_number : g.number ≡ number p = number_of_found (number p) new g is in
-      let tuple : g.tuple ≡ t = some_same g.tuple t (sym (ap (option_map (λ (h : Flow). h.tuple)) is) ∙ found_id (number p) new old only.same ∙ ap (option_map (λ (h : Flow). h.tuple)) was ∙ ap Some f_tuple) in
+      let tuple : g.tuple ≡ t = some_same g.tuple t (sym (ap (option_map (λ (h : Flow). h.tuple)) is) ∙ found_id (number p) new old only.same ∙ ap
+      (option_map (λ (h : Flow). h.tuple)) was ∙ ap Some f_tuple) in
       let others : (j n : ℕ) → number_at number parts j ≡ Some n → (j == k) ≡ false → (n == number p) ≡ false = λ j n has other. elim (same_or_not n (number p)) [
         | inl same ↦ absurd (differ j k other (seats.numbers j k (number p) (has ∙ ap Some same) here_is))
         | inr not ↦ not
@@ -88,10 +90,12 @@ module _ {P : Type 0} (number : P → ℕ) (Follows : P → Story → Type 0) (t
           | inr other ↦ let had = seats.found n (ap uses (sym (stays n other)) ∙ in_use) in (had.0, put had.0 ∙ had.1)
         ];
         order = numbers_last rests (rest (number p) m) ∙ ap (λ l. l ++ number p ∷ []) seats.order
-            ∙ sym (comes_last (λ j. rests_at (slice_get table.slots j) (number_at number parts j)) (λ j. rests_at (slice_get (set table.slots k (Resting t m)) j) (number_at number (set parts k (Some q)) j))
+            ∙ sym (comes_last (λ j. rests_at (slice_get table.slots j) (number_at number parts j)) (λ j. rests_at (slice_get (set table.slots k (Resting t m)) j)
+            (number_at number (set parts k (Some q)) j))
             k (number p) table.rest_order once (ap (λ s. rests_at s (number_at number parts k)) slot)
             (ap (λ s. rests_at s (number_at number (set parts k (Some q)) k)) (get_set_at table.slots k (InUse t) (Resting t m) slot) ∙ put k ∙ here_is)
-            (λ j other. ap (λ s. rests_at s (number_at number (set parts k (Some q)) j)) (get_set_other table.slots k j (Resting t m) (differ j k other)) ∙ ap (rests_at (slice_get table.slots j)) (put j)));
+            (λ j other. ap (λ s. rests_at s (number_at number (set parts k (Some q)) j)) (get_set_other table.slots k j (Resting t m) (differ j k other)) ∙ ap
+            (rests_at (slice_get table.slots j)) (put j)));
         counted = same_less (used new) (used old) (in_use_slots table.slots) (in_use_slots (set table.slots k (Resting t m)))
             (one_less (used new) (used old) (flow_of (number p) old) (flow_of (number p) new) only.used was_used is_unused) seats.counted (used_retired table.slots k t m slot);
         differ = only.differ seats.differ;

@@ -1,8 +1,10 @@
 -- The flows that rest stand in the order of time: none since a later moment than one behind it, and none since a moment that is to come.
-use Rattle.std.proofs.Common.{◌≡◌, ℕ, ◌+◌, ◌<◌, ◌≤◌, ◌==◌, not, Bool, true, false, cond, List, [], ◌∷◌, ◌++◌, length, drop, filter, is_some, Option, Some, None, if◌then◌else◌, nat_le, nat_lt, refl, ◌∙◌, ap, arith}
+use Rattle.std.proofs.Common.{◌≡◌, ℕ, ◌+◌, ◌<◌, ◌≤◌, ◌==◌, not, Bool, true, false, cond, List, [], ◌∷◌, ◌++◌, length, drop, filter, is_some, Option, Some, None, if◌then◌else◌, nat_le}
+use Rattle.std.proofs.Common.{nat_lt, refl, ◌∙◌, ap, arith}
 use Rattle.std.proofs.lemmas.Bool.Decides.{nat_tests}
 use Rattle.net_octets.specs.declared.Endpoint.{Endpoint}
-use Rattle.world_face.specs.Journal.{Entry, Now, Wait, LinkOpen, LinkRead, LinkWrite, Connect, Connected, Listen, Accept, TcpRead, TcpWrite, TcpEnd, Close, UdpOpen, UdpSend, UdpRecv, FileLen, FileRead}
+use Rattle.world_face.specs.Journal.{Entry, Now, Wait, LinkOpen, LinkRead, LinkWrite, Connect, Connected, Listen, Accept, TcpRead, TcpWrite, TcpEnd, Close, UdpOpen, UdpSend, UdpRecv}
+use Rattle.world_face.specs.Journal.{FileLen, FileRead}
 use Rattle.host_policy.specs.Addresses.{Config}
 use Rattle.flow_laws.specs.Event.{Segment, Accepts}
 use Rattle.flow_laws.specs.Flow.{first_number}

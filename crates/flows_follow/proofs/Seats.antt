@@ -102,7 +102,8 @@ module _ {P : Type 0} (number : P → ℕ) (Follows : P → Story → Type 0) (t
       let owners : (t : Tuple) → option_map (λ (h : Flow). h.number) (owner t new) ≡ option_map (λ (h : Flow). h.number) (owner t old) = λ t. owner_id t new old only.same in
       let put : (j : ℕ) → number_at number (set parts k (Some q)) j ≡ number_at number parts j = number_put number parts k p q at same in
       let g_number : g.number ≡ number p = number_of_found (number p) new g is in
-      let others : (j : ℕ) (r : P) → slice_get parts j ≡ Some (Some r) → (j == k) ≡ false → (number r == number p) ≡ false = λ j r here other. not_one j k (number r) (number p) other (λ one. seats.numbers j k (number p) (ap (number_in number) here ∙ ap Some one) (ap (number_in number) at)) in
+      let others : (j : ℕ) (r : P) → slice_get parts j ≡ Some (Some r) → (j == k) ≡ false → (number r == number p) ≡ false = λ j r here other. not_one j k (number r)
+      (number p) other (λ one. seats.numbers j k (number p) (ap (number_in number) here ∙ ap Some one) (ap (number_in number) at)) in
       record {
         seated = λ j r here. elim (same_or_not j k) [
           | inl at_k ↦

@@ -36,11 +36,13 @@ module _ (now guest : ℕ) where
   asks_used : (flows : List Flow) → used (map (seeks_for now guest) flows) ≡ used flows
   asks_used [] = refl
   asks_used (f ∷ flows) =
-      ap (λ b. length (cond b (seeks_for now guest f ∷ filter (λ (g : Flow). is_in_use g.story) (map (seeks_for now guest) flows)) (filter (λ (g : Flow). is_in_use g.story) (map (seeks_for now guest) flows)))) (asks_use f)
+      ap (λ b. length (cond b (seeks_for now guest f ∷ filter (λ (g : Flow). is_in_use g.story) (map (seeks_for now guest) flows))
+      (filter (λ (g : Flow). is_in_use g.story) (map (seeks_for now guest) flows)))) (asks_use f)
       ∙ by_test (is_in_use f.story) (asks_used flows)
     where
       by_test : (b : Bool) → used (map (seeks_for now guest) flows) ≡ used flows
-          → length (cond b (seeks_for now guest f ∷ filter (λ (g : Flow). is_in_use g.story) (map (seeks_for now guest) flows)) (filter (λ (g : Flow). is_in_use g.story) (map (seeks_for now guest) flows)))
+          → length (cond b (seeks_for now guest f ∷ filter (λ (g : Flow). is_in_use g.story) (map (seeks_for now guest) flows))
+          (filter (λ (g : Flow). is_in_use g.story) (map (seeks_for now guest) flows)))
           ≡ length (cond b (f ∷ filter (λ (g : Flow). is_in_use g.story) flows) (filter (λ (g : Flow). is_in_use g.story) flows))
       by_test true rest = ap suc rest
       by_test false rest = rest
@@ -77,7 +79,8 @@ module _ (now guest : ℕ) where
             );
         empty = seats.empty;
         numbers = seats.numbers;
-        owned = λ k n t here is_on. owner_id t (map (seeks_for now guest) flows) flows (asks_ids flows) ∙ seats.owned k n t here (sym (found_id n (map (seeks_for now guest) flows) flows (asks_ids flows)) ∙ is_on);
+        owned = λ k n t here is_on. owner_id t (map (seeks_for now guest) flows) flows (asks_ids flows) ∙ seats.owned k n t here
+            (sym (found_id n (map (seeks_for now guest) flows) flows (asks_ids flows)) ∙ is_on);
         found = λ n in_use. seats.found n (sym (uses_asked (flow_of n flows)) ∙ (sym (ap uses (found n)) ∙ in_use));
         order = seats.order;
         counted = asks_used flows ∙ seats.counted;

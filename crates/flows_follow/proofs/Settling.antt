@@ -32,7 +32,8 @@ same_used new_used old_used o n is was now =
     let before : new_used + 0 ≡ old_used + 0 = sym (ap (λ b. new_used + one_if b) was) ∙ is ∙ ap (λ b. old_used + one_if b) now in
     omega (arith, before)
 
-slot_unused : (rests : List Rest) (f g : Flow) (t : Tuple) (since : ℕ) → g.number ≡ f.number → g.tuple ≡ f.tuple → is_in_use g.story ≡ false → IsSlotOf rests f (Resting t since) → IsSlotOf rests g (Resting t since)
+slot_unused : (rests : List Rest) (f g : Flow) (t : Tuple) (since : ℕ) → g.number ≡ f.number → g.tuple ≡ f.tuple → is_in_use g.story ≡ false → IsSlotOf rests f (Resting t since) →
+    IsSlotOf rests g (Resting t since)
 slot_unused rests f g t since number tuple unused is = (tuple ∙ is.0, subst (λ n. Contains rests (rest n since)) (sym number) is.1, unused)
 
 module _ {P : Type 0} (number : P → ℕ) (Follows : P → Story → Type 0) (table : Flows) (parts : List (Option P)) (next : ℕ) (old new : List Flow) (rests : List Rest) where
@@ -45,7 +46,8 @@ module _ {P : Type 0} (number : P → ℕ) (Follows : P → Story → Type 0) (t
       let stays : (n : ℕ) → (n == number p) ≡ false → flow_of n new ≡ flow_of n old = only.apart in
       let put : (j : ℕ) → number_at number (set parts k (Some q)) j ≡ number_at number parts j = number_put number parts k p q at same in
       let g_number : g.number ≡ number p = number_of_found (number p) new g is in
-      let others : (j : ℕ) (r : P) → slice_get parts j ≡ Some (Some r) → (j == k) ≡ false → (number r == number p) ≡ false = λ j r here other. not_one j k (number r) (number p) other (λ one. seats.numbers j k (number p) (ap (number_in number) here ∙ ap Some one) (ap (number_in number) at)) in
+      let others : (j : ℕ) (r : P) → slice_get parts j ≡ Some (Some r) → (j == k) ≡ false → (number r == number p) ≡ false = λ j r here other. not_one j k (number r)
+      (number p) other (λ one. seats.numbers j k (number p) (ap (number_in number) here ∙ ap Some one) (ap (number_in number) at)) in
       record {
         seated = λ j r here. elim (same_or_not j k) [
           | inl at_k ↦
@@ -53,7 +55,8 @@ module _ {P : Type 0} (number : P → ℕ) (Follows : P → Story → Type 0) (t
               let seat = seats.seated k p at in
               let is_f : seat.0 ≡ f = some_same seat.0 f (sym seat.2 ∙ was) in
               let is_slot : seat.1 ≡ Resting t since = some_same seat.1 (Resting t since) (sym seat.5 ∙ slot) in
-              let tuple : g.tuple ≡ f.tuple = some_same g.tuple f.tuple (sym (ap (option_map (λ (h : Flow). h.tuple)) is) ∙ found_id (number p) new old only.same ∙ ap (option_map (λ (h : Flow). h.tuple)) was) in
+              let tuple : g.tuple ≡ f.tuple = some_same g.tuple f.tuple (sym (ap (option_map (λ (h : Flow). h.tuple)) is) ∙ found_id (number p) new old only.same ∙ ap
+              (option_map (λ (h : Flow). h.tuple)) was) in
               let of_f = subst (λ (s : Slot). IsSlotOf rests f s) is_slot (subst (λ (x : Flow). IsSlotOf rests x seat.1) is_f seat.6) in (
                 g,
                 Resting t since,

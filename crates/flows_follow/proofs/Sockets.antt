@@ -18,7 +18,8 @@ use Rattle.run_laws.specs.Sockets.{Kind, Listener, Flow as AFlow, is_among, is_f
 use Rattle.flow_laws.specs.Event.{Segment, Event, Connects, Accepts, Arrives, Departs, AsksAddress, At, Story, Closes}
 use Rattle.flow_laws.specs.Flow.{first_number, is_accepted, is_closed}
 use Rattle.record_flows.specs.Book.{book, doom, is_refused, joins_for, opens, port_of, scene, tuple_for, turned, visits_for}
-use Rattle.record_flows.specs.Doings.{Doing, Nothing, Comes, Goes, Seeks, Pauses, Joins, Visits, Calls, Shuts, by_call, comes, doing, doing_by, goes, seeks, joined as joined_by, read_by, written_by, ended_by, joins as joined_one, visits}
+use Rattle.record_flows.specs.Doings.{Doing, Nothing, Comes, Goes, Seeks, Pauses, Joins, Visits, Calls, Shuts, by_call, comes, doing, doing_by, goes, seeks, joined as joined_by, read_by}
+use Rattle.record_flows.specs.Doings.{written_by, ended_by, joins as joined_one, visits}
 use Rattle.record_flows.specs.Flows.{Flow, Book, Scene, flow_of, is_on, is_numbered, seeks_for, sends, shuts, tell, with_event, is_strange}
 use Rattle.record_flows.specs.Said.{Differ, Each}
 use Rattle.record_flows.specs.Segments.{OnTuple, asked_in, segment_came, segment_in}

@@ -22,8 +22,10 @@ use Rattle.flows_follow.proofs.Seeking.{seats_asked}
 use Rattle.flows_follow.proofs.Holding.{taught_on}
 use Rattle.flows_follow.proofs.Options.{none_some, some_same}
 
-module _ {P : Type 0} (number : P → ℕ) (mac : P → Option Mac) (F : P → Story → Type 0) (config : Config) (aged : Bool) (task : Option Call) (state : FlowsState P) (past : List Entry) (e : Entry) (guest : ℕ) (holds : FlowsHold number mac F config aged task state past)
-    (goes_on : (p : P) (story : Story) → F p story → F p (At (moment past) AsksAddress ∷ story)) (seeks : doing config past e ≡ Seeks guest) (at : moment (e ∷ past) ≡ moment past) (next : next_number (e ∷ past) ≡ next_number past) where
+module _ {P : Type 0} (number : P → ℕ) (mac : P → Option Mac) (F : P → Story → Type 0) (config : Config) (aged : Bool) (task : Option Call) (state : FlowsState P)
+    (past : List Entry) (e : Entry) (guest : ℕ) (holds : FlowsHold number mac F config aged task state past)
+    (goes_on : (p : P) (story : Story) → F p story → F p (At (moment past) AsksAddress ∷ story)) (seeks : doing config past e ≡ Seeks guest) (at : moment (e ∷ past) ≡ moment past)
+    (next : next_number (e ∷ past) ≡ next_number past) where
   abbrev now : ℕ
   now = moment past
 
@@ -52,7 +54,8 @@ module _ {P : Type 0} (number : P → ℕ) (mac : P → Option Mac) (F : P → S
       seats_asked now guest number F state.table state.slots (next_number past) (book config past).flows (rests_at aged config past)
       goes_on holds.seats
 
-  learnt_told : (k : ℕ) (p : P) (h : Flow) (m : Mac) → slice_get state.slots k ≡ Some (Some p) → flow_of (number p) (book config (e ∷ past)).flows ≡ Some h → mac p ≡ Some m → Contains (taught config (e ∷ past)) (h.tuple.guest.addr, m)
+  learnt_told : (k : ℕ) (p : P) (h : Flow) (m : Mac) → slice_get state.slots k ≡ Some (Some p) → flow_of (number p) (book config (e ∷ past)).flows ≡ Some h → mac p ≡ Some m →
+      Contains (taught config (e ∷ past)) (h.tuple.guest.addr, m)
   learnt_told k p h m here found is_mac = by (flow_of (number p) (book config past).flows) refl
     where
       was : option_map (seeks_for now guest) (flow_of (number p) (book config past).flows) ≡ Some h

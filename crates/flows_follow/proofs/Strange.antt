@@ -1,10 +1,12 @@
 -- A reset that is still owed as the answer to what came last is no flow's own segment, and the frames of answers leave the flows as they are.
-use Rattle.std.proofs.Common.{nat_eq, nat_lt, ◌≡◌, ℕ, ◌≤◌, ◌&&◌, ◌||◌, not, Bool, true, false, List, [], ◌∷◌, length, drop, filter, MatchBool, Option, Some, None, if◌then◌else◌, ◌⊎◌, inl, inr, refl, sym, ◌∙◌, ap, subst}
+use Rattle.std.proofs.Common.{nat_eq, nat_lt, ◌≡◌, ℕ, ◌≤◌, ◌&&◌, ◌||◌, not, Bool, true, false, List, [], ◌∷◌, length, drop, filter, MatchBool, Option, Some, None, if◌then◌else◌, ◌⊎◌, inl}
+use Rattle.std.proofs.Common.{inr, refl, sym, ◌∙◌, ap, subst}
 use Rattle.net_octets.specs.declared.Endpoint.{Endpoint}
 use Rattle.net_octets.specs.declared.Mac.{Mac}
 use Rattle.std.specs.Option.{unwrap_or}
 use Rattle.seq_space.specs.Places.{number_of}
-use Rattle.world_face.specs.Journal.{Entry, Call, Now, Wait, LinkOpen, LinkRead, LinkWrite, Connect, Connected as CallsConnected, Listen, Accept, TcpRead, TcpWrite, TcpEnd, Close, UdpOpen, UdpSend, UdpRecv, FileLen, FileRead, CallConnect}
+use Rattle.world_face.specs.Journal.{Entry, Call, Now, Wait, LinkOpen, LinkRead, LinkWrite, Connect, Connected as CallsConnected, Listen, Accept, TcpRead, TcpWrite, TcpEnd, Close, UdpOpen}
+use Rattle.world_face.specs.Journal.{UdpSend, UdpRecv, FileLen, FileRead, CallConnect}
 use Rattle.world_face.specs.Frames.{goes_out, opens as opens_by, tail}
 use Rattle.world_face.specs.declared.Io.{Io}
 use Rattle.world_face.specs.declared.Io.TheVariants.{Done as IoDone, End, NotYet as IoNotYet, Failed as IoFailed}
@@ -48,7 +50,8 @@ use Rattle.dns_relay.specs.declared.Question.{Question}
 use Rattle.dns_relay.specs.Questions.{numbered}
 use Rattle.tftp_server.specs.Asking.{by_answer}
 use Rattle.tftp_server.specs.Transfers.{Outcome, Said}
-use Rattle.slirp_laws.specs.Answers.{Serving, is_flows, starts, again_frames, begins_again, is_first, is_out, ledger, left_by_file, left_by_outcome, may_go_again, serving, told_of_files, frames_of, identification, left, left_after, owed_for_packet, owed_for_segment, strays, taken, unsent}
+use Rattle.slirp_laws.specs.Answers.{Serving, is_flows, starts, again_frames, begins_again, is_first, is_out, ledger, left_by_file, left_by_outcome, may_go_again, serving, told_of_files}
+use Rattle.slirp_laws.specs.Answers.{frames_of, identification, left, left_after, owed_for_packet, owed_for_segment, strays, taken, unsent}
 use Rattle.slirp_laws.specs.Datagrams.{Step, Settled, NeedsRoom, NeedsSocket, NeedsSending}
 use Rattle.slirp_laws.specs.Laws.{Lawful, May}
 use Rattle.slirp_laws.proofs.Deeds.{FlowsLetWrite}
@@ -86,7 +89,8 @@ reset_why config b on reset = by (is_used on.tuple b.flows) refl reset
     other = if on.segment.rst || is_to_many config on.tuple.other then Dropped
         else (if is_opening on.segment then lot_by (target config OverTcp on.tuple.other) (nat_lt (used b.flows) config.flows) else Strange)
 
-    by : (t : Bool) → is_used on.tuple b.flows ≡ t → is_reset_by (if t || is_resting on.tuple b then OfFlow else other) (is_mistaken on.segment (owner on.tuple b.flows)) ≡ true → (on.segment.ack ≡ true) ⊎ (is_used on.tuple b.flows ≡ false)
+    by : (t : Bool) → is_used on.tuple b.flows ≡ t → is_reset_by (if t || is_resting on.tuple b then OfFlow else other) (is_mistaken on.segment (owner on.tuple b.flows)) ≡ true →
+        (on.segment.ack ≡ true) ⊎ (is_used on.tuple b.flows ≡ false)
     by true is reset = inl (mistaken_ack on.segment (owner on.tuple b.flows) reset)
     by false is reset = inr is
 
@@ -94,7 +98,8 @@ reset_why config b on reset = by (is_used on.tuple b.flows) refl reset
 asks_none : (config : Config) (b : Book) (to : Endpoint) (asked : ConnectsAsAsked config b to) → is_reset config b asked.on ≡ false
 asks_none config b to asked =
     let on = asked.on in
-    by (is_used on.tuple b.flows) (is_resting on.tuple b) (on.segment.rst || is_to_many config on.tuple.other) (is_opening on.segment) (nat_lt (used b.flows) config.flows) (target config OverTcp on.tuple.other) (is_mistaken on.segment (owner on.tuple b.flows))
+    by (is_used on.tuple b.flows) (is_resting on.tuple b) (on.segment.rst || is_to_many config on.tuple.other) (is_opening on.segment) (nat_lt (used b.flows) config.flows)
+    (target config OverTcp on.tuple.other) (is_mistaken on.segment (owner on.tuple b.flows))
     asked.free asked.awake asked.opening asked.target
   where
     by : (used resting many opening room : Bool) (v : Verdict) (mistaken : Bool) → used ≡ false → resting ≡ false → opening ≡ true → v ≡ Go to
@@ -160,7 +165,8 @@ strange_if seg f rst none = by seg.rst (owes_reset f.story) (is_owed_reset f.sto
     by true true false rst none = refl
     by true false owed rst none = refl
 
-strange_by : (config : Config) (past : List Entry) (frame : List ℕ) (rest : List (List ℕ)) (on : OnTuple) (f : Flow) → 28 ≤ config.mtu → Lawful config past → HasEnds config past → IsCalm config past → left config past ≡ frame ∷ rest
+strange_by : (config : Config) (past : List Entry) (frame : List ℕ) (rest : List (List ℕ)) (on : OnTuple) (f : Flow) → 28 ≤ config.mtu → Lawful config past → HasEnds config past →
+    IsCalm config past → left config past ≡ frame ∷ rest
     → segment_in frame ≡ Some on → owner on.tuple (book config past).flows ≡ Some f → is_strange on.segment f ≡ true
 strange_by config past frame rest on f fits lawful ends calm is read owned = elim calm [
   | inl none ↦ absurd (never (sym none ∙ is))
@@ -206,11 +212,13 @@ module _ (config : Config) (past : List Entry) (asked : ℕ) (answer : Io) (octe
   reads_meanwhile (Some arrival) = comes_meanwhile (segment_came (Some arrival))
 
   by_arrival : CalmIf config past → (o : Option Arrival) → AreEnds (answered (occasion_after config the_read past o (last_occasion config past)))
-      → (left_after config past (happens config past the_read) o (ledger config past) ≡ []) ⊎ IsClear (book config (the_read ∷ past)).flows (answered (occasion_after config the_read past o (last_occasion config past)))
+      → (left_after config past (happens config past the_read) o (ledger config past) ≡ []) ⊎ IsClear (book config (the_read ∷ past)).flows
+      (answered (occasion_after config the_read past o (last_occasion config past)))
   by_arrival calm (Some arrival) ends = inr (after_packet arrival.packet)
   by_arrival calm None ends = elim (calm ends) [
     | inl none ↦ inl none
-    | inr clear ↦ inr (clear_on config (scene config past) (book config past) (doing config past the_read) (answered (last_occasion config past)) (reads_meanwhile (happens config past the_read).came) clear)
+    | inr clear ↦ inr (clear_on config (scene config past) (book config past) (doing config past the_read) (answered (last_occasion config past))
+        (reads_meanwhile (happens config past the_read).came) clear)
   ]
 
   after_read : CalmIf config past → CalmIf config (the_read ∷ past)
@@ -218,7 +226,8 @@ module _ (config : Config) (past : List Entry) (asked : ℕ) (answer : Io) (octe
 
 -- ---- a frame went out
 
-module _ (config : Config) (past : List Entry) (octets : List ℕ) (answer : Io) (fits : 28 ≤ config.mtu) (lawful : Lawful config (LinkWrite octets answer ∷ past)) (ends : HasEnds config past) (calm : IsCalm config past) where
+module _ (config : Config) (past : List Entry) (octets : List ℕ) (answer : Io) (fits : 28 ≤ config.mtu) (lawful : Lawful config (LinkWrite octets answer ∷ past))
+    (ends : HasEnds config past) (calm : IsCalm config past) where
   abbrev the_write : Entry
   the_write = LinkWrite octets answer
 
@@ -238,11 +247,13 @@ module _ (config : Config) (past : List Entry) (octets : List ℕ) (answer : Io)
   last_by b = if b then by_said (may_go_again (serving config past)) (last_occasion config past) else last_occasion config past
 
   -- one that goes again answers no segment
-  again_calm : (frame : List ℕ) (o : Option Said) → is_first frame (frames_of config (identification past) (told_of_files config o)) ≡ true → IsClear (book config (the_write ∷ past)).flows (answered (by_said o (last_occasion config past)))
+  again_calm : (frame : List ℕ) (o : Option Said) → is_first frame (frames_of config (identification past) (told_of_files config o)) ≡ true → IsClear
+      (book config (the_write ∷ past)).flows (answered (by_said o (last_occasion config past)))
   again_calm frame None is = cc
   again_calm frame (Some said) is = tt
 
-  by_again : (frame : List ℕ) → goes_out the_write past ≡ Some frame → left config past ≡ [] → (b : Bool) → starts frame (again_frames config (identification past) (serving config past)) ≡ b → IsCalm config (the_write ∷ past)
+  by_again : (frame : List ℕ) → goes_out the_write past ≡ Some frame → left config past ≡ [] → (b : Bool) → starts frame
+      (again_frames config (identification past) (serving config past)) ≡ b → IsCalm config (the_write ∷ past)
   by_again frame out nothing true first = inr (subst (λ b. IsClear (book config (the_write ∷ past)).flows (answered (last_by b)))
       (sym (ap begins out ∙ ap (λ l. is_out l && starts frame (again_frames config (identification past) (serving config past))) nothing ∙ first))
       (again_calm frame (may_go_again (serving config past)) (second_of (not (is_flows frame)) (is_first frame (again_frames config (identification past) (serving config past))) first)))
@@ -302,7 +313,8 @@ visits_meanwhile b NotYetAccepted listener socket = tt
 visits_meanwhile b AcceptFailed listener socket = tt
 
 -- where a segment asked for a connection that came last, nothing is left
-none_owed : (config : Config) (s : Serving) (b : Book) (on : OnTuple) (ident : ℕ) (packet : Packet) → is_reset config b on ≡ false → segment_by packet ≡ Some on → frames_of config ident (owed_for_packet config s (strays config b packet) packet) ≡ []
+none_owed : (config : Config) (s : Serving) (b : Book) (on : OnTuple) (ident : ℕ) (packet : Packet) → is_reset config b on ≡ false → segment_by packet ≡ Some on →
+    frames_of config ident (owed_for_packet config s (strays config b packet) packet) ≡ []
 none_owed config s b on ident (SegmentPacket mac ip tcp) none is =
     ap (λ t. frames_of config ident (owed_for_segment t (from_guest mac ip tcp))) (ap (is_reset config b) (some_same (from_guest mac ip tcp) on is) ∙ none)
 none_owed config s b on ident Unheard none is = cc
@@ -382,12 +394,14 @@ written_calm config past octets answer fits lawful calm false is = λ ends.
     ap (λ (b : Bool). if b then by_said (may_go_again (serving config past)) (last_occasion config past) else last_occasion config past) is in
     let before : HasEnds config past = subst (λ o. AreEnds (answered o)) same ends in
     after_write config past octets answer fits lawful before (calm before)
-written_calm config past octets answer fits lawful calm true is = λ ends. inr (subst (λ o. IsClear (book config (LinkWrite octets answer ∷ past)).flows (answered o)) (sym now) (clear (may_go_again (serving config past)) (goes_out (LinkWrite octets answer) past) is))
+written_calm config past octets answer fits lawful calm true is = λ ends. inr (subst (λ o. IsClear (book config (LinkWrite octets answer ∷ past)).flows (answered o)) (sym now)
+    (clear (may_go_again (serving config past)) (goes_out (LinkWrite octets answer) past) is))
   where
     now : last_occasion config (LinkWrite octets answer ∷ past) ≡ by_said (may_go_again (serving config past)) (last_occasion config past)
     now = ap (λ (b : Bool). if b then by_said (may_go_again (serving config past)) (last_occasion config past) else last_occasion config past) is
 
-    clear : (o : Option Said) (out : Option (List ℕ)) → begun_of config past o out ≡ true → IsClear (book config (LinkWrite octets answer ∷ past)).flows (answered (by_said o (last_occasion config past)))
+    clear : (o : Option Said) (out : Option (List ℕ)) → begun_of config past o out ≡ true → IsClear (book config (LinkWrite octets answer ∷ past)).flows
+        (answered (by_said o (last_occasion config past)))
     clear (Some said) out is = tt
     clear None None is = cc
     clear None (Some frame) is = (let never : false ≡ true = sym (no_start frame (is_out (left config past))) ∙ is in cc)
@@ -418,11 +432,14 @@ after_file config e past o is lefts lasts may calm = λ ends. by o is ends
       where
         by_told : (told : Option Said) → outcome.told ≡ told → IsCalm config (e ∷ past)
         by_told None none =
-            let same_last : last_occasion config (e ∷ past) ≡ last_occasion config past = lasts ∙ ap (λ o. by_outcome o (last_occasion config past)) is ∙ ap (λ t. by_said t (last_occasion config past)) none in
-            goes_on config e past (lefts ∙ ap (λ o. left_by_outcome config (identification past) o (left config past)) is ∙ ap (λ t. left_by_file config (identification past) t (left config past)) none) same_last may
+            let same_last : last_occasion config (e ∷ past) ≡ last_occasion config past = lasts ∙ ap (λ o. by_outcome o (last_occasion config past)) is ∙ ap
+            (λ t. by_said t (last_occasion config past)) none in
+            goes_on config e past (lefts ∙ ap (λ o. left_by_outcome config (identification past) o (left config past)) is ∙ ap (λ t. left_by_file config (identification past) t
+            (left config past)) none) same_last may
             (calm (subst (λ o. AreEnds (answered o)) same_last ends))
         by_told (Some said) some =
-            inr (subst (λ o. IsClear (book config (e ∷ past)).flows (answered o)) (sym (lasts ∙ ap (λ o. by_outcome o (last_occasion config past)) is ∙ ap (λ t. by_said t (last_occasion config past)) some)) tt)
+            inr (subst (λ o. IsClear (book config (e ∷ past)).flows (answered o))
+            (sym (lasts ∙ ap (λ o. by_outcome o (last_occasion config past)) is ∙ ap (λ t. by_said t (last_occasion config past)) some)) tt)
 
 -- ---- all entries
 
@@ -431,11 +448,13 @@ calm_by config (Now told) past fits lawful calm = λ ends. goes_on config (Now t
 calm_by config (Wait wants timeout answer ready) past fits lawful calm = λ ends. goes_on config (Wait wants timeout answer ready) past refl refl tt (calm ends)
 calm_by config (LinkOpen at answer) past fits lawful calm = λ ends. goes_on config (LinkOpen at answer) past refl refl tt (calm ends)
 calm_by config (LinkRead asked answer octets) past fits lawful calm = after_read config past asked answer octets calm
-calm_by config (LinkWrite octets answer) past fits lawful calm = written_calm config past octets answer fits lawful calm (begins_again config (identification past) (ledger config past) (goes_out (LinkWrite octets answer) past)) refl
+calm_by config (LinkWrite octets answer) past fits lawful calm = written_calm config past octets answer fits lawful calm
+    (begins_again config (identification past) (ledger config past) (goes_out (LinkWrite octets answer) past)) refl
 calm_by config (Connect socket to answer) past fits lawful calm = λ ends. after_connect config past socket to answer lawful.0
 calm_by config (CallsConnected socket answer) past fits lawful calm = λ ends. goes_on config (CallsConnected socket answer) past refl refl (joined_apart answer) (calm ends)
 calm_by config (Listen socket at answer) past fits lawful calm = λ ends. goes_on config (Listen socket at answer) past refl refl tt (calm ends)
-calm_by config (Accept listener socket answer) past fits lawful calm = λ ends. goes_on config (Accept listener socket answer) past refl refl (visits_meanwhile (book config past) answer listener socket) (calm ends)
+calm_by config (Accept listener socket answer) past fits lawful calm = λ ends. goes_on config (Accept listener socket answer) past refl refl
+    (visits_meanwhile (book config past) answer listener socket) (calm ends)
 calm_by config (TcpRead socket asked answer octets) past fits lawful calm = λ ends. goes_on config (TcpRead socket asked answer octets) past refl refl (read_apart answer octets) (calm ends)
 calm_by config (TcpWrite socket octets answer) past fits lawful calm = λ ends. goes_on config (TcpWrite socket octets answer) past refl refl (written_apart answer octets) (calm ends)
 calm_by config (TcpEnd socket answer) past fits lawful calm = λ ends. goes_on config (TcpEnd socket answer) past refl refl (ended_apart answer) (calm ends)
@@ -445,7 +464,8 @@ calm_by config (Close socket) past fits lawful calm =
 calm_by config (UdpOpen socket at answer) past fits lawful calm = after_open config past socket at answer calm
 calm_by config (UdpSend socket to octets answer) past fits lawful calm = after_send config past socket to octets answer calm
 calm_by config (UdpRecv socket asked answer octets) past fits lawful calm = after_hearing config past socket asked answer octets calm
-calm_by config (FileLen name answer) past fits lawful calm = after_file config (FileLen name answer) past (by_answer (serving config past).now (FileLen name answer) (serving config past).files) refl refl refl tt calm
+calm_by config (FileLen name answer) past fits lawful calm = after_file config (FileLen name answer) past (by_answer (serving config past).now (FileLen name answer)
+    (serving config past).files) refl refl refl tt calm
 calm_by config (FileRead name place asked answer octets) past fits lawful calm =
     after_file config (FileRead name place asked answer octets) past (by_answer (serving config past).now (FileRead name place asked answer octets) (serving config past).files) refl refl refl tt calm
 
@@ -457,13 +477,15 @@ is_calm config (e ∷ past) fits lawful = calm_by config e past fits lawful (is_
 -- ---- what is left is no flow's own
 
 -- the first frame that is left, where a segment is read in it, is strange to the flow that was opened last on its tuple
-pub left_strange : (config : Config) (past : List Entry) (frame : List ℕ) (rest : List (List ℕ)) (on : OnTuple) (f : Flow) → 28 ≤ config.mtu → Lawful config past → HasEnds config past → left config past ≡ frame ∷ rest → segment_in frame ≡ Some on
+pub left_strange : (config : Config) (past : List Entry) (frame : List ℕ) (rest : List (List ℕ)) (on : OnTuple) (f : Flow) → 28 ≤ config.mtu → Lawful config past →
+    HasEnds config past → left config past ≡ frame ∷ rest → segment_in frame ≡ Some on
     → owner on.tuple (book config past).flows ≡ Some f → is_strange on.segment f ≡ true
 left_strange config past frame rest on f fits lawful ends is read owned = strange_by config past frame rest on f fits lawful ends (is_calm config past fits lawful ends) is read owned
 
 -- ---- a frame of an answer may go out, and leaves the flows as they are
 
-module _ (config : Config) (past : List Entry) (frame : List ℕ) (rest : List (List ℕ)) (fits : 28 ≤ config.mtu) (lawful : Lawful config past) (ends : HasEnds config past) (is : left config past ≡ frame ∷ rest) where
+module _ (config : Config) (past : List Entry) (frame : List ℕ) (rest : List (List ℕ)) (fits : 28 ≤ config.mtu) (lawful : Lawful config past) (ends : HasEnds config past)
+    (is : left config past ≡ frame ∷ rest) where
   may_send : (on : OnTuple) (o : Option Flow) → segment_in frame ≡ Some on → owner on.tuple (book config past).flows ≡ o → MaySend (flow_settings config) (moment past) on.segment o
   may_send on None read owned = left_resets config past frame rest on fits lawful is read
   may_send on (Some f) read owned =
@@ -526,7 +548,8 @@ module _ (config : Config) (past : List Entry) (frame : List ℕ) (rest : List (
     holds_quiet e new next at holds =
         let flows_are : (book config (e ∷ past)).flows ≡ (book config past).flows = ap (λ (b : Book). b.flows) new in
         let rests_are : rests_at aged config (e ∷ past) ≡ rests_at aged config past =
-        ap (λ (b : Book). if aged then filter (is_young (moment (e ∷ past))) b.rests else b.rests) new ∙ ap (λ (m : ℕ). if aged then filter (is_young m) (book config past).rests else (book config past).rests) at in
+        ap (λ (b : Book). if aged then filter (is_young (moment (e ∷ past))) b.rests else b.rests) new ∙ ap
+        (λ (m : ℕ). if aged then filter (is_young m) (book config past).rests else (book config past).rests) at in
         record {
           seats = subst (λ (n : ℕ). Seats number F state.table state.slots n (book config (e ∷ past)).flows (rests_at aged config (e ∷ past))) (sym next)
               (subst (λ (r : List Rest). Seats number F state.table state.slots (next_socket past) (book config (e ∷ past)).flows r) (sym rests_are)
@@ -537,7 +560,8 @@ module _ (config : Config) (past : List Entry) (frame : List ℕ) (rest : List (
           learnt = λ k p f m at found is_mac. taught_on config past (e ∷ []) (f.tuple.guest.addr, m) (holds.learnt k p f m at (ap (flow_of (number p)) (sym flows_are) ∙ found) is_mac);
         }
 
-    pub holds_answered : ((p : P) (story : Story) → F p story → F p (At (moment past) AsksAddress ∷ story)) → (octets : List ℕ) (answer : Io) → drop 4 octets ≡ frame → FlowsHold number mac F config aged task state past
+    pub holds_answered : ((p : P) (story : Story) → F p story → F p (At (moment past) AsksAddress ∷ story)) → (octets : List ℕ) (answer : Io) → drop 4 octets ≡ frame →
+        FlowsHold number mac F config aged task state past
         → FlowsHold number mac F config aged None state (LinkWrite octets answer ∷ past)
     unfolding IsSame AsksForOne
     holds_answered on octets answer begins holds = elim (write_either octets answer begins (tail past)) [

@@ -1,5 +1,6 @@
 -- A segment came on two ends that no slot has: no flow of the core is told, and what becomes of it is decided by the policy and the room.
-use Rattle.std.proofs.Common.{◌≡◌, ℕ, ◌+◌, ◌==◌, ◌||◌, not, nat_lt, Bool, true, false, cond, List, [], ◌∷◌, ◌++◌, find, slice_get, length, Option, Some, None, option_map, if◌then◌else◌, refl, sym, ◌∙◌, ap, subst, arith}
+use Rattle.std.proofs.Common.{◌≡◌, ℕ, ◌+◌, ◌==◌, ◌||◌, not, nat_lt, Bool, true, false, cond, List, [], ◌∷◌, ◌++◌, find, slice_get, length, Option, Some, None, option_map, if◌then◌else◌}
+use Rattle.std.proofs.Common.{refl, sym, ◌∙◌, ap, subst, arith}
 use Rattle.std.specs.Prelude.{Contains}
 use Rattle.std.proofs.lemmas.Bool.Decides.{nat_tests}
 use Rattle.net_octets.specs.declared.Mac.{Mac}
@@ -51,7 +52,8 @@ used_alike new_used old_used o n is same =
     omega (arith, before)
 
 -- numbers and tuples stay as they were
-ids_told : (t : Tuple) (change : Flow → Flow) → ((g : Flow) → (change g).number ≡ g.number) → ((g : Flow) → (change g).tuple ≡ g.tuple) → (flows : List Flow) → ids (tell (is_on t) change flows) ≡ ids flows
+ids_told : (t : Tuple) (change : Flow → Flow) → ((g : Flow) → (change g).number ≡ g.number) → ((g : Flow) → (change g).tuple ≡ g.tuple) → (flows : List Flow) → ids
+    (tell (is_on t) change flows) ≡ ids flows
 ids_told t change numbers tuples [] = refl
 ids_told t change numbers tuples (g ∷ flows) = by (is_on t g) (ids_told t change numbers tuples flows)
   where
@@ -60,16 +62,19 @@ ids_told t change numbers tuples (g ∷ flows) = by (is_on t g) (ids_told t chan
     by false rest = ap (λ l. (g.number, g.tuple) ∷ l) rest
 
 -- the flow that was opened last on a tuple is that still
-pub owner_told : (t : Tuple) (change : Flow → Flow) (keeps : (g : Flow) → (change g).tuple ≡ g.tuple) (flows : List Flow) (f : Flow) → owner t flows ≡ Some f → owner t (tell (is_on t) change flows) ≡ Some (change f)
+pub owner_told : (t : Tuple) (change : Flow → Flow) (keeps : (g : Flow) → (change g).tuple ≡ g.tuple) (flows : List Flow) (f : Flow) → owner t flows ≡ Some f → owner t
+    (tell (is_on t) change flows) ≡ Some (change f)
 owner_told t change keeps [] f is = absurd cc
 owner_told t change keeps (g ∷ flows) f is = by (is_on t g) refl is (owner_told t change keeps flows f)
   where
     by : (b : Bool) → is_on t g ≡ b → cond b (Some g) (owner t flows) ≡ Some f → (owner t flows ≡ Some f → owner t (tell (is_on t) change flows) ≡ Some (change f))
         → owner t (if b then change g ∷ flows else g ∷ tell (is_on t) change flows) ≡ Some (change f)
-    by true on is go_on = let one : g ≡ f = cc in ap (λ u. cond (same_tuple u t) (Some (change g)) (owner t flows)) (keeps g) ∙ ap (λ b. cond b (Some (change g)) (owner t flows)) on ∙ ap (λ h. Some (change h)) one
+    by true on is go_on = let one : g ≡ f = cc in ap (λ u. cond (same_tuple u t) (Some (change g)) (owner t flows)) (keeps g) ∙ ap
+        (λ b. cond b (Some (change g)) (owner t flows)) on ∙ ap (λ h. Some (change h)) one
     by false off is go_on = ap (λ b. cond b (Some g) (owner t (tell (is_on t) change flows))) off ∙ go_on is
 
-module _ (config : Config) (state : FlowsState Splice) (past : List Entry) (now : ℕ) (task : Option Call) (holds : CoreHolds config now false task state past) (sizes : length state.slots ≡ length state.table.slots)
+module _ (config : Config) (state : FlowsState Splice) (past : List Entry) (now : ℕ) (task : Option Call) (holds : CoreHolds config now false task state past)
+    (sizes : length state.slots ≡ length state.table.slots)
     (e : Entry) (on : OnTuple) (comes : doing config past e ≡ Comes on) (none : NoneHas state.table.slots on.tuple) (next_is : next_number (e ∷ past) ≡ next_number past) where
   abbrev old : Book
   old = book config past
@@ -92,15 +97,18 @@ module _ (config : Config) (state : FlowsState Splice) (past : List Entry) (now 
     where
       by : (o : Option Flow) → rests_among old.rests o ≡ false → after_segment (moment past) on.segment o old.rests ≡ old.rests
       by None not_one = refl
-      by (Some f) not_one = ap (λ b. if not b then old.rests else (if ends_rest f.story on.segment then without f.number old.rests else (if renews on.segment then without f.number old.rests ++ (rest f.number (moment past) ∷ []) else old.rests))) not_one
+      by (Some f) not_one = ap (λ b. if not b then old.rests else (if ends_rest f.story on.segment then without f.number old.rests else
+          (if renews on.segment then without f.number old.rests ++ (rest f.number (moment past) ∷ []) else old.rests))) not_one
 
   -- no part has the number of the owner, if there is one
   nobody : (f : Flow) → owner on.tuple old.flows ≡ Some f → (k : ℕ) → number_at number_of state.slots k ≡ Some f.number → ⊥
   nobody f is k at =
-      none k (slot_of number_of (Following config now) state.table state.slots (next_number past) old.flows old.rests holds.seats sizes k f.number f at (found_by (is_on on.tuple) old.flows f holds.seats.differ is) ∙ ap Some (owner_has on.tuple old.flows f is))
+      none k (slot_of number_of (Following config now) state.table state.slots (next_number past) old.flows old.rests holds.seats sizes k f.number f at
+      (found_by (is_on on.tuple) old.flows f holds.seats.differ is) ∙ ap Some (owner_has on.tuple old.flows f is))
 
   tells : (o : Option Flow) → owner on.tuple old.flows ≡ o
-      → Seats number_of (Following config now) state.table state.slots (next_number past) then_book.flows old.rests × (used then_book.flows ≡ used old.flows) × (length then_book.flows ≡ length old.flows) × (is_used on.tuple then_book.flows ≡ false)
+      → Seats number_of (Following config now) state.table state.slots (next_number past) then_book.flows old.rests × (used then_book.flows ≡ used old.flows) ×
+      (length then_book.flows ≡ length old.flows) × (is_used on.tuple then_book.flows ≡ false)
       × (rests_among old.rests (owner on.tuple then_book.flows) ≡ false)
   tells None is =
       let same : then_book.flows ≡ old.flows = tell_none (is_on on.tuple) (with_event (moment past) (Arrives on.segment)) old.flows is in (
@@ -112,11 +120,13 @@ module _ (config : Config) (state : FlowsState Splice) (past : List Entry) (now 
       )
   tells (Some f) is =
       let found : flow_of f.number old.flows ≡ Some f = found_by (is_on on.tuple) old.flows f holds.seats.differ is in
-      let told : flow_of f.number then_book.flows ≡ Some (with_event (moment past) (Arrives on.segment) f) = own_told on.tuple (with_event (moment past) (Arrives on.segment)) (λ g. refl) f old.flows is found in
+      let told : flow_of f.number then_book.flows ≡ Some (with_event (moment past) (Arrives on.segment) f) = own_told on.tuple (with_event (moment past) (Arrives on.segment))
+      (λ g. refl) f old.flows is found in
       let of : IsOf f.number old (Comes on) = ap (has_number f.number) is ∙ same_number f.number in
       let only = only_happens config (scene config past) f.number old holds.seats.differ (Comes on) of in
       let alike : uses (flow_of f.number then_book.flows) ≡ uses (flow_of f.number old.flows) = ap uses told ∙ sym (ap uses found) in
-      let own : owner on.tuple then_book.flows ≡ Some (with_event (moment past) (Arrives on.segment) f) = owner_told on.tuple (with_event (moment past) (Arrives on.segment)) (λ g. refl) old.flows f is in (
+      let own : owner on.tuple then_book.flows ≡ Some (with_event (moment past) (Arrives on.segment) f) = owner_told on.tuple (with_event (moment past) (Arrives on.segment))
+      (λ g. refl) old.flows f is in (
         seats_apart number_of (Following config now) state.table state.slots (next_number past) old.flows then_book.flows old.rests f.number (nobody f is) alike only
             (λ later. absurd (none_some (sym (holds.seats.fresh f.number later) ∙ found))) holds.seats,
         used_alike (used then_book.flows) (used old.flows) (flow_of f.number old.flows) (flow_of f.number then_book.flows) only.used alike,
@@ -125,7 +135,8 @@ module _ (config : Config) (state : FlowsState Splice) (past : List Entry) (now 
         ap (rests_among old.rests) own ∙ sym (ap (rests_among old.rests) is) ∙ awake,
       )
 
-  said : Seats number_of (Following config now) state.table state.slots (next_number past) then_book.flows old.rests × (used then_book.flows ≡ used old.flows) × (length then_book.flows ≡ length old.flows) × (is_used on.tuple then_book.flows ≡ false)
+  said : Seats number_of (Following config now) state.table state.slots (next_number past) then_book.flows old.rests × (used then_book.flows ≡ used old.flows) ×
+      (length then_book.flows ≡ length old.flows) × (is_used on.tuple then_book.flows ≡ false)
       × (rests_among old.rests (owner on.tuple then_book.flows) ≡ false)
   said = tells (owner on.tuple old.flows) refl
 
@@ -141,7 +152,8 @@ module _ (config : Config) (state : FlowsState Splice) (past : List Entry) (now 
     learnt = λ k p f m at found is_mac. stray_learnt k p f m at (ap (λ (b : Book). flow_of (number_of p) b.flows) (sym book_is) ∙ found) is_mac;
   }
     where
-      stray_learnt : (k : ℕ) (p : Splice) (f : Flow) (m : Mac) → slice_get state.slots k ≡ Some (Some p) → flow_of (number_of p) then_book.flows ≡ Some f → p.mac ≡ Some m → Contains (taught config (e ∷ past)) (f.tuple.guest.addr, m)
+      stray_learnt : (k : ℕ) (p : Splice) (f : Flow) (m : Mac) → slice_get state.slots k ≡ Some (Some p) → flow_of (number_of p) then_book.flows ≡ Some f → p.mac ≡ Some m →
+          Contains (taught config (e ∷ past)) (f.tuple.guest.addr, m)
       stray_learnt k p f m at found is_mac =
           let was = holds.seats.seated k p at in
           let is = said.0.seated k p at in

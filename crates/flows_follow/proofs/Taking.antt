@@ -1,5 +1,6 @@
 -- A flow is opened and takes the slot that has rested longest, or the one in which a flow on its own tuple rests; and what the record says of the rests then.
-use Rattle.std.proofs.Common.{◌≡◌, ℕ, suc, ◌+◌, ◌<◌, ◌==◌, true, false, List, ◌∷◌, length, drop, set, slice_get, Option, Some, None, option_map, if◌then◌else◌, nat_le, inl, inr, refl, sym, ◌∙◌, ap, subst, arith}
+use Rattle.std.proofs.Common.{◌≡◌, ℕ, suc, ◌+◌, ◌<◌, ◌==◌, true, false, List, ◌∷◌, length, drop, set, slice_get, Option, Some, None, option_map, if◌then◌else◌, nat_le, inl, inr, refl, sym}
+use Rattle.std.proofs.Common.{◌∙◌, ap, subst, arith}
 use Rattle.std.proofs.lemmas.Bool.Decides.{nat_tests}
 use Rattle.host_policy.specs.Addresses.{Config}
 use Rattle.flow_table.specs.Slots.{AreKept, Flows, flows, HasRestedLongest, IsFree, NoneIsFree}
@@ -33,7 +34,8 @@ module _ {P : Type 0} (number : P → ℕ) (Follows : P → Story → Type 0) (t
       let opened = seats_opened number Follows (flows (set table.slots k Free) table.rest_order) (set parts k None) next old left k q f free none f_next q_next in_use follows
       (λ j n has is_on. elsewhere j n has is_on) freed in
       subst (λ (l : List Slot). Seats number Follows (flows l table.rest_order) (set parts k (Some q)) (suc next) (f ∷ old) left) (set_twice table.slots k Free (InUse f.tuple))
-      (subst (λ (l : List (Option P)). Seats number Follows (flows (set (set table.slots k Free) k (InUse f.tuple)) table.rest_order) l (suc next) (f ∷ old) left) (set_twice parts k None (Some q)) opened)
+      (subst (λ (l : List (Option P)). Seats number Follows (flows (set (set table.slots k Free) k (InUse f.tuple)) table.rest_order) l (suc next) (f ∷ old) left)
+      (set_twice parts k None (Some q)) opened)
     where
       elsewhere : (j n : ℕ) → number_at number (set parts k None) j ≡ Some n → option_map (λ (g : Flow). g.tuple) (flow_of n old) ≡ Some f.tuple → ⊥
       elsewhere j n has is_on = elim (same_or_not j k) [
@@ -61,7 +63,8 @@ module _ {P : Type 0} (number : P → ℕ) (Follows : P → Story → Type 0) (t
       let of_it = subst (IsSlotOf rests seat.0) slot_is seat.6 in
       let unused : uses (flow_of (number p) old) ≡ false = ap uses seat.2 ∙ of_it.2 in
       let here_is : number_at number parts k ≡ Some (number p) = ap (number_in number) at in
-      let own : option_map (λ (g : Flow). g.number) (owner f.tuple old) ≡ Some (number p) = seats.owned k (number p) f.tuple here_is (ap (option_map (λ (g : Flow). g.tuple)) seat.2 ∙ ap Some of_it.0) in
+      let own : option_map (λ (g : Flow). g.number) (owner f.tuple old) ≡ Some (number p) = seats.owned k (number p) f.tuple here_is (ap (option_map (λ (g : Flow). g.tuple)) seat.2
+      ∙ ap Some of_it.0) in
       opened_in k p q f (Resting f.tuple since) (without (number p) rests) slot at f_next q_next in_use follows
       (λ j n other has is_on. differ j k other (seats.numbers j k (number p) (has ∙ sym (seats.owned j n f.tuple has is_on) ∙ own) here_is))
       (seats_woken number Follows table parts next old old rests k p f.tuple since at slot unused unused (only_none (number p) old) seats)
@@ -78,7 +81,8 @@ pub room_own : (config : Config) (f : Flow) (b : Book) → rests_among b.rests (
 room_own config f b rests = ap (λ t. if t then without f.number b.rests else with_room config b) rests
 
 module _ {P : Type 0} (number : P → ℕ) (Follows : P → Story → Type 0) (table : Flows) (parts : List (Option P)) (next : ℕ) (config : Config) (b : Book)
-    (seats : Seats number Follows table parts next b.flows b.rests) (kept : AreKept table.slots table.rest_order) (sizes : length parts ≡ length table.slots) (slots : length table.slots ≡ config.flows) where
+    (seats : Seats number Follows table parts next b.flows b.rests) (kept : AreKept table.slots table.rest_order) (sizes : length parts ≡ length table.slots)
+    (slots : length table.slots ≡ config.flows) where
   -- where a slot is free no rest ends
   pub room_free : (k : ℕ) → IsFree table.slots k → with_room config b ≡ b.rests
   room_free k free = ap (λ t. if t then drop 1 b.rests else b.rests)

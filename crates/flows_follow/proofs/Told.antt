@@ -50,7 +50,8 @@ module _ (config : Config) (now : ℕ) (aged : Bool) (task : Option Call) (state
 
   pub core_told : CoreHolds config now aged task state_told past
   core_told = record {
-    seats = seats_one number_of (Following config now) state.table state.slots (next_number past) (book config past).flows (book config past).flows (rests_at aged config past) k p told f f at refl was used was used follows
+    seats = seats_one number_of (Following config now) state.table state.slots (next_number past) (book config past).flows (book config past).flows
+        (rests_at aged config past) k p told f f at refl was used was used follows
         (record { same = refl; apart = λ other not. refl; differ = λ is. is; used = refl }) holds.seats;
     slots = holds.slots;
     opened = holds.opened;

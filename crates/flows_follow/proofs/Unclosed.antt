@@ -41,6 +41,7 @@ module _ {P : Type 0} (number : P → ℕ) (Follows : P → Story → Type 0) (s
         by_part k (Some None) here is = cc (sym (ap (number_in number) here) ∙ is)
         by_part k None here is = cc (sym (ap (number_in number) here) ∙ is)
 
-  pub none_must_close : (mac : P → Option Mac) (config : Config) (aged : Bool) (task : Option Call) (state : FlowsState P) (past : List Entry) → FlowsHold number mac Follows config aged task state past → NoneMustClose config past
+  pub none_must_close : (mac : P → Option Mac) (config : Config) (aged : Bool) (task : Option Call) (state : FlowsState P) (past : List Entry) →
+      FlowsHold number mac Follows config aged task state past → NoneMustClose config past
   none_must_close mac config aged task state past holds =
       none_of_seats state.table state.slots (next_number past) (book config past).flows (rests_at aged config past) holds.seats

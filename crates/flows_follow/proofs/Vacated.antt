@@ -46,7 +46,8 @@ module _ {P : Type 0} (number : P → ℕ) (Follows : P → Story → Type 0) (t
 
   -- each other part has its flow and its slot, and another number
   pub seated_others : (j : ℕ) (r : P) → slice_get (set parts k None) j ≡ Some (Some r)
-      → (f : Flow) × (s : Slot) × (flow_of (number r) new ≡ Some f) × (f.number ≡ number r) × Follows r f.story × (slice_get (set table.slots k Free) j ≡ Some s) × IsSlotOf rests f s × ((number r == number p) ≡ false)
+      → (f : Flow) × (s : Slot) × (flow_of (number r) new ≡ Some f) × (f.number ≡ number r) × Follows r f.story ×
+      (slice_get (set table.slots k Free) j ≡ Some s) × IsSlotOf rests f s × ((number r == number p) ≡ false)
   seated_others j r is =
       let other = elsewhere j (number r) (ap (number_in number) is) in
       let was : slice_get parts j ≡ Some (Some r) = sym (get_set_other parts k j None (differ j k other)) ∙ is in
@@ -63,7 +64,8 @@ module _ {P : Type 0} (number : P → ℕ) (Follows : P → Story → Type 0) (t
   pub numbers_others : (i j n : ℕ) → number_at number (set parts k None) i ≡ Some n → number_at number (set parts k None) j ≡ Some n → i ≡ j
   numbers_others i j n at_i at_j = seats.numbers i j n (sym (stays i (elsewhere i n at_i)) ∙ at_i) (sym (stays j (elsewhere j n at_j)) ∙ at_j)
 
-  pub owned_others : (j n : ℕ) (t : Tuple) → number_at number (set parts k None) j ≡ Some n → option_map (λ (f : Flow). f.tuple) (flow_of n new) ≡ Some t → option_map (λ (f : Flow). f.number) (owner t new) ≡ Some n
+  pub owned_others : (j n : ℕ) (t : Tuple) → number_at number (set parts k None) j ≡ Some n → option_map (λ (f : Flow). f.tuple) (flow_of n new) ≡ Some t → option_map
+      (λ (f : Flow). f.number) (owner t new) ≡ Some n
   owned_others j n t is is_on = owner_id t new old only.same ∙ seats.owned j n t (sym (stays j (elsewhere j n is)) ∙ is) (sym (found_id n new old only.same) ∙ is_on)
 
   pub found_others : (n : ℕ) → uses (flow_of n new) ≡ true → (j : ℕ) × (number_at number (set parts k None) j ≡ Some n)

@@ -1,5 +1,6 @@
 -- A rest ends: the flow's slot is free.
-use Rattle.std.proofs.Common.{◌≡◌, ℕ, zero, suc, ◌+◌, ◌<◌, ◌==◌, Bool, true, false, not, cond, List, [], ◌∷◌, length, map, filter, set, slice_get, slice_index_or, Option, Some, None, inl, inr, refl, sym, ◌∙◌, ap, subst, arith}
+use Rattle.std.proofs.Common.{◌≡◌, ℕ, zero, suc, ◌+◌, ◌<◌, ◌==◌, Bool, true, false, not, cond, List, [], ◌∷◌, length, map, filter, set, slice_get, slice_index_or, Option, Some, None, inl}
+use Rattle.std.proofs.Common.{inr, refl, sym, ◌∙◌, ap, subst, arith}
 use Rattle.std.proofs.lemmas.Bool.Decides.{nat_tests}
 use Rattle.std.specs.Prelude.{filter_map, Contains}
 use Rattle.std.proofs.lemmas.List.Elements.{Contains-append_right}
@@ -33,7 +34,8 @@ without_numbers n [] = refl
 without_numbers n (r ∷ rests) = by_test (not (r.number == n)) (without_numbers n rests)
   where
     by_test : (b : Bool) → map (λ (x : Rest). x.number) (without n rests) ≡ others_of n (map (λ (x : Rest). x.number) rests)
-        → map (λ (x : Rest). x.number) (cond b (r ∷ without n rests) (without n rests)) ≡ cond b (r.number ∷ others_of n (map (λ (x : Rest). x.number) rests)) (others_of n (map (λ (x : Rest). x.number) rests))
+        → map (λ (x : Rest). x.number) (cond b (r ∷ without n rests) (without n rests)) ≡ cond b (r.number ∷ others_of n (map (λ (x : Rest). x.number) rests))
+        (others_of n (map (λ (x : Rest). x.number) rests))
     by_test true same = ap (λ l. r.number ∷ l) same
     by_test false same = same
 
@@ -96,7 +98,8 @@ module _ {P : Type 0} (number : P → ℕ) (Follows : P → Story → Type 0) (t
         order = without_numbers (number p) rests ∙ ap (others_of (number p)) seats.order
             ∙ left_out (λ j. rests_at (slice_get table.slots j) (number_at number parts j)) (λ j. rests_at (slice_get (set table.slots k Free) j) (number_at number (set parts k None) j)) k (number p)
             (ap (λ s. rests_at s (number_at number parts k)) slot ∙ here) (ap (λ s. rests_at s (number_at number (set parts k None) k)) (get_set_at table.slots k (Resting t m) Free slot))
-            (λ j other. ap (λ s. rests_at s (number_at number (set parts k None) j)) (get_set_other table.slots k j Free (differ j k other)) ∙ ap (rests_at (slice_get table.slots j)) (stays number Follows table parts next old new rests k p at is_unused only seats j other))
+            (λ j other. ap (λ s. rests_at s (number_at number (set parts k None) j)) (get_set_other table.slots k j Free (differ j k other)) ∙ ap
+            (rests_at (slice_get table.slots j)) (stays number Follows table parts next old new rests k p at is_unused only seats j other))
             (λ j other gives. differ j k other (seats.numbers j k (number p) (of_slot (slice_get table.slots j) (number_at number parts j) gives) here)) table.rest_order;
         counted = same_used (used new) (used old) (flow_of (number p) old) (flow_of (number p) new) only.used was_unused is_unused ∙ seats.counted ∙ sym (used_woken table.slots k t m slot);
         differ = only.differ seats.differ;

@@ -96,7 +96,8 @@ module _ (config : Config) (face : Face) (f : Flow) (past : List Entry) (has : H
         ap (sends_segment config past frame) on
         ∙ and_both (is_own seg (book config past).rests (owner (ends_of face) (book config past).flows)) (is_well_sent config past frame (on_ends face to seg))
         (ap (is_own seg (book config past).rests) (owner_is differ) ∙ and_both (not (is_strange seg f)) (speaks_yet seg (book config past).rests f) (ap not (not_strange seg may)) carries.speaks)
-        (and_both (list_any (is_pair (address face.guest) to.0) (taught config past) && is_latest to.0 (learnt_for face.guest.addr (known config past))) (is_written config (identification past) frame (on_ends face to seg) (ip_in frame))
+        (and_both (list_any (is_pair (address face.guest) to.0) (taught config past) && is_latest to.0 (learnt_for face.guest.addr (known config past)))
+        (is_written config (identification past) frame (on_ends face to seg) (ip_in frame))
         (and_both (list_any (is_pair (address face.guest) to.0) (taught config past)) (is_latest to.0 (learnt_for face.guest.addr (known config past))) carries.learnt carries.latest) carries.written)
 
     or_true : (a b : Bool) → a ≡ true → (a || b) ≡ true
@@ -128,7 +129,8 @@ module _ (config : Config) (face : Face) (f : Flow) (past : List Entry) (has : H
         subst (λ t. MayWrite (flow_settings config) (moment past) (book config past).flows t octets) (sym none)
         (subst (λ x. MaySendOn (flow_settings config) (moment past) (book config past).flows (segment_in x)) (sym is) (sent (segment_in frame) carries.carried))
 
-    must_send : MustOfOne (flow_settings config) f.story (moment past) (Send seg) → (o : Option OnTuple) → o ≡ Some (on_ends face to seg) → MustSendOn (flow_settings config) (moment past) (book config past).flows o
+    must_send : MustOfOne (flow_settings config) f.story (moment past) (Send seg) → (o : Option OnTuple) → o ≡ Some (on_ends face to seg) → MustSendOn (flow_settings config)
+        (moment past) (book config past).flows o
     must_send must o on =
         subst (MustSendOn (flow_settings config) (moment past) (book config past).flows) (sym on)
         (subst (MustSend (flow_settings config) (moment past) seg) (sym (owner_is differ))
@@ -139,7 +141,8 @@ module _ (config : Config) (face : Face) (f : Flow) (past : List Entry) (has : H
         subst (λ t. MustWrite (flow_settings config) (moment past) (book config past).flows t octets) (sym none)
         (subst (λ x. MustSendOn (flow_settings config) (moment past) (book config past).flows (segment_in x)) (sym is) (must_send must (segment_in frame) carries.carried))
 
-    pub may_write : MustOfOne (flow_settings config) f.story (moment past) (Send seg) → InWork config past → left config past ≡ [] → MayFrame past (CallLinkWrite octets) → May config past (CallLinkWrite octets)
+    pub may_write : MustOfOne (flow_settings config) f.story (moment past) (Send seg) → InWork config past → left config past ≡ [] → MayFrame past (CallLinkWrite octets) →
+        May config past (CallLinkWrite octets)
     may_write must work nothing framed =
         writes config past octets framed (due_is config past work ∙ has.due ∙ ap (λ b. close_if b face.number) may.closes_after_failure)
         (none_must_close config face f past work has must.closes_after_reset) (ap is_working work.working) (begins nothing) work.open_yet (writes_it, must_write must)
@@ -164,7 +167,8 @@ module _ (config : Config) (face : Face) (f : Flow) (past : List Entry) (has : H
         ap (λ d. turned config (scene config past) d (book config past)) (goes_by n) in
         let number : f.number ≡ face.number = number_of_found face.number (book config past).flows f has.found in
         let of : IsOf face.number (book config past) (Goes (on_ends face to seg)) = ap (has_number face.number) (owner_is differ) ∙ ap (λ m. m == face.number) number ∙ same_number face.number in
-        let only = only_happens config (scene config past) face.number (book config past) differ (doing config past (LinkWrite octets (Done n))) (subst (IsOf face.number (book config past)) (sym (goes_by n)) of) in
+        let only = only_happens config (scene config past) face.number (book config past) differ (doing config past (LinkWrite octets (Done n)))
+        (subst (IsOf face.number (book config past)) (sym (goes_by n)) of) in
         record {
           found = ap (λ b. flow_of face.number b.flows) new
               ∙ subst (λ m. flow_of m (turned config (scene config past) (Goes (on_ends face to seg)) (book config past)).flows ≡ Some (sends (moment past) seg f)) number

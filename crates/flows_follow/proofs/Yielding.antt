@@ -1,5 +1,6 @@
 -- The slot that has rested longest gives way: it is that of the first of the flows that rest.
-use Rattle.std.proofs.Common.{◌≡◌, ℕ, zero, suc, ◌<◌, ◌≤◌, ◌==◌, ◌||◌, Bool, true, false, not, cond, List, [], ◌∷◌, length, map, drop, set, slice_get, slice_index_or, Option, Some, None, inl, inr, refl, sym, ◌∙◌, ap, subst, arith}
+use Rattle.std.proofs.Common.{◌≡◌, ℕ, zero, suc, ◌<◌, ◌≤◌, ◌==◌, ◌||◌, Bool, true, false, not, cond, List, [], ◌∷◌, length, map, drop, set, slice_get, slice_index_or, Option, Some, None}
+use Rattle.std.proofs.Common.{inl, inr, refl, sym, ◌∙◌, ap, subst, arith}
 use Rattle.std.proofs.lemmas.Bool.Decides.{nat_tests}
 use Rattle.std.specs.Prelude.{filter_map, Contains}
 use Rattle.std.specs.List.{cons_option}
@@ -115,7 +116,8 @@ without_first r rests once =
 
 among_numbers : (rests : List Rest) (x : Rest) (k : ℕ) → k < length rests → slice_index_or rests k x ≡ x → is_among x.number (map (λ (r : Rest). r.number) rests) ≡ true
 among_numbers [] x k within at = absurd (omega (arith, within))
-among_numbers (r ∷ rests) x zero within at = ap (λ (y : Rest). (x.number == y.number) || is_among x.number (map (λ (z : Rest). z.number) rests)) at ∙ ap (λ b. b || is_among x.number (map (λ (z : Rest). z.number) rests)) (is_number x.number)
+among_numbers (r ∷ rests) x zero within at = ap (λ (y : Rest). (x.number == y.number) || is_among x.number (map (λ (z : Rest). z.number) rests)) at ∙ ap
+    (λ b. b || is_among x.number (map (λ (z : Rest). z.number) rests)) (is_number x.number)
 among_numbers (r ∷ rests) x (suc k) within at = ap (λ b. (x.number == r.number) || b) (among_numbers rests x k (omega (arith, within)) at) ∙ or_true (x.number == r.number)
   where
     or_true : (b : Bool) → (b || true) ≡ true
@@ -251,9 +253,11 @@ module _ {P : Type 0} (number : P → ℕ) (Follows : P → Story → Type 0) (t
       empty_has_none : (x : Rest) → Contains [] x → ⊥
       empty_has_none x has = absurd (omega (arith, has.1))
 
-      by_rests : (l : List Rest) → rests ≡ l → (p : P) → slice_get parts k ≡ Some (Some p) → Contains rests (record { number = number p; since = longest.since }) → uses (flow_of (number p) all) ≡ false
+      by_rests : (l : List Rest) → rests ≡ l → (p : P) → slice_get parts k ≡ Some (Some p) → Contains rests (record { number = number p; since = longest.since }) → uses
+          (flow_of (number p) all) ≡ false
           → Seats number Follows (flows (set table.slots k Free) table.rest_order) (set parts k None) next all (drop 1 rests)
-      by_rests [] is p at has unused = absurd (empty_has_none (record { number = number p; since = longest.since }) (subst (λ (l : List Rest). Contains l (record { number = number p; since = longest.since })) is has))
+      by_rests [] is p at has unused = absurd (empty_has_none (record { number = number p; since = longest.since })
+          (subst (λ (l : List Rest). Contains l (record { number = number p; since = longest.since })) is has))
       by_rests (r ∷ behind) is p at has unused =
           let same : number p ≡ r.number = first_slot k longest.tuple longest.since p r behind is rise longest.rests at has longest in
           let left : without (number p) rests ≡ drop 1 rests =

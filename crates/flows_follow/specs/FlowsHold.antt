@@ -24,10 +24,12 @@ abbrev pub rests_at : Bool → Config → List Entry → List Rest
 rests_at aged config past = if aged then filter (is_young (moment past)) (book config past).rests else (book config past).rests
 
 -- the newest entry asks for this call, or for none
-pub record FlowsHold {P : Type 0} (number : P → ℕ) (mac : P → Option Mac) (Follows : P → Story → Type 0) (config : Config) (aged : Bool) (task : Option Call) (state : FlowsState P) (past : List Entry) : Type 0 where
+pub record FlowsHold {P : Type 0} (number : P → ℕ) (mac : P → Option Mac) (Follows : P → Story → Type 0) (config : Config) (aged : Bool) (task : Option Call) (state : FlowsState P)
+    (past : List Entry) : Type 0 where
   pub seats : Seats number Follows state.table state.slots (next_number past) (book config past).flows (rests_at aged config past)
   pub slots : length state.table.slots ≡ config.flows
   pub opened : length (book config past).flows ≡ state.opened
   pub asked : due_for_flows config (book config past) (next_number past) ≡ task
   -- a part's hardware address is one that was learnt for its guest
-  pub learnt : (k : ℕ) (p : P) (f : Flow) (m : Mac) → slice_get state.slots k ≡ Some (Some p) → flow_of (number p) (book config past).flows ≡ Some f → mac p ≡ Some m → Contains (taught config past) (f.tuple.guest.addr, m)
+  pub learnt : (k : ℕ) (p : P) (f : Flow) (m : Mac) → slice_get state.slots k ≡ Some (Some p) → flow_of (number p) (book config past).flows ≡ Some f → mac p ≡ Some m → Contains
+      (taught config past) (f.tuple.guest.addr, m)

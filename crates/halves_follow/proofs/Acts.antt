@@ -5,7 +5,9 @@ use Rattle.flow_laws.specs.Event.{Segment, Story}
 use Rattle.flow_laws.specs.Host.{got_end}
 use Rattle.flow_laws.specs.Flow.{host, is_closed, is_connecting}
 use Rattle.flow_laws.specs.Close.{host_failed}
-use Rattle.flow_laws.specs.Lawful.{May, AskConnected, Write, EndHost, Read, Send, Close, HasCause, WritesWhatTheGuestSent, WritesWhatCame, SendsWhatTheHostSent, SendsAgainWithReason, EndsAfterAll, SendsEndAfterAll, AcknowledgesWhatCame, ResetsWhereOwed, SendsNothingAfterClose, OpensAfterHost, OpensWithSyn, AsksUntilConnected, HasHeaderOf, SendsItsHeader, SendsItsOptions, SendsWithinMss, ResetsAtWhatCame, Act, ReadsToTheEnd, ClosesWithCause, ClosesAfterFailure, CallsOpenSocket}
+use Rattle.flow_laws.specs.Lawful.{May, AskConnected, Write, EndHost, Read, Send, Close, HasCause, WritesWhatTheGuestSent, WritesWhatCame, SendsWhatTheHostSent, SendsAgainWithReason}
+use Rattle.flow_laws.specs.Lawful.{EndsAfterAll, SendsEndAfterAll, AcknowledgesWhatCame, ResetsWhereOwed, SendsNothingAfterClose, OpensAfterHost, OpensWithSyn, AsksUntilConnected}
+use Rattle.flow_laws.specs.Lawful.{HasHeaderOf, SendsItsHeader, SendsItsOptions, SendsWithinMss, ResetsAtWhatCame, Act, ReadsToTheEnd, ClosesWithCause, ClosesAfterFailure, CallsOpenSocket}
 use Rattle.flow_laws.specs.Dutiful.{Must, MustClose, OffersEnough, TellsRoom}
 
 module _ (s : Settings) (past : Story) (now : ℕ) where
@@ -30,7 +32,8 @@ module _ (s : Settings) (past : Story) (now : ℕ) where
   silent (Close directly ended known) call = (tt, tt, tt, tt, tt, tt, tt, tt, tt, tt, tt, tt)
   silent (Send seg) call = absurd call
 
-  may_call : (act : Act) → IsCall act → WritesWhatTheGuestSent past act → WritesWhatCame past act → EndsAfterAll past act → ReadsToTheEnd past act → ClosesWithCause past now act → ClosesAfterFailure past act
+  may_call : (act : Act) → IsCall act → WritesWhatTheGuestSent past act → WritesWhatCame past act → EndsAfterAll past act → ReadsToTheEnd past act → ClosesWithCause past now act →
+      ClosesAfterFailure past act
       → CallsOpenSocket past act → AsksUntilConnected past act → May s past now act
   may_call act call guest_sent came after open_end cause fine open_yet asks =
       let none = silent act call in
@@ -60,7 +63,8 @@ module _ (s : Settings) (past : Story) (now : ℕ) where
   pub may_ask : host_failed past ≡ false → is_closed past ≡ false → is_connecting past ≡ true → May s past now AskConnected
   may_ask fine open_yet connects = may_call AskConnected tt tt tt tt tt tt fine open_yet connects
 
-  pub may_write : (xs : List ℕ) → WritesWhatTheGuestSent past (Write xs) → WritesWhatCame past (Write xs) → host_failed past ≡ false → is_closed past ≡ false → is_connecting past ≡ false → May s past now (Write xs)
+  pub may_write : (xs : List ℕ) → WritesWhatTheGuestSent past (Write xs) → WritesWhatCame past (Write xs) → host_failed past ≡ false → is_closed past ≡ false →
+      is_connecting past ≡ false → May s past now (Write xs)
   may_write xs guest_sent came fine open_yet connected = may_call (Write xs) tt guest_sent came tt tt tt fine open_yet connected
 
   pub may_end : EndsAfterAll past EndHost → host_failed past ≡ false → is_closed past ≡ false → is_connecting past ≡ false → May s past now EndHost
@@ -72,8 +76,10 @@ module _ (s : Settings) (past : Story) (now : ℕ) where
   pub may_close : (directly ended known : Bool) → HasCause directly ended known now past → is_closed past ≡ false → May s past now (Close directly ended known)
   may_close directly ended known cause open_yet = may_call (Close directly ended known) tt tt tt tt tt cause tt open_yet tt
 
-  pub may_send : (seg : Segment) → SendsWhatTheHostSent past (Send seg) → SendsWithinMss s past (Send seg) → SendsAgainWithReason past now (Send seg) → SendsEndAfterAll past (Send seg) → AcknowledgesWhatCame past (Send seg) → ResetsAtWhatCame past (Send seg)
-      → host_failed past ≡ false → ResetsWhereOwed past (Send seg) → SendsNothingAfterClose past (Send seg) → OpensAfterHost past (Send seg) → OpensWithSyn past (Send seg) → HasHeaderOf past seg → SendsItsOptions s past (Send seg)
+  pub may_send : (seg : Segment) → SendsWhatTheHostSent past (Send seg) → SendsWithinMss s past (Send seg) → SendsAgainWithReason past now (Send seg) → SendsEndAfterAll past
+      (Send seg) → AcknowledgesWhatCame past (Send seg) → ResetsAtWhatCame past (Send seg)
+      → host_failed past ≡ false → ResetsWhereOwed past (Send seg) → SendsNothingAfterClose past (Send seg) → OpensAfterHost past (Send seg) → OpensWithSyn past (Send seg) →
+      HasHeaderOf past seg → SendsItsOptions s past (Send seg)
       → May s past now (Send seg)
   may_send seg host_sent within reason end came reset fine owed quiet after syn header options = record {
     writes_what_the_guest_sent = tt;

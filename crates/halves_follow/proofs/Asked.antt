@@ -1,5 +1,6 @@
 -- What a receiver has taken is all that segments ask to be acknowledged.
-use Rattle.std.proofs.Common.{refl, ◌≡◌, ℕ, zero, suc, ◌+◌, ◌-◌, ◌^◌, ◌<◌, ◌≤◌, List, ◌∷◌, length, get_or, min, arith, ℤ, pos, negsuc, ◌+ℤ◌, ◌≤ℤ◌, inl, inr, Bool, true, false, IsTrue, if◌then◌else◌, length-drop, nat_le, ap, ◌∙◌, subst}
+use Rattle.std.proofs.Common.{refl, ◌≡◌, ℕ, zero, suc, ◌+◌, ◌-◌, ◌^◌, ◌<◌, ◌≤◌, List, ◌∷◌, length, get_or, min, arith, ℤ, pos, negsuc, ◌+ℤ◌, ◌≤ℤ◌, inl, inr, Bool, true, false, IsTrue}
+use Rattle.std.proofs.Common.{if◌then◌else◌, length-drop, nat_le, ap, ◌∙◌, subst}
 use Rattle.std.proofs.lemmas.Int.{ints}
 use Rattle.std.proofs.lemmas.Bool.{cases_lt}
 use Rattle.std.proofs.lemmas.Bool.Decides.{nat_tests}
@@ -109,7 +110,8 @@ module _ (ring : ℕ) (past : List Up) (first t h : ℕ) (kept : List ℕ) (n : 
         | inl some ↦
             let same : begins past n ≡ place n first t = same_place past n xs fin true t fits honest.near (omega arith) low some ∙ ap (λ (f : ℕ). place n f t) known in
             let low_place = moved_on (begins past n) (place n first t) (ackd past) t same b low in
-            let bound = asked_open ring (place n first t +ℤ pos (length xs)) t (length (next_octets (place n first t) xs t)) m w h (λ after. next_length (place n first t) xs t low_place after) few all within in
+            let bound = asked_open ring (place n first t +ℤ pos (length xs)) t (length (next_octets (place n first t) xs t)) m w h
+            (λ after. next_length (place n first t) xs t low_place after) few all within in
             let here : a ≡ min (from_zero (place n first t +ℤ pos (length xs))) (w + ring) = is ∙ ap (λ (o : ℤ). min (from_zero (o +ℤ pos (length xs))) (w + ring)) same in
             no_more took t m a (omega arith)
         | inr none ↦

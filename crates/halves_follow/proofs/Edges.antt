@@ -8,7 +8,8 @@ use Rattle.flow_laws.specs.Windows.{Window, window, window_of, is_no_older, edge
 use Rattle.halves_follow.specs.Sends.{Outward, Keeps}
 
 -- an acknowledgement that isn't acceptable tells none
-pub no_window : (s : Settings) (past : Story) (m : ℕ) (seg : Segment) → (confirms past seg && is_acceptable (host past) seg.acknowledgement) ≡ false → window s (At m (Arrives seg) ∷ past) ≡ window s past
+pub no_window : (s : Settings) (past : Story) (m : ℕ) (seg : Segment) → (confirms past seg && is_acceptable (host past) seg.acknowledgement) ≡ false → window s
+    (At m (Arrives seg) ∷ past) ≡ window s past
 no_window s past m seg none = by (confirms past seg) (is_acceptable (host past) seg.acknowledgement) (is_no_older seg (acked (host (At m (Arrives seg) ∷ past))) (window s past)) none
   where
     by : (a b c : Bool) → (a && b) ≡ false → (if a && b && c then Some (window_of s past seg (acked (host (At m (Arrives seg) ∷ past)))) else window s past) ≡ window s past
@@ -17,11 +18,13 @@ no_window s past m seg none = by (confirms past seg) (is_acceptable (host past) 
     by false b c is = refl
 
 -- one that is tells its own, where it isn't older
-pub next_window : (s : Settings) (past : Story) (m a : ℕ) (seg : Segment) (w : Option Window) → confirms past seg ≡ true → is_acceptable (host past) seg.acknowledgement ≡ true → acked (host (At m (Arrives seg) ∷ past)) ≡ a → window s past ≡ w
+pub next_window : (s : Settings) (past : Story) (m a : ℕ) (seg : Segment) (w : Option Window) → confirms past seg ≡ true → is_acceptable (host past) seg.acknowledgement ≡ true →
+    acked (host (At m (Arrives seg) ∷ past)) ≡ a → window s past ≡ w
     → window s (At m (Arrives seg) ∷ past) ≡ (if is_no_older seg a w then Some (window_of s past seg a) else w)
 next_window s past m a seg w it fits is same = by (confirms past seg) (is_acceptable (host past) seg.acknowledgement) (acked (host (At m (Arrives seg) ∷ past))) (window s past) it fits is same
   where
-    by : (b c : Bool) (k : ℕ) (o : Option Window) → b ≡ true → c ≡ true → k ≡ a → o ≡ w → (if b && c && is_no_older seg k o then Some (window_of s past seg k) else o) ≡ (if is_no_older seg a w then Some (window_of s past seg a) else w)
+    by : (b c : Bool) (k : ℕ) (o : Option Window) → b ≡ true → c ≡ true → k ≡ a → o ≡ w → (if b && c && is_no_older seg k o then Some (window_of s past seg k) else o) ≡
+        (if is_no_older seg a w then Some (window_of s past seg a) else w)
     by b c k o x y z u = rw (x, y, z, u) refl
 
 abbrev pub IsOther : Event → Type 0
@@ -42,12 +45,15 @@ owned_is o past k =
     by a b is all = rw (is, all) refl
 
 -- all that the guest takes is out, where it is by these counts
-pub octets_out : (s : Settings) (o : Outward) (past : Story) (e : ℕ) → Keeps o (host past) → edge s past ≡ e → min e (o.before + length o.held + (if o.ended then 1 else 0)) ≤ o.sent → min (edge s past) (owned (host past)) ≤ sent (host past)
+pub octets_out : (s : Settings) (o : Outward) (past : Story) (e : ℕ) → Keeps o (host past) → edge s past ≡ e → min e
+    (o.before + length o.held + (if o.ended then 1 else 0)) ≤ o.sent → min (edge s past) (owned (host past)) ≤ sent (host past)
 octets_out s o past e k is out = let all = owned_is o past k in omega (arith, all, is, out, k.sent)
 
 -- the edge, by the window and, with congestion, by what was acknowledged
-pub edge_is : (s : Settings) (o : Outward) (past : Story) (w : Option Window) → Keeps o (host past) → window s past ≡ w → edge s past ≡ (if s.congestion then min (edge_of w) (o.acked + mss s past) else edge_of w)
+pub edge_is : (s : Settings) (o : Outward) (past : Story) (w : Option Window) → Keeps o (host past) → window s past ≡ w → edge s past ≡
+    (if s.congestion then min (edge_of w) (o.acked + mss s past) else edge_of w)
 edge_is s o past w k is = by (window s past) (acked (host past)) is (sym k.acked)
   where
-    by : (v : Option Window) (a : ℕ) → v ≡ w → a ≡ o.acked → (if s.congestion then min (edge_of v) (a + mss s past) else edge_of v) ≡ (if s.congestion then min (edge_of w) (o.acked + mss s past) else edge_of w)
+    by : (v : Option Window) (a : ℕ) → v ≡ w → a ≡ o.acked → (if s.congestion then min (edge_of v) (a + mss s past) else edge_of v) ≡
+        (if s.congestion then min (edge_of w) (o.acked + mss s past) else edge_of w)
     by v a x y = rw (x, y) refl

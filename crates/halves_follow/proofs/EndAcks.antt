@@ -1,5 +1,6 @@
 -- What a flow knows of the two ends, where a segment goes out.
-use Rattle.std.proofs.Common.{refl, ◌≡◌, ℕ, zero, suc, ◌+◌, ◌^◌, ◌<◌, ◌≤◌, List, ◌∷◌, arith, Option, Some, None, is_some, Bool, true, false, not, ◌&&◌, ◌||◌, if◌then◌else◌, IsTrue, nat_lt, nat_eq, ap, sym, ◌∙◌, subst}
+use Rattle.std.proofs.Common.{refl, ◌≡◌, ℕ, zero, suc, ◌+◌, ◌^◌, ◌<◌, ◌≤◌, List, ◌∷◌, arith, Option, Some, None, is_some, Bool, true, false, not, ◌&&◌, ◌||◌, if◌then◌else◌, IsTrue, nat_lt}
+use Rattle.std.proofs.Common.{nat_eq, ap, sym, ◌∙◌, subst}
 use Rattle.std.proofs.lemmas.Bool.Decides.{nat_tests}
 use Rattle.seq_space.specs.Places.{number_of, steps_up}
 use Rattle.flow_laws.specs.Event.{Segment, Departs, At, Story}
@@ -109,7 +110,8 @@ module _ (past : Story) (p : Part) (sure ours_first : Bool) (last m : ℕ) (seg 
       low = rw acked_now e.low;
       kept_low = λ i x is. rw acked_now (e.kept_low i x is);
       fin = e.fin;
-      was_sure = λ is. by_sure sure p.received.ended is (λ before. or_right (seg.ack && not seg.rst && contains seg.acknowledgement (after_fins past)) (fin_was_acknowledged past) (e.was_sure before)) sure_now;
+      was_sure = λ is. by_sure sure p.received.ended is (λ before. or_right (seg.ack && not seg.rst && contains seg.acknowledgement (after_fins past)) (fin_was_acknowledged past)
+          (e.was_sure before)) sure_now;
       is_sure = λ honest is. by_ended p.received.ended refl (honest_before (At m (Departs seg)) past honest) is;
       at = ap (λ (g : List Up). number_of (first_of g) (ackd g)) acked_now ∙ number_after (first_of (guest past)) (ackd (guest past)) seg.acknowledgement small;
       order = order_now;
@@ -141,10 +143,13 @@ module _ (past : Story) (p : Part) (sure ours_first : Bool) (last m : ℕ) (seg 
             (λ there. or_left sure false (e.is_sure honest there))
 
         moved : nat_lt (ackd (guest past)) (ackd (guest (At m (Departs seg) ∷ past))) ≡ not (nat_eq seg.acknowledgement last)
-        moved = ap (λ (g : List Up). nat_lt (ackd (guest past)) (ackd g)) acked_now ∙ moves_if (first_of (guest past)) (ackd (guest past)) seg.acknowledgement small ∙ ap (λ (n : ℕ). not (nat_eq seg.acknowledgement n)) e.at
+        moved = ap (λ (g : List Up). nat_lt (ackd (guest past)) (ackd g)) acked_now ∙ moves_if (first_of (guest past)) (ackd (guest past)) seg.acknowledgement small ∙ ap
+            (λ (n : ℕ). not (nat_eq seg.acknowledgement n)) e.at
 
-        order_now : (if nat_lt (ackd (guest past)) (ackd (guest (At m (Departs seg) ∷ past))) then fin_is_out past else ended_first past) ≡ (if nat_eq seg.acknowledgement last then ours_first else fin_is_out past)
-        order_now = ap (λ (b : Bool). if b then fin_is_out past else ended_first past) moved ∙ turn (nat_eq seg.acknowledgement last) (fin_is_out past) (ended_first past) ∙ ap (λ (b : Bool). if nat_eq seg.acknowledgement last then b else fin_is_out past) e.order
+        order_now : (if nat_lt (ackd (guest past)) (ackd (guest (At m (Departs seg) ∷ past))) then fin_is_out past else ended_first past) ≡
+            (if nat_eq seg.acknowledgement last then ours_first else fin_is_out past)
+        order_now = ap (λ (b : Bool). if b then fin_is_out past else ended_first past) moved ∙ turn (nat_eq seg.acknowledgement last) (fin_is_out past) (ended_first past) ∙ ap
+            (λ (b : Bool). if nat_eq seg.acknowledgement last then b else fin_is_out past) e.order
           where
             turn : (b x y : Bool) → (if not b then x else y) ≡ (if b then y else x)
             turn true x y = refl
@@ -158,7 +163,8 @@ module _ (past : Story) (p : Part) (sure ours_first : Bool) (last m : ℕ) (seg 
     kept_low = λ i x is. rw same (e.kept_low i x is);
     fin = e.fin;
     was_sure = λ is. or_right (seg.ack && not seg.rst && contains seg.acknowledgement (after_fins past)) (fin_was_acknowledged past) (e.was_sure is);
-    is_sure = λ honest is. e.is_sure (honest_before (At m (Departs seg)) past honest) (only_old seg.ack (not seg.rst) (contains seg.acknowledgement (after_fins past)) (fin_was_acknowledged past) none is);
+    is_sure = λ honest is. e.is_sure (honest_before (At m (Departs seg)) past honest) (only_old seg.ack (not seg.rst) (contains seg.acknowledgement (after_fins past))
+        (fin_was_acknowledged past) none is);
     at = rw same e.at;
     order = ap (λ (g : List Up). if nat_lt (ackd (guest past)) (ackd g) then fin_is_out past else ended_first past) same ∙ still (ackd (guest past)) (fin_is_out past) (ended_first past) ∙ e.order;
   }

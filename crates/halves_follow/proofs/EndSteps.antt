@@ -1,5 +1,6 @@
 -- What a flow knows of the two ends, event by event.
-use Rattle.std.proofs.Common.{refl, ◌≡◌, ℕ, ◌+◌, ◌%◌, ◌^◌, ◌<◌, ◌≤◌, List, ◌∷◌, length, max, arith, Some, is_some, slice_get, Bool, true, false, not, ◌&&◌, ◌||◌, if◌then◌else◌, IsTrue, ℤ, pos, negsuc, ◌+ℤ◌, ◌≤ℤ◌, int_le, nat_eq, inl, inr, ap, sym, ◌∙◌, subst, ◌⊎◌}
+use Rattle.std.proofs.Common.{refl, ◌≡◌, ℕ, ◌+◌, ◌%◌, ◌^◌, ◌<◌, ◌≤◌, List, ◌∷◌, length, max, arith, Some, is_some, slice_get, Bool, true, false, not, ◌&&◌, ◌||◌, if◌then◌else◌, IsTrue, ℤ}
+use Rattle.std.proofs.Common.{pos, negsuc, ◌+ℤ◌, ◌≤ℤ◌, int_le, nat_eq, inl, inr, ap, sym, ◌∙◌, subst, ◌⊎◌}
 use Rattle.std.proofs.lemmas.Int.{ints}
 use Rattle.std.proofs.lemmas.Bool.Decides.{nat_tests}
 use Rattle.seq_space.specs.Places.{number_of, place}
@@ -52,7 +53,8 @@ module _ (past : Story) (p : Part) (sure ours_first : Bool) (last m : ℕ) (seg 
   }
 
   -- a segment that isn't heeded
-  pub no_heed : guest (At m (Arrives seg) ∷ past) ≡ Came seg.number seg.octets seg.fin (is_heeded past seg) ∷ guest past → Ends past p sure ours_first last → Ends (At m (Arrives seg) ∷ past) p sure ours_first last
+  pub no_heed : guest (At m (Arrives seg) ∷ past) ≡ Came seg.number seg.octets seg.fin (is_heeded past seg) ∷ guest past → Ends past p sure ours_first last → Ends
+      (At m (Arrives seg) ∷ past) p sure ours_first last
   no_heed same e = record {
     low = rw same (omega (arith, e.low));
     kept_low = λ i x is. let below = e.kept_low i x is in rw same (omega (arith, below));
@@ -74,7 +76,8 @@ not_both b yes_it no_it = let is : true ≡ false = sym yes_it ∙ no_it in absu
 
 module _ (past : Story) (p q : Part) (sure ours_first : Bool) (last m : ℕ) (seg : Segment) (ys : List ℕ) (took : Bool)
     (same : guest (At m (Arrives seg) ∷ past) ≡ Came seg.number seg.octets seg.fin (is_heeded past seg) ∷ guest past)
-    (first : first_of (guest past) ≡ p.received.first) (q_first : q.received.first ≡ p.received.first) (q_taken : q.received.taken ≡ p.received.taken + length ys) (q_ended : q.received.ended ≡ (p.received.ended || took))
+    (first : first_of (guest past) ≡ p.received.first) (q_first : q.received.first ≡ p.received.first) (q_taken : q.received.taken ≡ p.received.taken + length ys)
+    (q_ended : q.received.ended ≡ (p.received.ended || took))
     (fits : seg.number < 2 ^ 32) (few : length seg.octets ≤ 2 ^ 31) (e : Ends past p sure ours_first last) where
   top_next : top (guest (At m (Arrives seg) ∷ past)) ≡ max (top (guest past)) (from_zero (place seg.number p.received.first (top (guest past)) +ℤ pos (length seg.octets)))
   top_next = ap top same ∙ ap (λ (f : ℕ). max (top (guest past)) (from_zero (place seg.number f (top (guest past)) +ℤ pos (length seg.octets)))) first
@@ -91,7 +94,8 @@ module _ (past : Story) (p q : Part) (sure ours_first : Bool) (last m : ℕ) (se
       let all = taken_reaches ys p.received.taken (top (guest (At m (Arrives seg) ∷ past))) before (λ k x at. has_low (p.received.taken + k) x (new k x at)) in
       omega (arith, all, q_taken)
 
-  fin_next : (not seg.syn && not seg.rst && is_some (their_number past) && not (is_closed past)) ≡ true → (p.received.ended ≡ true → length ys ≡ 0) → (p.received.ended ≡ false → ackd (guest past) ≤ p.received.taken)
+  fin_next : (not seg.syn && not seg.rst && is_some (their_number past) && not (is_closed past)) ≡ true → (p.received.ended ≡ true → length ys ≡ 0) →
+      (p.received.ended ≡ false → ackd (guest past) ≤ p.received.taken)
       → (took ≡ true → IsTrue seg.fin × (p.received.ended ≡ false) × (place seg.number p.received.first p.received.taken +ℤ pos (length seg.octets) ≡ pos (p.received.taken + length ys)))
       → q.received.ended ≡ true → IsTrue (contains (number_of q.received.first (q.received.taken + 1)) (after_fins (At m (Arrives seg) ∷ past)))
   fin_next counts none acked takes over =
@@ -104,7 +108,8 @@ module _ (past : Story) (p q : Part) (sure ours_first : Bool) (last m : ℕ) (se
             let number : (seg.number + length seg.octets + 1) % 2 ^ 32 ≡ number_of q.received.first (q.received.taken + 1) =
             fin_number seg.number p.received.first p.received.taken (length seg.octets) (p.received.taken + length ys) fits t.2 ∙ same_number in
             let a = acked t.1 in
-            let reaches = fin_reaches seg.number p.received.first p.received.taken (top (guest past)) (ackd (guest past)) (length seg.octets) (p.received.taken + length ys) fits e.low (omega (arith, a)) t.2 in
+            let reaches = fin_reaches seg.number p.received.first p.received.taken (top (guest past)) (ackd (guest past)) (length seg.octets)
+            (p.received.taken + length ys) fits e.low (omega (arith, a)) t.2 in
             one_of _ (number_of q.received.first (q.received.taken + 1)) ((seg.number + length seg.octets + 1) % 2 ^ 32) (after_fins past)
             (all_of seg.fin (not seg.syn) (not seg.rst) (is_some (their_number past)) (not (is_closed past)) (int_le (pos (ackd (guest past))) (ends (guest past) seg.number seg.octets)) t.0 counts
             (int_yes (ackd (guest past)) (ends (guest past) seg.number seg.octets) (rw first reaches))) number

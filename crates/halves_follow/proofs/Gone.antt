@@ -1,5 +1,6 @@
 -- The timer of what is under way, where a segment goes out.
-use Rattle.std.proofs.Common.{refl, ◌≡◌, ℕ, ◌+◌, ◌<◌, ◌≤◌, List, ◌∷◌, length, max, arith, Bool, true, false, not, ◌&&◌, ◌||◌, if◌then◌else◌, ℤ, pos, ◌+ℤ◌, int_le, int_lt, nat_le, nat_lt, ap, sym, ◌∙◌, subst}
+use Rattle.std.proofs.Common.{refl, ◌≡◌, ℕ, ◌+◌, ◌<◌, ◌≤◌, List, ◌∷◌, length, max, arith, Bool, true, false, not, ◌&&◌, ◌||◌, if◌then◌else◌, ℤ, pos, ◌+ℤ◌, int_le, int_lt, nat_le, nat_lt}
+use Rattle.std.proofs.Common.{ap, sym, ◌∙◌, subst}
 use Rattle.std.proofs.lemmas.Bool.Decides.{nat_tests}
 use Rattle.flow_laws.specs.Event.{Segment, Departs, At, Story, newest_moment}
 use Rattle.flow_laws.specs.Guest.{from_zero}
@@ -76,14 +77,16 @@ module _ (past : Story) (seg : Segment) (m : ℕ) where
     -- it holds not the oldest number: the times are the same
     module _ (apart : (nat_le o (acked (host past)) && nat_lt (acked (host past)) (o + e)) ≡ false) (same : is_under_way (At m (Departs seg) ∷ past) ≡ is_under_way past) where
       apart_sendings : oldest_sendings (At m (Departs seg) ∷ past) ≡ oldest_sendings past
-      apart_sendings = by (answered (host (At m (Departs seg) ∷ past))) (acked (host (At m (Departs seg) ∷ past))) (syn_sendings (At m (Departs seg) ∷ past)) (ap answered went) (ap acked went) went_syns
+      apart_sendings = by (answered (host (At m (Departs seg) ∷ past))) (acked (host (At m (Departs seg) ∷ past))) (syn_sendings (At m (Departs seg) ∷ past)) (ap answered went)
+          (ap acked went) went_syns
         where
           none : (b : Bool) → b ≡ false → add_if b m (sendings past (acked (host past))) ≡ sendings past (acked (host past))
           none b is = rw is refl
 
           by : (b : Bool) (x : ℕ) (ms : List ℕ) → b ≡ answered (host past) → x ≡ acked (host past) → ms ≡ syn_sendings past
               → (if b then sendings (At m (Departs seg) ∷ past) x else ms) ≡ (if answered (host past) then sendings past (acked (host past)) else syn_sendings past)
-          by b x ms bs xs is = rw (bs, xs, is) (ap (λ (l : List ℕ). if answered (host past) then l else syn_sendings past) (none (holds past seg (acked (host past))) (it_holds (acked (host past)) ∙ apart)))
+          by b x ms bs xs is = rw (bs, xs, is) (ap (λ (l : List ℕ). if answered (host past) then l else syn_sendings past)
+              (none (holds past seg (acked (host past))) (it_holds (acked (host past)) ∙ apart)))
 
       apart_again : oldest_sent_again (At m (Departs seg) ∷ past) ≡ oldest_sent_again past
       apart_again = by (answered (host (At m (Departs seg) ∷ past))) (acked (host (At m (Departs seg) ∷ past))) (syn_sendings (At m (Departs seg) ∷ past)) (ap answered went) (ap acked went) went_syns
@@ -93,10 +96,12 @@ module _ (past : Story) (seg : Segment) (m : ℕ) where
 
           by : (b : Bool) (x : ℕ) (ms : List ℕ) → b ≡ answered (host past) → x ≡ acked (host past) → ms ≡ syn_sendings past
               → (if b then sent_again (At m (Departs seg) ∷ past) x else length ms) ≡ (if answered (host past) then sent_again past (acked (host past)) else length (syn_sendings past))
-          by b x ms bs xs is = rw (bs, xs, is) (ap (λ (l : ℕ). if answered (host past) then l else length (syn_sendings past)) (none (holds past seg (acked (host past))) (it_holds (acked (host past)) ∙ apart)))
+          by b x ms bs xs is = rw (bs, xs, is) (ap (λ (l : ℕ). if answered (host past) then l else length (syn_sendings past))
+              (none (holds past seg (acked (host past))) (it_holds (acked (host past)) ∙ apart)))
 
       pub apart_goes : (now : ℕ) (timer : Timer) (k w : ℕ) → now ≤ m → Resends past now timer k w → Resends (At m (Departs seg) ∷ past) m timer k w
-      apart_goes now timer k w on r = unchanged past (At m (Departs seg) ∷ past) now m timer k w same apart_sendings apart_again (ap (λ (l : List ℕ). max (newest_of l) (acknowledged_at past)) apart_sendings) (omega arith) on r
+      apart_goes now timer k w on r = unchanged past (At m (Departs seg) ∷ past) now m timer k w same apart_sendings apart_again
+          (ap (λ (l : List ℕ). max (newest_of l) (acknowledged_at past)) apart_sendings) (omega arith) on r
 
     -- nothing but an acknowledgement goes out
     pub bare_goes : (now : ℕ) (timer : Timer) (k w : ℕ) → e ≡ 0 → o ≤ sent (host past) → now ≤ m → Resends past now timer k w → Resends (At m (Departs seg) ∷ past) m timer k w
@@ -117,7 +122,8 @@ module _ (past : Story) (seg : Segment) (m : ℕ) where
       was_under = pick (answered (host past)) (nat_lt (acked (host past)) (sent (host past))) (syn_is_out past) ans
 
       now_under : is_under_way (At m (Departs seg) ∷ past) ≡ nat_lt (acked (host past)) (max (sent (host past)) (o + e))
-      now_under = by (answered (host (At m (Departs seg) ∷ past))) (acked (host (At m (Departs seg) ∷ past))) (sent (host (At m (Departs seg) ∷ past))) (ap answered went ∙ ans) (ap acked went) went_sent
+      now_under = by (answered (host (At m (Departs seg) ∷ past))) (acked (host (At m (Departs seg) ∷ past))) (sent (host (At m (Departs seg) ∷ past))) (ap answered went ∙ ans)
+          (ap acked went) went_sent
         where
           by : (b : Bool) (x n : ℕ) → b ≡ true → x ≡ acked (host past) → n ≡ max (sent (host past)) (o + e)
               → (if b then nat_lt x n else syn_is_out (At m (Departs seg) ∷ past)) ≡ nat_lt (acked (host past)) (max (sent (host past)) (o + e))
@@ -127,7 +133,8 @@ module _ (past : Story) (seg : Segment) (m : ℕ) where
       pub next_goes : (now : ℕ) (timer : Timer) (k w : ℕ) → acked (host past) < o → o ≤ sent (host past) → now ≤ m → Resends past now timer k w → Resends (At m (Departs seg) ∷ past) m timer k w
       next_goes now timer k w more low on r =
           apart_goes (apart o (acked (host past)) e more)
-          (now_under ∙ nat_yes (acked (host past)) (max (sent (host past)) (o + e)) (omega (arith, more, low)) ∙ sym (was_under ∙ nat_yes (acked (host past)) (sent (host past)) (omega (arith, more, low))))
+          (now_under ∙ nat_yes (acked (host past)) (max (sent (host past)) (o + e)) (omega (arith, more, low)) ∙ sym (was_under ∙ nat_yes (acked (host past)) (sent (host past))
+          (omega (arith, more, low))))
           now timer k w on r
         where
           apart : (o i e : ℕ) → i < o → (nat_le o i && nat_lt i (o + e)) ≡ false
@@ -151,7 +158,8 @@ module _ (past : Story) (seg : Segment) (m : ℕ) where
             one : (b : Bool) → b ≡ true → add_if b m (sendings past (acked (host past))) ≡ m ∷ sendings past (acked (host past))
             one b is = rw is refl
 
-            by : (b : Bool) (x : ℕ) → b ≡ true → x ≡ acked (host past) → (if b then sendings (At m (Departs seg) ∷ past) x else syn_sendings (At m (Departs seg) ∷ past)) ≡ m ∷ sendings past (acked (host past))
+            by : (b : Bool) (x : ℕ) → b ≡ true → x ≡ acked (host past) → (if b then sendings (At m (Departs seg) ∷ past) x else syn_sendings (At m (Departs seg) ∷ past)) ≡ m
+                ∷ sendings past (acked (host past))
             by b x is xs = rw (is, xs) (one (holds past seg (acked (host past))) oldest_held)
 
         held_again : oldest_sent_again (At m (Departs seg) ∷ past) ≡ 1 + sent_again past (acked (host past))
@@ -160,7 +168,8 @@ module _ (past : Story) (seg : Segment) (m : ℕ) where
             one : (b : Bool) → b ≡ true → (if b then 1 else 0) + sent_again past (acked (host past)) ≡ 1 + sent_again past (acked (host past))
             one b is = rw is refl
 
-            by : (b : Bool) (x : ℕ) → b ≡ true → x ≡ acked (host past) → (if b then sent_again (At m (Departs seg) ∷ past) x else length (syn_sendings (At m (Departs seg) ∷ past))) ≡ 1 + sent_again past (acked (host past))
+            by : (b : Bool) (x : ℕ) → b ≡ true → x ≡ acked (host past) → (if b then sent_again (At m (Departs seg) ∷ past) x else length
+                (syn_sendings (At m (Departs seg) ∷ past))) ≡ 1 + sent_again past (acked (host past))
             by b x is xs = rw (is, xs) (one (holds past seg (acked (host past))) oldest_held)
 
         held_since : Rises past → newest_moment past ≤ m → waits_since (At m (Departs seg) ∷ past) ≡ m
@@ -170,32 +179,40 @@ module _ (past : Story) (seg : Segment) (m : ℕ) where
             → IsRunning (m ∷ sendings past (acked (host past))) (1 + sent_again past (acked (host past))) m k at → Resends (At m (Departs seg) ∷ past) m (Until at) k w
         held at k w rises on low high r =
             set_anew (At m (Departs seg) ∷ past) m at k w (omega arith) held_under low high
-            (same_running (m ∷ sendings past (acked (host past))) (oldest_sendings (At m (Departs seg) ∷ past)) (1 + sent_again past (acked (host past))) (oldest_sent_again (At m (Departs seg) ∷ past)) m (waits_since (At m (Departs seg) ∷ past)) k at
+            (same_running (m ∷ sendings past (acked (host past))) (oldest_sendings (At m (Departs seg) ∷ past)) (1 + sent_again past (acked (host past)))
+            (oldest_sent_again (At m (Departs seg) ∷ past)) m (waits_since (At m (Departs seg) ∷ past)) k at
             held_sendings held_again (held_since rises on) r)
 
         -- octets or an end go where nothing is under way: the timer is set
-        pub first_goes : (now : ℕ) (timer : Timer) (k w : ℕ) → acked (host past) ≡ sent (host past) → Rises past → newest_moment past ≤ m → Resends past now timer k w → Resends (At m (Departs seg) ∷ past) m (Until (m + w)) 0 w
+        pub first_goes : (now : ℕ) (timer : Timer) (k w : ℕ) → acked (host past) ≡ sent (host past) → Rises past → newest_moment past ≤ m → Resends past now timer k w → Resends
+            (At m (Departs seg) ∷ past) m (Until (m + w)) 0 w
         first_goes now timer k w none rises on r =
             let zero_k : k ≡ 0 = r.idle (was_under ∙ nat_no (acked (host past)) (sent (host past)) (omega (arith, none))) in
             let low : 1000 ≤ w = omega (arith, r.wait, zero_k, wait_low k) in
             held (m + w) 0 w rises on (omega (arith, low)) r.longest
-            (subst (λ (l : List ℕ). IsRunning (m ∷ l) (1 + sent_again past (acked (host past))) m 0 (m + w)) (sym (nothing_past past (acked (host past)) (omega (arith, none)))) (starts (1 + sent_again past (acked (host past))) m w low r.longest))
+            (subst (λ (l : List ℕ). IsRunning (m ∷ l) (1 + sent_again past (acked (host past))) m 0 (m + w)) (sym (nothing_past past (acked (host past)) (omega (arith, none))))
+            (starts (1 + sent_again past (acked (host past))) m w low r.longest))
 
         -- the oldest goes again after an expiry: the timer is set
-        pub oldest_goes : (now k w : ℕ) → acked (host past) < sent (host past) → Rises past → newest_moment past ≤ m → now ≤ m → Resends past now Expired k w → Resends (At m (Departs seg) ∷ past) m (Until (m + w)) k w
+        pub oldest_goes : (now k w : ℕ) → acked (host past) < sent (host past) → Rises past → newest_moment past ≤ m → now ≤ m → Resends past now Expired k w → Resends
+            (At m (Departs seg) ∷ past) m (Until (m + w)) k w
         oldest_goes now k w some rises new on r =
             let o_is = r.overdue (was_under ∙ nat_yes (acked (host past)) (sent (host past)) some) refl in
             held (m + w) k w rises new r.wait r.longest
             (goes_again (sendings past (acked (host past))) (sent_again past (acked (host past))) (1 + sent_again past (acked (host past))) now k m w (omega arith) r.wait r.longest on
             (same_overdue (oldest_sendings past) (sendings past (acked (host past))) (oldest_sent_again past) (sent_again past (acked (host past))) now k
-            (sym (pick_list (answered (host past)) (sendings past (acked (host past))) (syn_sendings past) ans)) (sym (pick_count (answered (host past)) (sent_again past (acked (host past))) (length (syn_sendings past)) ans)) o_is))
+            (sym (pick_list (answered (host past)) (sendings past (acked (host past))) (syn_sendings past) ans))
+            (sym (pick_count (answered (host past)) (sent_again past (acked (host past))) (length (syn_sendings past)) ans)) o_is))
 
         -- and while the timer runs, for another cause: it is set anew, and the count stays
-        pub oldest_goes_anyway : (now at k w : ℕ) → acked (host past) < sent (host past) → Rises past → newest_moment past ≤ m → Resends past now (Until at) k w → Resends (At m (Departs seg) ∷ past) m (Until (m + w)) k w
+        pub oldest_goes_anyway : (now at k w : ℕ) → acked (host past) < sent (host past) → Rises past → newest_moment past ≤ m → Resends past now (Until at) k w → Resends
+            (At m (Departs seg) ∷ past) m (Until (m + w)) k w
         oldest_goes_anyway now at k w some rises new r =
             let by_now = since_by past rises in
             held (m + w) k w rises new r.wait r.longest
-            (goes_anyway (sendings past (acked (host past))) (sent_again past (acked (host past))) (1 + sent_again past (acked (host past))) (waits_since past) k at m w (omega arith) r.wait r.longest (omega (arith, new, by_now))
+            (goes_anyway (sendings past (acked (host past))) (sent_again past (acked (host past))) (1 + sent_again past (acked (host past))) (waits_since past) k at m w
+            (omega arith) r.wait r.longest (omega (arith, new, by_now))
             (same_running (oldest_sendings past) (sendings past (acked (host past))) (oldest_sent_again past) (sent_again past (acked (host past))) (waits_since past) (waits_since past) k at
-            (sym (pick_list (answered (host past)) (sendings past (acked (host past))) (syn_sendings past) ans)) (sym (pick_count (answered (host past)) (sent_again past (acked (host past))) (length (syn_sendings past)) ans)) refl
+            (sym (pick_list (answered (host past)) (sendings past (acked (host past))) (syn_sendings past) ans))
+            (sym (pick_count (answered (host past)) (sent_again past (acked (host past))) (length (syn_sendings past)) ans)) refl
             (r.running at (was_under ∙ nat_yes (acked (host past)) (sent (host past)) some) refl)))

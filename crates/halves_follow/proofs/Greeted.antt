@@ -1,5 +1,6 @@
 -- An accepted flow, until the guest's SYN is known.
-use Rattle.std.proofs.Common.{refl, ◌≡◌, ℕ, ◌+◌, ◌%◌, ◌^◌, List, [], ◌∷◌, length, arith, Option, Some, None, is_some, Bool, true, false, not, ◌&&◌, ◌||◌, if◌then◌else◌, nat_lt, pos, int_le, ap, sym, ◌∙◌, subst}
+use Rattle.std.proofs.Common.{refl, ◌≡◌, ℕ, ◌+◌, ◌%◌, ◌^◌, List, [], ◌∷◌, length, arith, Option, Some, None, is_some, Bool, true, false, not, ◌&&◌, ◌||◌, if◌then◌else◌, nat_lt, pos}
+use Rattle.std.proofs.Common.{int_le, ap, sym, ◌∙◌, subst}
 use Rattle.std.proofs.lemmas.Bool.Decides.{nat_tests}
 use Rattle.std.specs.Option.{option_or, option_map}
 use Rattle.seq_space.specs.Places.{number_of}
@@ -36,7 +37,8 @@ unknown (At m (Arrives seg) ∷ past) none =
     let before = not_known (their_syn past) (if greets past seg then Some seg else None) none in
     let u = unknown past before in
     record {
-      fins = by seg.fin (not seg.syn) (not seg.rst) (is_some (their_number past)) (not (is_closed past)) (int_le (pos (ackd (guest past))) (ends (guest past) seg.number seg.octets)) ((seg.number + length seg.octets + 1) % 2 ^ 32) (after_fins past) (no_number (their_syn past) before) u.fins;
+      fins = by seg.fin (not seg.syn) (not seg.rst) (is_some (their_number past)) (not (is_closed past))
+          (int_le (pos (ackd (guest past))) (ends (guest past) seg.number seg.octets)) ((seg.number + length seg.octets + 1) % 2 ^ 32) (after_fins past) (no_number (their_syn past) before) u.fins;
       sure = u.sure;
       order = u.order;
     }
@@ -51,7 +53,8 @@ unknown (At m (Departs seg) ∷ past) none =
     record {
       fins = u.fins;
       sure = rw (u.fins, u.sure) (none_of seg.ack (not seg.rst));
-      order = ap (λ (g : List Up). if nat_lt (ackd (guest past)) (ackd g) then fin_is_out past else ended_first past) (same (acknowledges past seg) (last_false seg.ack (not seg.rst) (is_some (their_number past)) (no_number (their_syn past) none)))
+      order = ap (λ (g : List Up). if nat_lt (ackd (guest past)) (ackd g) then fin_is_out past else ended_first past)
+          (same (acknowledges past seg) (last_false seg.ack (not seg.rst) (is_some (their_number past)) (no_number (their_syn past) none)))
           ∙ still (ackd (guest past)) (fin_is_out past) (ended_first past) ∙ u.order;
     }
   where

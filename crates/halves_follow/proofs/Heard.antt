@@ -1,5 +1,6 @@
 -- The timer of what is under way, where an acknowledgement comes.
-use Rattle.std.proofs.Common.{refl, ◌≡◌, ℕ, suc, ◌+◌, ◌<◌, ◌≤◌, List, [], ◌∷◌, length, max, arith, Bool, true, false, ◌&&◌, if◌then◌else◌, ℤ, pos, negsuc, int_le, int_lt, nat_le, nat_lt, ap, sym, ◌∙◌, subst}
+use Rattle.std.proofs.Common.{refl, ◌≡◌, ℕ, suc, ◌+◌, ◌<◌, ◌≤◌, List, [], ◌∷◌, length, max, arith, Bool, true, false, ◌&&◌, if◌then◌else◌, ℤ, pos, negsuc, int_le, int_lt, nat_le, nat_lt}
+use Rattle.std.proofs.Common.{ap, sym, ◌∙◌, subst}
 use Rattle.std.proofs.lemmas.Bool.Decides.{nat_tests}
 use Rattle.flow_laws.specs.Settings.{Settings}
 use Rattle.flow_laws.specs.Event.{Segment, Arrives, At, Story, newest_moment}
@@ -127,7 +128,8 @@ module _ (past : Story) (seg : Segment) (m : ℕ) where
       now_at : acknowledged_at (At m (Arrives seg) ∷ past) ≡ (if nat_lt (acked (host past)) a then m else acknowledged_at past)
       now_at = by (confirms past seg) (not_past_sent (host past) seg.acknowledgement) (our_place (host past) seg.acknowledgement) it not_past place
         where
-          by : (b c : Bool) (z : ℤ) → b ≡ true → c ≡ true → z ≡ pos a → (if b && c && int_lt (pos (acked (host past))) z then m else acknowledged_at past) ≡ (if nat_lt (acked (host past)) a then m else acknowledged_at past)
+          by : (b c : Bool) (z : ℤ) → b ≡ true → c ≡ true → z ≡ pos a → (if b && c && int_lt (pos (acked (host past))) z then m else acknowledged_at past) ≡
+              (if nat_lt (acked (host past)) a then m else acknowledged_at past)
           by b c z is ok at = rw (is, ok, at) refl
 
       -- the same place isn't acknowledged anew
@@ -148,7 +150,8 @@ module _ (past : Story) (seg : Segment) (m : ℕ) where
           let newest = newest_by (newest_moment past) (sendings past a) by_now in
           let first = first_by (newest_moment past) (sendings past a) by_now in
           let moved : acknowledged_at (At m (Arrives seg) ∷ past) ≡ m = now_at ∙ when (nat_lt (acked (host past)) a) m (acknowledged_at past) (nat_less (acked (host past)) a more) in
-          let since : waits_since (At m (Arrives seg) ∷ past) ≡ m = ap (λ (l : List ℕ). max (newest_of l) (acknowledged_at (At m (Arrives seg) ∷ past))) now_sendings ∙ ap (λ (k : ℕ). max (newest_of (sendings past a)) k) moved ∙ omega (arith, newest, on) in
+          let since : waits_since (At m (Arrives seg) ∷ past) ≡ m = ap (λ (l : List ℕ). max (newest_of l) (acknowledged_at (At m (Arrives seg) ∷ past))) now_sendings ∙ ap
+          (λ (k : ℕ). max (newest_of (sendings past a)) k) moved ∙ omega (arith, newest, on) in
           set_anew (At m (Arrives seg) ∷ past) m (m + w) 0 w (omega arith) (now_under ∙ nat_less a (sent (host past)) left) (omega (arith, short)) long
           (same_running (sendings past a) (oldest_sendings (At m (Arrives seg) ∷ past)) 0 (oldest_sent_again (At m (Arrives seg) ∷ past)) m (waits_since (At m (Arrives seg) ∷ past)) 0 (m + w)
           now_sendings now_again since (moves (sendings past a) m w (sent_once s past l a left) (omega (arith, first, on)) short long))
@@ -198,7 +201,8 @@ module _ (past : Story) (seg : Segment) (m : ℕ) where
               longest = r.longest;
               idle = λ is. refl;
               set = λ is off. r.set (sym again_under ∙ is) off;
-              running = λ at is to. same_running (oldest_sendings past) (oldest_sendings (At m (Arrives seg) ∷ past)) 0 (oldest_sent_again (At m (Arrives seg) ∷ past)) (waits_since past) (waits_since (At m (Arrives seg) ∷ past)) 0 at
+              running = λ at is to. same_running (oldest_sendings past) (oldest_sendings (At m (Arrives seg) ∷ past)) 0 (oldest_sent_again (At m (Arrives seg) ∷ past))
+                  (waits_since past) (waits_since (At m (Arrives seg) ∷ past)) 0 at
                   again_times now_again again_since (counts_anew (oldest_sendings past) (oldest_sent_again past) (waits_since past) k at (r.running at (sym again_under ∙ is) to));
               overdue = λ is over. same_overdue (oldest_sendings past) (oldest_sendings (At m (Arrives seg) ∷ past)) 0 (oldest_sent_again (At m (Arrives seg) ∷ past)) m 0 again_times now_again
                   (passes (oldest_sendings past) 0 now m 0 on (overdue_anew (oldest_sendings past) (oldest_sent_again past) now k (r.overdue (sym again_under ∙ is) over)));
@@ -220,7 +224,8 @@ module _ (past : Story) (seg : Segment) (m : ℕ) where
     -- our SYN is acknowledged, before anything else went out
     pub answers_syn : (w : ℕ) (timer : Timer) → sent (host past) ≡ 0 → 1000 ≤ w → w ≤ 60000 → Resends (At m (Arrives seg) ∷ past) m timer 0 w
     answers_syn w timer none short long =
-        rests_now (At m (Arrives seg) ∷ past) m w timer (omega arith) (by (answered (host (At m (Arrives seg) ∷ past))) (acked (host (At m (Arrives seg) ∷ past))) (sent (host (At m (Arrives seg) ∷ past))) now_answered (now_sent ∙ none)) short long
+        rests_now (At m (Arrives seg) ∷ past) m w timer (omega arith) (by (answered (host (At m (Arrives seg) ∷ past))) (acked (host (At m (Arrives seg) ∷ past)))
+        (sent (host (At m (Arrives seg) ∷ past))) now_answered (now_sent ∙ none)) short long
       where
         nat_not : (k : ℕ) → nat_lt k 0 ≡ false
         nat_not k = grind (arith, nat_tests)

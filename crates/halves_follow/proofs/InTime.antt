@@ -19,7 +19,8 @@ some_oldest : (now t : ℕ) (ts : List ℕ) → unwrap_or (oldest (t ∷ ts)) no
 some_oldest now t [] = refl
 some_oldest now t (u ∷ ts) = some_oldest now u ts
 
-given_up : (times : List ℕ) (again now : ℕ) → 9 ≤ length times → 8 ≤ again → first_time times + 243000 ≤ now → (nat_le 9 (length times) && nat_le 8 again && nat_le (unwrap_or (oldest times) now + 243000) now) ≡ true
+given_up : (times : List ℕ) (again now : ℕ) → 9 ≤ length times → 8 ≤ again → first_time times + 243000 ≤ now → (nat_le 9 (length times) && nat_le 8 again && nat_le
+    (unwrap_or (oldest times) now + 243000) now) ≡ true
 given_up [] again now many more low = absurd (omega (arith, many))
 given_up (t ∷ ts) again now many more low = rw (some_oldest now t ts) (yes_all 9 (length (t ∷ ts)) 8 again (first_time (t ∷ ts) + 243000) now many more low)
   where
@@ -32,11 +33,13 @@ given_up (t ∷ ts) again now many more low = rw (some_oldest now t ts) (yes_all
 -- the ninth expiry gives the flow up
 pub gives_up_now : (past : Story) (now at w : ℕ) → Resends past now (Until at) 8 w → at ≤ now → IsTrue (gives_up now past)
 gives_up_now past now at w r due = by_cases (is_under_way past)
-    (λ under. let p = gives_up_at (oldest_sendings past) (oldest_sent_again past) (waits_since past) at now (r.running at under refl) due in given_up (oldest_sendings past) (oldest_sent_again past) now p.0 p.1 p.2)
+    (λ under. let p = gives_up_at (oldest_sendings past) (oldest_sent_again past) (waits_since past) at now (r.running at under refl) due in given_up (oldest_sendings past)
+    (oldest_sent_again past) now p.0 p.1 p.2)
     (λ none. absurd (let zero_k = r.idle none in omega (arith, zero_k)))
 
 -- nothing waits longer than a minute: where nothing is owed again and the timer hasn't expired
-pub all_in_time : (past : Story) (now : ℕ) (timer : Timer) (k w : ℕ) → Resends past now timer k w → (is_under_way past ≡ true → timer ≡ Expired → ⊥) → ((at : ℕ) → timer ≡ Until at → now < at) → AreAhead now (resend_deadline past)
+pub all_in_time : (past : Story) (now : ℕ) (timer : Timer) (k w : ℕ) → Resends past now timer k w → (is_under_way past ≡ true → timer ≡ Expired → ⊥) →
+    ((at : ℕ) → timer ≡ Until at → now < at) → AreAhead now (resend_deadline past)
 all_in_time past now timer k w r sent_all before = by (is_under_way past) (is_closed past) (λ under. by_timer timer refl under)
   where
     by_timer : (t : Timer) → timer ≡ t → is_under_way past ≡ true → now < waits_since past + 60000

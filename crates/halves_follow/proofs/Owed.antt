@@ -15,22 +15,28 @@ use Rattle.halves_follow.proofs.Owing.{failed_no_reset, no_reset}
 -- ---- what a close owes
 
 module _ (past : Story) (m : ℕ) (directly ended known : Bool) where
-  owes_by : (d f h g c a : Bool) → is_done past ≡ d → follows_reset directly past ≡ f → host_failed past ≡ h → gives_up m past ≡ g → connects_too_long m past ≡ c → (is_accepted past && not (syn_is_out past)) ≡ a
+  owes_by : (d f h g c a : Bool) → is_done past ≡ d → follows_reset directly past ≡ f → host_failed past ≡ h → gives_up m past ≡ g → connects_too_long m past ≡ c →
+      (is_accepted past && not (syn_is_out past)) ≡ a
       → owes_reset (At m (Closes directly ended known) ∷ past) ≡ (not d && not f && (h || (not ended && (g || c))) && not a)
-  owes_by d f h g c a ds fs hs gs cs ts = by (is_done past) (follows_reset directly past) (host_failed past) (gives_up m past) (connects_too_long m past) (is_accepted past && not (syn_is_out past)) ds fs hs gs cs ts
+  owes_by d f h g c a ds fs hs gs cs ts = by (is_done past) (follows_reset directly past) (host_failed past) (gives_up m past) (connects_too_long m past)
+      (is_accepted past && not (syn_is_out past)) ds fs hs gs cs ts
     where
-      by : (x y z u v w : Bool) → x ≡ d → y ≡ f → z ≡ h → u ≡ g → v ≡ c → w ≡ a → (not x && not y && (z || (not ended && (u || v))) && not w) ≡ (not d && not f && (h || (not ended && (g || c))) && not a)
+      by : (x y z u v w : Bool) → x ≡ d → y ≡ f → z ≡ h → u ≡ g → v ≡ c → w ≡ a → (not x && not y && (z || (not ended && (u || v))) && not w) ≡
+          (not d && not f && (h || (not ended && (g || c))) && not a)
       by x y z u v w xs ys zs us vs ws = rw (xs, ys, zs, us, vs, ws) refl
 
   -- after a call that failed
   pub failed_owes : host_failed past ≡ true → is_done past ≡ false → (is_accepted past && not (syn_is_out past)) ≡ false → owes_reset (At m (Closes directly ended known) ∷ past) ≡ true
-  failed_owes failed not_done sent_any = owes_by false false true (gives_up m past) (connects_too_long m past) false not_done (no_reset past directly (failed_no_reset past failed)) failed refl refl sent_any
+  failed_owes failed not_done sent_any = owes_by false false true (gives_up m past) (connects_too_long m past) false not_done
+      (no_reset past directly (failed_no_reset past failed)) failed refl refl sent_any
 
   -- after it was given up, or didn't connect in time
-  pub late_owes : (IsTrue (gives_up m past || connects_too_long m past)) → follows_reset directly past ≡ false → ended ≡ false → is_done past ≡ false → (is_accepted past && not (syn_is_out past)) ≡ false
+  pub late_owes : (IsTrue (gives_up m past || connects_too_long m past)) → follows_reset directly past ≡ false → ended ≡ false → is_done past ≡ false →
+      (is_accepted past && not (syn_is_out past)) ≡ false
       → owes_reset (At m (Closes directly ended known) ∷ past) ≡ true
   late_owes late no_reset on not_done sent_any =
-      owes_by false false (host_failed past) (gives_up m past) (connects_too_long m past) false not_done no_reset refl refl refl sent_any ∙ by (host_failed past) ended (gives_up m past || connects_too_long m past) on late
+      owes_by false false (host_failed past) (gives_up m past) (connects_too_long m past) false not_done no_reset refl refl refl sent_any ∙ by (host_failed past) ended
+      (gives_up m past || connects_too_long m past) on late
     where
       by : (h e g : Bool) → e ≡ false → g ≡ true → (not false && not false && (h || (not e && g)) && not false) ≡ true
       by true e g es gs = refl
@@ -38,7 +44,8 @@ module _ (past : Story) (m : ℕ) (directly ended known : Bool) where
 
   -- none after both ends passed, after the guest's reset, at the end of the run, or where nothing of ours went out
   pub done_owes_none : is_done past ≡ true → owes_reset (At m (Closes directly ended known) ∷ past) ≡ false
-  done_owes_none done = owes_by true (follows_reset directly past) (host_failed past) (gives_up m past) (connects_too_long m past) (is_accepted past && not (syn_is_out past)) done refl refl refl refl refl
+  done_owes_none done = owes_by true (follows_reset directly past) (host_failed past) (gives_up m past) (connects_too_long m past)
+      (is_accepted past && not (syn_is_out past)) done refl refl refl refl refl
 
   pub reset_owes_none : follows_reset directly past ≡ true → owes_reset (At m (Closes directly ended known) ∷ past) ≡ false
   reset_owes_none after = owes_by (is_done past) true (host_failed past) (gives_up m past) (connects_too_long m past) (is_accepted past && not (syn_is_out past)) refl after refl refl refl refl
@@ -103,13 +110,16 @@ module _ (past : Story) (m : ℕ) (seg : Segment) (rst : seg.rst ≡ true) (ack 
   nat_same a b is = grind (arith, nat_tests)
 
   pub next_is_owed : (o : Outward) → Keeps o (host past) → (syn_is_out past || is_accepted past) ≡ true → seg.number ≡ number_of o.first o.sent → is_owed_reset past seg ≡ true
-  next_is_owed o k out is = form true (by (syn_is_out past || is_accepted past) (nat_eq seg.number (number_of (our_number past) (sent (host past)))) (nat_eq seg.number 0 && nat_eq seg.acknowledgement (next_number (unwrap_or (their_number past) 0))) out (nat_same seg.number (number_of (our_number past) (sent (host past))) (is ∙ ap (λ (f : ℕ). number_of f o.sent) (k.first ∙ our_first_is past) ∙ ap (λ (n : ℕ). number_of (our_number past) n) k.sent)))
+  next_is_owed o k out is = form true (by (syn_is_out past || is_accepted past) (nat_eq seg.number (number_of (our_number past) (sent (host past))))
+      (nat_eq seg.number 0 && nat_eq seg.acknowledgement (next_number (unwrap_or (their_number past) 0))) out (nat_same seg.number (number_of (our_number past) (sent (host past)))
+      (is ∙ ap (λ (f : ℕ). number_of f o.sent) (k.first ∙ our_first_is past) ∙ ap (λ (n : ℕ). number_of (our_number past) n) k.sent)))
     where
       by : (b x y : Bool) → b ≡ true → x ≡ true → (if b then x else y) ≡ true
       by b x y is xs = rw (is, xs) refl
 
   pub first_is_owed : (f : ℕ) → their_number past ≡ Some f → (syn_is_out past || is_accepted past) ≡ false → seg.number ≡ 0 → seg.acknowledgement ≡ next_number f → is_owed_reset past seg ≡ true
-  first_is_owed f known none zero_it is = form true (by (syn_is_out past || is_accepted past) (nat_eq seg.number (number_of (our_number past) (sent (host past)))) (nat_eq seg.number 0) (nat_eq seg.acknowledgement (next_number (unwrap_or (their_number past) 0))) none (nat_same seg.number 0 zero_it) (at (their_number past) known))
+  first_is_owed f known none zero_it is = form true (by (syn_is_out past || is_accepted past) (nat_eq seg.number (number_of (our_number past) (sent (host past))))
+      (nat_eq seg.number 0) (nat_eq seg.acknowledgement (next_number (unwrap_or (their_number past) 0))) none (nat_same seg.number 0 zero_it) (at (their_number past) known))
     where
       at : (o : Option ℕ) → o ≡ Some f → nat_eq seg.acknowledgement (next_number (unwrap_or o 0)) ≡ true
       at o same = rw same (nat_same seg.acknowledgement (next_number f) is)

@@ -1,5 +1,6 @@
 -- Whether a flow is done, or closed after a reset.
-use Rattle.std.proofs.Common.{refl, ◌≡◌, ℕ, ◌+◌, ◌<◌, ◌≤◌, List, [], ◌∷◌, length, arith, Option, Some, None, Bool, true, false, ◌&&◌, ◌||◌, if◌then◌else◌, IsTrue, nat_le, nat_eq, ap, ◌∙◌, inl, inr, ◌⊎◌}
+use Rattle.std.proofs.Common.{refl, ◌≡◌, ℕ, ◌+◌, ◌<◌, ◌≤◌, List, [], ◌∷◌, length, arith, Option, Some, None, Bool, true, false, ◌&&◌, ◌||◌, if◌then◌else◌, IsTrue, nat_le, nat_eq, ap, ◌∙◌}
+use Rattle.std.proofs.Common.{inl, inr, ◌⊎◌}
 use Rattle.std.proofs.lemmas.Bool.{cases_lt}
 use Rattle.std.proofs.lemmas.Bool.Decides.{nat_tests}
 use Rattle.seq_space.specs.Places.{number_of}
@@ -33,7 +34,8 @@ failed_no_reset (At m (Arrives seg) ∷ past) is = absurd cc
 failed_no_reset (At m _ ∷ past) is = refl
 
 -- or it is one that isn't at the next number, with nothing due
-pub not_fatal : (past : Story) (m : ℕ) (seg : Segment) (directly : Bool) (f last : ℕ) → their_number past ≡ Some f → number_of f (ackd (guest past)) ≡ last → nat_eq seg.number last ≡ false → ack_is_due (guest past) ≡ false
+pub not_fatal : (past : Story) (m : ℕ) (seg : Segment) (directly : Bool) (f last : ℕ) → their_number past ≡ Some f → number_of f (ackd (guest past)) ≡ last →
+    nat_eq seg.number last ≡ false → ack_is_due (guest past) ≡ false
     → follows_reset directly (At m (Arrives seg) ∷ past) ≡ false
 not_fatal past m seg directly f last known same apart none = ap (λ (b : Bool). directly && b) (by seg.rst) ∙ no_and directly
   where

@@ -57,7 +57,8 @@ three_true false true d = refl
 three_true false false d = refl
 
 -- what a reason is in the law: the oldest place is overdue, or the guest prompted it
-goes_again : (past : Story) (m : ℕ) (seg : Segment) (prompted overdue : Bool) → (newest_of (oldest_sendings past) + 1000 ≤ m) ⊎ IsTrue prompted → (newest_of (oldest_sendings past) + 1000 ≤ m → overdue ≡ true)
+goes_again : (past : Story) (m : ℕ) (seg : Segment) (prompted overdue : Bool) → (newest_of (oldest_sendings past) + 1000 ≤ m) ⊎ IsTrue prompted →
+    (newest_of (oldest_sendings past) + 1000 ≤ m → overdue ≡ true)
     → IsTrue (seg.rst || not (repeats past seg) || prompted || overdue)
 goes_again past m seg prompted overdue (inl old) late = rw (late old) (all_true seg.rst (not (repeats past seg)) prompted)
 goes_again past m seg prompted overdue (inr came) late = rw came (three_true seg.rst (not (repeats past seg)) overdue)
@@ -76,7 +77,8 @@ syn_may_go past m seg syn unanswered some reason = goes_again past m seg (is_pro
     late old = rw syn (long_ago m (syn_sendings past) some (subst (λ (l : List ℕ). newest_of l + 1000 ≤ m) times old))
 
 -- where there is a reason the oldest place may go again
-pub oldest_may_go : (past : Story) (m : ℕ) (seg : Segment) → seg.syn ≡ false → (is_empty seg.octets && not seg.fin) ≡ false → answered (host past) ≡ true → our_place (host past) seg.number ≡ pos (acked (host past))
+pub oldest_may_go : (past : Story) (m : ℕ) (seg : Segment) → seg.syn ≡ false → (is_empty seg.octets && not seg.fin) ≡ false → answered (host past) ≡ true → our_place
+    (host past) seg.number ≡ pos (acked (host past))
     → 0 < length (sendings past (acked (host past))) → HasReason past m → SendsAgainWithReason past m (Send seg)
 oldest_may_go past m seg syn full ans place some reason = goes_again past m seg (is_prompted past) (is_overdue m past seg) reason late
   where

@@ -9,7 +9,8 @@ use Rattle.halves_follow.proofs.Sendings.{Rises, since_by}
 
 -- ---- from one story to another
 
-pub same_running : (times now_times : List ℕ) (again now_again since now_since k at : ℕ) → now_times ≡ times → now_again ≡ again → now_since ≡ since → IsRunning times again since k at → IsRunning now_times now_again now_since k at
+pub same_running : (times now_times : List ℕ) (again now_again since now_since k at : ℕ) → now_times ≡ times → now_again ≡ again → now_since ≡ since →
+    IsRunning times again since k at → IsRunning now_times now_again now_since k at
 same_running times now_times again now_again since now_since k at t a s r = rw (t, a, s) r
 
 pub same_overdue : (times now_times : List ℕ) (again now_again now k : ℕ) → now_times ≡ times → now_again ≡ again → IsOverdue times again now k → IsOverdue now_times now_again now k
@@ -28,7 +29,8 @@ unchanged past next now later timer k w u o a s new on r = record {
   longest = r.longest;
   idle = λ is. r.idle (sym u ∙ is);
   set = λ is off. r.set (sym u ∙ is) off;
-  running = λ at is to. same_running (oldest_sendings past) (oldest_sendings next) (oldest_sent_again past) (oldest_sent_again next) (waits_since past) (waits_since next) k at o a s (r.running at (sym u ∙ is) to);
+  running = λ at is to. same_running (oldest_sendings past) (oldest_sendings next) (oldest_sent_again past) (oldest_sent_again next) (waits_since past)
+      (waits_since next) k at o a s (r.running at (sym u ∙ is) to);
   overdue = λ is over. passes (oldest_sendings next) (oldest_sent_again next) now later k on
       (same_overdue (oldest_sendings past) (oldest_sendings next) (oldest_sent_again past) (oldest_sent_again next) now k o a (r.overdue (sym u ∙ is) over));
 }

@@ -1,5 +1,6 @@
 -- The guest's reset at the number that is expected next: a cause of the close, which owes none.
-use Rattle.std.proofs.Common.{refl, ◌≡◌, ℕ, ◌+◌, List, [], ◌∷◌, length, arith, Option, Some, None, Bool, true, false, ◌&&◌, ◌||◌, not, if◌then◌else◌, IsTrue, MatchOption, nat_eq, ap, sym, ◌∙◌, subst, ◌⊎◌, inl, inr, length-append}
+use Rattle.std.proofs.Common.{refl, ◌≡◌, ℕ, ◌+◌, List, [], ◌∷◌, length, arith, Option, Some, None, Bool, true, false, ◌&&◌, ◌||◌, not, if◌then◌else◌, IsTrue, MatchOption, nat_eq, ap, sym}
+use Rattle.std.proofs.Common.{◌∙◌, subst, ◌⊎◌, inl, inr, length-append}
 use Rattle.std.proofs.lemmas.Bool.Decides.{nat_tests}
 use Rattle.seq_space.specs.Places.{number_of}
 use Rattle.flow_laws.specs.Settings.{Settings}
@@ -52,7 +53,8 @@ module _ (s : Settings) (m : ℕ) (past : Story) (seg : Segment) (rst : seg.rst 
       reset_by ended known now (rw theirs (λ honest. (places_taken p.received, f.acknowledged, taken_came s.ring (guest past) p f honest, number)))
 
   -- or, before the guest's SYN is known, where it acknowledges ours
-  pub reset_turns_away : (ended known : Bool) (now : ℕ) → their_number past ≡ None → seg.ack ≡ true → seg.acknowledgement ≡ next_number (our_number past) → HasCause true ended known now (At m (Arrives seg) ∷ past)
+  pub reset_turns_away : (ended known : Bool) (now : ℕ) → their_number past ≡ None → seg.ack ≡ true → seg.acknowledgement ≡ next_number (our_number past) →
+      HasCause true ended known now (At m (Arrives seg) ∷ past)
   reset_turns_away ended known now unknown ack is = reset_by ended known now (rw (unknown, ack) (same seg.acknowledgement (next_number (our_number past)) is))
     where
       same : (a b : ℕ) → a ≡ b → IsTrue (nat_eq a b)
@@ -79,7 +81,8 @@ module _ (s : Settings) (m : ℕ) (past : Story) (seg : Segment) (rst : seg.rst 
       either a b false (inl due) = absurd cc
       either a b false (inr same) = let is : nat_eq a b ≡ true = grind (arith, nat_tests) in rw is refl
 
-      at_next : IsTrue (ack_is_due (guest past)) ⊎ (number_of p.received.first (places_taken p.received) ≡ last) → IsTrue (ack_is_due (guest past)) ⊎ (seg.number ≡ number_of p.received.first (ackd (guest past)))
+      at_next : IsTrue (ack_is_due (guest past)) ⊎ (number_of p.received.first (places_taken p.received) ≡ last) → IsTrue (ack_is_due (guest past)) ⊎
+          (seg.number ≡ number_of p.received.first (ackd (guest past)))
       at_next (inl due) = inl due
       at_next (inr same) = inr (number ∙ same ∙ sym acked_at)
 

@@ -58,7 +58,8 @@ three true false c is = absurd cc
 three false b c is = absurd cc
 
 -- a flow that takes itself for done is done
-pub done_is : (past : Story) (p : Part) (sure ours_first : Bool) (last : ℕ) → Ends past p sure ours_first last → host_was_ended past ≡ true → our_fin_is_acked past ≡ true → sure ≡ true → IsTrue (is_done past)
+pub done_is : (past : Story) (p : Part) (sure ours_first : Bool) (last : ℕ) → Ends past p sure ours_first last → host_was_ended past ≡ true → our_fin_is_acked past ≡ true →
+    sure ≡ true → IsTrue (is_done past)
 done_is past p sure ours_first last e ended ours it = all_true (host_was_ended past) (our_fin_is_acked past) (fin_was_acknowledged past) ended ours (e.was_sure it)
 
 -- and with an honest guest one that is done takes itself for it
@@ -78,7 +79,8 @@ closes_to_rest past p sure ours_first last m directly ended known e done plain =
     by a b c x y z = rw (x, y, z) refl
 
 -- any other close makes no rest
-pub closes_for_good : (past : Story) (m : ℕ) (directly ended known : Bool) → (is_done past && not (follows_reset directly past)) ≡ false → rests_since (At m (Closes directly ended known) ∷ past) ≡ None
+pub closes_for_good : (past : Story) (m : ℕ) (directly ended known : Bool) → (is_done past && not (follows_reset directly past)) ≡ false → rests_since
+    (At m (Closes directly ended known) ∷ past) ≡ None
 closes_for_good past m directly ended known none = by (is_done past) (not (follows_reset directly past)) (ended_first past) none
   where
     by : (a b c : Bool) → (a && b) ≡ false → (if a && b && c then Some m else None) ≡ None
@@ -95,7 +97,8 @@ rest_next past p sure ours_first last f e known same = by (their_number past) kn
     by o is = rw is (ap (λ (n : ℕ). number_of n (ackd (guest past))) (sym same) ∙ e.at)
 
 -- a rest goes on, begins anew or ends by what arrives
-pub rest_goes_on : (past : Story) (m since : ℕ) (seg : Segment) → rests_since past ≡ Some since → rests_since (At m (Arrives seg) ∷ past) ≡ (if ends_rest past seg then None else Some (if renews seg then m else since))
+pub rest_goes_on : (past : Story) (m since : ℕ) (seg : Segment) → rests_since past ≡ Some since → rests_since (At m (Arrives seg) ∷ past) ≡
+    (if ends_rest past seg then None else Some (if renews seg then m else since))
 rest_goes_on past m since seg is = by (ends_rest past seg) (renews seg) (rests_since past) is
   where
     by : (a b : Bool) (o : Option ℕ) → o ≡ Some since → (if a then None else renewed b m o) ≡ (if a then None else Some (if b then m else since))
@@ -105,7 +108,8 @@ rest_goes_on past m since seg is = by (ends_rest past seg) (renews seg) (rests_s
 
 -- ---- a flow that is opened
 
-pub opens_ends : (m ours : ℕ) (syn : Segment) (p : Part) → p.received.taken ≡ 0 → p.received.ended ≡ false → ((i x : ℕ) → p.kept i ≡ Some x → ⊥) → Ends (At m (Connects ours syn) ∷ []) p false false (number_of syn.number 0)
+pub opens_ends : (m ours : ℕ) (syn : Segment) (p : Part) → p.received.taken ≡ 0 → p.received.ended ≡ false → ((i x : ℕ) → p.kept i ≡ Some x → ⊥) → Ends
+    (At m (Connects ours syn) ∷ []) p false false (number_of syn.number 0)
 opens_ends m ours syn p none open_yet no_kept = record {
   low = omega (arith, none);
   kept_low = λ i x is. absurd (no_kept i x is);

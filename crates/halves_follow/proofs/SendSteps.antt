@@ -1,5 +1,6 @@
 -- Each thing that is done for the host's stream keeps it with the story.
-use Rattle.std.proofs.Common.{refl, ◌≡◌, ℕ, zero, suc, ◌+◌, ◌-◌, ◌^◌, ◌<◌, ◌≤◌, List, [], ◌∷◌, ◌++◌, length, take, drop, min, max, Some, slice_get, arith, ap, subst, sym, ◌∙◌, Bool, true, false, if◌then◌else◌, ℤ, pos, negsuc, ◌+ℤ◌, ◌-ℤ◌, ◌/◌, length-append, length-drop, int_le}
+use Rattle.std.proofs.Common.{refl, ◌≡◌, ℕ, zero, suc, ◌+◌, ◌-◌, ◌^◌, ◌<◌, ◌≤◌, List, [], ◌∷◌, ◌++◌, length, take, drop, min, max, Some, slice_get, arith, ap, subst, sym, ◌∙◌, Bool, true}
+use Rattle.std.proofs.Common.{false, if◌then◌else◌, ℤ, pos, negsuc, ◌+ℤ◌, ◌-ℤ◌, ◌/◌, length-append, length-drop, int_le}
 use Rattle.std.proofs.lemmas.Bool.Decides.{nat_tests}
 use Rattle.std.proofs.lemmas.Int.{ints}
 use Rattle.seq_space.specs.Places.{number_of, IsWhole}
@@ -85,7 +86,8 @@ sends o past p n fin low high near k = (
   omega (arith, high, k.sent),
   λ j x at.
       let here = slice_get_take n (drop (p - o.before) o.held) j x at in
-      let all : drop (p - o.before) o.held ≡ drop p (got past) = ap (λ (l : List ℕ). drop (p - o.before) l) k.held ∙ drop_drop (p - o.before) o.before (got past) ∙ same_drop (o.before + (p - o.before)) p (got past) (omega (arith, low)) in
+      let all : drop (p - o.before) o.held ≡ drop p (got past) = ap (λ (l : List ℕ). drop (p - o.before) l) k.held ∙ drop_drop (p - o.before) o.before (got past) ∙ same_drop
+      (o.before + (p - o.before)) p (got past) (omega (arith, low)) in
       slice_get_drop p (got past) j (p + j) x refl (subst (λ (l : List ℕ). slice_get l j ≡ Some x) all here),
 )
 

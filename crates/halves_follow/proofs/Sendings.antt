@@ -1,5 +1,6 @@
 -- The moments at which places of the host's stream went out.
-use Rattle.std.proofs.Common.{refl, ◌≡◌, ℕ, ◌+◌, ◌<◌, ◌≤◌, List, [], ◌∷◌, length, arith, Bool, true, false, not, ◌&&◌, ◌||◌, if◌then◌else◌, IsTrue, MatchBool, ℤ, pos, negsuc, ◌+ℤ◌, int_le, int_lt, nat_le, nat_lt, inl, inr, None, Some, max}
+use Rattle.std.proofs.Common.{refl, ◌≡◌, ℕ, ◌+◌, ◌<◌, ◌≤◌, List, [], ◌∷◌, length, arith, Bool, true, false, not, ◌&&◌, ◌||◌, if◌then◌else◌, IsTrue, MatchBool, ℤ, pos, negsuc, ◌+ℤ◌, int_le}
+use Rattle.std.proofs.Common.{int_lt, nat_le, nat_lt, inl, inr, None, Some, max}
 use Rattle.std.proofs.lemmas.Bool.{cases_lt}
 use Rattle.std.proofs.lemmas.Bool.Decides.{nat_tests}
 use Rattle.flow_laws.specs.Settings.{Settings}
@@ -46,7 +47,8 @@ and_false false b is = refl
 
 nothing_here : (s r : Bool) (past : Story) (seg : Segment) (m i : ℕ) → sent (push (if not s && not r then Some (Sent seg.number seg.octets seg.fin) else None) (host past)) ≤ i
     → (sent (host past) ≤ i → sendings past i ≡ [])
-    → add_if (not s && not r && int_le (our_place (host past) seg.number) (pos i) && int_lt (pos i) (our_place (host past) seg.number +ℤ pos (length seg.octets + (if seg.fin then 1 else 0)))) m (sendings past i) ≡ []
+    → add_if (not s && not r && int_le (our_place (host past) seg.number) (pos i) && int_lt (pos i)
+    (our_place (host past) seg.number +ℤ pos (length seg.octets + (if seg.fin then 1 else 0)))) m (sendings past i) ≡ []
 nothing_here true r past seg m i low before = before low
 nothing_here false true past seg m i low before = before low
 nothing_here false false past seg m i low before =
@@ -85,7 +87,8 @@ end_of z o n is = rw is refl
 went_here : (s r : Bool) (past : Story) (seg : Segment) (m i : ℕ) → MatchBool (s || r) ((seg.octets ≡ []) × (seg.fin ≡ false)) (IsPiece past seg)
     → i < sent (push (if not s && not r then Some (Sent seg.number seg.octets seg.fin) else None) (host past))
     → (i < sent (host past) → 0 < length (sendings past i))
-    → 0 < length (add_if (not s && not r && int_le (our_place (host past) seg.number) (pos i) && int_lt (pos i) (our_place (host past) seg.number +ℤ pos (length seg.octets + (if seg.fin then 1 else 0)))) m (sendings past i))
+    → 0 < length (add_if (not s && not r && int_le (our_place (host past) seg.number) (pos i) && int_lt (pos i)
+    (our_place (host past) seg.number +ℤ pos (length seg.octets + (if seg.fin then 1 else 0)))) m (sendings past i))
 went_here true r past seg m i may high before = before high
 went_here false true past seg m i may high before = before high
 went_here false false past seg m i may high before =

@@ -1,5 +1,6 @@
 -- Each thing that is done for a flow keeps it with the story.
-use Rattle.std.proofs.Common.{refl, ◌≡◌, ℕ, zero, suc, ◌+◌, ◌<◌, ◌≤◌, List, [], ◌∷◌, ◌++◌, length, take, drop, arith, inl, inr, Bool, true, false, ◌||◌, IsTrue, ◌↔◌, append_assoc, length-append, take-append-drop, sym, ap, ◌∙◌, length-take, length-drop, None}
+use Rattle.std.proofs.Common.{refl, ◌≡◌, ℕ, zero, suc, ◌+◌, ◌<◌, ◌≤◌, List, [], ◌∷◌, ◌++◌, length, take, drop, arith, inl, inr, Bool, true, false, ◌||◌, IsTrue, ◌↔◌, append_assoc}
+use Rattle.std.proofs.Common.{length-append, take-append-drop, sym, ap, ◌∙◌, length-take, length-drop, None}
 use Rattle.std.proofs.lemmas.List.{take-take}
 use Rattle.seq_space.specs.Places.{number_of}
 use Rattle.halves_follow.specs.Upward.{upward}
@@ -36,11 +37,13 @@ acked ring p past number room whole is f = (
     asked = λ honest a asks. f.asked (earlier (Acked number) past honest) a asks;
     settled = λ owed honest.
         let before = earlier (Acked number) past honest in
-        let all : ackd (Acked number ∷ past) ≡ places_taken p.received = rw f.taken (acked_all past (so_far p past) p.received.ended number f.carried (rw (← f.taken) f.acknowledged) (rw (f.first, ← f.taken) is) before) in
+        let all : ackd (Acked number ∷ past) ≡ places_taken p.received = rw f.taken (acked_all past (so_far p past) p.received.ended number f.carried
+        (rw (← f.taken) f.acknowledged) (rw (f.first, ← f.taken) is) before) in
         rw all (omega arith);
   },
   came_all past (so_far p past) p.received.ended number f.carried f.end (rw (← f.taken) f.acknowledged) (rw (f.first, ← f.taken) is),
-  room_left past (so_far p past) p.received.ended number room ring f.carried f.end (rw (← f.taken) f.acknowledged) (rw (f.first, ← f.taken) is) (omega (arith, whole, length-append (written past) p.up.held)),
+  room_left past (so_far p past) p.received.ended number room ring f.carried f.end (rw (← f.taken) f.acknowledged) (rw (f.first, ← f.taken) is)
+      (omega (arith, whole, length-append (written past) p.up.held)),
 )
 
 moved : (w held : List ℕ) (k n : ℕ) → n ≤ k → (w ++ take n (take k held)) ++ drop n held ≡ w ++ held
@@ -57,7 +60,8 @@ pub wrote : (ring : ℕ) (p : Part) (past : List Up) (k n : ℕ) → n ≤ k →
 wrote ring p past k n few within f =
     let held : List ℕ = p.up.held in
     let same : (written past ++ take n (take k held)) ++ drop n held ≡ written past ++ held = moved (written past) held k n few in
-    let whole : (written past ++ take k held) ++ drop k held ≡ written past ++ held = append_assoc (written past) (take k held) (drop k held) ∙ ap (λ (l : List ℕ). written past ++ l) (take-append-drop k held) in (
+    let whole : (written past ++ take k held) ++ drop k held ≡ written past ++ held = append_assoc (written past) (take k held) (drop k held) ∙ ap
+    (λ (l : List ℕ). written past ++ l) (take-append-drop k held) in (
       record {
         first = f.first;
         count = omega (arith, length-append (written past) (take n (take k held)), length-take n (take k held), length-take k held, f.count);

@@ -49,7 +49,8 @@ module _ (s : Settings) (p : Part) (m : ℕ) (past : Story) where
       (subst (λ (h : Bool). Follows s.ring p (Came seg.number seg.octets seg.fin h ∷ guest past)) (sym unheard) (passed s.ring p (guest past) seg.number seg.octets seg.fin f))
 
   -- a heeded one is taken, as far as the receiver takes it
-  pub takes : (q : Part) (seg : Segment) (took : Bool) (ys : List ℕ) → is_closed past ≡ false → is_some (their_number past) ≡ true → is_plain seg ≡ true → is_heeded past seg ≡ true → seg.number < 2 ^ 32
+  pub takes : (q : Part) (seg : Segment) (took : Bool) (ys : List ℕ) → is_closed past ≡ false → is_some (their_number past) ≡ true → is_plain seg ≡ true →
+      is_heeded past seg ≡ true → seg.number < 2 ^ 32
       → q ≡ part p.number p.tuple p.received.first (p.received.taken + length ys) (p.received.ended || took) (p.up.held ++ ys) p.up.written p.up.size p.told_end q.ack_owed q.kept
       → (p.received.ended ≡ true → (ys ≡ []) × ((i x : ℕ) → q.kept i ≡ Some x → p.kept i ≡ Some x))
       → (p.received.ended ≡ false →
@@ -62,4 +63,5 @@ module _ (s : Settings) (p : Part) (m : ℕ) (past : Story) where
       → Follows s.ring p (guest past) → Follows s.ring q (guest (At m (Arrives seg) ∷ past))
   takes q seg took ys open_yet known plain heard fits is closed open_end ends quiet f =
       subst (λ (g : List Up). Follows s.ring q g) (sym (guest_came m past seg open_yet known plain))
-      (subst (λ (h : Bool). Follows s.ring q (Came seg.number seg.octets seg.fin h ∷ guest past)) (sym heard) (came s.ring (guest past) p q seg.number seg.octets seg.fin fits took ys is closed open_end ends quiet f))
+      (subst (λ (h : Bool). Follows s.ring q (Came seg.number seg.octets seg.fin h ∷ guest past)) (sym heard)
+      (came s.ring (guest past) p q seg.number seg.octets seg.fin fits took ys is closed open_end ends quiet f))

@@ -33,13 +33,15 @@ module _ (past : Story) (seg : Segment) (m : ℕ) (syn : seg.syn ≡ true) (rst 
       by b c is so = rw (is, so) refl
 
   times_now : oldest_sendings (At m (Departs seg) ∷ past) ≡ m ∷ syn_sendings past
-  times_now = pick_list (answered (host (At m (Departs seg) ∷ past))) (sendings (At m (Departs seg) ∷ past) (acked (host (At m (Departs seg) ∷ past)))) (syn_sendings (At m (Departs seg) ∷ past)) now_unanswered ∙ one (seg.syn && not seg.rst) is_syn
+  times_now = pick_list (answered (host (At m (Departs seg) ∷ past))) (sendings (At m (Departs seg) ∷ past) (acked (host (At m (Departs seg) ∷ past))))
+      (syn_sendings (At m (Departs seg) ∷ past)) now_unanswered ∙ one (seg.syn && not seg.rst) is_syn
     where
       one : (b : Bool) → b ≡ true → add_if b m (syn_sendings past) ≡ m ∷ syn_sendings past
       one b is = rw is refl
 
   count_now : oldest_sent_again (At m (Departs seg) ∷ past) ≡ length (m ∷ syn_sendings past)
-  count_now = pick_count (answered (host (At m (Departs seg) ∷ past))) (sent_again (At m (Departs seg) ∷ past) (acked (host (At m (Departs seg) ∷ past)))) (length (syn_sendings (At m (Departs seg) ∷ past))) now_unanswered
+  count_now = pick_count (answered (host (At m (Departs seg) ∷ past))) (sent_again (At m (Departs seg) ∷ past) (acked (host (At m (Departs seg) ∷ past))))
+      (length (syn_sendings (At m (Departs seg) ∷ past))) now_unanswered
       ∙ one (seg.syn && not seg.rst) is_syn
     where
       one : (b : Bool) → b ≡ true → length (add_if b m (syn_sendings past)) ≡ length (m ∷ syn_sendings past)
@@ -52,7 +54,8 @@ module _ (past : Story) (seg : Segment) (m : ℕ) (syn : seg.syn ≡ true) (rst 
       → Resends (At m (Departs seg) ∷ past) m (Until at) k w
   set_now at k w rises on low high r =
       set_anew (At m (Departs seg) ∷ past) m at k w (omega arith) out_now low high
-      (same_running (m ∷ syn_sendings past) (oldest_sendings (At m (Departs seg) ∷ past)) (length (m ∷ syn_sendings past)) (oldest_sent_again (At m (Departs seg) ∷ past)) m (waits_since (At m (Departs seg) ∷ past)) k at times_now count_now (since_now rises on) r)
+      (same_running (m ∷ syn_sendings past) (oldest_sendings (At m (Departs seg) ∷ past)) (length (m ∷ syn_sendings past)) (oldest_sent_again (At m (Departs seg) ∷ past)) m
+      (waits_since (At m (Departs seg) ∷ past)) k at times_now count_now (since_now rises on) r)
 
   was_under : is_under_way past ≡ syn_is_out past
   was_under = pick (answered (host past)) (nat_lt (acked (host past)) (sent (host past))) (syn_is_out past) unanswered
@@ -69,7 +72,8 @@ module _ (past : Story) (seg : Segment) (m : ℕ) (syn : seg.syn ≡ true) (rst 
       set_now (m + w) k w rises new r.wait r.longest
       (goes_again (syn_sendings past) (length (syn_sendings past)) (length (m ∷ syn_sendings past)) now k m w (omega arith) r.wait r.longest on
       (same_overdue (oldest_sendings past) (syn_sendings past) (oldest_sent_again past) (length (syn_sendings past)) now k
-      (sym (pick_list (answered (host past)) (sendings past (acked (host past))) (syn_sendings past) unanswered)) (sym (pick_count (answered (host past)) (sent_again past (acked (host past))) (length (syn_sendings past)) unanswered))
+      (sym (pick_list (answered (host past)) (sendings past (acked (host past))) (syn_sendings past) unanswered))
+      (sym (pick_count (answered (host past)) (sent_again past (acked (host past))) (length (syn_sendings past)) unanswered))
       (r.overdue (was_under ∙ some) refl)))
 
   -- and while the timer runs, since the guest's SYN came again
@@ -79,5 +83,6 @@ module _ (past : Story) (seg : Segment) (m : ℕ) (syn : seg.syn ≡ true) (rst 
       set_now (m + w) k w rises new r.wait r.longest
       (goes_anyway (syn_sendings past) (length (syn_sendings past)) (length (m ∷ syn_sendings past)) (waits_since past) k at m w (omega arith) r.wait r.longest (omega (arith, new, by_now))
       (same_running (oldest_sendings past) (syn_sendings past) (oldest_sent_again past) (length (syn_sendings past)) (waits_since past) (waits_since past) k at
-      (sym (pick_list (answered (host past)) (sendings past (acked (host past))) (syn_sendings past) unanswered)) (sym (pick_count (answered (host past)) (sent_again past (acked (host past))) (length (syn_sendings past)) unanswered)) refl
+      (sym (pick_list (answered (host past)) (sendings past (acked (host past))) (syn_sendings past) unanswered))
+      (sym (pick_count (answered (host past)) (sent_again past (acked (host past))) (length (syn_sendings past)) unanswered)) refl
       (r.running at (was_under ∙ some) refl)))

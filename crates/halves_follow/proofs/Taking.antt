@@ -1,5 +1,6 @@
 -- What the receiver takes of a segment keeps it with the story.
-use Rattle.std.proofs.Common.{refl, ◌≡◌, ℕ, suc, ◌+◌, ◌-◌, ◌^◌, ◌<◌, ◌≤◌, List, [], ◌∷◌, ◌++◌, length, take, min, arith, ℤ, pos, negsuc, ◌+ℤ◌, inl, inr, Bool, true, false, ◌||◌, IsTrue, ◌↔◌, if◌then◌else◌, append_assoc, length-append, sym, ap, ◌∙◌, append-nil, add-zero, Option, Some, slice_get, get_or, subst}
+use Rattle.std.proofs.Common.{refl, ◌≡◌, ℕ, suc, ◌+◌, ◌-◌, ◌^◌, ◌<◌, ◌≤◌, List, [], ◌∷◌, ◌++◌, length, take, min, arith, ℤ, pos, negsuc, ◌+ℤ◌, inl, inr, Bool, true, false, ◌||◌, IsTrue}
+use Rattle.std.proofs.Common.{◌↔◌, if◌then◌else◌, append_assoc, length-append, sym, ap, ◌∙◌, append-nil, add-zero, Option, Some, slice_get, get_or, subst}
 use Rattle.std.proofs.lemmas.Bool.{cases_lt}
 use Rattle.std.proofs.lemmas.Int.{ints}
 use Rattle.std.proofs.lemmas.Option.{slice_get_within, slice_get-get_or}
@@ -31,7 +32,8 @@ octet_found (pos o) xs i x e = let at = octet_at_pos o i x xs e in (i - o, at.1,
 octet_found (negsuc n) xs i x e = (i + suc n, e, omega (arith, ints))
 
 -- what the receiver has for a place was brought, and for an honest guest it is carried
-module _ (past : List Up) (first t : ℕ) (so_far : List ℕ) (kept : ℕ → Option ℕ) (n : ℕ) (xs : List ℕ) (fin : Bool) (fits : n < 2 ^ 32) (known : first_of past ≡ first) (counted : t ≡ length so_far) where
+module _ (past : List Up) (first t : ℕ) (so_far : List ℕ) (kept : ℕ → Option ℕ) (n : ℕ) (xs : List ℕ) (fin : Bool) (fits : n < 2 ^ 32) (known : first_of past ≡ first)
+    (counted : t ≡ length so_far) where
   pub has_brought : ((i x : ℕ) → kept i ≡ Some x → Brought past i x) → (i x : ℕ) → Has kept (place n first t) xs t i x → Brought (Came n xs fin true ∷ past) i x
   has_brought brought i x (inl is) = inr (brought i x is)
   has_brought brought i x (inr (low, at)) =
@@ -68,7 +70,8 @@ still_within : (took : Bool) (a t m : ℕ) → a ≤ t → a ≤ (if took then t
 still_within true a t m h = omega arith
 still_within false a t m h = omega arith
 
-module _ (ring : ℕ) (past : List Up) (number tuple first t : ℕ) (held : List ℕ) (w size : ℕ) (told owed : Bool) (kept now_kept : ℕ → Option ℕ) (n : ℕ) (xs : List ℕ) (fin : Bool) (fits : n < 2 ^ 32) where
+module _ (ring : ℕ) (past : List Up) (number tuple first t : ℕ) (held : List ℕ) (w size : ℕ) (told owed : Bool) (kept now_kept : ℕ → Option ℕ) (n : ℕ) (xs : List ℕ) (fin : Bool)
+    (fits : n < 2 ^ 32) where
   -- once the end was taken, nothing is
   pub came_closed : ((i x : ℕ) → now_kept i ≡ Some x → kept i ≡ Some x) → (took new_owed : Bool) → (new_owed ≡ false → owed ≡ false)
       → Follows ring (part number tuple first t true held w size told owed kept) past
@@ -111,7 +114,8 @@ module _ (ring : ℕ) (past : List Up) (number tuple first t : ℕ) (held : List
       let has : Honest (Came n xs fin true ∷ past) → (i x : ℕ) → Has kept (place n first t) xs t i x → Carries (Came n xs fin true ∷ past) i x =
       has_carried past first t (written past ++ held) kept n xs fin fits f.first f.taken f.carried f.kept_carried f.acknowledged in
       let all : Honest (Came n xs fin true ∷ past) → AtPlaces (Carries (Came n xs fin true ∷ past)) ((written past ++ held) ++ ys) = λ honest.
-      both_parts (Carries (Came n xs fin true ∷ past)) (written past ++ held) ys t f.taken (λ i x e. inr (f.carried (earlier (Came n xs fin true) past honest) i x e)) (λ k x at. has honest (t + k) x (new k x at)) in
+      both_parts (Carries (Came n xs fin true ∷ past)) (written past ++ held) ys t f.taken (λ i x e. inr (f.carried (earlier (Came n xs fin true) past honest) i x e))
+      (λ k x at. has honest (t + k) x (new k x at)) in
       record {
         first = f.first;
         count = f.count;
@@ -166,10 +170,12 @@ came ring past p q n xs fin fits took ys is closed open_yet ends quiet f = rw is
   where
     by_ended : (ended : Bool) → p.received.ended ≡ ended
         → Follows ring (part p.number p.tuple p.received.first p.received.taken ended p.up.held p.up.written p.up.size p.told_end p.ack_owed p.kept) past
-        → Follows ring (part p.number p.tuple p.received.first (p.received.taken + length ys) (ended || took) (p.up.held ++ ys) p.up.written p.up.size p.told_end q.ack_owed q.kept) (Came n xs fin true ∷ past)
+        → Follows ring (part p.number p.tuple p.received.first (p.received.taken + length ys) (ended || took) (p.up.held ++ ys) p.up.written p.up.size p.told_end q.ack_owed q.kept)
+        (Came n xs fin true ∷ past)
     by_ended true over f =
         let c = closed over in
-        rw c.0 (came_closed ring past p.number p.tuple p.received.first p.received.taken p.up.held p.up.written p.up.size p.told_end p.ack_owed p.kept q.kept n xs fin fits c.1 took q.ack_owed (λ is. (quiet is).0) f)
+        rw c.0 (came_closed ring past p.number p.tuple p.received.first p.received.taken p.up.held p.up.written p.up.size p.told_end p.ack_owed p.kept q.kept n xs fin fits c.1 took
+        q.ack_owed (λ is. (quiet is).0) f)
     by_ended false over f =
         let c = open_yet over in
         came_open ring past p.number p.tuple p.received.first p.received.taken p.up.held p.up.written p.up.size p.told_end p.ack_owed p.kept q.kept n xs fin fits ys c.0 c.1 c.2 c.3

@@ -62,7 +62,8 @@ goes_again times again next now k m w more low high on o = record {
 }
 
 -- it goes again for another cause while the timer runs, and the timer is set anew
-pub goes_anyway : (times : List ℕ) (again next since k at m w : ℕ) → again + 1 ≤ next → least_wait k ≤ w → w ≤ 60000 → since ≤ m → IsRunning times again since k at → IsRunning (m ∷ times) next m k (m + w)
+pub goes_anyway : (times : List ℕ) (again next since k at m w : ℕ) → again + 1 ≤ next → least_wait k ≤ w → w ≤ 60000 → since ≤ m → IsRunning times again since k at → IsRunning
+    (m ∷ times) next m k (m + w)
 goes_anyway times again next since k at m w more low high on r = record {
   many = omega (arith, r.many);
   recent = omega (arith, r.recent, more);

@@ -22,7 +22,8 @@ use Rattle.halves_follow.proofs.Windows.{told_of}
 
 -- where no acknowledgement is owed, the flow has acknowledged
 pub acknowledged_is : (s : Settings) (past : Story) (p : Part) (rests : Bool) → Follows s.ring p (guest past) → p.ack_owed ≡ false → (AckIsDue (guest past) → ⊥)
-    → (IsTrue (is_accepted past && is_some (their_number past) && not (is_closed past)) → IsTrue (was_acked (guest past))) → (IsTrue rests → IsTrue (fin_is_answered past)) → HasAcknowledged s past rests
+    → (IsTrue (is_accepted past && is_some (their_number past) && not (is_closed past)) → IsTrue (was_acked (guest past))) → (IsTrue rests → IsTrue (fin_is_answered past)) →
+    HasAcknowledged s past rests
 acknowledged_is s past p rests f none due opening resting = record {
   opening = opening;
   each = λ open_yet is. due is;

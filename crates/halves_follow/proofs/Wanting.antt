@@ -1,5 +1,6 @@
 -- What a flow waits for, offers and asks for, by what it keeps.
-use Rattle.std.proofs.Common.{refl, ◌≡◌, ℕ, ◌+◌, ◌-◌, ◌<◌, ◌≤◌, List, ◌++◌, length, take, min, arith, ◌⊎◌, inl, inr, Option, None, Some, is_some, Bool, true, false, if◌then◌else◌, nat_lt, subst, sym, ap, ◌∙◌, length-append, length-take, length-drop}
+use Rattle.std.proofs.Common.{refl, ◌≡◌, ℕ, ◌+◌, ◌-◌, ◌<◌, ◌≤◌, List, ◌++◌, length, take, min, arith, ◌⊎◌, inl, inr, Option, None, Some, is_some, Bool, true, false, if◌then◌else◌, nat_lt}
+use Rattle.std.proofs.Common.{subst, sym, ap, ◌∙◌, length-append, length-take, length-drop}
 use Rattle.std.proofs.lemmas.Bool.{cases_lt}
 use Rattle.std.proofs.lemmas.Bool.Decides.{nat_tests}
 use Rattle.std.specs.Option.{unwrap_or}

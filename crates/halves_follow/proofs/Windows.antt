@@ -1,5 +1,6 @@
 -- The windows that are told, against the room that is left.
-use Rattle.std.proofs.Common.{refl, ◌≡◌, ℕ, ◌+◌, ◌-◌, ◌*◌, ◌^◌, ◌<◌, ◌≤◌, List, [], ◌∷◌, length, arith, Option, Some, None, is_some, Bool, true, false, not, ◌&&◌, if◌then◌else◌, inl, inr, ap, sym, ◌∙◌, subst, length-append}
+use Rattle.std.proofs.Common.{refl, ◌≡◌, ℕ, ◌+◌, ◌-◌, ◌*◌, ◌^◌, ◌<◌, ◌≤◌, List, [], ◌∷◌, length, arith, Option, Some, None, is_some, Bool, true, false, not, ◌&&◌, if◌then◌else◌, inl, inr}
+use Rattle.std.proofs.Common.{ap, sym, ◌∙◌, subst, length-append}
 use Rattle.seq_space.specs.Places.{number_of}
 use Rattle.flow_laws.specs.Settings.{Settings}
 use Rattle.flow_laws.specs.Event.{Segment, Event, Departs, At, Story}
@@ -24,15 +25,18 @@ ended_places b t is = rw is refl
 
 module _ (s : Settings) (past : Story) (p : Part) (m : ℕ) where
   -- a segment with ACK tells an edge, which is as far past what was taken as its window says
-  pub tells_edge : (seg : Segment) → seg.ack ≡ true → seg.rst ≡ false → is_some (their_number past) ≡ true → seg.acknowledgement ≡ number_of p.received.first (places_taken p.received) → Follows s.ring p (guest past)
+  pub tells_edge : (seg : Segment) → seg.ack ≡ true → seg.rst ≡ false → is_some (their_number past) ≡ true → seg.acknowledgement ≡ number_of p.received.first
+      (places_taken p.received) → Follows s.ring p (guest past)
       → Honest (guest past) → right_edge s (At m (Departs seg) ∷ past) ≡ Some (places_taken p.received + seg.window * 2 ^ our_shift s past seg.syn)
   tells_edge seg ack rst known number f honest =
-      by (acknowledges past seg) (ackd (guest (At m (Departs seg) ∷ past))) (all_true seg.ack seg.rst (is_some (their_number past)) ack rst known) (ap ackd (guest_acked m past seg ack rst known) ∙ all)
+      by (acknowledges past seg) (ackd (guest (At m (Departs seg) ∷ past))) (all_true seg.ack seg.rst (is_some (their_number past)) ack rst known)
+      (ap ackd (guest_acked m past seg ack rst known) ∙ all)
     where
       all : ackd (Acked seg.acknowledgement ∷ guest past) ≡ places_taken p.received
       all = rw f.taken (acked_all (guest past) (so_far p (guest past)) p.received.ended seg.acknowledgement f.carried (rw (← f.taken) f.acknowledged) (rw (f.first, ← f.taken) number) honest)
 
-      by : (b : Bool) (a : ℕ) → b ≡ true → a ≡ places_taken p.received → (if b then Some (a + seg.window * 2 ^ our_shift s past seg.syn) else right_edge s past) ≡ Some (places_taken p.received + seg.window * 2 ^ our_shift s past seg.syn)
+      by : (b : Bool) (a : ℕ) → b ≡ true → a ≡ places_taken p.received → (if b then Some (a + seg.window * 2 ^ our_shift s past seg.syn) else right_edge s past) ≡ Some
+          (places_taken p.received + seg.window * 2 ^ our_shift s past seg.syn)
       by b a is at = rw (is, at) refl
 
   -- a segment without ACK, or a reset, tells none
@@ -62,7 +66,8 @@ module _ (s : Settings) (past : Story) (p : Part) (m : ℕ) where
       zero_it (u ∷ g) is acked = absurd cc
 
       room : s.ring + a ≡ length (written (guest past)) + s.ring
-      room = let nothing = zero_it (guest (At m (Departs seg) ∷ past)) still acked in let short : length (written (guest past)) ≡ 0 = ap (λ (g : List Up). length (written g)) none in omega (arith, nothing, short)
+      room = let nothing = zero_it (guest (At m (Departs seg) ∷ past)) still acked in let short : length (written (guest past)) ≡ 0 = ap
+          (λ (g : List Up). length (written g)) none in omega (arith, nothing, short)
 
   -- where no acknowledgement is owed, and no update by the flow's own count, the guest was told of the room
   pub told_of : (edge : Option ℕ) → Follows s.ring p (guest past) → p.ack_owed ≡ false → (Honest (guest past) → right_edge s past ≡ edge)
@@ -84,7 +89,8 @@ module _ (s : Settings) (past : Story) (p : Part) (m : ℕ) where
           let now : ackd (guest past) ≡ p.received.taken = omega (arith, f.acknowledged, all, places) in
           let left : length (written (guest past)) + s.ring - ackd (guest past) ≡ s.ring - length p.up.held = omega (arith, now, f.taken, length-append (written (guest past)) p.up.held, f.within) in
           let here = few open_end e (sym (same honest) ∙ at) in
-          subst (λ (n : ℕ). n < e + 2920) (ap (λ (a : ℕ). a + told (our_shift s past false) (s.ring - length p.up.held)) (sym now) ∙ ap (λ (r : ℕ). ackd (guest past) + told (our_shift s past false) r) (sym left)) here
+          subst (λ (n : ℕ). n < e + 2920) (ap (λ (a : ℕ). a + told (our_shift s past false) (s.ring - length p.up.held)) (sym now) ∙ ap
+          (λ (r : ℕ). ackd (guest past) + told (our_shift s past false) r) (sym left)) here
 
 -- nothing else tells an edge
 abbrev pub IsOther : Event → Type 0

@@ -8,7 +8,9 @@ use Rattle.host_policy.specs.declared.GuestFwd.{GuestFwd}
 use Rattle.host_policy.specs.declared.Proto.{Proto}
 use Rattle.host_policy.specs.declared.Proto.TheVariants.{Tcp, Udp}
 use Rattle.host_policy.specs.declared.config.Field.{Field}
-use Rattle.host_policy.specs.declared.config.Field.TheVariants.{Version, InEnabled, Vnetmask, Vnetwork, Vhost, Vnameserver, VdhcpStart, Vhostname, Vdomainname, TftpServerName, Bootfile, TftpPath, IfMtu, IfMru, Flows, Ring, Resolver, Turns, Forwards, Outbound, DisableDns, DisableDhcp, Guestfwds, Control, Octets}
+use Rattle.host_policy.specs.declared.config.Field.TheVariants.{Version, InEnabled, Vnetmask, Vnetwork, Vhost, Vnameserver, VdhcpStart, Vhostname, Vdomainname, TftpServerName, Bootfile}
+use Rattle.host_policy.specs.declared.config.Field.TheVariants.{TftpPath, IfMtu, IfMru, Flows, Ring, Resolver, Turns, Forwards, Outbound, DisableDns, DisableDhcp, Guestfwds, Control}
+use Rattle.host_policy.specs.declared.config.Field.TheVariants.{Octets}
 use Rattle.host_policy.specs.Addresses.{Config, address, network_size, is_of_one_host, is_guest, pool}
 use Rattle.host_policy.specs.Targets.{same_endpoint, first_octet, is_loopback, is_group_or_reserved}
 

@@ -4,7 +4,8 @@ ghost use Rattle.std.specs.List.{list_any, list_all};
 ghost use Rattle.std.specs.Result.{result_err};
 ghost use Rattle.host_policy.specs.Addresses.{in_network, network_size, is_of_one_host, is_guest, is_ours, pool};
 ghost use Rattle.host_policy.specs.Names.{field_name};
-ghost use Rattle.host_policy.specs.Ranges.{is_mask, is_of_one, is_word, none_twice, same_proto, same_host_port, same_guest_port, is_forward, are_forwards, is_guest_forward, are_guest_forwards, is_control, is_taken, in_range, first_broken, IsSound};
+ghost use Rattle.host_policy.specs.Ranges.{is_mask, is_of_one, is_word, none_twice, same_proto, same_host_port, same_guest_port, is_forward, are_forwards, is_guest_forward};
+ghost use Rattle.host_policy.specs.Ranges.{are_guest_forwards, is_control, is_taken, in_range, first_broken, IsSound};
 ghost use Rattle.host_policy.specs.Targets.{leads, same_endpoint, first_octet, is_loopback, is_group_or_reserved};
 ghost use Rattle.host_policy.specs.declared.Proto.TheVariants.{Tcp};
 
@@ -177,7 +178,8 @@ impl SlirpConfig {
     ghost use Rattle.host_policy.specs.Settings.{settings, usual};
     ghost use Rattle.host_policy.specs.declared.config.Field.TheVariants.{TftpPath};
 
-    /// The settings of a command without options: 10.0.2.0/24, the host at 10.0.2.2, the name server at 10.0.2.3, guests from 10.0.2.15 on; datagrams of 1,500 octets, 256 flows with buffers of 65,535 octets, 2^44 turns; no resolver, no forward, nothing shut.
+    /// The settings of a command without options: 10.0.2.0/24, the host at 10.0.2.2, the name server at 10.0.2.3, guests from 10.0.2.15 on; datagrams of 1,500
+    /// octets, 256 flows with buffers of 65,535 octets, 2^44 turns; no resolver, no forward, nothing shut.
     pub fn usual() -> SlirpConfig
         ensures usual { settings result ≡ usual }
         ensures sound { IsSound (settings result) }

@@ -82,7 +82,9 @@ impl Policy {
         self.config.if_mtu
     }
 
-    /// Where a packet of a guest to this endpoint goes. A forward of guests comes first, for TCP. Else the first rule that fits denies it: where guests are restricted; to port 0; for the name server, unless a resolver answers on port 53; for the host, whose address is 127.0.0.1, where its loopback is shut; for another address of the virtual network; for one in 0/8, 127/8, 224/4 or 240/4.
+    /// Where a packet of a guest to this endpoint goes. A forward of guests comes first, for TCP. Else the first rule that fits denies it: where guests are
+    /// restricted; to port 0; for the name server, unless a resolver answers on port 53; for the host, whose address is 127.0.0.1, where its loopback is shut;
+    /// for another address of the virtual network; for one in 0/8, 127/8, 224/4 or 240/4.
     pub fn target(&self, proto: Proto, to: Endpoint) -> Verdict
         ensures { result ≡ target self.now proto to }
     {

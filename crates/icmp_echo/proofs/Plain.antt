@@ -38,7 +38,8 @@ written_is (other kind code) can fits =
     (record { kind_is = can; sum = checksum before; sum_fits = checksum_fits before; rest = four 0; rest_size = lit≤ tt; is = refl; holds = written_holds (other kind code) }, (refl, refl))
 
 -- octets whose front is written so are a message
-pub front_is : (icmp : Icmp) (n : ℕ) (now rest : List ℕ) → CanWrite icmp → Fits icmp → length (icmp_octets icmp) ≡ n → now ≡ icmp_octets icmp ++ rest → (g : IsIcmp (take n now) icmp) × IsPlain (take n now) icmp g
+pub front_is : (icmp : Icmp) (n : ℕ) (now rest : List ℕ) → CanWrite icmp → Fits icmp → length (icmp_octets icmp) ≡ n → now ≡ icmp_octets icmp ++ rest →
+    (g : IsIcmp (take n now) icmp) × IsPlain (take n now) icmp g
 front_is icmp n now rest can fits long is =
     subst (λ (o : List ℕ). (g : IsIcmp o icmp) × IsPlain o icmp g) (sym (ap (take n) is ∙ take_at (icmp_octets icmp) rest n long)) (written_is icmp can fits)
 

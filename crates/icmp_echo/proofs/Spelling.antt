@@ -1,5 +1,6 @@
 -- The grammar of messages and the reading function say the same.
-use Rattle.std.proofs.Common.{◌≡◌, ℕ, ◌+◌, ◌≤◌, ◌==◌, ◌&&◌, not, nat_le, Bool, true, false, List, [], ◌∷◌, ◌++◌, length, drop, if◌then◌else◌, Some, None, inl, inr, refl, sym, ◌∙◌, ap, subst, arith, append_assoc, length-append, length-drop}
+use Rattle.std.proofs.Common.{◌≡◌, ℕ, ◌+◌, ◌≤◌, ◌==◌, ◌&&◌, not, nat_le, Bool, true, false, List, [], ◌∷◌, ◌++◌, length, drop, if◌then◌else◌, Some, None, inl, inr, refl, sym, ◌∙◌, ap}
+use Rattle.std.proofs.Common.{subst, arith, append_assoc, length-append, length-drop}
 use Rattle.std.proofs.lemmas.Bool.{cases_Bool}
 use Rattle.std.proofs.lemmas.Bool.Decides.{nat_tests}
 use Rattle.std.proofs.lemmas.Nat.{from_be_bytes-to_be_bytes_2}
@@ -103,7 +104,8 @@ at_echo octets fits long holds is =
       sum = two_at octets 2;
       sum_fits = two_at-fits octets 2 fits;
       is = whole octets long ∙ regroup (part octets 0 2) (part octets 2 2) (part octets 4 2) (part octets 6 2) (drop 8 octets)
-          ∙ same_parts (part octets 0 2) (part octets 2 2) (part octets 4 2) (part octets 6 2) (echo_kind (one_at octets 0 == 0) ∷ 0 ∷ []) (two (two_at octets 2)) (two (two_at octets 4)) (two (two_at octets 6)) (drop 8 octets)
+          ∙ same_parts (part octets 0 2) (part octets 2 2) (part octets 4 2) (part octets 6 2) (echo_kind (one_at octets 0 == 0) ∷ 0 ∷ []) (two (two_at octets 2))
+          (two (two_at octets 4)) (two (two_at octets 6)) (drop 8 octets)
           head (sym (two-two_at octets 2 fits (omega arith))) (sym (two-two_at octets 4 fits (omega arith))) (sym (two-two_at octets 6 fits (omega arith)));
       holds = holds;
     }

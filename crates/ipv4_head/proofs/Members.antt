@@ -1,9 +1,11 @@
 -- What holds of each part of each set, as a part comes.
-use Rattle.std.proofs.Common.{◌≡◌, ℕ, zero, suc, ◌+◌, ◌<◌, ◌==◌, ◌&&◌, nat_lt, nat_le, cond, Bool, true, false, List, [], ◌∷◌, ◌++◌, length, take, drop, filter, find, Option, Some, None, slice_get, slice_set, if◌then◌else◌, refl, sym, ◌∙◌, ap, subst, arith}
+use Rattle.std.proofs.Common.{◌≡◌, ℕ, zero, suc, ◌+◌, ◌<◌, ◌==◌, ◌&&◌, nat_lt, nat_le, cond, Bool, true, false, List, [], ◌∷◌, ◌++◌, length, take, drop, filter, find, Option, Some, None}
+use Rattle.std.proofs.Common.{slice_get, slice_set, if◌then◌else◌, refl, sym, ◌∙◌, ap, subst, arith}
 use Rattle.std.proofs.lemmas.Bool.Decides.{nat_tests}
 use Rattle.std.proofs.lemmas.List.Folds.{find_at}
 use Rattle.std.specs.List.{position_or_len, remove}
-use Rattle.ipv4_head.specs.Sets.{OfParts, OfSets, Key, Part, PartSet, Outcome, UnevenPart, LongPart, Clashes, Waits, Joined, is_same_key, is_uneven, is_young, young, place_of, parts_for, put_in, with_room, with_part, outcome_among, changed_by, left_by, sets_after, sets_left, outcome}
+use Rattle.ipv4_head.specs.Sets.{OfParts, OfSets, Key, Part, PartSet, Outcome, UnevenPart, LongPart, Clashes, Waits, Joined, is_same_key, is_uneven, is_young, young, place_of, parts_for}
+use Rattle.ipv4_head.specs.Sets.{put_in, with_room, with_part, outcome_among, changed_by, left_by, sets_after, sets_left, outcome}
 
 -- keys that are told to be the same are
 pub same_key : (a b : Key) → is_same_key a b ≡ true → a ≡ b
@@ -79,7 +81,8 @@ module _ (P : Key → Part → Type 0) where
   of_there (t ∷ sets) zero s is all = let this : t ≡ s = cc in subst (λ (u : PartSet). OfParts P u.key u.parts) this all.0
   of_there (t ∷ sets) (suc i) s is all = of_there sets i s is all.1
 
-  found_if : (key : Key) (t : PartSet) (o : Option PartSet) (s : PartSet) (b : Bool) → is_same_key key t.key ≡ b → (o ≡ Some s → is_same_key key s.key ≡ true) → cond b (Some t) o ≡ Some s → is_same_key key s.key ≡ true
+  found_if : (key : Key) (t : PartSet) (o : Option PartSet) (s : PartSet) (b : Bool) → is_same_key key t.key ≡ b → (o ≡ Some s → is_same_key key s.key ≡ true) → cond b
+      (Some t) o ≡ Some s → is_same_key key s.key ≡ true
   found_if key t o s true e later is = let this : t ≡ s = cc in ap (λ (u : PartSet). is_same_key key u.key) (sym this) ∙ e
   found_if key t o s false e later is = later is
 
@@ -124,7 +127,8 @@ module _ (P : Key → Part → Type 0) where
   even_joins false o is = refl
 
   -- of the sets that wait, and of those after a part came
-  pub of_changed_by : (now : ℕ) (key : Key) (p : Part) (waiting : List PartSet) → OfSets P waiting → (is_uneven p ≡ false → P key p) → OfSets P (changed_by (outcome_among p (parts_for key waiting)) now key p waiting)
+  pub of_changed_by : (now : ℕ) (key : Key) (p : Part) (waiting : List PartSet) → OfSets P waiting → (is_uneven p ≡ false → P key p) → OfSets P
+      (changed_by (outcome_among p (parts_for key waiting)) now key p waiting)
   of_changed_by now key p waiting all is =
       kept_by (outcome_among p (parts_for key waiting)) now key p waiting all (λ waits. is (even_waits (is_uneven p) _ waits)) (λ joins. is (even_joins (is_uneven p) _ joins))
 

@@ -33,9 +33,11 @@ plain octets ip g p =
     g.is ∙ ap (λ (rest : List ℕ). ip.head ++ ip.body ++ rest) p.rest ∙ append-nil (ip.head ++ ip.body) ∙ ap (λ (h : List ℕ). h ++ ip.body) head
 
 -- the same fields give the same octets
-pub same : (first second : List ℕ) (one other : Ip) (g : IsIp first one) (h : IsIp second other) → IsPlain first one g → IsPlain second other h → SameFields one other → g.life ≡ h.life → first ≡ second
+pub same : (first second : List ℕ) (one other : Ip) (g : IsIp first one) (h : IsIp second other) → IsPlain first one g → IsPlain second other h → SameFields one other →
+    g.life ≡ h.life → first ≡ second
 same first second one other g h p q s life =
-    plain first one g p ∙ alike g.life one.ident one.place one.proto one.from one.to h.life other.ident other.place other.proto other.from other.to one.more other.more one.body other.body life s.ident s.place s.proto s.from s.to s.more s.body ∙ sym (plain second other h q)
+    plain first one g p ∙ alike g.life one.ident one.place one.proto one.from one.to h.life other.ident other.place other.proto other.from other.to one.more other.more one.body
+    other.body life s.ident s.place s.proto s.from s.to s.more s.body ∙ sym (plain second other h q)
   where
     alike : (l i k p f t l' i' k' p' f' t' : ℕ) (m m' : Bool) (b b' : List ℕ) → l ≡ l' → i ≡ i' → k ≡ k' → p ≡ p' → f ≡ f' → t ≡ t' → m ≡ m' → b ≡ b'
         → ip_with l i (fragment_of m k) p f t b ≡ ip_with l' i' (fragment_of m' k') p' f' t' b'
@@ -45,7 +47,8 @@ same first second one other g h p q s life =
         ∙ ap (λ x. ip_with l' i' (fragment_of x k') p' f' t' b) n ∙ ap (λ x. ip_with l' i' (fragment_of m' k') p' f' t' x) o
 
 -- the sum stands in the header as itself
-sum_in : (life sum ident fragment proto from to size : ℕ) → sum < 2 ^ 16 → word_sum (head_with life sum ident fragment proto from to size) ≡ word_sum (head_with life 0 ident fragment proto from to size) + sum
+sum_in : (life sum ident fragment proto from to size : ℕ) → sum < 2 ^ 16 → word_sum (head_with life sum ident fragment proto from to size) ≡ word_sum
+    (head_with life 0 ident fragment proto from to size) + sum
 sum_in life sum ident fragment proto from to size fits = omega arith
 
 summed_holds : (life ident fragment proto from to size : ℕ) → sum_ok (word_sum (summed_head life ident fragment proto from to size)) ≡ true
@@ -56,7 +59,17 @@ summed_holds life ident fragment proto from to size =
 -- octets whose front is written so are a datagram
 pub written_is : (life ident place proto from to : ℕ) (more : Bool) (body now rest : List ℕ) → ident < 2 ^ 16 → place < 2 ^ 13 → from < 2 ^ 32 → to < 2 ^ 32 → 20 + length body < 2 ^ 16
     → now ≡ ip_with life ident (fragment_of more place) proto from to body ++ rest
-    → IsDatagram (take (20 + length body) now) life (record { ident = ident; more = more; place = place; proto = proto; from = from; to = to; head = summed_head life ident (fragment_of more place) proto from to (length body); body = body })
+    → IsDatagram (take (20 + length body) now) life (record {
+      ident = ident;
+      more = more;
+      place = place;
+      proto = proto;
+      from = from;
+      to = to;
+      head = summed_head life ident
+          (fragment_of more place) proto from to (length body);
+      body = body;
+    })
 written_is life ident place proto from to more body now rest i k f t size is =
     let before = word_sum (head_with life 0 ident (fragment_of more place) proto from to (length body)) in
     let octets = ip_with life ident (fragment_of more place) proto from to body in (
@@ -79,7 +92,8 @@ written_is life ident place proto from to more body now rest i k f t size is =
         head_is = ap (λ n. head_of 5 0 (20 + length body) ident n life proto (checksum before) from to []) (sym (zero-add (fragment_of more place)));
         holds = summed_holds life ident (fragment_of more place) proto from to (length body);
         rest = [];
-        is = ap (take (20 + length body)) is ∙ take_at octets rest (20 + length body) (length-append (summed_head life ident (fragment_of more place) proto from to (length body)) body) ∙ sym (append-nil octets);
+        is = ap (take (20 + length body)) is ∙ take_at octets rest (20 + length body)
+            (length-append (summed_head life ident (fragment_of more place) proto from to (length body)) body) ∙ sym (append-nil octets);
       },
       refl,
       record { options = refl; rest = refl; service = refl; flags = refl; sum = refl },

@@ -1,5 +1,6 @@
 -- The grammar of datagrams and the reading function say the same.
-use Rattle.std.proofs.Common.{◌≡◌, ℕ, ◌+◌, ◌-◌, ◌*◌, ◌/◌, ◌%◌, ◌^◌, ◌<◌, ◌≤◌, ◌==◌, cond, Bool, true, false, List, [], ◌∷◌, ◌++◌, length, take, drop, Some, refl, sym, ◌∙◌, ap, subst, arith, append_assoc, length-append}
+use Rattle.std.proofs.Common.{◌≡◌, ℕ, ◌+◌, ◌-◌, ◌*◌, ◌/◌, ◌%◌, ◌^◌, ◌<◌, ◌≤◌, ◌==◌, cond, Bool, true, false, List, [], ◌∷◌, ◌++◌, length, take, drop, Some, refl, sym, ◌∙◌, ap, subst}
+use Rattle.std.proofs.Common.{arith, append_assoc, length-append}
 use Rattle.std.proofs.lemmas.Bool.Decides.{nat_tests}
 use Rattle.std.proofs.lemmas.Nat.{from_be_bytes-to_be_bytes_2, from_be_bytes-to_be_bytes_4}
 use Rattle.std.proofs.lemmas.List.{take_at, drop_at, get_or-take, length-take-le, take-append-drop}
@@ -47,7 +48,8 @@ reads octets ip g =
     let is : octets ≡ (64 + words) ∷ g.service ∷ two size ++ two ip.ident ++ two fragment ++ g.life ∷ ip.proto ∷ two g.sum ++ four ip.from ++ four ip.to ++ (g.options ++ ip.body ++ g.rest) =
     g.is ∙ ap (λ (h : List ℕ). h ++ ip.body ++ g.rest) g.head_is in
     let behind : octets ≡ ip.head ++ (ip.body ++ g.rest) = g.is ∙ append_assoc ip.head ip.body g.rest in
-    let long : length octets ≡ length ip.head + (length ip.body + length g.rest) = ap length behind ∙ length-append ip.head (ip.body ++ g.rest) ∙ ap (λ n. length ip.head + n) (length-append ip.body g.rest) in
+    let long : length octets ≡ length ip.head + (length ip.body + length g.rest) = ap length behind ∙ length-append ip.head (ip.body ++ g.rest) ∙ ap (λ n. length ip.head + n)
+    (length-append ip.body g.rest) in
     let first : one_at octets 0 ≡ 64 + words = ap (λ (o : List ℕ). one_at o 0) is in
     let total : two_at octets 2 ≡ size = ap (λ (o : List ℕ). two_at o 2) is ∙ from_be_bytes-to_be_bytes_2 size g.size in
     let ident : two_at octets 4 ≡ ip.ident = ap (λ (o : List ℕ). two_at o 4) is ∙ from_be_bytes-to_be_bytes_2 ip.ident g.ident in
@@ -62,7 +64,8 @@ reads octets ip g =
     let head : take (head_length octets) octets ≡ ip.head = ap (λ n. take n octets) head_is ∙ ap (take (length ip.head)) behind ∙ take_at ip.head (ip.body ++ g.rest) (length ip.head) refl in
     let rest : drop (head_length octets) octets ≡ ip.body ++ g.rest = ap (λ n. drop n octets) head_is ∙ ap (drop (length ip.head)) behind ∙ drop_at ip.head (ip.body ++ g.rest) (length ip.head) refl in
     let body_size : two_at octets 2 - head_length octets ≡ length ip.body = ap (λ n. n - head_length octets) total ∙ ap (λ n. size - n) head_is ∙ omega arith in
-    let body : part octets (head_length octets) (two_at octets 2 - head_length octets) ≡ ip.body = ap (take (two_at octets 2 - head_length octets)) rest ∙ ap (λ n. take n (ip.body ++ g.rest)) body_size ∙ take_at ip.body g.rest (length ip.body) refl in
+    let body : part octets (head_length octets) (two_at octets 2 - head_length octets) ≡ ip.body = ap (take (two_at octets 2 - head_length octets)) rest ∙ ap
+    (λ n. take n (ip.body ++ g.rest)) body_size ∙ take_at ip.body g.rest (length ip.body) refl in
     let t : Tests octets = record {
       long = omega (arith, long, words_size);
       version = ap (λ n. n / 16) first ∙ high;
@@ -84,7 +87,8 @@ same_parts a b c d e f g h a' b' c' d' e' f' g' h' r p q s t u v w x = cc
 
 -- the parts of a header, one after another
 head_whole : (head : List ℕ) → IsOctets head → 20 ≤ length head
-    → head ≡ one_at head 0 ∷ one_at head 1 ∷ two (two_at head 2) ++ two (two_at head 4) ++ two (two_at head 6) ++ one_at head 8 ∷ one_at head 9 ∷ two (two_at head 10) ++ four (four_at head 12) ++ four (four_at head 16) ++ drop 20 head
+    → head ≡ one_at head 0 ∷ one_at head 1 ∷ two (two_at head 2) ++ two (two_at head 4) ++ two (two_at head 6) ++ one_at head 8 ∷ one_at head 9 ∷ two (two_at head 10) ++ four
+    (four_at head 12) ++ four (four_at head 16) ++ drop 20 head
 head_whole head fits long =
     let p : ℕ → ℕ → List ℕ = λ i n. part head i n in
     parted head 0 2 2 refl ∙ ap (λ (xs : List ℕ). p 0 2 ++ xs)
@@ -96,7 +100,8 @@ head_whole head fits long =
     (parted head 12 4 16 refl ∙ ap (λ (xs : List ℕ). p 12 4 ++ xs) (parted head 16 4 20 refl)))))))
     ∙ regroup (p 0 2) (p 2 2) (p 4 2) (p 6 2) (p 8 2) (p 10 2) (p 12 4) (p 16 4) (drop 20 head)
     ∙ same_parts (p 0 2) (p 2 2) (p 4 2) (p 6 2) (p 8 2) (p 10 2) (p 12 4) (p 16 4)
-    (one_at head 0 ∷ one_at head 1 ∷ []) (two (two_at head 2)) (two (two_at head 4)) (two (two_at head 6)) (one_at head 8 ∷ one_at head 9 ∷ []) (two (two_at head 10)) (four (four_at head 12)) (four (four_at head 16)) (drop 20 head)
+    (one_at head 0 ∷ one_at head 1 ∷ []) (two (two_at head 2)) (two (two_at head 4)) (two (two_at head 6)) (one_at head 8 ∷ one_at head 9 ∷ []) (two (two_at head 10))
+    (four (four_at head 12)) (four (four_at head 16)) (drop 20 head)
     (part_two head 0 (omega arith)) (sym (two-two_at head 2 fits (omega arith))) (sym (two-two_at head 4 fits (omega arith))) (sym (two-two_at head 6 fits (omega arith)))
     (part_two head 8 (omega arith)) (sym (two-two_at head 10 fits (omega arith))) (sym (four-four_at head 12 fits (omega arith))) (sym (four-four_at head 16 fits (omega arith)))
 
@@ -146,12 +151,17 @@ spelled octets ip fits is =
     let total_fits : total < 2 ^ 16 = two_at-fits octets 2 fits in
     let fragment_fits' : fragment < 2 ^ 16 = two_at-fits octets 6 fits in
     let first : one_at octets 0 ≡ 64 + one_at octets 0 % 16 = omega arith in
-    let head_is : head ≡ head_of (64 + one_at octets 0 % 16) (one_at octets 1) (length head + length body) (two_at octets 4) (2 ^ 14 * (fragment / 2 ^ 14) + fragment_of (fragment / 2 ^ 13 % 2 == 1) (fragment % 2 ^ 13)) (one_at octets 8) (one_at octets 9) (two_at octets 10) (four_at octets 12) (four_at octets 16) (drop 20 head) =
+    let head_is : head ≡ head_of (64 + one_at octets 0 % 16) (one_at octets 1) (length head + length body) (two_at octets 4)
+    (2 ^ 14 * (fragment / 2 ^ 14) + fragment_of (fragment / 2 ^ 13 % 2 == 1) (fragment % 2 ^ 13)) (one_at octets 8) (one_at octets 9) (two_at octets 10) (four_at octets 12)
+    (four_at octets 16) (drop 20 head) =
     head_whole head (IsOctets-take octets size fits) (omega (arith, head_size))
     ∙ same_head (one_at head 0) (one_at head 1) (two_at head 2) (two_at head 4) (two_at head 6) (one_at head 8) (one_at head 9) (two_at head 10) (four_at head 12) (four_at head 16)
-    (64 + one_at octets 0 % 16) (one_at octets 1) (length head + length body) (two_at octets 4) (2 ^ 14 * (fragment / 2 ^ 14) + fragment_of (fragment / 2 ^ 13 % 2 == 1) (fragment % 2 ^ 13)) (one_at octets 8) (one_at octets 9) (two_at octets 10) (four_at octets 12) (four_at octets 16) (drop 20 head)
-    (one-take octets 0 size (omega arith) ∙ first) (one-take octets 1 size (omega arith)) (two-take octets 2 size (omega arith) ∙ sym both) (two-take octets 4 size (omega arith)) (two-take octets 6 size (omega arith) ∙ sym (fragment_whole fragment))
-    (one-take octets 8 size (omega arith)) (one-take octets 9 size (omega arith)) (two-take octets 10 size (omega arith)) (four-take octets 12 size (omega arith)) (four-take octets 16 size (omega arith)) in
+    (64 + one_at octets 0 % 16) (one_at octets 1) (length head + length body) (two_at octets 4) (2 ^ 14 * (fragment / 2 ^ 14) + fragment_of (fragment / 2 ^ 13 % 2 == 1)
+    (fragment % 2 ^ 13)) (one_at octets 8) (one_at octets 9) (two_at octets 10) (four_at octets 12) (four_at octets 16) (drop 20 head)
+    (one-take octets 0 size (omega arith) ∙ first) (one-take octets 1 size (omega arith)) (two-take octets 2 size (omega arith) ∙ sym both) (two-take octets 4 size (omega arith))
+    (two-take octets 6 size (omega arith) ∙ sym (fragment_whole fragment))
+    (one-take octets 8 size (omega arith)) (one-take octets 9 size (omega arith)) (two-take octets 10 size (omega arith)) (four-take octets 12 size (omega arith))
+    (four-take octets 16 size (omega arith)) in
     let g : IsIp octets (record {
       ident = two_at octets 4;
       more = (two_at octets 6 / 2 ^ 13) % 2 == 1;

@@ -1,5 +1,6 @@
 -- Datagrams of IPv4 and their parts (RFC 791, 3.1).
-use Rattle.std.specs.Prelude.{◌≡◌, ℕ, ◌+◌, ◌-◌, ◌*◌, ◌/◌, ◌%◌, ◌^◌, ◌<◌, ◌≤◌, ◌==◌, ◌&&◌, ◌||◌, not, cond, true, nat_le, nat_lt, Bool, List, [], ◌∷◌, ◌++◌, length, take, Option, Some, None, if◌then◌else◌}
+use Rattle.std.specs.Prelude.{◌≡◌, ℕ, ◌+◌, ◌-◌, ◌*◌, ◌/◌, ◌%◌, ◌^◌, ◌<◌, ◌≤◌, ◌==◌, ◌&&◌, ◌||◌, not, cond, true, nat_le, nat_lt, Bool, List, [], ◌∷◌, ◌++◌, length, take, Option, Some}
+use Rattle.std.specs.Prelude.{None, if◌then◌else◌}
 use Rattle.net_octets.specs.Octets.{one_at, two_at, four_at, part, two, four, word_sum, checksum, sum_ok}
 use Rattle.net_octets.specs.declared.Fault.{Fault}
 use Rattle.net_octets.specs.declared.FaultKind.TheVariants.{Short, BadKind, BadLength, BadSum}

@@ -1,5 +1,6 @@
 -- Parts of datagrams, and the sets of them that wait to be joined (RFC 791, 2.3 and 3.2; of overlaps RFC 5722, 3).
-use Rattle.std.specs.Prelude.{◌≡◌, ℕ, ◌+◌, ◌-◌, ◌*◌, ◌/◌, ◌%◌, ◌^◌, ◌<◌, ◌≤◌, ◌==◌, ◌&&◌, ◌||◌, not, false, Bool, nat_lt, nat_le, min, List, [], ◌∷◌, ◌++◌, length, drop, filter, find, map, Option, None, Some, slice_get, slice_set, if◌then◌else◌}
+use Rattle.std.specs.Prelude.{◌≡◌, ℕ, ◌+◌, ◌-◌, ◌*◌, ◌/◌, ◌%◌, ◌^◌, ◌<◌, ◌≤◌, ◌==◌, ◌&&◌, ◌||◌, not, false, Bool, nat_lt, nat_le, min, List, [], ◌∷◌, ◌++◌, length, drop, filter, find, map}
+use Rattle.std.specs.Prelude.{Option, None, Some, slice_get, slice_set, if◌then◌else◌}
 use Rattle.std.specs.Option.{option_map}
 use Rattle.std.specs.List.{Contains, AllPairs, list_any, list_all, range_with_len, position_or_len, remove}
 use Rattle.net_octets.specs.Octets.{one_at, two_at, part, two, word_sum, checksum}

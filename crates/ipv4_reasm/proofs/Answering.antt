@@ -1,5 +1,6 @@
 -- What is answered of a part, by the sets for which the areas stand.
-use Rattle.std.proofs.Common.{◌≡◌, ◌+◌, ◌/◌, ◌%◌, ◌<◌, ◌≤◌, ◌&&◌, not, List, ℕ, Bool, true, false, cond, zero, suc, inl, inr, [], ◌∷◌, ◌++◌, length, drop, set, ltb, leb, eqb, None, Some, refl, ap, sym, ◌∙◌, arith, subst, length-set, eqb-true, eq-eqb, add-zero, length-append}
+use Rattle.std.proofs.Common.{◌≡◌, ◌+◌, ◌/◌, ◌%◌, ◌<◌, ◌≤◌, ◌&&◌, not, List, ℕ, Bool, true, false, cond, zero, suc, inl, inr, [], ◌∷◌, ◌++◌, length, drop, set, ltb, leb, eqb, None, Some}
+use Rattle.std.proofs.Common.{refl, ap, sym, ◌∙◌, arith, subst, length-set, eqb-true, eq-eqb, add-zero, length-append}
 use Rattle.std.specs.Prelude.{slice_get}
 use Rattle.std.specs.List.{list_any, remove, position}
 use Rattle.std.proofs.lemmas.Bool.{cases_lt, lt-ltb, ltb-false, or_parts}
@@ -7,7 +8,8 @@ use Rattle.std.proofs.lemmas.List.Folds.{position_or_len-set, position_or_len_pu
 use Rattle.std.proofs.lemmas.List.Quantifiers.{position-Some}
 use Rattle.std.proofs.lemmas.List.Sums.{prefix_len-le-length}
 use Rattle.std.proofs.lemmas.Option.{cond_some, get_or_from_slice_get, slice_get_past, slice_get_within}
-use Rattle.ipv4_head.specs.Sets.{Key, Part, PartSet, Outcome, Clashes, Joined, LongPart, UnevenPart, Waits, changed_by, do_clash, end_of, is_same_key, is_too_long, is_uneven, is_whole, outcome_among, parts_for, parts_of, place_of, put_in, with_part, with_room}
+use Rattle.ipv4_head.specs.Sets.{Key, Part, PartSet, Outcome, Clashes, Joined, LongPart, UnevenPart, Waits, changed_by, do_clash, end_of, is_same_key, is_too_long, is_uneven, is_whole}
+use Rattle.ipv4_head.specs.Sets.{outcome_among, parts_for, parts_of, place_of, put_in, with_part, with_room}
 use Rattle.ipv4_reasm.specs.declared.reasm.Added.{Added}
 use Rattle.ipv4_reasm.specs.declared.reasm.Added.TheVariants.{Whole, Kept, Overlap}
 use Rattle.ipv4_reasm.specs.Answers.{IsAnswered, IsWholeAt, answer_of, said}
@@ -90,7 +92,8 @@ after_stands g s p key since holds fits none =
     let kept = kept_gathers g s.parts p holds fits none in
     by_full kept (is_full (with_kept g p)) refl
   where
-    by_full : Gathers (with_kept g p) (s.parts ++ p ∷ []) → (b : Bool) → is_full (with_kept g p) ≡ b → StandsFor (cond b (with_joined (with_kept g p)) (with_kept g p)) (record s { parts = s.parts ++ p ∷ [] })
+    by_full : Gathers (with_kept g p) (s.parts ++ p ∷ []) → (b : Bool) → is_full (with_kept g p) ≡ b → StandsFor (cond b (with_joined (with_kept g p)) (with_kept g p))
+        (record s { parts = s.parts ++ p ∷ [] })
     by_full kept true e = record {
       key = kept_key g p ∙ key;
       since = kept_since g p ∙ since;
@@ -119,7 +122,8 @@ same_key a b h =
     four false b c d h = cc
 
 -- what becomes of a part that fits
-pub outcome_is : (p : Part) (parts : List Part) → is_uneven p ≡ false → is_too_long p ≡ false → outcome_among p parts ≡ cond (list_any (do_clash p) parts) Clashes (cond (is_whole (parts ++ p ∷ [])) Joined Waits)
+pub outcome_is : (p : Part) (parts : List Part) → is_uneven p ≡ false → is_too_long p ≡ false → outcome_among p parts ≡ cond (list_any (do_clash p) parts) Clashes
+    (cond (is_whole (parts ++ p ∷ [])) Joined Waits)
 outcome_is p parts even short =
     ap (λ b. cond b UnevenPart (cond (is_too_long p) LongPart (cond (list_any (do_clash p) parts) Clashes (cond (is_whole (parts ++ p ∷ [])) Joined Waits)))) even
     ∙ ap (λ b. cond b LongPart (cond (list_any (do_clash p) parts) Clashes (cond (is_whole (parts ++ p ∷ [])) Joined Waits))) short
@@ -148,14 +152,16 @@ record Found (key : Key) (sets : List PartSet) (i : ℕ) (g : Gathered) (s : Par
   pub stands : StandsFor g s
   pub parts : parts_for key sets ≡ s.parts
 
-found : (key : Key) (sets : List PartSet) (held : List Gathered) (g : Gathered) → StandFor held sets → slice_get held (place_in key held) ≡ Some g → (s : PartSet) × Found key sets (place_in key held) g s
+found : (key : Key) (sets : List PartSet) (held : List Gathered) (g : Gathered) → StandFor held sets → slice_get held (place_in key held) ≡ Some g → (s : PartSet) × Found key sets
+    (place_in key held) g s
 found key sets held g stand at =
     let s = stand_get held sets (place_in key held) g stand at in
     let place = sym (stand_place key held sets stand) in
     (s.0, record { place = place; at = s.1.0; stands = s.1.1; parts = ap parts_of (ap (slice_get sets) place ∙ s.1.0) })
 
 -- a part to those of its datagram
-pub answered_clash : (now : ℕ) (key : Key) (p : Part) (sets : List PartSet) (held : List Gathered) (g : Gathered) → is_uneven p ≡ false → is_too_long p ≡ false → StandFor held sets → slice_get held (place_in key held) ≡ Some g → does_clash g p ≡ true
+pub answered_clash : (now : ℕ) (key : Key) (p : Part) (sets : List PartSet) (held : List Gathered) (g : Gathered) → is_uneven p ≡ false → is_too_long p ≡ false →
+    StandFor held sets → slice_get held (place_in key held) ≡ Some g → does_clash g p ≡ true
     → IsAnswered now key p sets (remove held (place_in key held)) Overlap
 answered_clash now key p sets held g even short stand at clash =
     let f = found key sets held g stand at in
@@ -174,7 +180,8 @@ set_place key sets s after i place at same =
 -- the place of a new set
 same_itself : (key : Key) → is_same_key key key ≡ true
 same_itself key =
-    four (eqb key.from key.from) (eqb key.to key.to) (eqb key.proto key.proto) (eqb key.ident key.ident) (eq-eqb key.from key.from refl) (eq-eqb key.to key.to refl) (eq-eqb key.proto key.proto refl) (eq-eqb key.ident key.ident refl)
+    four (eqb key.from key.from) (eqb key.to key.to) (eqb key.proto key.proto) (eqb key.ident key.ident) (eq-eqb key.from key.from refl) (eq-eqb key.to key.to refl)
+    (eq-eqb key.proto key.proto refl) (eq-eqb key.ident key.ident refl)
   where
     four : (a b c d : Bool) → a ≡ true → b ≡ true → c ≡ true → d ≡ true → (a && b && c && d) ≡ true
     four true true true d e f g h = h
@@ -206,7 +213,8 @@ start_place key sets s absent same n long =
     ∙ add-zero (length (with_room sets)) ∙ long
 
 -- the answer for a part that was put in
-answered_by : (now : ℕ) (key : Key) (p : Part) (sets : List PartSet) (held : List Gathered) (i : ℕ) (whole : Bool) → outcome_among p (parts_for key sets) ≡ cond whole Joined Waits → StandFor held (with_part now key p sets)
+answered_by : (now : ℕ) (key : Key) (p : Part) (sets : List PartSet) (held : List Gathered) (i : ℕ) (whole : Bool) → outcome_among p
+    (parts_for key sets) ≡ cond whole Joined Waits → StandFor held (with_part now key p sets)
     → (whole ≡ true → IsWholeAt (with_part now key p sets) key i) → IsAnswered now key p sets held (answer_of i whole)
 answered_by now key p sets held i true outcome stand at =
     by_outcome now key p sets held (Whole i) Joined outcome stand refl
@@ -214,7 +222,8 @@ answered_by now key p sets held i true outcome stand at =
 answered_by now key p sets held i false outcome stand at =
     by_outcome now key p sets held Kept Waits outcome stand refl (λ a e. cc)
 
-pub answered_put : (now : ℕ) (key : Key) (p : Part) (sets : List PartSet) (held : List Gathered) (g : Gathered) → is_uneven p ≡ false → is_too_long p ≡ false → StandFor held sets → slice_get held (place_in key held) ≡ Some g → g.key ≡ key → does_clash g p ≡ false
+pub answered_put : (now : ℕ) (key : Key) (p : Part) (sets : List PartSet) (held : List Gathered) (g : Gathered) → is_uneven p ≡ false → is_too_long p ≡ false → StandFor held sets →
+    slice_get held (place_in key held) ≡ Some g → g.key ≡ key → does_clash g p ≡ false
     → IsAnswered now key p sets (set held (place_in key held) (after_part g p)) (answer_of (place_in key held) (is_full (with_kept g p)))
 answered_put now key p sets held g even short stand at same clash =
     let i = place_in key held in
@@ -227,7 +236,8 @@ answered_put now key p sets held g even short stand at same clash =
     let s_after : PartSet = record s { parts = s.parts ++ p ∷ [] } in
     let sets_are : with_part now key p sets ≡ set sets i s_after =
     ap (put_in now key p sets) (ap (slice_get sets) f.1.place ∙ f.1.at) ∙ ap (λ n. set sets n s_after) f.1.place in
-    let stands : StandFor (set held i (after_part g p)) (with_part now key p sets) = subst (StandFor (set held i (after_part g p))) (sym sets_are) (stand_set held sets i (after_part g p) s_after stand after) in
+    let stands : StandFor (set held i (after_part g p)) (with_part now key p sets) = subst (StandFor (set held i (after_part g p))) (sym sets_are)
+    (stand_set held sets i (after_part g p) s_after stand after) in
     let outcome : outcome_among p (parts_for key sets) ≡ cond (is_full (with_kept g p)) Joined Waits =
     outcome_is p (parts_for key sets) even short
     ∙ ap (λ (parts : List Part). cond (list_any (do_clash p) parts) Clashes (cond (is_whole (parts ++ p ∷ [])) Joined Waits)) f.1.parts
@@ -237,9 +247,11 @@ answered_put now key p sets held g even short stand at same clash =
     let size = length-set held i (after_part g p) in
     let in_sets = slice_get_within sets i s f.1.at in
     answered_by now key p sets (set held i (after_part g p)) i (is_full (with_kept g p)) outcome stands
-    (λ h. subst (λ (l : List PartSet). IsWholeAt l key i) (sym sets_are) (record { place = set_place key sets s s_after i f.1.place f.1.at refl; set = (s_after, (get_set_same sets i s_after in_sets, sym f.1.stands.key ∙ same, sym full ∙ h)) }))
+    (λ h. subst (λ (l : List PartSet). IsWholeAt l key i) (sym sets_are)
+    (record { place = set_place key sets s s_after i f.1.place f.1.at refl; set = (s_after, (get_set_same sets i s_after in_sets, sym f.1.stands.key ∙ same, sym full ∙ h)) }))
 
-pub answered_start : (now : ℕ) (key : Key) (p : Part) (sets : List PartSet) (held : List Gathered) (g : Gathered) → is_uneven p ≡ false → is_too_long p ≡ false → StandFor held sets → place_in key held ≡ length held → length g.octets ≡ 65535
+pub answered_start : (now : ℕ) (key : Key) (p : Part) (sets : List PartSet) (held : List Gathered) (g : Gathered) → is_uneven p ≡ false → is_too_long p ≡ false →
+    StandFor held sets → place_in key held ≡ length held → length g.octets ≡ 65535
     → IsAnswered now key p sets (roomy held ++ after_part (begun key now g) p ∷ []) (answer_of (length (roomy held)) (is_full (with_kept (begun key now g) p)))
 answered_start now key p sets held g even short stand absent room =
     let i = length (roomy held) in
@@ -264,7 +276,10 @@ answered_start now key p sets held g even short stand absent room =
     let size = length-append (roomy held) (after_part area p ∷ []) in
     answered_by now key p sets (roomy held ++ after_part area p ∷ []) i (is_full (with_kept area p)) outcome stands
     (λ h. subst (λ (l : List PartSet). IsWholeAt l key i) (sym sets_are)
-    (record { place = start_place key sets s_after absent_set refl (length (roomy held)) (sym (stand_length (roomy held) (with_room sets) roomy_stand)); set = (s_after, (ap (slice_get (with_room sets ++ s_after ∷ [])) (stand_length (roomy held) (with_room sets) roomy_stand) ∙ get_last (with_room sets) s_after, refl, sym full ∙ h)) }))
+    (record {
+      place = start_place key sets s_after absent_set refl (length (roomy held)) (sym (stand_length (roomy held) (with_room sets) roomy_stand));
+      set = (s_after, (ap (slice_get (with_room sets ++ s_after ∷ [])) (stand_length (roomy held) (with_room sets) roomy_stand) ∙ get_last (with_room sets) s_after, refl, sym full ∙ h));
+    }))
 
 -- for a place that none has
 abbrev nothing : Gathered
@@ -285,7 +300,8 @@ gathered_some now key p sets held after added i even short stand is clash put =
     let at : slice_get held (place_in key held) ≡ Some g.0 = ap (slice_get held) place ∙ g.1 in
     by_test g.0 g.1 at (sym same) place (does_clash g.0 p) refl
   where
-    by_test : (g : Gathered) → slice_get held i ≡ Some g → slice_get held (place_in key held) ≡ Some g → g.key ≡ key → place_in key held ≡ i → (b : Bool) → does_clash g p ≡ b → IsAnswered now key p sets after added
+    by_test : (g : Gathered) → slice_get held i ≡ Some g → slice_get held (place_in key held) ≡ Some g → g.key ≡ key → place_in key held ≡ i → (b : Bool) → does_clash g p ≡ b →
+        IsAnswered now key p sets after added
     by_test g at as_well same place true h =
         let told = clash g at h in
         subst (λ (a : Added). IsAnswered now key p sets after a) (sym told.0)
@@ -296,14 +312,16 @@ gathered_some now key p sets held after added i even short stand is clash put =
         (subst (λ (l : List Gathered). IsAnswered now key p sets l (answer_of (place_in key held) (is_full (with_kept g p)))) (ap (λ n. set held n (after_part g p)) place ∙ sym told.1)
         (answered_put now key p sets held g even short stand as_well same h))
 
-pub gathered_none : (now : ℕ) (key : Key) (p : Part) (sets : List PartSet) (held after : List Gathered) (added : Added) (g : Gathered) → is_uneven p ≡ false → is_too_long p ≡ false → StandFor held sets
+pub gathered_none : (now : ℕ) (key : Key) (p : Part) (sets : List PartSet) (held after : List Gathered) (added : Added) (g : Gathered) → is_uneven p ≡ false →
+    is_too_long p ≡ false → StandFor held sets
     → position (λ (g : Gathered). is_same_key key g.key) held ≡ None → length g.octets ≡ 65535
     → after ≡ roomy held ++ after_part (begun key now g) p ∷ [] → added ≡ answer_of (length (roomy held)) (is_full (with_kept (begun key now g) p))
     → IsAnswered now key p sets after added
 gathered_none now key p sets held after added g even short stand is room eq says =
     let absent : place_in key held ≡ length held = past (place_in key held) (length held) (prefix_len-le-length (λ (x : Gathered). not (is_same_key key x.key)) held) is in
     subst (λ (a : Added). IsAnswered now key p sets after a) (sym says)
-    (subst (λ (l : List Gathered). IsAnswered now key p sets l (answer_of (length (roomy held)) (is_full (with_kept (begun key now g) p)))) (sym eq) (answered_start now key p sets held g even short stand absent room))
+    (subst (λ (l : List Gathered). IsAnswered now key p sets l (answer_of (length (roomy held)) (is_full (with_kept (begun key now g) p)))) (sym eq)
+    (answered_start now key p sets held g even short stand absent room))
   where
     past : (a n : ℕ) → a ≤ n → cond (ltb a n) (Some a) None ≡ None → a ≡ n
     past a n low h = elim (cases_lt a n) [ inl less ↦ cc (sym h ∙ ap (λ b. cond b (Some a) None) (lt-ltb a n less)) | inr more ↦ omega arith ]

@@ -1,5 +1,6 @@
 -- The parts into which a datagram was cut, as they come one by one.
-use Rattle.std.proofs.Common.{◌≡◌, ◌+◌, ◌*◌, ◌%◌, ◌<◌, ◌≤◌, ◌&&◌, ◌||◌, not, List, ℕ, Bool, true, false, cond, zero, suc, inl, inr, [], ◌∷◌, ◌++◌, length, get_or, ltb, eqb, refl, ap, sym, ◌∙◌, arith, subst, append_assoc, eq-eqb, eqb-true, ◌⊎◌}
+use Rattle.std.proofs.Common.{◌≡◌, ◌+◌, ◌*◌, ◌%◌, ◌<◌, ◌≤◌, ◌&&◌, ◌||◌, not, List, ℕ, Bool, true, false, cond, zero, suc, inl, inr, [], ◌∷◌, ◌++◌, length, get_or, ltb, eqb, refl, ap, sym}
+use Rattle.std.proofs.Common.{◌∙◌, arith, subst, append_assoc, eq-eqb, eqb-true, ◌⊎◌}
 use Rattle.std.specs.List.{AllPairs, Contains, list_any}
 use Rattle.std.proofs.lemmas.Bool.{lt-ltb, le-ltb}
 use Rattle.std.proofs.lemmas.List.Elements.{Contains-append_left}
@@ -82,13 +83,15 @@ fits_in mtu whole before p rest fits some short cuts =
     ∙ ap (λ b. cond b Clashes (cond (is_whole (before ++ p ∷ [])) Joined Waits)) (no_clash_before before p rest apart)
 
 -- the last one makes the datagram whole
-pub last_joins : (mtu : ℕ) (whole : Part) (before : List Part) (p : Part) → 28 ≤ mtu → 0 < length whole.body → length whole.body ≤ 65515 → AreCuts mtu whole (before ++ p ∷ []) → outcome_among p before ≡ Joined
+pub last_joins : (mtu : ℕ) (whole : Part) (before : List Part) (p : Part) → 28 ≤ mtu → 0 < length whole.body → length whole.body ≤ 65515 → AreCuts mtu whole (before ++ p ∷ []) →
+    outcome_among p before ≡ Joined
 last_joins mtu whole before p fits some short cuts =
     fits_in mtu whole before p [] fits some short cuts
     ∙ ap (λ b. cond b Joined Waits) (whole_of (before ++ p ∷ []) whole.body (joined mtu whole (before ++ p ∷ []) fits cuts))
 
 -- and one before another is kept
-pub others_wait : (mtu : ℕ) (whole : Part) (before : List Part) (p q : Part) (after : List Part) → 28 ≤ mtu → 0 < length whole.body → length whole.body ≤ 65515 → AreCuts mtu whole ((before ++ p ∷ []) ++ q ∷ after) → outcome_among p before ≡ Waits
+pub others_wait : (mtu : ℕ) (whole : Part) (before : List Part) (p q : Part) (after : List Part) → 28 ≤ mtu → 0 < length whole.body → length whole.body ≤ 65515 → AreCuts mtu whole
+    ((before ++ p ∷ []) ++ q ∷ after) → outcome_among p before ≡ Waits
 others_wait mtu whole before p q after fits some short cuts =
     fits_in mtu whole before p (q ∷ after) fits some short (subst (AreCuts mtu whole) (append_assoc before (p ∷ []) (q ∷ after)) cuts)
     ∙ ap (λ b. cond b Joined Waits) (same_truth (is_whole (before ++ p ∷ [])) false (λ h. absurd (missing h)) (λ h. cc))
@@ -112,5 +115,6 @@ others_wait mtu whole before p q after fits some short cuts =
         let r = w.1.2 (start_of q) (omega arith) in
         let low = r.1.1 in
         let high = r.1.2 in
-        let clash = clash_share r.0 q (and_is (ltb (start_of r.0) (end_of q)) (ltb (start_of q) (end_of r.0)) (lt-ltb (start_of r.0) (end_of q) (omega arith)) (lt-ltb (start_of q) (end_of r.0) high)) in
+        let clash = clash_share r.0 q (and_is (ltb (start_of r.0) (end_of q)) (ltb (start_of q) (end_of r.0)) (lt-ltb (start_of r.0) (end_of q) (omega arith))
+        (lt-ltb (start_of q) (end_of r.0) high)) in
         cc (sym clash ∙ apart_front front q after r.0 j.apart r.1.0)

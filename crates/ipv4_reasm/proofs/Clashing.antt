@@ -1,5 +1,6 @@
 -- The holes between parts: a part clashes with none of them where it lies in a hole, and what is left lies between all.
-use Rattle.std.proofs.Common.{◌≡◌, ◌+◌, ◌*◌, ◌<◌, ◌≤◌, ◌&&◌, ◌||◌, not, List, ℕ, Bool, true, false, cond, zero, suc, inl, inr, [], ◌∷◌, ◌++◌, length, ltb, leb, Option, None, Some, refl, ap, sym, ◌∙◌, arith, subst, ◌⊎◌}
+use Rattle.std.proofs.Common.{◌≡◌, ◌+◌, ◌*◌, ◌<◌, ◌≤◌, ◌&&◌, ◌||◌, not, List, ℕ, Bool, true, false, cond, zero, suc, inl, inr, [], ◌∷◌, ◌++◌, length, ltb, leb, Option, None, Some, refl}
+use Rattle.std.proofs.Common.{ap, sym, ◌∙◌, arith, subst, ◌⊎◌}
 use Rattle.std.specs.List.{AllPairs, Contains, list_any}
 use Rattle.std.proofs.Math.Bool.{or-false}
 use Rattle.std.proofs.lemmas.Bool.{cases_lt, ltb-true}
@@ -10,7 +11,8 @@ use Rattle.ipv4_head.specs.Sets.{Part, end_of, do_share, do_clash, ends_past}
 use Rattle.ipv4_reasm.specs.declared.holes.Hole.{Hole}
 use Rattle.ipv4_reasm.specs.Areas.{AreHoles, Fits, Gathered, Gathers, IsHole, IsTold, does_clash, has_unit}
 use Rattle.ipv4_reasm.specs.Holes.{Rise, filled, has_hole, hole, is_in, is_open, left_before, left_behind, left_from, lies_in, listed, unit_end}
-use Rattle.ipv4_reasm.proofs.Gathering.{both, clash_before, clash_one, clash_past, clash_share, in_some, none_in, not_false, not_true, of_all, one_of_four, same_truth, share_by_unit, some_in, unit_by_share}
+use Rattle.ipv4_reasm.proofs.Gathering.{both, clash_before, clash_one, clash_past, clash_share, in_some, none_in, not_false, not_true, of_all, one_of_four, same_truth, share_by_unit}
+use Rattle.ipv4_reasm.proofs.Gathering.{some_in, unit_by_share}
 use Rattle.ipv4_reasm.proofs.Holing.{Goes, Lies, by_end, filled_open, hole_from, in_if, in_then, lies_before, lies_endless, lies_then, or_is, or_left, or_right, unit_before, unit_behind, unit_there}
 
 -- a unit of one part more
@@ -87,19 +89,22 @@ are_with : (o : Option Hole) (holes : List Hole) (parts : List Part) → ((k : H
 are_with None holes parts is are = are
 are_with (Some k) holes parts is are = (is k refl, are)
 
-pub holes_kept : (low : ℕ) (holes : List Hole) (parts : List Part) (p : Part) → 0 < length p.body → Rise low holes → AreHoles holes parts → has_hole p holes ≡ true → AreHoles (filled p holes) (parts ++ p ∷ [])
+pub holes_kept : (low : ℕ) (holes : List Hole) (parts : List Part) (p : Part) → 0 < length p.body → Rise low holes → AreHoles holes parts → has_hole p holes ≡ true → AreHoles
+    (filled p holes) (parts ++ p ∷ [])
 holes_kept low [] parts p some rise are has = tt
 holes_kept low (h ∷ holes) parts p some rise are has = by_test (lies_in p h) refl (or_is (lies_in p h) (has_hole p holes) has) (λ n r l. holes_kept n holes parts p some r are.1 l)
   where
     rest : Lies p h → AreHoles holes (parts ++ p ∷ [])
-    rest lies = by_end h.to (λ none. subst (λ (l : List Hole). AreHoles l (parts ++ p ∷ [])) (sym (rise.2 none)) tt) (λ t e. let l = lies.till t e in let end = l.1 in behind_it (t + 1) holes parts p (omega arith) l.0 (rise.3 t e).1 are.1)
+    rest lies = by_end h.to (λ none. subst (λ (l : List Hole). AreHoles l (parts ++ p ∷ [])) (sym (rise.2 none)) tt) (λ t e. let l = lies.till t e in let end = l.1 in behind_it
+        (t + 1) holes parts p (omega arith) l.0 (rise.3 t e).1 are.1)
 
     here : Lies p h → AreHoles (listed (left_before p h) ++ (listed (left_behind p h) ++ holes)) (parts ++ p ∷ [])
     here lies =
         are_with (left_before p h) (listed (left_behind p h) ++ holes) (parts ++ p ∷ []) (λ k is. before_it h parts p k some are.0 lies is)
         (are_with (left_behind p h) holes (parts ++ p ∷ []) (λ k is. after_it h parts p k are.0 lies is) (rest lies))
 
-    later : has_hole p holes ≡ true → ((n : ℕ) → Rise n holes → has_hole p holes ≡ true → AreHoles (filled p holes) (parts ++ p ∷ [])) → IsHole h (parts ++ p ∷ []) × AreHoles (filled p holes) (parts ++ p ∷ [])
+    later : has_hole p holes ≡ true → ((n : ℕ) → Rise n holes → has_hole p holes ≡ true → AreHoles (filled p holes) (parts ++ p ∷ [])) → IsHole h (parts ++ p ∷ []) × AreHoles
+        (filled p holes) (parts ++ p ∷ [])
     later l next = by_end h.to (λ none. cc (subst (λ (x : List Hole). has_hole p x ≡ true) (rise.2 none) l)) (λ t e.
         let r = rise.3 t e in
         let at = hole_from (t + 1) p holes r.1 l in (
@@ -177,7 +182,8 @@ before_none g parts p q h holds lies is c last before =
     last_unit : (n : ℕ) → 1 ≤ n → length q.body ≡ 8 * n → h.to ≡ None → h.from + 1 ≤ q.place + n → ⊥
     last_unit zero positive size none high = omega arith
     last_unit (suc n) positive size none high =
-        cc (sym (is.missing (q.place + n) (in_if (q.place + n) h (omega arith) (λ t e. absurd (cc (sym none ∙ e))))) ∙ in_some (has_unit (q.place + n)) parts q c (unit_there q (q.place + n) (omega arith) (omega arith)))
+        cc (sym (is.missing (q.place + n) (in_if (q.place + n) h (omega arith) (λ t e. absurd (cc (sym none ∙ e))))) ∙ in_some (has_unit (q.place + n)) parts q c
+        (unit_there q (q.place + n) (omega arith) (omega arith)))
 
 clear : (g : Gathered) (parts : List Part) (p : Part) → Gathers g parts → Fits p → has_hole p g.holes ≡ true → list_any (do_clash p) parts ≡ false
 clear g parts p holds fits has =

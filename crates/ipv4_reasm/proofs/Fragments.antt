@@ -1,5 +1,6 @@
 -- The parts into which a datagram is cut join to it.
-use Rattle.std.proofs.Common.{◌≡◌, ◌≢◌, ℕ, ◌+◌, ◌-◌, ◌*◌, ◌<◌, ◌≤◌, ◌⊎◌, ◌&&◌, ◌||◌, not, Bool, true, false, cond, zero, suc, inl, inr, List, length, take, drop, Some, None, refl, sym, ap, ◌∙◌, subst, arith, get_or, ltb}
+use Rattle.std.proofs.Common.{◌≡◌, ◌≢◌, ℕ, ◌+◌, ◌-◌, ◌*◌, ◌<◌, ◌≤◌, ◌⊎◌, ◌&&◌, ◌||◌, not, Bool, true, false, cond, zero, suc, inl, inr, List, length, take, drop, Some, None, refl, sym, ap}
+use Rattle.std.proofs.Common.{◌∙◌, subst, arith, get_or, ltb}
 use Rattle.std.proofs.Math.Nat.{mul-le-mul_right}
 use Rattle.std.proofs.Math.Seq.{take-length}
 use Rattle.std.proofs.lemmas.Bool.{cases_lt, ltb-true, ltb-false, lt-ltb, le-ltb}
@@ -136,8 +137,10 @@ none_by_other s false l m h = h refl
 
 free_of_later : (p q : Part) (size : ℕ) → p.more ≡ true → end_of p ≤ start_of q → end_of p ≤ size → (q.more ≡ false → end_of q ≡ size) → (do_clash p q ≡ false) × (do_clash q p ≡ false)
 free_of_later p q size more apart within end = (
-  rw (more, le-ltb (start_of q) (end_of p) apart) (none_by (ltb (start_of p) (end_of q)) q.more (ltb (end_of q) (end_of p)) (ltb (end_of p) (end_of q)) (λ e. le-ltb (end_of q) (end_of p) (let is = end e in omega arith))),
-  rw (more, le-ltb (start_of q) (end_of p) apart) (none_by_other (ltb (start_of p) (end_of q)) q.more (ltb (end_of q) (end_of p)) (ltb (end_of p) (end_of q)) (λ e. le-ltb (end_of q) (end_of p) (let is = end e in omega arith))),
+  rw (more, le-ltb (start_of q) (end_of p) apart) (none_by (ltb (start_of p) (end_of q)) q.more (ltb (end_of q) (end_of p)) (ltb (end_of p) (end_of q))
+      (λ e. le-ltb (end_of q) (end_of p) (let is = end e in omega arith))),
+  rw (more, le-ltb (start_of q) (end_of p) apart) (none_by_other (ltb (start_of p) (end_of q)) q.more (ltb (end_of q) (end_of p)) (ltb (end_of p) (end_of q))
+      (λ e. le-ltb (end_of q) (end_of p) (let is = end e in omega arith))),
 )
 
 ends_with : (mtu : ℕ) (body : List ℕ) (k : ℕ) (p : Part) → Cut mtu body k p → p.more ≡ false → end_of p ≡ length body
@@ -151,7 +154,8 @@ no_clash mtu body a b p q one other apart =
     ]
 
 -- there is a last part, from any part on
-last_after : (fuel mtu size k : ℕ) → 28 ≤ mtu → is_cut mtu size k ≡ true → size ≤ room_in mtu + 8 * (k * units_in mtu) + fuel → (j : ℕ) × ((is_cut mtu size j ≡ true) × (is_before_last mtu size j ≡ false))
+last_after : (fuel mtu size k : ℕ) → 28 ≤ mtu → is_cut mtu size k ≡ true → size ≤ room_in mtu + 8 * (k * units_in mtu) + fuel → (j : ℕ) ×
+    ((is_cut mtu size j ≡ true) × (is_before_last mtu size j ≡ false))
 last_after zero mtu size k fits is left = (k, (is, le-ltb (room_in mtu) (size - cut_start mtu k) (omega arith)))
 last_after (suc fuel) mtu size k fits is left =
     elim (cases_lt (room_in mtu) (size - cut_start mtu k)) [
@@ -160,7 +164,8 @@ last_after (suc fuel) mtu size k fits is left =
     ]
 
 -- each octet is in a part
-octet_after : (fuel mtu : ℕ) (whole : Part) (k o : ℕ) → 28 ≤ mtu → is_cut mtu (length whole.body) k ≡ true → start_of (cut_at mtu whole k) ≤ o → o < length whole.body → o < 8 * (k * units_in mtu) + fuel
+octet_after : (fuel mtu : ℕ) (whole : Part) (k o : ℕ) → 28 ≤ mtu → is_cut mtu (length whole.body) k ≡ true → start_of (cut_at mtu whole k) ≤ o → o < length whole.body → o < 8 *
+    (k * units_in mtu) + fuel
     → (j : ℕ) × ((is_cut mtu (length whole.body) j ≡ true) × (start_of (cut_at mtu whole j) ≤ o) × (o < end_of (cut_at mtu whole j)))
 octet_after zero mtu whole k o fits is from within left = absurd (omega arith)
 octet_after (suc fuel) mtu whole k o fits is from within left =

@@ -94,7 +94,8 @@ pub clash_last : (p q : Part) → not p.more ≡ true → q.more ≡ false → d
 clash_last p q h k = second_of_four (do_share p q) (not p.more && not q.more) (ends_past p q) (ends_past q p) (and_is (not p.more) (not q.more) h (not_true q.more k))
 
 pub clash_past : (p q : Part) → q.more ≡ false → end_of q < end_of p → do_clash p q ≡ true
-clash_past p q h k = third_of_four (do_share p q) (not p.more && not q.more) (ends_past p q) (ends_past q p) (and_is (not q.more) (ltb (end_of q) (end_of p)) (not_true q.more h) (lt-ltb (end_of q) (end_of p) k))
+clash_past p q h k = third_of_four (do_share p q) (not p.more && not q.more) (ends_past p q) (ends_past q p) (and_is (not q.more) (ltb (end_of q) (end_of p)) (not_true q.more h)
+    (lt-ltb (end_of q) (end_of p) k))
 
 pub clash_before : (p q : Part) → not p.more ≡ true → end_of p < end_of q → do_clash p q ≡ true
 clash_before p q h k = fourth_of_four (do_share p q) (not p.more && not q.more) (ends_past p q) (ends_past q p) (and_is (not p.more) (ltb (end_of p) (end_of q)) h (lt-ltb (end_of p) (end_of q) k))

@@ -1,5 +1,6 @@
 -- Holes in rising order, and what is left of them once a part is there.
-use Rattle.std.proofs.Common.{◌≡◌, ◌+◌, ◌*◌, ◌<◌, ◌≤◌, ◌||◌, not, List, ℕ, Bool, true, false, cond, zero, suc, inl, inr, [], ◌∷◌, ◌++◌, length, take, drop, get_or, ltb, leb, Option, None, Some, refl, ap, sym, ◌∙◌, arith, subst, ◌⊎◌}
+use Rattle.std.proofs.Common.{◌≡◌, ◌+◌, ◌*◌, ◌<◌, ◌≤◌, ◌||◌, not, List, ℕ, Bool, true, false, cond, zero, suc, inl, inr, [], ◌∷◌, ◌++◌, length, take, drop, get_or, ltb, leb, Option, None}
+use Rattle.std.proofs.Common.{Some, refl, ap, sym, ◌∙◌, arith, subst, ◌⊎◌}
 use Rattle.std.specs.Prelude.{is_some}
 use Rattle.std.specs.List.{position, position_or_len}
 use Rattle.std.specs.List.Sorted.{IsNonDecreasingBy, IsPartitionPoint}
@@ -113,7 +114,8 @@ hole_from low p (h ∷ holes) rise is =
     ]
 
 -- what is left rises
-behind_rise : (low end : ℕ) (more : Bool) (to : Option ℕ) (holes : List Hole) → low ≤ end → end ≤ 8190 → (to ≡ None → holes ≡ []) → ((t : ℕ) → to ≡ Some t → (more ≡ true) × (end ≤ t) × Rise (t + 1) holes)
+behind_rise : (low end : ℕ) (more : Bool) (to : Option ℕ) (holes : List Hole) → low ≤ end → end ≤ 8190 → (to ≡ None → holes ≡ []) →
+    ((t : ℕ) → to ≡ Some t → (more ≡ true) × (end ≤ t) × Rise (t + 1) holes)
     → Rise low (listed (cond more (left_from end to) None) ++ holes)
 behind_rise low end true None holes from small none some = (from, small, none, λ t e. cc)
 behind_rise low end false None holes from small none some = subst (Rise low) (sym (none refl)) tt
@@ -124,21 +126,29 @@ behind_rise low end true (Some t) holes from small none some = by_test (ltb end 
     by_test true e = (from, small, λ n. cc, λ s is. let same : t ≡ s = cc in subst (λ n. (end < n) × Rise (n + 1) holes) same (ltb-true end t e, (some t refl).2))
     by_test false e = let h = (some t refl).1 in weaker (t + 1) low holes (omega arith) (some t refl).2
 
-left_rise : (low : ℕ) (p : Part) (h : Hole) (holes : List Hole) → 0 < length p.body → unit_end p ≤ 8190 → Rise low (h ∷ holes) → Lies p h → Rise low (listed (left_before p h) ++ (listed (left_behind p h) ++ holes))
+left_rise : (low : ℕ) (p : Part) (h : Hole) (holes : List Hole) → 0 < length p.body → unit_end p ≤ 8190 → Rise low (h ∷ holes) → Lies p h → Rise low
+    (listed (left_before p h) ++ (listed (left_behind p h) ++ holes))
 left_rise low p h holes some small rise lies = by_test (ltb h.from p.place) refl
   where
     behind : (n : ℕ) → n ≤ unit_end p → Rise n (listed (left_behind p h) ++ holes)
     behind n low = behind_rise n (unit_end p) p.more h.to holes low small rise.2 (λ t e. ((lies.till t e).0, (lies.till t e).1, (rise.3 t e).1))
 
     by_test : (b : Bool) → ltb h.from p.place ≡ b → Rise low (listed (cond b (Some (hole h.from (Some p.place))) None) ++ (listed (left_behind p h) ++ holes))
-    by_test true e = (rise.0, rise.1, λ n. cc, λ s is. let same : p.place ≡ s = cc in subst (λ n. (h.from < n) × Rise (n + 1) (listed (left_behind p h) ++ holes)) same (ltb-true h.from p.place e, behind (p.place + 1) (omega arith)))
+    by_test true e = (
+      rise.0,
+      rise.1,
+      λ n. cc,
+      λ s is. let same : p.place ≡ s = cc in subst (λ n. (h.from < n) × Rise (n + 1) (listed (left_behind p h) ++ holes)) same
+          (ltb-true h.from p.place e, behind (p.place + 1) (omega arith)),
+    )
     by_test false e = behind low (let from = rise.0 in let at = lies.from in omega arith)
 
 pub fill_rise : (low : ℕ) (p : Part) (holes : List Hole) → 0 < length p.body → unit_end p ≤ 8190 → Rise low holes → Rise low (filled p holes)
 fill_rise low p [] some small rise = tt
 fill_rise low p (h ∷ holes) some small rise = by_test (lies_in p h) refl (λ n r. fill_rise n p holes some small r)
   where
-    by_test : (b : Bool) → lies_in p h ≡ b → ((n : ℕ) → Rise n holes → Rise n (filled p holes)) → Rise low (cond b (listed (left_before p h) ++ (listed (left_behind p h) ++ holes)) (h ∷ filled p holes))
+    by_test : (b : Bool) → lies_in p h ≡ b → ((n : ℕ) → Rise n holes → Rise n (filled p holes)) → Rise low (cond b (listed (left_before p h) ++ (listed (left_behind p h) ++ holes))
+        (h ∷ filled p holes))
     by_test true is rest = left_rise low p h holes some small rise (lies_then p h is)
     by_test false is rest = (rise.0, rise.1, λ none. ap (filled p) (rise.2 none), λ t e. ((rise.3 t e).0, rest (t + 1) (rise.3 t e).1))
 
@@ -148,7 +158,8 @@ pub filled_at : (p : Part) (holes : List Hole) (n : ℕ) (d : Hole) → position
 filled_at p [] n d is within = absurd (omega arith)
 filled_at p (h ∷ holes) zero d is within = by_test (lies_in p h) is
   where
-    by_test : (b : Bool) → cond (not b) (1 + position_or_len (lies_in p) holes) 0 ≡ 0 → cond b (listed (left_before p h) ++ (listed (left_behind p h) ++ holes)) (h ∷ filled p holes) ≡ listed (left_before p h) ++ (listed (left_behind p h) ++ holes)
+    by_test : (b : Bool) → cond (not b) (1 + position_or_len (lies_in p) holes) 0 ≡ 0 → cond b (listed (left_before p h) ++ (listed (left_behind p h) ++ holes))
+        (h ∷ filled p holes) ≡ listed (left_before p h) ++ (listed (left_behind p h) ++ holes)
     by_test true e = refl
     by_test false e = absurd (omega arith)
 filled_at p (h ∷ holes) (suc n) d is within = by_test (lies_in p h) is (λ e. filled_at p holes n d e (omega arith))
@@ -165,7 +176,8 @@ pub has_place : (p : Part) (holes : List Hole) → has_hole p holes ≡ true →
 has_place p [] is = cc
 has_place p (h ∷ holes) is = by_test (lies_in p h) is (λ e. has_place p holes e)
   where
-    by_test : (b : Bool) → (b || has_hole p holes) ≡ true → (has_hole p holes ≡ true → position_or_len (lies_in p) holes < length holes) → cond (not b) (1 + position_or_len (lies_in p) holes) 0 < suc (length holes)
+    by_test : (b : Bool) → (b || has_hole p holes) ≡ true → (has_hole p holes ≡ true → position_or_len (lies_in p) holes < length holes) → cond (not b)
+        (1 + position_or_len (lies_in p) holes) 0 < suc (length holes)
     by_test true e next = omega arith
     by_test false e next = let n = next e in omega arith
 
@@ -230,7 +242,8 @@ low_from low (h ∷ holes) (suc j) d rise within =
     let rest = low_from (t + 1) holes j d next.1 (omega arith) in
     omega arith)
 
-ends_first : (low : ℕ) (holes : List Hole) (i j : ℕ) (d : Hole) → Rise low holes → i < j → j < length holes → (t : ℕ) × (((get_or holes i d).to ≡ Some t) × ((get_or holes i d).from < t) × (t < (get_or holes j d).from))
+ends_first : (low : ℕ) (holes : List Hole) (i j : ℕ) (d : Hole) → Rise low holes → i < j → j < length holes → (t : ℕ) ×
+    (((get_or holes i d).to ≡ Some t) × ((get_or holes i d).from < t) × (t < (get_or holes j d).from))
 ends_first low [] i j d rise less within = absurd (omega arith)
 ends_first low (h ∷ holes) i zero d rise less within = absurd (omega arith)
 ends_first low (h ∷ holes) zero (suc j) d rise less within =
@@ -271,7 +284,8 @@ pub none_begun : (p : Part) (holes : List Hole) (d : Hole) → Begun holes p.pla
 none_begun p holes d point = no_place p holes (position_or_len_is (lies_in p) holes (length holes) d (omega arith)
     (λ k less. not_behind p (get_or holes k d) (leb-false (get_or holes k d).from p.place (point.1 k d (omega arith) less))) (λ h. absurd (omega arith)))
 
-pub last_begun : (p : Part) (holes : List Hole) (i : ℕ) (d : Hole) → Rise 0 holes → i < length holes → Begun holes p.place (i + 1) → position (lies_in p) holes ≡ cond (lies_in p (get_or holes i d)) (Some i) None
+pub last_begun : (p : Part) (holes : List Hole) (i : ℕ) (d : Hole) → Rise 0 holes → i < length holes → Begun holes p.place (i + 1) → position (lies_in p) holes ≡ cond
+    (lies_in p (get_or holes i d)) (Some i) None
 last_begun p holes i d rise within point = by_test (lies_in p (get_or holes i d)) refl
   where
     from : (get_or holes i d).from ≤ p.place
@@ -306,6 +320,7 @@ found_is p holes = by_test (has_hole p holes) refl
         none_there [] e = refl
         none_there (h ∷ l) e = by_first (lies_in p h) e (λ f. none_there l f)
           where
-            by_first : (b : Bool) → (b || has_hole p l) ≡ false → (has_hole p l ≡ false → position_or_len (lies_in p) l ≡ length l) → cond (not b) (1 + position_or_len (lies_in p) l) 0 ≡ suc (length l)
+            by_first : (b : Bool) → (b || has_hole p l) ≡ false → (has_hole p l ≡ false → position_or_len (lies_in p) l ≡ length l) → cond (not b)
+                (1 + position_or_len (lies_in p) l) 0 ≡ suc (length l)
             by_first true e next = cc
             by_first false e next = let n = next e in omega arith

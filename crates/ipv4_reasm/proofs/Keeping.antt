@@ -1,5 +1,6 @@
 -- A part that is put into an area is one more of its parts.
-use Rattle.std.proofs.Common.{◌≡◌, ◌+◌, ◌-◌, ◌≤◌, max, List, ℕ, Bool, true, false, cond, zero, suc, inl, inr, [], ◌∷◌, ◌++◌, length, take, drop, get_or, ltb, eqb, refl, ap, sym, ◌∙◌, arith, append_assoc, zero-add, length-append, length-drop, eq-eqb, eqb-true, ◌⊎◌}
+use Rattle.std.proofs.Common.{◌≡◌, ◌+◌, ◌-◌, ◌≤◌, max, List, ℕ, Bool, true, false, cond, zero, suc, inl, inr, [], ◌∷◌, ◌++◌, length, take, drop, get_or, ltb, eqb, refl, ap, sym, ◌∙◌}
+use Rattle.std.proofs.Common.{arith, append_assoc, zero-add, length-append, length-drop, eq-eqb, eqb-true, ◌⊎◌}
 use Rattle.std.specs.List.{Contains, list_any}
 use Rattle.std.proofs.lemmas.Bool.{cases_lt, lt-ltb}
 use Rattle.std.proofs.lemmas.List.{drop-drop, length-take-le, take_at}
@@ -45,7 +46,11 @@ part_itself xs ys rest b fits =
 apart_from : (p q : Part) → (do_share p q ≡ true → ⊥) → (end_of q ≤ start_of p) ⊎ (end_of p ≤ start_of q)
 apart_from p q h =
     elim (cases_lt (start_of p) (end_of q)) [
-      | inl a ↦ elim (cases_lt (start_of q) (end_of p)) [ inl b ↦ absurd (h (and_is (ltb (start_of p) (end_of q)) (ltb (start_of q) (end_of p)) (lt-ltb (start_of p) (end_of q) a) (lt-ltb (start_of q) (end_of p) b))) | inr b ↦ inr b ]
+      | inl a ↦ elim (cases_lt (start_of q) (end_of p)) [
+        | inl b ↦ absurd (h (and_is (ltb (start_of p) (end_of q)) (ltb (start_of q) (end_of p)) (lt-ltb (start_of p) (end_of q) a)
+            (lt-ltb (start_of q) (end_of p) b)))
+        | inr b ↦ inr b
+      ]
       | inr a ↦ inl a
     ]
 
@@ -88,12 +93,14 @@ first_alone : (parts : List Part) (p q : Part) → list_any (do_clash p) parts �
 first_alone parts p q none fits as_well c at_start too =
     let some = fits.carries in
     let any = as_well.carries in
-    none_in p parts q none c (clash_share p q (and_is (ltb (start_of p) (end_of q)) (ltb (start_of q) (end_of p)) (lt-ltb (start_of p) (end_of q) (omega arith)) (lt-ltb (start_of q) (end_of p) (omega arith))))
+    none_in p parts q none c (clash_share p q (and_is (ltb (start_of p) (end_of q)) (ltb (start_of q) (end_of p)) (lt-ltb (start_of p) (end_of q) (omega arith))
+    (lt-ltb (start_of q) (end_of p) (omega arith))))
 
 pub kept_gathers : (g : Gathered) (parts : List Part) (p : Part) → Gathers g parts → Fits p → list_any (do_clash p) parts ≡ false → Gathers (with_kept g p) (parts ++ p ∷ [])
 kept_gathers g parts p holds fits none = by_start (eqb p.place 0) refl
   where
-    with_first : (life : ℕ) (head : List ℕ) → ((q : Part) → Contains (parts ++ p ∷ []) q → q.place ≡ 0 → (head ≡ q.head) × (life ≡ q.life)) → Gathers (record (with_octets g p) { life = life; head = head }) (parts ++ p ∷ [])
+    with_first : (life : ℕ) (head : List ℕ) → ((q : Part) → Contains (parts ++ p ∷ []) q → q.place ≡ 0 → (head ≡ q.head) × (life ≡ q.life)) → Gathers
+        (record (with_octets g p) { life = life; head = head }) (parts ++ p ∷ [])
     with_first life head first = record {
       room = room_kept g parts p holds fits;
       octets = octets_kept g parts p holds fits none;
@@ -104,9 +111,11 @@ kept_gathers g parts p holds fits none = by_start (eqb p.place 0) refl
       top = λ _. top_kept g parts p holds fits;
       first = first;
       fits = of_all Fits parts p holds.fits fits;
-      apart = all_pairs_push (λ a b. do_clash a b ≡ false) parts p holds.apart (λ k d small. same_truth (do_clash (get_or parts k d) p) false (λ h. absurd (none_in p parts (get_or parts k d) none (Contains-get_or parts k d small) (clash_flip p (get_or parts k d) h))) (λ h. cc));
+      apart = all_pairs_push (λ a b. do_clash a b ≡ false) parts p holds.apart (λ k d small. same_truth (do_clash (get_or parts k d) p) false
+          (λ h. absurd (none_in p parts (get_or parts k d) none (Contains-get_or parts k d small) (clash_flip p (get_or parts k d) h))) (λ h. cc));
     }
 
     by_start : (b : Bool) → eqb p.place 0 ≡ b → Gathers (cond b (with_head (with_octets g p) p) (with_octets g p)) (parts ++ p ∷ [])
-    by_start true e = with_first p.life p.head (of_all (λ q. q.place ≡ 0 → (p.head ≡ q.head) × (p.life ≡ q.life)) parts p (λ q c at_start. absurd (first_alone parts p q none fits (holds.fits q c) c (eqb-true p.place 0 e) at_start)) (λ _. (refl, refl)))
+    by_start true e = with_first p.life p.head (of_all (λ q. q.place ≡ 0 → (p.head ≡ q.head) × (p.life ≡ q.life)) parts p
+        (λ q c at_start. absurd (first_alone parts p q none fits (holds.fits q c) c (eqb-true p.place 0 e) at_start)) (λ _. (refl, refl)))
     by_start false e = with_first g.life g.head (of_all (λ q. q.place ≡ 0 → (g.head ≡ q.head) × (g.life ≡ q.life)) parts p holds.first (λ at_start. absurd (cc (sym (eq-eqb p.place 0 at_start) ∙ e))))

@@ -40,7 +40,8 @@ keep_step p [] i x h passes = cc
 keep_step p (z ∷ xs) zero x h passes = let s : z ≡ x = cc in ap (λ b. cond b (z ∷ filter p xs) (filter p xs)) (ap p s ∙ passes)
 keep_step p (z ∷ xs) (suc i) x h passes = ap (λ ys. z ∷ ys) (keep_step p xs i x h passes)
 
-pub drop_step : {X : Type 0} (p : X → Bool) (xs : List X) (i : ℕ) (x : X) → slice_get xs i ≡ Some x → p x ≡ false → take i xs ++ filter p (drop i xs) ≡ take i (remove xs i) ++ filter p (drop i (remove xs i))
+pub drop_step : {X : Type 0} (p : X → Bool) (xs : List X) (i : ℕ) (x : X) → slice_get xs i ≡ Some x → p x ≡ false → take i xs ++ filter p (drop i xs) ≡ take i (remove xs i)
+    ++ filter p (drop i (remove xs i))
 drop_step p [] i x h passes = cc
 drop_step p (z ∷ xs) zero x h passes = let s : z ≡ x = cc in ap (λ b. cond b (z ∷ filter p xs) (filter p xs)) (ap p s ∙ passes)
 drop_step p (z ∷ xs) (suc i) x h passes = ap (λ ys. z ∷ ys) (drop_step p xs i x h passes)

@@ -14,7 +14,8 @@ stand_young now [] (s ∷ sets) stand = absurd stand
 stand_young now (g ∷ held) [] stand = absurd stand
 stand_young now (g ∷ held) (s ∷ sets) stand = by_age (is_young now s) (is_recent now g) (ap (λ n. ltb (now - n) 60000) stand.0.since) (stand_young now held sets stand.1)
   where
-    by_age : (a b : Bool) → b ≡ a → StandFor (filter (is_recent now) held) (filter (is_young now) sets) → StandFor (cond b (g ∷ filter (is_recent now) held) (filter (is_recent now) held)) (cond a (s ∷ filter (is_young now) sets) (filter (is_young now) sets))
+    by_age : (a b : Bool) → b ≡ a → StandFor (filter (is_recent now) held) (filter (is_young now) sets) → StandFor
+        (cond b (g ∷ filter (is_recent now) held) (filter (is_recent now) held)) (cond a (s ∷ filter (is_young now) sets) (filter (is_young now) sets))
     by_age true true e rest = (stand.0, rest)
     by_age true false e rest = cc
     by_age false true e rest = cc

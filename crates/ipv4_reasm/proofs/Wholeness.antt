@@ -1,5 +1,6 @@
 -- When the parts in an area are a whole datagram.
-use Rattle.std.proofs.Common.{◌≡◌, ◌+◌, ◌*◌, ◌/◌, ◌<◌, ◌≤◌, ◌&&◌, not, List, ℕ, Bool, true, false, zero, suc, inl, inr, [], ◌∷◌, length, take, drop, eqb, ltb, leb, refl, ap, sym, ◌∙◌, arith, subst, append-nil, eqb-true}
+use Rattle.std.proofs.Common.{◌≡◌, ◌+◌, ◌*◌, ◌/◌, ◌<◌, ◌≤◌, ◌&&◌, not, List, ℕ, Bool, true, false, zero, suc, inl, inr, [], ◌∷◌, length, take, drop, eqb, ltb, leb, refl, ap, sym, ◌∙◌}
+use Rattle.std.proofs.Common.{arith, subst, append-nil, eqb-true}
 use Rattle.std.specs.List.{AllPairs, Contains, list_all, list_any, range_with_len}
 use Rattle.std.proofs.lemmas.Bool.{cases_lt, cases_eq, ltb-true, lt-ltb, leb-true, le-leb}
 use Rattle.std.proofs.lemmas.List.{length-take-le}
@@ -32,7 +33,8 @@ top_is g parts q holds c last =
       | inr none ↦ omega arith
     ]
 
-octet_of_unit : (g : Gathered) (parts : List Part) (q r : Part) (k : ℕ) → Gathers g parts → Contains parts q → q.more ≡ false → Contains parts r → k < end_of q → has_unit (k / 8) r ≡ true → has_octet k r ≡ true
+octet_of_unit : (g : Gathered) (parts : List Part) (q r : Part) (k : ℕ) → Gathers g parts → Contains parts q → q.more ≡ false → Contains parts r → k < end_of q → has_unit
+    (k / 8) r ≡ true → has_octet k r ≡ true
 octet_of_unit g parts q r k holds c last d small h =
     let b = both (leb r.place (k / 8)) (ltb (8 * (k / 8)) (end_of r)) h in
     let low = leb-true r.place (k / 8) b.0 in
@@ -83,7 +85,8 @@ full_there g parts holds h =
     (all_range (λ k. list_any (has_octet k) parts) 0 (end_of q.0) (λ k low high. octet_there g parts q.0 k holds none q.1.0 q.1.1 (omega arith))))
 
 -- a whole datagram has a last part, and each octet before its end
-pub whole_has : (parts : List Part) → is_whole parts ≡ true → (q : Part) × (Contains parts q × (q.more ≡ false) × ((k : ℕ) → k < end_of q → (r : Part) × (Contains parts r × (start_of r ≤ k) × (k < end_of r))))
+pub whole_has : (parts : List Part) → is_whole parts ≡ true → (q : Part) ×
+    (Contains parts q × (q.more ≡ false) × ((k : ℕ) → k < end_of q → (r : Part) × (Contains parts r × (start_of r ≤ k) × (k < end_of r))))
 whole_has parts h =
     let q = some_in (λ last. not last.more && list_all (λ k. list_any (has_octet k) parts) (range_with_len 0 (end_of last))) parts h in
     let b = both (not q.0.more) (list_all (λ k. list_any (has_octet k) parts) (range_with_len 0 (end_of q.0))) q.1.1 in (

@@ -1,11 +1,13 @@
 -- A set whose parts carry octets joins to one datagram.
-use Rattle.std.proofs.Common.{◌≡◌, ℕ, zero, suc, ◌+◌, ◌-◌, ◌<◌, ◌≤◌, ◌==◌, ◌&&◌, not, cond, Bool, true, false, List, [], ◌∷◌, length, find, map, get_or, ltb, leb, Some, refl, sym, ◌∙◌, ap, arith, eq-eqb}
+use Rattle.std.proofs.Common.{◌≡◌, ℕ, zero, suc, ◌+◌, ◌-◌, ◌<◌, ◌≤◌, ◌==◌, ◌&&◌, not, cond, Bool, true, false, List, [], ◌∷◌, length, find, map, get_or, ltb, leb, Some, refl, sym, ◌∙◌, ap}
+use Rattle.std.proofs.Common.{arith, eq-eqb}
 use Rattle.std.specs.List.{Contains, range_with_len}
 use Rattle.std.proofs.lemmas.Bool.{lt-ltb, ltb-true, le-leb, leb-true}
 use Rattle.std.proofs.lemmas.List.FromFn.{fill_by_all}
 use Rattle.std.proofs.lemmas.Bool.Decides.{nat_tests}
 use Rattle.ipv4_head.specs.Ip.{Ip}
-use Rattle.ipv4_head.specs.Sets.{Carrying, OfParts, Key, Part, PartSet, IsJoined, Joins, start_of, end_of, has_octet, is_first, is_last, end_by, head_by, first_head, joined, joined_body, joined_size, octet_in, octet_of, whole_head, do_share}
+use Rattle.ipv4_head.specs.Sets.{Carrying, OfParts, Key, Part, PartSet, IsJoined, Joins, start_of, end_of, has_octet, is_first, is_last, end_by, head_by, first_head, joined, joined_body}
+use Rattle.ipv4_head.specs.Sets.{joined_size, octet_in, octet_of, whole_head, do_share}
 use Rattle.ipv4_reasm.proofs.Gathering.{and_is, both, clash_last, clash_one, clash_share, not_true}
 use Rattle.ipv4_reasm.proofs.Joining.{read_part}
 
@@ -35,7 +37,8 @@ found test (x ∷ parts) q (suc k, less, is) passes = found_if test x parts (tes
 -- two parts at the start are one
 share_start : (p q : Part) → p.place ≡ 0 → q.place ≡ 0 → 0 < length p.body → 0 < length q.body → do_share p q ≡ true
 share_start p q at_start too some any =
-    and_is (ltb (start_of p) (end_of q)) (ltb (start_of q) (end_of p)) (lt-ltb (start_of p) (end_of q) (omega (arith, at_start, too, any))) (lt-ltb (start_of q) (end_of p) (omega (arith, at_start, too, some)))
+    and_is (ltb (start_of p) (end_of q)) (ltb (start_of q) (end_of p)) (lt-ltb (start_of p) (end_of q) (omega (arith, at_start, too, any)))
+    (lt-ltb (start_of q) (end_of p) (omega (arith, at_start, too, some)))
 
 size_is : (parts : List Part) (body : List ℕ) → Joins parts body → length body ≡ joined_size parts
 size_is parts body j =
@@ -71,5 +74,6 @@ joined_is s ip life j all =
     let body = body_is s.parts ip.body j.body in
     let first = j.first in
     let head : ip.head ≡ whole_head (first_head s.parts) (length (joined_body s.parts)) =
-    first.1.2 ∙ ap (λ (h : List ℕ). whole_head h (length ip.body)) (head_is s.key s.parts first.0 ip.body j.body all first.1.0 first.1.1) ∙ ap (λ (b : List ℕ). whole_head (first_head s.parts) (length b)) body in
+    first.1.2 ∙ ap (λ (h : List ℕ). whole_head h (length ip.body)) (head_is s.key s.parts first.0 ip.body j.body all first.1.0 first.1.1) ∙ ap
+    (λ (b : List ℕ). whole_head (first_head s.parts) (length b)) body in
     λ i. record { ident = j.ident i; more = j.more i; place = j.place i; proto = j.proto i; from = j.from i; to = j.to i; head = head i; body = body i }

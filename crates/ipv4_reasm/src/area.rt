@@ -177,7 +177,8 @@ impl Area {
         self.joined_length = self.head_length;
     }
 
-    /// The whole datagram.
+    /// The datagram that the parts in this area make whole, with the header of its first part as that of the whole; its area stays until
+    /// `free`.
     pub fn datagram(&self) -> IpView<'_>
         ensures datagram { ip_of result ≡ joined_in self.now }
         ensures life { result.ttl ≡ self.now.life }

@@ -7,6 +7,7 @@ use poll_list::{ReadyList, Want, Wants, Who};
 use std::alloc::Global;
 use world_face::{Endpoint, Ip4, NoMemory, Waited, World};
 
+/// The link, wanted for reading.
 pub const LINK: Want = Want {
     of: Who::Link,
     read: true,
@@ -60,6 +61,7 @@ pub struct Asker {
 }
 
 impl Asker {
+    /// Lists with room for 41 wants and for all that a wait may tell. Err where there is no memory for them.
     pub fn open(alloc: Global) -> Result<Asker, NoMemory> {
         let Ok(wants) = Wants::open(alloc, 41) else {
             return Err(NoMemory);
@@ -113,7 +115,8 @@ impl Asker {
             && self.ready.items() == [FIRST, LAST, WRITING].as_slice()
     }
 
-    /// Where so many were told in turn by the waits before: how many are with those that one more wait for the link and forty sockets tells. None where one is told whose turn it isn't.
+    /// Where so many were told in turn by the waits before: how many are with those that one more wait for the link and forty sockets tells. None
+    /// where one is told whose turn it isn't.
     fn told_by_a_wait<W: World>(&mut self, world: &mut W, before: u64) -> Option<u64> {
         want_all(&mut self.wants);
         if world.wait(&self.wants, Some(0), &mut self.ready) != Waited::Ready {

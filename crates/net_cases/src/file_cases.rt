@@ -48,5 +48,5 @@ const READS_NOTHING_ELSE: [Step; 2] = [
     PipeIsNoFile,
 ];
 
-/// The parts of one World.
+/// What is done with files in one World, part by part.
 pub static FILES: [&[Step]; 3] = [&WAITS, &READS, &READS_NOTHING_ELSE];

@@ -26,6 +26,7 @@ pub struct Host {
 }
 
 impl Host {
+    /// A host that has nothing open.
     pub fn new() -> Host {
         Host {
             listener: None,
@@ -37,7 +38,7 @@ impl Host {
         }
     }
 
-    /// Opens a listener.
+    /// Opens a listener at a free port of the loopback, and keeps the port. False where the system gives none.
     pub fn listen<R: Net<Listener = TcpListener, Stream = TcpStream>>(&mut self, rt: &R) -> bool {
         self.listener = TcpListener::bind(rt, "127.0.0.1:0").ok();
         match &self.listener {
@@ -66,7 +67,7 @@ impl Host {
         true
     }
 
-    /// Opens a socket for datagrams.
+    /// Opens a socket for datagrams at a free port of the loopback, and keeps the port. False where the system gives none.
     pub fn take_datagrams<R: Net>(&mut self, rt: &R) -> bool {
         self.datagrams = UdpSocket::bind(rt, "127.0.0.1:0").ok();
         match &self.datagrams {
@@ -89,7 +90,7 @@ impl Host {
         }
     }
 
-    /// Connects to the port.
+    /// Connects to the port that was opened last on the loopback, and uses that stream. False where nobody takes it.
     pub fn connect<R: Net<Listener = TcpListener, Stream = TcpStream>>(&mut self, rt: &R) -> bool {
         match TcpStream::connect(rt, SocketAddr::from(([127, 0, 0, 1], self.port))) {
             Ok(stream) => self.meet(Peer::AtPort(stream)),
@@ -97,7 +98,7 @@ impl Host {
         }
     }
 
-    /// Connects to a path.
+    /// Connects to the Unix socket at a path, and uses that stream. False where nobody takes it.
     pub fn connect_at<R: Net>(&mut self, rt: &R, path: &str) -> bool {
         match UnixStream::connect(rt, path) {
             Ok(stream) => self.meet(Peer::AtPath(stream)),

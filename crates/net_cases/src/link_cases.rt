@@ -224,6 +224,7 @@ const OPENS_ALONE: [Step; 2] = [
     File(Stands("lonely", Kind::Socket)),
 ];
 
+/// A link to which no peer comes.
 pub static ALONE: [&[Step]; 1] = [&OPENS_ALONE];
 
 /// A path of 107 octets.
@@ -283,7 +284,8 @@ const TOLD_IN_TURN: [Step; 3] = [
     World(ToldInTurn(40, 3, 80)),
 ];
 
-/// While the link is full no socket is told for reading, and a connection that is wanted in both directions for writing alone. Once the peer reads, all are told in turn, and all that was taken comes.
+/// While the link is full no socket is told for reading, and a connection that is wanted in both directions for writing alone. Once the peer reads,
+/// all are told in turn, and all that was taken comes.
 const WAIT_FOR_ROOM: [Step; 5] = [
     World(LinkFills),
     World(ToldInTurn(0, 1, 0)),
@@ -307,11 +309,13 @@ const WRITES: [Step; 3] = [
     Calls(&[Told(Wanted::Link, 1000), LinkWrite(b"bye", Io::Done(3))]),
 ];
 
+/// A World whose last call writes to the peer.
 pub static LAST_WRITE: [&[Step]; 1] = [&WRITES];
 
 /// What was written by the World before went out before its end.
 const HAS_COME: [Step; 3] = [Host(Gets(&[b"bye"])), Host(Gets(&[])), Host(HangsUp)];
 
+/// What the peer finds once that World has ended.
 pub static AFTER_THE_LAST_WRITE: [&[Step]; 1] = [&HAS_COME];
 
 /// The peer goes with octets unread, which resets the stream. What it sent before is read, then the end comes, and stays.
@@ -343,12 +347,14 @@ const OPENS_TO_BE_RESET_AT_AN_ENDPOINT: [Step; 4] = [
     Host(Connects),
 ];
 
-/// A reset found by a read.
+/// A reset of a link at a path, found by a read.
 pub static RESET: [&[Step]; 2] = [&OPENS_TO_BE_RESET, &IS_RESET];
 
+/// The same of a link at an endpoint.
 pub static RESET_AT_AN_ENDPOINT: [&[Step]; 2] = [&OPENS_TO_BE_RESET_AT_AN_ENDPOINT, &IS_RESET];
 
-/// The peer goes, and a write that is to make room finds that: it takes nothing, and the writes after it are taken and lost. What the peer sent before is read, then the end comes.
+/// The peer goes, and a write that is to make room finds that: it takes nothing, and the writes after it are taken and lost. What the peer sent
+/// before is read, then the end comes.
 const IS_GONE_AT_A_WRITE: [Step; 5] = [
     Calls(&[Told(Wanted::LinkForWriting, 1000)]),
     Host(Sends(b"two")),

@@ -68,7 +68,8 @@ const ENDS: [Step; 1] = [Calls(&[
     TcpWrite(b"x", Io::Failed),
 ])];
 
-/// A peer that reads nothing makes writes short and then not yet; once it has read, octets are taken again. A peer that goes with octets unread resets the connection.
+/// A peer that reads nothing makes writes short and then not yet; once it has read, octets are taken again. A peer that goes with octets unread
+/// resets the connection.
 const BACKS_UP_AND_BREAKS: [Step; 8] = [
     Calls(&JOINED),
     Host(Accepts),
@@ -98,7 +99,8 @@ const IS_REFUSED: [Step; 2] = [
     ]),
 ];
 
-/// The system tells once that a connection is ready for writing. While it isn't wanted for that it isn't told, and once it is wanted it is, beside sockets for datagrams.
+/// The system tells once that a connection is ready for writing. While it isn't wanted for that it isn't told, and once it is wanted it is, beside
+/// sockets for datagrams.
 const TELLS_WHAT_IS_WANTED: [Step; 9] = [
     Host(Listens),
     Calls(&[
@@ -155,7 +157,7 @@ const MEETS_THE_LIMIT: [Step; 5] = [
     Host(HangsUp),
 ];
 
-/// The parts of one World.
+/// What is done with sockets in one World, part by part.
 pub static SOCKETS: [&[Step]; 8] = [
     &EXCHANGE,
     &CONNECTS,

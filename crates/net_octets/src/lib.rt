@@ -63,6 +63,7 @@ pub struct Fault {
     pub at: usize,
 }
 
+/// Why octets are no packet.
 #[derive(Clone, Copy, Debug, PartialEq, Eq)]
 pub enum FaultKind {
     /// The octets end too early.

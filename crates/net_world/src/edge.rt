@@ -27,6 +27,7 @@ const MOST_KNOWN: u32 = 64;
 /// How often the system is asked at most in one wait, where what it tells isn't wanted.
 const MOST_ASKED: u32 = 1024;
 
+/// The link, the sockets and the clock of a World, and the poll by which the system tells what is ready.
 #[derive(Drop)]
 pub(crate) struct Edge {
     pub link: Link,
@@ -41,7 +42,7 @@ pub(crate) struct Edge {
 }
 
 impl Edge {
-    /// No socket, and room for all.
+    /// An edge with a closed link and no socket, and all the memory that it will need. Err where there isn't so much.
     pub fn open<R: Net + Clock>(rt: &R, alloc: Global) -> Result<Edge, NoMemory> {
         let Ok(events) = Events::with_capacity(alloc, MOST) else {
             return Err(NoMemory);
@@ -64,7 +65,7 @@ impl Edge {
         self.moment
     }
 
-    /// Listens for the link at a place.
+    /// Listens for the link at a place. False where that isn't done, or the system gave no poll.
     pub fn link_open<R: Net + Files>(&mut self, rt: &R, at: &LinkAt) -> bool {
         match &self.poll {
             Some(poll) => self.link.listen(rt, poll.registry(), at),
@@ -72,6 +73,7 @@ impl Edge {
         }
     }
 
+    /// Reads octets of the link, whose first peer is taken before where one came.
     pub fn link_read<R: Net + Files>(&mut self, rt: &R, into: &mut [u8]) -> Io
         requires { 0 < length into.old }
         ensures { MayRead (length into.old) result }
@@ -82,6 +84,8 @@ impl Edge {
         self.link.read(into)
     }
 
+    /// Gathers octets that go out by the link, all or none of them; its first peer is taken before where one came. Failed where the system gave no
+    /// poll.
     pub fn link_write<R: Net + Files>(&mut self, rt: &R, from: &[u8]) -> Io
         requires { 0 < length from.now }
         ensures may { MayWrite (length from.now) result }
@@ -94,7 +98,8 @@ impl Edge {
         self.link.write(poll.registry(), from)
     }
 
-    /// Opens a socket: a connection to an endpoint, or a listener or a socket for datagrams that is bound there.
+    /// Opens a socket: a connection to an endpoint, or a listener or a socket for datagrams that is bound there. False where that isn't done, or
+    /// the system gave no poll.
     pub fn open_socket<R: Net>(&mut self, rt: &R, of: Who, at: Endpoint) -> bool {
         match &self.poll {
             Some(poll) => self.sockets.open_socket(rt, poll.registry(), of, at),
@@ -102,6 +107,7 @@ impl Edge {
         }
     }
 
+    /// Takes a connection from a listener, and puts it under `number`. Failed where that isn't done, or the system gave no poll.
     pub fn accept(&mut self, listener: u64, number: u64) -> Accepted {
         match &self.poll {
             Some(poll) => self.sockets.accept(poll.registry(), listener, number),
@@ -155,7 +161,9 @@ impl Edge {
         self.ask_until_ready(rt, wants, timeout, ready)
     }
 
-    // What is told before the system is asked, and whether something is: what is known to be ready, a fixed number of times. Where nothing is, or it was told that often, no short frame waits any longer: if one does, what is known is told once more, with the link for writing, so that the frame goes out by the write that comes before the system is asked.
+    // What is told before the system is asked, and whether something is: what is known to be ready, a fixed number of times. Where nothing is, or it was told
+    // that often, no short frame waits any longer: if one does, what is known is told once more, with the link for writing, so that the frame goes out by the
+    // write that comes before the system is asked.
     fn offer_first(&mut self, wants: &Wants, ready: &mut ReadyList) -> bool
         requires room { length wants.now.items ≤ ready.old.capacity }
         ensures picked { IsPickedFrom wants.now.items ready.new.items }
@@ -177,7 +185,8 @@ impl Edge {
         !ready.items().is_empty()
     }
 
-    // What is known to be ready. Where octets of the link were read ahead and it is wanted it is the link alone; where none were, a link that may have some waits until the system is asked.
+    // What is known to be ready. Where octets of the link were read ahead and it is wanted it is the link alone; where none were, a link that may
+    // have some waits until the system is asked.
     fn offer_known(&self, wants: &Wants, ready: &mut ReadyList)
         requires { length wants.now.items ≤ ready.old.capacity }
         ensures picked { IsPickedFrom wants.now.items ready.new.items }
@@ -197,7 +206,8 @@ impl Edge {
         gather(wants, link, &self.sockets, self.link.bears(), ready);
     }
 
-    // Asks the system until something that is wanted is ready, or the time is over. What was gathered is written before it is told what is ready, since sockets wait for the room that this makes.
+    // Asks the system until something that is wanted is ready, or the time is over. What was gathered is written before it is told what is ready,
+    // since sockets wait for the room that this makes.
     fn ask_until_ready<R: Net + Files + Clock>(
         &mut self,
         rt: &R,

@@ -17,6 +17,7 @@ pub(crate) struct OpenedFile<R: Files> {
 }
 
 impl<R: Files> OpenedFile<R> {
+    /// No file was measured or read yet.
     pub fn none() -> OpenedFile<R> {
         OpenedFile {
             name: ArrayString::new(),
@@ -24,7 +25,8 @@ impl<R: Files> OpenedFile<R> {
         }
     }
 
-    /// The length of a regular file.
+    /// The length of a regular file in octets, which stays open. Missing where there is no such file, Failed where something else stands there or
+    /// it can't be opened.
     pub fn measure(&mut self, rt: &R, name: &str) -> FileSize {
         match open_regular(rt, name) {
             Ok((file, length)) => {

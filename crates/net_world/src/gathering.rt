@@ -8,9 +8,12 @@ ghost use Rattle.poll_list.specs.Picks.{IsPart, IsPickedFrom, GoesOn, Adds, Begi
 use crate::sockets::{Known, Listed, Sockets, rank};
 use poll_list::{ReadyList, Want, Wants, Who};
 
-/// Puts the parts of the wants that are known to be ready into a list, in place of what it held. What is known of the link is told. Each socket that is ready for reading is looked up among the wants, and the sockets of the wants for writing that lie between those are looked up by their numbers. So a connection that idles, which is ready for writing and not wanted for it, costs one look at its want.
+/// Puts the parts of the wants that are known to be ready into a list, in place of what it held. What is known of the link is told. Each socket that is ready
+/// for reading is looked up among the wants, and the sockets of the wants for writing that lie between those are looked up by their numbers. So a connection
+/// that idles, which is ready for writing and not wanted for it, costs one look at its want.
 ///
-/// At most `most` sockets are told for reading. Where more are ready, those are told that stand past the one that was told last, and the others at later waits: so each has its turn.
+/// At most `most` sockets are told for reading. Where more are ready, those are told that stand past the one that was told last, and the others at
+/// later waits: so each has its turn.
 pub(crate) fn gather(
     wants: &Wants,
     link: Known,
@@ -52,7 +55,8 @@ pub(crate) fn gather_link(wants: &Wants, write: bool, ready: &mut ReadyList)
     gather_first(wants.items(), known, ready);
 }
 
-// Adds the part of the link's want that is ready, and answers the wants that come after it. The link stands first where it is wanted; all wants are answered where it isn't.
+// Adds the part of the link's want that is ready, and answers the wants that come after it. The link stands first where it is wanted; all wants are
+// answered where it isn't.
 fn gather_first<'a>(wants: &'a [Want], known: Known, ready: &mut ReadyList) -> &'a [Want]
     requires { length ready.old.items + length wants.now ≤ ready.old.capacity }
     ensures goes_on { (all : List Want) → GoesOn all wants.now ready.old.items → GoesOn all result.now ready.new.items }
@@ -92,7 +96,8 @@ fn gather_one<'a>(wants: &'a [Want], of: Who, known: Known, ready: &mut ReadyLis
     &wants[at + 1..]
 }
 
-// Adds the part of the want for a socket that is ready for reading, after the parts of the wants for writing that stand before it, and answers the wants that come after it; all of them, where it isn't wanted.
+// Adds the part of the want for a socket that is ready for reading, after the parts of the wants for writing that stand before it, and answers the wants that
+// come after it; all of them, where it isn't wanted.
 fn gather_up_to<'a>(
     wants: &'a [Want],
     listed: &Listed,

@@ -1,4 +1,5 @@
-//! The real outside behind the trait: sockets by readiness, files, and the clock. The link is read and written in large pieces, and the system is asked what is ready only where nothing is known to be.
+//! The real outside behind the trait: sockets by readiness, files, and the clock. The link is read and written in large pieces, and the system is asked what is
+//! ready only where nothing is known to be.
 #![tactic(auto)]
 
 mod counting;

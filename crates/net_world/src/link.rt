@@ -21,7 +21,7 @@ use std::io::ErrorKind;
 use std::net::Net;
 use world_face::{Io, LinkAt, MOST_TO_LINK};
 
-/// The token of the link.
+/// The token under which the system tells of the link. A socket's is its key in the slab.
 pub(crate) const LINK: Token = Token(usize::MAX);
 
 /// How many octets are read ahead.
@@ -30,7 +30,8 @@ const AHEAD: usize = 131_072;
 /// How many octets are gathered before they are written.
 const ROOM: usize = 262_144;
 
-/// The room that 16,384 octets take, the most that is read from a connection at once, in frames of 536 octets of them and 58 of headers and length. A guest may ask for shorter ones (RFC 9293, 3.7.1): then some of them find no room, and are made once there is.
+/// The room that 16,384 octets take, the most that is read from a connection at once, in frames of 536 octets of them and 58 of headers and length. A guest may
+/// ask for shorter ones (RFC 9293, 3.7.1): then some of them find no room, and are made once there is.
 const FRAMED: usize = 18_432;
 
 /// Where the link stands: a listener becomes its first peer.
@@ -85,7 +86,7 @@ pub(crate) struct Link {
 }
 
 impl Link {
-    /// A closed link.
+    /// A closed link, with room for 131,072 octets that are read ahead and 262,144 that are gathered. Err where there is no memory for it.
     pub fn open(alloc: Global) -> Result<Link, NoMemory> {
         let inbox = Buffer::open(alloc, AHEAD)?;
         let outbox = Buffer::open(alloc, ROOM)?;
@@ -179,7 +180,8 @@ impl Link {
         !self.inbox.is_empty()
     }
 
-    /// Whether a write is answered by more than NotYet: a guest has come, or the link is closed, and the longest frame finds room, or is lost, or fails. A short frame may have to wait all the same; then this is false until it is let out.
+    /// Whether a write is answered by more than NotYet: a guest has come, or the link is closed, and the longest frame finds room, or is lost, or fails. A
+    /// short frame may have to wait all the same; then this is false until it is let out.
     pub fn is_writable(&self) -> bool
         ensures { result ≡ is_told_writable self.now }
     {
@@ -201,7 +203,8 @@ impl Link {
         self.outlet == Outlet::Open
     }
 
-    /// How many sockets may be read before what was gathered is written, so that the frames of what comes from a connection find room. A link whose peer is gone, or that is broken, holds none back: what comes then finds that.
+    /// How many sockets may be read before what was gathered is written, so that the frames of what comes from a connection find room. A link whose peer is
+    /// gone, or that is broken, holds none back: what comes then finds that.
     pub fn bears(&self) -> usize {
         if self.is_open() {
             self.outbox.room() / FRAMED
@@ -295,7 +298,8 @@ impl Link {
         Io::End
     }
 
-    /// Gathers octets that go out. A short frame may wait. Where there is no room the link is flushed before, and none is taken where that makes no room. What is written once the peer was found gone is taken and lost.
+    /// Gathers octets that go out. A short frame may wait. Where there is no room the link is flushed before, and none is taken where that makes no room. What
+    /// is written once the peer was found gone is taken and lost.
     pub fn write(&mut self, registry: &Registry, from: &[u8]) -> Io
         requires { 0 < length from.now }
         ensures may { MayWrite (length from.now) result }

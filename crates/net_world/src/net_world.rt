@@ -16,7 +16,9 @@ use world_face::{
 
 /// A World that has the sockets, files and clock of the system. It tells nothing but how often its calls have failed.
 ///
-/// A frame that it took may still lie in its own buffer: it goes out before the next wait that really waits, and a fault of the link is told at a later call. A reset or a broken pipe of the link is no fault but its end: what a peer that is gone was sent is lost. What a wait reports may be known from before, so something that is ready may be told some waits later.
+/// A frame that it took may still lie in its own buffer: it goes out before the next wait that really waits, and a fault of the link is told at a later call. A
+/// reset or a broken pipe of the link is no fault but its end: what a peer that is gone was sent is lost. What a wait reports may be known from before, so
+/// something that is ready may be told some waits later.
 pub struct NetWorld<'a, R: Net + Wait + Files + Clock> {
     rt: &'a R,
     edge: Edge,
@@ -76,7 +78,8 @@ impl<'a, R: Net + Wait + Files + Clock> World for NetWorld<'a, R> {
     ghost use Rattle.std.specs.Prelude.{◌≡◌, ◌<◌, ◌≤◌, ℕ, length};
     ghost use Rattle.poll_list.specs.Listing.{AreWants};
     ghost use Rattle.world_face.specs.Faults.{io_failed, made_failed, join_failed, accept_failed, sent_failed, got_failed, size_failed, waited_failed};
-    ghost use Rattle.world_face.specs.Journal.{filled, filled_got, place_of, IsPlace, Now, Wait as Waits, LinkOpen, LinkRead, LinkWrite, Connect, Connected, Listen, Accept, TcpRead, TcpWrite, TcpEnd, Close, UdpOpen, UdpSend, UdpRecv, FileLen, FileRead};
+    ghost use Rattle.world_face.specs.Journal.{filled, filled_got, place_of, IsPlace, Now, Wait as Waits, LinkOpen, LinkRead, LinkWrite, Connect, Connected, Listen, Accept, TcpRead};
+    ghost use Rattle.world_face.specs.Journal.{TcpWrite, TcpEnd, Close, UdpOpen, UdpSend, UdpRecv, FileLen, FileRead};
     ghost use Rattle.world_face.specs.Limits.{most_ready, most_to_link, most_to_flow, most_to_udp, most_wants, most_name};
     ghost use Rattle.world_face.specs.Tells.{Answers};
     ghost use Rattle.net_world.specs.Faults.{raised, tells_faults};
@@ -109,7 +112,8 @@ impl<'a, R: Net + Wait + Files + Clock> World for NetWorld<'a, R> {
         waited
     }
 
-    /// Listens at the place, and takes the first peer at the first wait or call of the link after it came. A Unix socket that was left over at the path, on which a connect is refused, is removed before; all else that stands there stays, and is a fault. An open link is a fault too.
+    /// Listens at the place, and takes the first peer at the first wait or call of the link after it came. A Unix socket that was left over at the path, on
+    /// which a connect is refused, is removed before; all else that stands there stays, and is a fault. An open link is a fault too.
     fn link_open(&mut self, at: &LinkAt) -> Made
         requires { IsPlace (place_of at.now) }
         ensures answers { Answers (tells_faults self.old) (tells_faults self.new) (LinkOpen (place_of at.now) result) }
@@ -130,7 +134,9 @@ impl<'a, R: Net + Wait + Files + Clock> World for NetWorld<'a, R> {
         read
     }
 
-    /// All of it is taken, or none; none before a peer came. Once a write to the system found the peer gone all is taken and lost, so that nothing stays owed to it and the end is read. A frame of at most 58 octets with its length, such as an acknowledgement alone, isn't taken while other octets that came are to be read, or other sockets to be served, before the system is asked again.
+    /// All of it is taken, or none; none before a peer came. Once a write to the system found the peer gone all is taken and lost, so that nothing stays owed
+    /// to it and the end is read. A frame of at most 58 octets with its length, such as an acknowledgement alone, isn't taken while other octets that came are
+    /// to be read, or other sockets to be served, before the system is asked again.
     fn link_write(&mut self, from: &[u8]) -> Io
         requires some { 0 < length from.now }
         requires fits { length from.now ≤ most_to_link }

@@ -71,7 +71,8 @@ pub(crate) struct Listed {
     key: usize,
 }
 
-/// The open sockets, the places of their numbers, the least first, and those that are ready for reading, in the order of wants. One that is ready for writing alone, as each connection is while it idles, stands in no list.
+/// The open sockets, the places of their numbers, the least first, and those that are ready for reading, in the order of wants. One that is ready for writing
+/// alone, as each connection is while it idles, stands in no list.
 #[derive(Drop)]
 pub(crate) struct Sockets {
     slots: Slab<Slot>,
@@ -85,7 +86,7 @@ pub(crate) struct Sockets {
 }
 
 impl Sockets {
-    /// No socket, and room for all.
+    /// No socket, and room for 5,160. Err where there is no memory for them.
     pub fn open(alloc: Global) -> Result<Sockets, NoMemory> {
         let (Ok(slots), Ok(places), Ok(readable)) = (
             Slab::with_capacity(alloc, MOST),
@@ -247,7 +248,7 @@ impl Sockets {
         }
     }
 
-    /// What became of a connection.
+    /// Whether a connection stands: NotYet while it is being made, Failed where it can't be made or there is no connection of this number.
     pub fn connected(&mut self, number: u64) -> Joined {
         let key = self.key_of(number);
         match self.slots.get_mut(key) {
@@ -256,7 +257,8 @@ impl Sockets {
         }
     }
 
-    /// Takes a connection from a listener, and puts it under its number. Where the system or this list has no room for it, it waits until another socket was closed, and the listener isn't ready before.
+    /// Takes a connection from a listener, and puts it under its number. Where the system or this list has no room for it, it waits until another socket was
+    /// closed, and the listener isn't ready before.
     pub fn accept(&mut self, registry: &Registry, listener: u64, number: u64) -> Accepted {
         let key = self.key_of(listener);
         let full = self.is_full();
@@ -280,6 +282,8 @@ impl Sockets {
         }
     }
 
+    /// Reads octets of a connection. End where its peer has ended, NotYet where none came, Failed where there is no connection of this number or it
+    /// broke.
     pub fn tcp_read(&mut self, number: u64, into: &mut [u8]) -> Io
         requires { 0 < length into.old }
         ensures { MayRead (length into.old) result }
@@ -293,6 +297,8 @@ impl Sockets {
         read
     }
 
+    /// Writes octets to a connection, as many as the system takes. NotYet where it takes none for now, Failed where there is no connection of this
+    /// number or it broke.
     pub fn tcp_write(&mut self, number: u64, from: &[u8]) -> Io
         requires { 0 < length from.now }
         ensures { MayWrite (length from.now) result }
@@ -304,7 +310,7 @@ impl Sockets {
         }
     }
 
-    /// Ends the writing direction.
+    /// Ends the writing direction of a connection. False where there is no connection of this number, or the system refuses.
     pub fn tcp_end(&mut self, number: u64) -> bool {
         let key = self.key_of(number);
         match self.slots.get(key) {
@@ -313,6 +319,8 @@ impl Sockets {
         }
     }
 
+    /// Sends a datagram to an endpoint. NotYet where the system takes none for now, Failed where there is no socket for datagrams of this number or
+    /// the system refuses.
     pub fn udp_send(&mut self, number: u64, to: Endpoint, octets: &[u8]) -> Sent {
         let key = self.key_of(number);
         match self.slots.get(key) {
@@ -321,6 +329,8 @@ impl Sockets {
         }
     }
 
+    /// Takes a datagram, and tells its sender and how many octets came. NotYet where none came, Failed where there is no socket for datagrams of
+    /// this number or the system fails.
     pub fn udp_recv(&mut self, number: u64, into: &mut [u8]) -> Got
         ensures { MayGet (length into.old) result }
     {

@@ -24,7 +24,8 @@ next_of mtu whole as_frame next (suc left) some =
     ∙ ap (λ n. as_frame (cut_at mtu whole next) ∷ map as_frame (cuts_from mtu whole (suc next) n)) count
 
 pub next_frame : (plan : Plan) (octets frame : List ℕ) (length : ℕ) → 0 < plan.left → 0 < length
-    → take length frame ≡ part_frame plan.course.to_mac.0 plan.course.from_mac.0 plan.course.ident plan.proto plan.course.from.0 plan.course.to.0 (cut_at plan.course.mtu (uncut (take plan.size octets)) plan.next)
+    → take length frame ≡ part_frame plan.course.to_mac.0 plan.course.from_mac.0 plan.course.ident plan.proto plan.course.from.0 plan.course.to.0
+    (cut_at plan.course.mtu (uncut (take plan.size octets)) plan.next)
     → frames_in length frame ++ frames_left (record plan { next = plan.next + 1; left = plan.left - 1 }) octets ≡ frames_left plan octets
 next_frame plan octets frame length left some is =
     let as_frame : Part → List ℕ = part_frame plan.course.to_mac.0 plan.course.from_mac.0 plan.course.ident plan.proto plan.course.from.0 plan.course.to.0 in

@@ -1,5 +1,6 @@
 -- Facts on lists that are picked from a list of wants.
-use Rattle.std.proofs.Common.{◌≡◌, true, false, ◌||◌, ◌&&◌, not, List, [], ◌∷◌, ◌++◌, inl, inr, append_assoc, append-nil, suc, zero, length, length-append, take, drop, get_or, drop-cons, ℕ, ◌+◌, ◌<◌, ◌≤◌, Option, refl, arith, sym, subst}
+use Rattle.std.proofs.Common.{◌≡◌, true, false, ◌||◌, ◌&&◌, not, List, [], ◌∷◌, ◌++◌, inl, inr, append_assoc, append-nil, suc, zero, length, length-append, take, drop, get_or, drop-cons}
+use Rattle.std.proofs.Common.{ℕ, ◌+◌, ◌<◌, ◌≤◌, Option, refl, arith, sym, subst}
 use Rattle.std.proofs.lemmas.List.{take-append-drop, drop_all}
 use Rattle.std.proofs.lemmas.Bool.{and_parts, and_from, or_parts, or_from, not-true, not_from_false}
 use Rattle.std.specs.List.{list_any}
@@ -73,7 +74,8 @@ goes_on_after all wants old new i d below goes adds =
     goes_on_part all (drop (i + 1) wants) old new (get_or wants i d) goes' adds
 
 -- on from the want at a place, where others stand behind all of them
-pub goes_on_step : (all wants rest old new : List Want) (i : ℕ) (d : Want) → i < length wants → GoesOn all (drop i wants ++ rest) old → Adds (get_or wants i d) old new → GoesOn all (drop (i + 1) wants ++ rest) new
+pub goes_on_step : (all wants rest old new : List Want) (i : ℕ) (d : Want) → i < length wants → GoesOn all (drop i wants ++ rest) old → Adds (get_or wants i d) old new → GoesOn all
+    (drop (i + 1) wants ++ rest) new
 goes_on_step all wants rest old new i d below goes adds =
     let next : i + 1 ≡ suc i = omega arith in
     let parts : drop i wants ≡ get_or wants i d ∷ drop (i + 1) wants = rw next (drop-cons wants i d below) in

@@ -56,6 +56,7 @@ impl Wants {
         })
     }
 
+    /// Takes away all wants; the room stays.
     pub fn clear(&mut self)
         ensures items { self.new.items ≡ [] }
         ensures capacity { self.new.capacity ≡ self.old.capacity }
@@ -94,6 +95,7 @@ impl Wants {
         self.list.truncate(len);
     }
 
+    /// The wants, in the order in which they were put.
     pub fn items(&self) -> &[Want]
         ensures { result.now ≡ self.now.items }
     {
@@ -127,6 +129,7 @@ impl ReadyList {
         Ok(ReadyList { list })
     }
 
+    /// Takes away all that was reported; the room stays.
     pub fn clear(&mut self)
         ensures items { self.new.items ≡ [] }
         ensures capacity { self.new.capacity ≡ self.old.capacity }
@@ -143,6 +146,7 @@ impl ReadyList {
         self.list.add(w);
     }
 
+    /// What was reported, in the order in which it was put.
     pub fn items(&self) -> &[Want]
         ensures { result.now ≡ self.now.items }
     {

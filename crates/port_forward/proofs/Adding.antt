@@ -36,7 +36,8 @@ module _ (config : Config) (forward : Forward) (list : List Opened) where
 
   pub refuses : (number : ℕ) (cause : FwdFault) (t : Telling) → fault_of config forward list ≡ Some cause → Makes t t (Adds (fault_of config forward list) forward number list list (Some cause))
   refuses number cause t is =
-      subst (λ (fault : Option FwdFault). Makes t t (Adds fault forward number list list (Some cause))) (sym is) (makes_none t (Adds (Some cause) forward number list list (Some cause)) (refl, refl, refl))
+      subst (λ (fault : Option FwdFault). Makes t t (Adds fault forward number list list (Some cause))) (sym is)
+      (makes_none t (Adds (Some cause) forward number list list (Some cause)) (refl, refl, refl))
 
   pub opens : (number : ℕ) (answer : Made) (new : List Opened) (fault : Option FwdFault) (a b : Telling) → fault_of config forward list ≡ None
       → Answers a b (opening_of forward.proto number forward.host answer) → AddsBy answer forward number list new fault

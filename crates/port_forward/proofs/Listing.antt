@@ -86,7 +86,8 @@ entry_of forward lead same =
     ∙ ap (λ (guest : Endpoint). (record { proto = forward.proto; host = forward.host; guest = guest }, lead.number)) same
 
 -- as far as a call has seen
-pub key_is_taken : (proto : Proto) (host : Endpoint) (port : Port) (es : List (Port × Lead)) (list : List Opened) (found : Bool) → found ≡ is_some (lookup (same_port port) es) → port ≡ port_of proto host
+pub key_is_taken : (proto : Proto) (host : Endpoint) (port : Port) (es : List (Port × Lead)) (list : List Opened) (found : Bool) → found ≡ is_some (lookup (same_port port) es) →
+    port ≡ port_of proto host
     → map opened_of es ≡ list → found ≡ is_taken proto host list
 key_is_taken proto host port es list found is key view =
     is ∙ ap (λ (p : Port). is_some (lookup (same_port p) es)) key ∙ sym (taken_there proto host es) ∙ ap (is_taken proto host) view

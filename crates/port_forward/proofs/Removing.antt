@@ -17,7 +17,8 @@ use Rattle.port_forward.proofs.Refilling.{same_laws}
 abbrev others_of : (Port → Bool) → List (Port × Lead) → List (Port × Lead)
 others_of test es = filter (λ e. not (test e.0)) es
 
-one_left : (test : Port → Bool) (b : Bool) (e : Port × Lead) (es : List (Port × Lead)) → test e.0 ≡ b → lookup test (e ∷ es) ≡ None → (lookup test es ≡ None → others_of test es ≡ es) → others_of test (e ∷ es) ≡ e ∷ es
+one_left : (test : Port → Bool) (b : Bool) (e : Port × Lead) (es : List (Port × Lead)) → test e.0 ≡ b → lookup test (e ∷ es) ≡ None →
+    (lookup test es ≡ None → others_of test es ≡ es) → others_of test (e ∷ es) ≡ e ∷ es
 one_left test true e es is none rest = absurd (true≢false (ap is_some (sym (ap (λ b. cond b (Some e.1) (lookup test es)) is) ∙ none)))
 one_left test false e es is none rest =
     ap (λ b. cond (not b) (e ∷ others_of test es) (others_of test es)) is
@@ -39,7 +40,8 @@ one_gone port false e es is distinct there rest =
     ap (λ b. length (cond (not b) (e ∷ others_of (same_port port) es) (others_of (same_port port) es)) + 1) is ∙ omega (arith, fewer)
 
 -- of distinct keys one passes, so one entry is gone
-pub one_goes : (port : Port) (es : List (Port × Lead)) → IsDistinct same_port (keys_of es) → is_some (lookup (same_port port) es) ≡ true → length (filter (λ e. not (same_port port e.0)) es) + 1 ≡ length es
+pub one_goes : (port : Port) (es : List (Port × Lead)) → IsDistinct same_port (keys_of es) → is_some (lookup (same_port port) es) ≡ true → length
+    (filter (λ e. not (same_port port e.0)) es) + 1 ≡ length es
 one_goes port [] distinct there = absurd (true≢false (sym there))
 one_goes port (e ∷ es) distinct there = one_gone port (same_port port e.0) e es refl distinct there (one_goes port es (IsDistinct-tail same_port e.0 (keys_of es) distinct))
 

@@ -2,7 +2,8 @@
 use Rattle.std.proofs.Common.{◌≡◌, ℕ, ◌==◌, Bool, true, false, List, [], ◌∷◌, ◌++◌, drop, Option, Some, None, if◌then◌else◌, refl, sym, ◌∙◌, ap}
 use Rattle.std.proofs.lemmas.List.{append-nil}
 use Rattle.world_face.specs.Frames.{tail, opens}
-use Rattle.world_face.specs.Journal.{Entry, Now, Wait, LinkOpen, LinkRead, LinkWrite, Connect, Connected, Listen, Accept, TcpRead, TcpWrite, TcpEnd, Close, UdpOpen, UdpSend, UdpRecv, FileLen, FileRead}
+use Rattle.world_face.specs.Journal.{Entry, Now, Wait, LinkOpen, LinkRead, LinkWrite, Connect, Connected, Listen, Accept, TcpRead, TcpWrite, TcpEnd, Close, UdpOpen, UdpSend, UdpRecv}
+use Rattle.world_face.specs.Journal.{FileLen, FileRead}
 use Rattle.world_face.specs.declared.Io.{Io}
 use Rattle.world_face.specs.declared.Io.TheVariants.{Done, End, NotYet, Failed}
 use Rattle.world_face.specs.declared.Made.{Made}
@@ -121,13 +122,16 @@ module _ (config : Config) (c : ℕ) where
   taken_more past (Now told) = adds_nothing wrote_by c (taken_on c past) (doing config past (Now told)) refl
   taken_more past (Wait wants timeout answer ready) = adds_nothing wrote_by c (taken_on c past) (doing config past (Wait wants timeout answer ready)) refl
   taken_more past (LinkOpen at answer) = adds_nothing wrote_by c (taken_on c past) (doing config past (LinkOpen at answer)) refl
-  taken_more past (LinkRead asked answer octets) = adds_nothing wrote_by c (taken_on c past) (doing config past (LinkRead asked answer octets)) (read_nothing wrote_by c (happens config past (LinkRead asked answer octets)).came (LinkRead asked answer octets) refl)
+  taken_more past (LinkRead asked answer octets) = adds_nothing wrote_by c (taken_on c past) (doing config past (LinkRead asked answer octets))
+      (read_nothing wrote_by c (happens config past (LinkRead asked answer octets)).came (LinkRead asked answer octets) refl)
   taken_more past (LinkWrite octets answer) = adds_nothing wrote_by c (taken_on c past) (doing config past (LinkWrite octets answer)) (write_nothing wrote_by c octets answer (tail past))
   taken_more past (Connect socket to answer) = adds_nothing wrote_by c (taken_on c past) (doing config past (Connect socket to answer)) (joins_nothing wrote_by c answer socket)
-  taken_more past (Connected socket answer) = adds_nothing wrote_by c (taken_on c past) (doing config past (Connected socket answer)) (call_nothing wrote_by c (joined answer) socket (wrote_joined answer))
+  taken_more past (Connected socket answer) = adds_nothing wrote_by c (taken_on c past) (doing config past (Connected socket answer))
+      (call_nothing wrote_by c (joined answer) socket (wrote_joined answer))
   taken_more past (Listen socket at answer) = adds_nothing wrote_by c (taken_on c past) (doing config past (Listen socket at answer)) refl
   taken_more past (Accept listener socket answer) = adds_nothing wrote_by c (taken_on c past) (doing config past (Accept listener socket answer)) (visits_nothing wrote_by c answer listener socket)
-  taken_more past (TcpRead socket asked answer octets) = adds_nothing wrote_by c (taken_on c past) (doing config past (TcpRead socket asked answer octets)) (call_nothing wrote_by c (read_by answer octets) socket (wrote_read answer octets))
+  taken_more past (TcpRead socket asked answer octets) = adds_nothing wrote_by c (taken_on c past) (doing config past (TcpRead socket asked answer octets))
+      (call_nothing wrote_by c (read_by answer octets) socket (wrote_read answer octets))
   taken_more past (TcpWrite socket octets answer) = added (socket == c) (taken_on c past) (taken_of answer octets) (wrote_by (written_by answer octets)) (wrote_written answer octets)
   taken_more past (TcpEnd socket answer) = adds_nothing wrote_by c (taken_on c past) (doing config past (TcpEnd socket answer)) (call_nothing wrote_by c (ended_by answer) socket (wrote_ended answer))
   taken_more past (Close socket) = adds_nothing wrote_by c (taken_on c past) (doing config past (Close socket)) refl
@@ -141,14 +145,16 @@ module _ (config : Config) (c : ℕ) where
   given_more past (Now told) = adds_nothing got_by c (given_on c past) (doing config past (Now told)) refl
   given_more past (Wait wants timeout answer ready) = adds_nothing got_by c (given_on c past) (doing config past (Wait wants timeout answer ready)) refl
   given_more past (LinkOpen at answer) = adds_nothing got_by c (given_on c past) (doing config past (LinkOpen at answer)) refl
-  given_more past (LinkRead asked answer octets) = adds_nothing got_by c (given_on c past) (doing config past (LinkRead asked answer octets)) (read_nothing got_by c (happens config past (LinkRead asked answer octets)).came (LinkRead asked answer octets) refl)
+  given_more past (LinkRead asked answer octets) = adds_nothing got_by c (given_on c past) (doing config past (LinkRead asked answer octets))
+      (read_nothing got_by c (happens config past (LinkRead asked answer octets)).came (LinkRead asked answer octets) refl)
   given_more past (LinkWrite octets answer) = adds_nothing got_by c (given_on c past) (doing config past (LinkWrite octets answer)) (write_nothing got_by c octets answer (tail past))
   given_more past (Connect socket to answer) = adds_nothing got_by c (given_on c past) (doing config past (Connect socket to answer)) (joins_nothing got_by c answer socket)
   given_more past (Connected socket answer) = adds_nothing got_by c (given_on c past) (doing config past (Connected socket answer)) (call_nothing got_by c (joined answer) socket (got_joined answer))
   given_more past (Listen socket at answer) = adds_nothing got_by c (given_on c past) (doing config past (Listen socket at answer)) refl
   given_more past (Accept listener socket answer) = adds_nothing got_by c (given_on c past) (doing config past (Accept listener socket answer)) (visits_nothing got_by c answer listener socket)
   given_more past (TcpRead socket asked answer octets) = added (socket == c) (given_on c past) (given_of answer octets) (got_by (read_by answer octets)) (got_read answer octets)
-  given_more past (TcpWrite socket octets answer) = adds_nothing got_by c (given_on c past) (doing config past (TcpWrite socket octets answer)) (call_nothing got_by c (written_by answer octets) socket (got_written answer octets))
+  given_more past (TcpWrite socket octets answer) = adds_nothing got_by c (given_on c past) (doing config past (TcpWrite socket octets answer))
+      (call_nothing got_by c (written_by answer octets) socket (got_written answer octets))
   given_more past (TcpEnd socket answer) = adds_nothing got_by c (given_on c past) (doing config past (TcpEnd socket answer)) (call_nothing got_by c (ended_by answer) socket (got_ended answer))
   given_more past (Close socket) = adds_nothing got_by c (given_on c past) (doing config past (Close socket)) refl
   given_more past (UdpOpen socket at answer) = adds_nothing got_by c (given_on c past) (doing config past (UdpOpen socket at answer)) refl

@@ -82,7 +82,8 @@ module _ (number : ℕ) where
     joins_apart socket None not = refl
     joins_apart socket (Some on) not = opened_apart _ book.flows not
 
-    visits_apart : (socket : ℕ) (peer : Endpoint) (port : Option Endpoint) → (socket == number) ≡ false → flow_of number (visits_for config scene.moment socket peer port book).flows ≡ flow_of number book.flows
+    visits_apart : (socket : ℕ) (peer : Endpoint) (port : Option Endpoint) → (socket == number) ≡ false → flow_of number
+        (visits_for config scene.moment socket peer port book).flows ≡ flow_of number book.flows
     visits_apart socket peer None not = refl
     visits_apart socket peer (Some guest) not = by_test (is_refused config guest peer book)
       where

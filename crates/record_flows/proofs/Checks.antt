@@ -1,7 +1,8 @@
 -- What the test passes keeps the law.
 use Rattle.std.proofs.Common.{◌≡◌, ℕ, ◌==◌, ◌&&◌, ◌||◌, not, Bool, true, false, cond, List, [], ◌∷◌, drop, MatchBool, MatchOption, Option, Some, None, refl, sym, ◌∙◌, ap, subst}
 use Rattle.net_octets.specs.declared.Endpoint.{Endpoint}
-use Rattle.world_face.specs.Journal.{Entry, Call, call_of, CallNow, CallWait, CallLinkOpen, CallLinkRead, CallLinkWrite, CallConnect, CallConnected, CallListen, CallAccept, CallTcpRead, CallTcpWrite, CallTcpEnd, CallClose, CallUdpOpen, CallUdpSend, CallUdpRecv, CallFileLen, CallFileRead}
+use Rattle.world_face.specs.Journal.{Entry, Call, call_of, CallNow, CallWait, CallLinkOpen, CallLinkRead, CallLinkWrite, CallConnect, CallConnected, CallListen, CallAccept, CallTcpRead}
+use Rattle.world_face.specs.Journal.{CallTcpWrite, CallTcpEnd, CallClose, CallUdpOpen, CallUdpSend, CallUdpRecv, CallFileLen, CallFileRead}
 use Rattle.world_face.specs.Frames.{tail}
 use Rattle.host_policy.specs.Addresses.{Config}
 use Rattle.host_policy.specs.Targets.{same_endpoint}
@@ -16,7 +17,8 @@ use Rattle.flow_laws.proofs.Sound.{may_is}
 use Rattle.run_laws.specs.Moments.{moment}
 use Rattle.run_laws.specs.Sockets.{next_number}
 use Rattle.record_flows.specs.Book.{book, scene}
-use Rattle.record_flows.specs.Check.{may_act, may_shut, may_send, may_send_on, may_write, is_close, is_connect, is_call, may_due, is_due, may_touch, must_act, asks_for_room, must_send, must_send_on, must_write, must_touch, closes_at_once, may_flow, keeps_flows}
+use Rattle.record_flows.specs.Check.{may_act, may_shut, may_send, may_send_on, may_write, is_close, is_connect, is_call, may_due, is_due, may_touch, must_act, asks_for_room, must_send}
+use Rattle.record_flows.specs.Check.{must_send_on, must_write, must_touch, closes_at_once, may_flow, keeps_flows}
 use Rattle.record_flows.specs.Flows.{Flow, Scene, closing, flow_of, is_strange, owner}
 use Rattle.record_flows.specs.Laws.{flow_settings, MayAct, MayShut, MaySend, MaySendOn, MayWrite, MayTouch, MustAct, AsksForRoom, MustSend, MustSendOn, MustWrite, MustTouch, MayFlow, KeepsFlows}
 use Rattle.record_flows.specs.Lots.{due_for_flows}
@@ -162,7 +164,8 @@ musts : (config : Config) (past : List Entry) (call : Call) → must_touch confi
 musts config past (CallLinkWrite octets) is = must_writes (flow_settings config) (moment past) (book config past).flows (tail past) octets is
 musts config past (CallConnected socket) is = must_acts (flow_settings config) (moment past) (flow_of socket (book config past).flows) AskConnected is
 musts config past (CallTcpRead socket asked) is =
-    let parts = both (must_act (flow_settings config) (moment past) (flow_of socket (book config past).flows) Read) (asks_for_room (flow_settings config) (flow_of socket (book config past).flows) asked) is in
+    let parts = both (must_act (flow_settings config) (moment past) (flow_of socket (book config past).flows) Read)
+    (asks_for_room (flow_settings config) (flow_of socket (book config past).flows) asked) is in
     (must_acts (flow_settings config) (moment past) (flow_of socket (book config past).flows) Read parts.0, asks_room (flow_settings config) (flow_of socket (book config past).flows) asked parts.1)
 musts config past (CallTcpWrite socket octets) is = must_acts (flow_settings config) (moment past) (flow_of socket (book config past).flows) (Write octets) is
 musts config past (CallTcpEnd socket) is = must_acts (flow_settings config) (moment past) (flow_of socket (book config past).flows) EndHost is
@@ -200,7 +203,8 @@ touches config past _ is = tt
 
 pub passes : (config : Config) (past : List Entry) (call : Call) → may_flow config past call ≡ true → MayFlow config past call
 passes config past call is =
-    let parts = both (may_due (due_for_flows config (book config past) (next_number past)) call) (may_touch config past call && must_touch config past call && closes_at_once (book config past).flows call) is in
+    let parts = both (may_due (due_for_flows config (book config past) (next_number past)) call) (may_touch config past call && must_touch config past call && closes_at_once
+    (book config past).flows call) is in
     let rest = both (may_touch config past call && must_touch config past call) (closes_at_once (book config past).flows call) parts.1 in
     let done = both (may_touch config past call) (must_touch config past call) rest.0 in
     record {

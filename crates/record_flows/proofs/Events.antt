@@ -1,7 +1,8 @@
 -- What one event adds to the two streams of a flow.
 use Rattle.std.proofs.Common.{◌≡◌, ℕ, ◌&&◌, Bool, true, false, not, is_some, List, [], ◌∷◌, ◌++◌, take, Option, Some, None, if◌then◌else◌, refl, sym, ◌∙◌}
 use Rattle.std.proofs.lemmas.List.{append-nil}
-use Rattle.flow_laws.specs.Event.{Segment, Event, Connects, Accepts, Arrives, Departs, Connected, ConnectsYet, ConnectFails, Writes, WriteFails, Reads, ReadsEnd, ReadFails, EndsHost, EndFails, AsksAddress, Closes, At, Story}
+use Rattle.flow_laws.specs.Event.{Segment, Event, Connects, Accepts, Arrives, Departs, Connected, ConnectsYet, ConnectFails, Writes, WriteFails, Reads, ReadsEnd, ReadFails, EndsHost}
+use Rattle.flow_laws.specs.Event.{EndFails, AsksAddress, Closes, At, Story}
 use Rattle.flow_laws.specs.Flow.{guest, host, is_closed, their_number, is_plain, is_heeded, greets, confirms, acknowledges, push, up_of, down_of}
 use Rattle.flow_laws.specs.Guest.{Up, Known, Came, Acked, written}
 use Rattle.flow_laws.specs.Host.{Down, Confirmed, Sent, got}

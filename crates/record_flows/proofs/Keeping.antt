@@ -2,7 +2,8 @@
 use Rattle.std.proofs.Common.{◌≡◌, ℕ, ◌+◌, ◌^◌, ◌≤◌, min, max, List, [], ◌∷◌, drop, Option, Some, None, MatchOption, refl, sym, subst, arith}
 use Rattle.net_octets.specs.declared.Endpoint.{Endpoint}
 use Rattle.world_face.specs.Frames.{tail, opens}
-use Rattle.world_face.specs.Journal.{Entry, Call, call_of, Now, Wait, LinkOpen, LinkRead, LinkWrite, Connect, Connected, Listen, Accept, TcpRead, TcpWrite, TcpEnd, Close, UdpOpen, UdpSend, UdpRecv, FileLen, FileRead, CallConnect, CallClose}
+use Rattle.world_face.specs.Journal.{Entry, Call, call_of, Now, Wait, LinkOpen, LinkRead, LinkWrite, Connect, Connected, Listen, Accept, TcpRead, TcpWrite, TcpEnd, Close, UdpOpen, UdpSend}
+use Rattle.world_face.specs.Journal.{UdpRecv, FileLen, FileRead, CallConnect, CallClose}
 use Rattle.world_face.specs.declared.Io.{Io}
 use Rattle.world_face.specs.declared.Io.TheVariants.{Done, End, NotYet, Failed}
 use Rattle.world_face.specs.declared.Made.{Made}
@@ -65,7 +66,8 @@ module _ (config : Config) (past : List Entry) (kept : AreKept config past) wher
   IsNext d = IsSound (flow_settings config) (moment past) (next_number past) (turned config (scene config past) d (book config past))
 
   nothing : (book config past).doomed ≡ None → IsNext Nothing
-  nothing none = same_sound config (flow_settings config) (scene config past) (next_number past) (book config past) kept (moment past) (next_number past) (quiet (book config past)) (omega arith) (omega arith) none refl
+  nothing none = same_sound config (flow_settings config) (scene config past) (next_number past) (book config past) kept (moment past) (next_number past) (quiet (book config past))
+      (omega arith) (omega arith) none refl
 
   -- a frame came, or none
   came : (e : Entry) → (book config past).doomed ≡ None → Stay → IsNext (doing_by None None e) → (o : Option Arrival) → IsNext (doing_by o None e)
@@ -108,7 +110,8 @@ module _ (config : Config) (past : List Entry) (kept : AreKept config past) wher
       subst (λ n. IsSound (flow_settings config) (moment past) (next_number past + 1) (turned config (scene config past) (Joins n) (book config past))) (sym is)
       (joins_sound config (flow_settings config) (scene config past) (next_number past) (book config past) kept none)
   connects socket to MadeFailed none is =
-      same_sound config (flow_settings config) (scene config past) (next_number past) (book config past) kept (moment past) (next_number past + 1) (quiet (book config past)) (omega arith) (omega arith) none refl
+      same_sound config (flow_settings config) (scene config past) (next_number past) (book config past) kept (moment past) (next_number past + 1) (quiet (book config past))
+      (omega arith) (omega arith) none refl
 
   accepts : (listener socket : ℕ) (answer : Accepted) → (book config past).doomed ≡ None → socket ≡ next_number past → AreKept config (Accept listener socket answer ∷ past)
   accepts listener socket (From peer) none is =
@@ -124,10 +127,12 @@ module _ (config : Config) (past : List Entry) (kept : AreKept config past) wher
   pub goes_on : (e : Entry) → MayFlow config past (call_of e) → AreKept config (e ∷ past)
   goes_on (Now told) may = more (max (min told (2 ^ 62)) (moment past)) (next_number past) (omega arith) (omega arith) (free _ may.due (λ n is. cc))
   goes_on (Wait wants timeout answer ready) may =
-      same_sound config (flow_settings config) (scene config past) (next_number past) (book config past) kept (moment past) (next_number past) (turned config (scene config past) Pauses (book config past)) (omega arith) (omega arith) (free _ may.due (λ n is. cc)) refl
+      same_sound config (flow_settings config) (scene config past) (next_number past) (book config past) kept (moment past) (next_number past)
+      (turned config (scene config past) Pauses (book config past)) (omega arith) (omega arith) (free _ may.due (λ n is. cc)) refl
   goes_on (LinkOpen at answer) may = nothing (free _ may.due (λ n is. cc))
   goes_on (LinkRead asked answer octets) may =
-      came (LinkRead asked answer octets) (free _ may.due (λ n is. cc)) (free_to_go _ may.at_once (λ n is. cc)) (nothing (free _ may.due (λ n is. cc))) (happens config past (LinkRead asked answer octets)).came
+      came (LinkRead asked answer octets) (free _ may.due (λ n is. cc)) (free_to_go _ may.at_once (λ n is. cc)) (nothing (free _ may.due (λ n is. cc)))
+      (happens config past (LinkRead asked answer octets)).came
   goes_on (LinkWrite octets answer) may = begun octets answer (free _ may.due (λ n is. cc)) (free_to_go _ may.at_once (λ n is. cc)) (tail past) may.touches may.must
   goes_on (Connect socket to answer) may =
       connects socket to answer (free _ may.due (λ n is. cc)) (connects_next (book config past).doomed (connects_to config (book config past)) (next_number past) socket to may.touches)

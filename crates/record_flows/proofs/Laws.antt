@@ -120,7 +120,8 @@ connects_as_asked config b number socket to is = by_came b.came refl (asks b.doo
           target = parts.2;
         }
 
-pub connected_as_asked : (config : Config) (past : List Entry) (socket : ℕ) (to : Endpoint) (answer : Made) → KeepsFlows config (Connect socket to answer ∷ past) → ConnectsAsAsked config (book config past) to
+pub connected_as_asked : (config : Config) (past : List Entry) (socket : ℕ) (to : Endpoint) (answer : Made) → KeepsFlows config (Connect socket to answer ∷ past) →
+    ConnectsAsAsked config (book config past) to
 connected_as_asked config past socket to answer keeps = connects_as_asked config (book config past) (next_number past) socket to keeps.0.touches
 
 -- ---- closes
@@ -132,6 +133,7 @@ closed_for_cause config past socket f keeps is =
 
 -- ---- reads
 
-pub read_asks : (config : Config) (past : List Entry) (socket asked : ℕ) (answer : Io) (octets : List ℕ) (f : Flow) → KeepsFlows config (TcpRead socket asked answer octets ∷ past) → flow_of socket (book config past).flows ≡ Some f
+pub read_asks : (config : Config) (past : List Entry) (socket asked : ℕ) (answer : Io) (octets : List ℕ) (f : Flow) → KeepsFlows config
+    (TcpRead socket asked answer octets ∷ past) → flow_of socket (book config past).flows ≡ Some f
     → asked ≡ read_size (flow_settings config) f.story
 read_asks config past socket asked answer octets f keeps is = subst (λ o. AsksForRoom (flow_settings config) o asked) is keeps.0.must.1

@@ -46,7 +46,8 @@ module _ (config : Config) (b : Book) (on : OnTuple) (opening : is_opening on.se
   lot_is : (owned many : Bool) → (is_used on.tuple b.flows || is_resting on.tuple b) ≡ owned → is_to_many config on.tuple.other ≡ many
       → lot config b on ≡ (if owned then OfFlow else (if many then Dropped else lot_by (target config OverTcp on.tuple.other) (nat_lt (used b.flows) config.flows)))
   lot_is owned many is_owned is_many =
-      (λ i. if is_owned i then OfFlow else (if (rst_is i) || (is_many i) then Dropped else (if opening i then lot_by (target config OverTcp on.tuple.other) (nat_lt (used b.flows) config.flows) else Strange)))
+      (λ i. if is_owned i then OfFlow else (if (rst_is i) || (is_many i) then Dropped else (if opening i then lot_by (target config OverTcp on.tuple.other)
+      (nat_lt (used b.flows) config.flows) else Strange)))
 
   nobodys : (is_used on.tuple b.flows || is_resting on.tuple b) ≡ false → IsNobodys b on
   nobodys is = let parts = both (is_used on.tuple b.flows) (is_resting on.tuple b) is in record { free = parts.0; awake = parts.1 }

@@ -1,6 +1,7 @@
 -- What becomes of a flow by one event.
 use Rattle.std.proofs.Common.{◌≡◌, ℕ, ◌≤◌, Bool, true, false, List, [], ◌∷◌, Option, Some, None, MatchBool, MatchOption, if◌then◌else◌, refl, sym, subst, arith}
-use Rattle.flow_laws.specs.Event.{Segment, Event, Connects, Accepts, Arrives, Departs, Connected, ConnectsYet, ConnectFails, Writes, WriteFails, Reads, ReadsEnd, ReadFails, EndsHost, EndFails, AsksAddress, Closes, At, Story, IsStory, Opens, newest_moment}
+use Rattle.flow_laws.specs.Event.{Segment, Event, Connects, Accepts, Arrives, Departs, Connected, ConnectsYet, ConnectFails, Writes, WriteFails, Reads, ReadsEnd, ReadFails, EndsHost}
+use Rattle.flow_laws.specs.Event.{EndFails, AsksAddress, Closes, At, Story, IsStory, Opens, newest_moment}
 use Rattle.flow_laws.specs.Close.{host_failed}
 use Rattle.flow_laws.specs.Dutiful.{Must, MustClose, MustHappen}
 use Rattle.flow_laws.specs.Lawful.{Act, AskConnected, Write, EndHost, Read, Send, May, MayHappen, act_of}
@@ -103,7 +104,8 @@ module _ (s : Settings) (now : ℕ) where
   }
 
   -- an event that may happen, and is as it must be where it was done
-  pub happened : (doomed doomed_new : Option ℕ) (e : Event) (f : Flow) → (Opens e → ⊥) → MayHappen s f.story (At now e) → MustHappen s f.story (At now e) → (fails e ≡ true → doomed_new ≡ Some f.number)
+  pub happened : (doomed doomed_new : Option ℕ) (e : Event) (f : Flow) → (Opens e → ⊥) → MayHappen s f.story (At now e) → MustHappen s f.story (At now e) →
+      (fails e ≡ true → doomed_new ≡ Some f.number)
       → Kept s now doomed f → Kept s now doomed_new (with_event now e f)
   happened doomed doomed_new e f other may must dooms kept = record {
     story = longer f.story now e other kept.moment kept.story;

@@ -3,7 +3,8 @@ use Rattle.std.proofs.Common.{◌≡◌, ℕ, ◌==◌, ◌&&◌, Bool, true, fa
 use Rattle.std.proofs.lemmas.List.{append-nil}
 use Rattle.net_octets.specs.declared.Endpoint.{Endpoint}
 use Rattle.world_face.specs.Frames.{tail, opens}
-use Rattle.world_face.specs.Journal.{Entry, call_of, Now, Wait, LinkOpen, LinkRead, LinkWrite, Connect, Connected, Listen, Accept, TcpRead, TcpWrite, TcpEnd, Close, UdpOpen, UdpSend, UdpRecv, FileLen, FileRead}
+use Rattle.world_face.specs.Journal.{Entry, call_of, Now, Wait, LinkOpen, LinkRead, LinkWrite, Connect, Connected, Listen, Accept, TcpRead, TcpWrite, TcpEnd, Close, UdpOpen, UdpSend}
+use Rattle.world_face.specs.Journal.{UdpRecv, FileLen, FileRead}
 use Rattle.world_face.specs.declared.Io.{Io}
 use Rattle.world_face.specs.declared.Io.TheVariants.{Done, End, NotYet, Failed}
 use Rattle.world_face.specs.declared.Made.{Made}
@@ -19,7 +20,8 @@ use Rattle.run_laws.specs.Happenings.{Arrival, happens}
 use Rattle.run_laws.specs.Moments.{moment}
 use Rattle.run_laws.specs.Sockets.{next_number}
 use Rattle.record_flows.specs.Book.{port_of, tuple_for, is_refused, joins_for, visits_for, doom, opens as opens_flow, turned, scene, book, story_in}
-use Rattle.record_flows.specs.Doings.{Doing, Nothing, Comes, Goes, Seeks, Pauses, Joins, Visits, Calls, Shuts, comes, goes, seeks, by_call, doing_by, doing, joins, visits, joined, read_by, written_by, ended_by}
+use Rattle.record_flows.specs.Doings.{Doing, Nothing, Comes, Goes, Seeks, Pauses, Joins, Visits, Calls, Shuts, comes, goes, seeks, by_call, doing_by, doing, joins, visits, joined, read_by}
+use Rattle.record_flows.specs.Doings.{written_by, ended_by}
 use Rattle.record_flows.specs.Flows.{Flow, Book, Scene, is_on, is_numbered, flow_of, tell, with_event, is_strange, sends, seeks_for, shuts, comes_directly, comes_last, guest_is_known}
 use Rattle.record_flows.specs.Laws.{flow_settings, MayAct, MayFlow, KeepsFlows}
 use Rattle.record_flows.specs.Lots.{connects_to}
@@ -151,12 +153,14 @@ module _ (read : Story → List ℕ) (by : Event → List ℕ) (starts : read []
 
     turned_reads : (d : Doing) → Fits next b.flows d → read (story_in (flow_of c (turned config sc d b).flows)) ≡ read (story_in (flow_of c b.flows)) ++ by_doing by c d
     turned_reads Nothing fits = unchanged _ refl
-    turned_reads (Comes on) fits = unchanged _ (told_same (is_on on.tuple) (with_event sc.moment (Arrives on.segment)) (λ f. refl) (λ f. same sc.moment f.story (Arrives on.segment) (arrives_not on.segment)) b.flows)
+    turned_reads (Comes on) fits = unchanged _ (told_same (is_on on.tuple) (with_event sc.moment (Arrives on.segment)) (λ f. refl) (λ f. same sc.moment f.story (Arrives on.segment)
+        (arrives_not on.segment)) b.flows)
     turned_reads (Goes on) fits = unchanged _ (told_same (is_on on.tuple) (sends sc.moment on.segment) (sends_number sc.moment on.segment) (sends_same sc.moment on.segment) b.flows)
     turned_reads (Seeks guest) fits = unchanged _ (mapped_same (seeks_for sc.moment guest) (seeks_number sc.moment guest) (seeks_same sc.moment guest) b.flows)
     turned_reads Pauses fits = unchanged _ refl
     turned_reads (Joins socket) fits = unchanged _ (ap (λ n. read (story_in (flow_of c (joins_for config sc.moment n b.came b).flows))) fits ∙ joined_same b.came)
-    turned_reads (Visits listener socket peer) fits = unchanged _ (ap (λ n. read (story_in (flow_of c (visits_for config sc.moment n peer (port_of config listener) b).flows))) fits ∙ visited_same peer (port_of config listener))
+    turned_reads (Visits listener socket peer) fits = unchanged _ (ap (λ n. read (story_in (flow_of c (visits_for config sc.moment n peer (port_of config listener) b).flows))) fits
+        ∙ visited_same peer (port_of config listener))
     turned_reads (Calls socket e) fits = called socket e fits.0 fits.1
     turned_reads (Shuts socket) fits = unchanged _ (told_same (is_numbered socket) (shuts sc b.came) (λ f. refl)
         (λ f. same sc.moment f.story (Closes (comes_directly b.came f) (comes_last sc f) (guest_is_known sc f)) (closes_not (comes_directly b.came f) (comes_last sc f) (guest_is_known sc f))) b.flows)
@@ -199,7 +203,8 @@ module _ (read : Story → List ℕ) (by : Event → List ℕ) (starts : read []
   fits config past (Now told) may = tt
   fits config past (Wait wants timeout answer ready) may = tt
   fits config past (LinkOpen at answer) may = tt
-  fits config past (LinkRead asked answer octets) may = read_fits (next_number past) (book config past).flows (happens config past (LinkRead asked answer octets)).came (LinkRead asked answer octets) tt
+  fits config past (LinkRead asked answer octets) may = read_fits (next_number past) (book config past).flows (happens config past (LinkRead asked answer octets)).came
+      (LinkRead asked answer octets) tt
   fits config past (LinkWrite octets answer) may = write_fits (next_number past) (book config past).flows octets answer (tail past)
   fits config past (Connect socket to answer) may =
       joins_fits (next_number past) (book config past).flows answer socket (connects_next (book config past).doomed (connects_to config (book config past)) (next_number past) socket to may.touches)
@@ -207,7 +212,8 @@ module _ (read : Story → List ℕ) (by : Event → List ℕ) (starts : read []
   fits config past (Listen socket at answer) may = tt
   fits config past (Accept listener socket answer) may = visits_fits (next_number past) (book config past).flows answer listener socket may.touches
   fits config past (TcpRead socket asked answer octets) may = fits_call (flow_settings config) (moment past) socket (next_number past) (read_by answer octets) (book config past).flows Read may.touches
-  fits config past (TcpWrite socket octets answer) may = fits_call (flow_settings config) (moment past) socket (next_number past) (written_by answer octets) (book config past).flows (Write octets) may.touches
+  fits config past (TcpWrite socket octets answer) may = fits_call (flow_settings config) (moment past) socket (next_number past) (written_by answer octets)
+      (book config past).flows (Write octets) may.touches
   fits config past (TcpEnd socket answer) may = fits_call (flow_settings config) (moment past) socket (next_number past) (ended_by answer) (book config past).flows EndHost may.touches
   fits config past (Close socket) may = tt
   fits config past (UdpOpen socket at answer) may = tt

@@ -25,7 +25,8 @@ refuted : {s : Settings} {past : Story} {now : ℕ} {act : Act} → Must s past 
 refuted {s} {past} {now} {act} done fair fails = refutes_duty s past now act fair fails done
 
 -- a SYN-ACK that tells a guest less room than there is
-pub no_less_room : MayFlow usual (run (take 12 late)) (CallLinkWrite (hex "0000003a52540012345652550a00020208004500002c000000004006acb6c00002070a00020f00500fa00003d090000003e96012fffee5940000020405b4")) → ⊥
+pub no_less_room : MayFlow usual (run (take 12 late)) (CallLinkWrite
+    (hex "0000003a52540012345652550a00020208004500002c000000004006acb6c00002070a00020f00500fa00003d090000003e96012fffee5940000020405b4")) → ⊥
 unfolding missing spelling is_too_long spelt_length read_on
 no_less_room may = refuted may.must refl refl
 
@@ -43,7 +44,8 @@ unfolding missing spelling is_too_long spelt_length read_on
 no_small_write may = refuted may.must refl refl
 
 -- where another call than its close comes a flow needn't be closed
-stays : {f : Flow} (config : Config) (past : List Entry) (call : Call) (n : ℕ) → flow_of n (book config past).flows ≡ Some f → (call ≡ CallClose n → ⊥) → MayFlow config past call → Must (flow_settings config) f.story 0 AskConnected
+stays : {f : Flow} (config : Config) (past : List Entry) (call : Call) (n : ℕ) → flow_of n (book config past).flows ≡ Some f → (call ≡ CallClose n → ⊥) → MayFlow config past call →
+    Must (flow_settings config) f.story 0 AskConnected
 stays {f} config past call n found other may = record { sends_its_room = tt; offers_what_was_acknowledged = tt; closes_after_reset = λ closes. other (may.at_once n f found closes) }
 
 not_a_close : CallNow ≡ CallClose 0 → ⊥

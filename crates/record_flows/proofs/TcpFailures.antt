@@ -36,6 +36,7 @@ unfolding missing spelling is_too_long spelt_length read_on
 failed_read_keeps = is_sound usual (run failed_read) refl
 
 -- The reset may go out;
-reset_once : may_flow usual (run (take 18 failed_read)) (CallLinkWrite (hex "0000003652540012345652550a000202080045000028000100004006acb9c00002070a00020f00500fa00003d091000003e950140000fd4c0000")) ≡ true
+reset_once : may_flow usual (run (take 18 failed_read)) (CallLinkWrite
+    (hex "0000003652540012345652550a000202080045000028000100004006acb9c00002070a00020f00500fa00003d091000003e950140000fd4c0000")) ≡ true
 unfolding missing spelling is_too_long spelt_length read_on
 reset_once = refl

@@ -72,12 +72,14 @@ ends_before_it_connected may = on_false refl may.touches.asks_until_connected
 -- ---- headers
 
 -- our SYN, which has no ACK, with an acknowledgement number
-pub numbered_syn : MayFlow forwarding (run (take 10 visited)) (CallLinkWrite (hex "0000003e52540012345652550a00020208004500003000000000400662b80a0002020a00020f9c400016000004e2deadbeef7002ffff2d390000020405b401030300")) → ⊥
+pub numbered_syn : MayFlow forwarding (run (take 10 visited))
+    (CallLinkWrite (hex "0000003e52540012345652550a00020208004500003000000000400662b80a0002020a00020f9c400016000004e2deadbeef7002ffff2d390000020405b401030300")) → ⊥
 unfolding missing spelling is_too_long spelt_length read_on
 numbered_syn may = not_none _ (may.touches.sends_its_header.acknowledges.1 refl) refl
 
 -- the owed reset with a window
-pub windowed_reset : MayFlow usual (run (take 18 failed_read)) (CallLinkWrite (hex "0000003652540012345652550a000202080045000028000100004006acb9c00002070a00020f00500fa00003d091000003e950141234eb180000")) → ⊥
+pub windowed_reset : MayFlow usual (run (take 18 failed_read))
+    (CallLinkWrite (hex "0000003652540012345652550a000202080045000028000100004006acb9c00002070a00020f00500fa00003d091000003e950141234eb180000")) → ⊥
 unfolding missing spelling is_too_long spelt_length read_on
 windowed_reset may = not_zero _ (may.touches.sends_its_header.window refl) refl
 

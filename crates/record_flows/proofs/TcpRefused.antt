@@ -14,7 +14,8 @@ not_both : {b : Bool} → b ≡ false → b ≡ true → ⊥
 not_both {b} off on = cc
 
 -- the SYN-ACK before the host connected
-pub no_syn_ack : MayFlow usual (run (take 6 late)) (CallLinkWrite (hex "0000003a52540012345652550a00020208004500002c000000004006acb6c00002070a00020f00500fa00003d090000003e96012ffffe5930000020405b4")) → ⊥
+pub no_syn_ack : MayFlow usual (run (take 6 late)) (CallLinkWrite
+    (hex "0000003a52540012345652550a00020208004500002c000000004006acb6c00002070a00020f00500fa00003d090000003e96012ffffe5930000020405b4")) → ⊥
 unfolding missing spelling is_too_long spelt_length read_on
 no_syn_ack may = not_both refl (may.touches.opens_after_host refl)
 

@@ -47,7 +47,8 @@ unfolding missing spelling is_too_long spelt_length read_on
 unconnected_keeps = is_sound usual (run unconnected) refl
 
 -- What may not come: the SYN-ACK before the host connected;
-accepted_before_the_host_connected : may_flow usual (run (take 6 late)) (CallLinkWrite (hex "0000003a52540012345652550a00020208004500002c000000004006acb6c00002070a00020f00500fa00003d090000003e96012ffffe5930000020405b4")) ≡ false
+accepted_before_the_host_connected : may_flow usual (run (take 6 late))
+    (CallLinkWrite (hex "0000003a52540012345652550a00020208004500002c000000004006acb6c00002070a00020f00500fa00003d090000003e96012ffffe5930000020405b4")) ≡ false
 unfolding missing spelling is_too_long spelt_length read_on
 accepted_before_the_host_connected = refl
 

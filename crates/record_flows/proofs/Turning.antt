@@ -76,7 +76,8 @@ module _ (config : Config) (s : Settings) (sc : Scene) (next : ℕ) (b : Book) (
   pub seeks_sound : (guest : ℕ) → b.doomed ≡ None → Each (λ f. MustClose f.story → ⊥) b.flows → IsSound s sc.moment next (turned config sc (Seeks guest) b)
   seeks_sound guest none free = record {
     differ = mapped_differ (seeks_for sc.moment guest) (seeks_number sc.moment guest) b.flows sound.differ;
-    below = each_map (λ f. f.number < next) (λ f. f.number < next) (seeks_for sc.moment guest) (λ f is. kept_below (seeks_for sc.moment guest) (seeks_number sc.moment guest) next f is) b.flows sound.below;
+    below = each_map (λ f. f.number < next) (λ f. f.number < next) (seeks_for sc.moment guest) (λ f is. kept_below (seeks_for sc.moment guest)
+        (seeks_number sc.moment guest) next f is) b.flows sound.below;
     each = each_map (λ f. Kept s sc.moment b.doomed f × (MustClose f.story → ⊥)) (Kept s sc.moment None) (seeks_for sc.moment guest) asked b.flows
         (each_both (Kept s sc.moment b.doomed) (λ f. MustClose f.story → ⊥) b.flows sound.each free);
   }
@@ -93,7 +94,8 @@ module _ (config : Config) (s : Settings) (sc : Scene) (next : ℕ) (b : Book) (
       → ((f : Flow) → flow_of socket b.flows ≡ Some f → MustHappen s f.story (At sc.moment e)) → IsSound s sc.moment next (turned config sc (Calls socket e) b)
   calls_sound socket e none other may must =
       let is = told (is_numbered socket) (with_event sc.moment e) (if fails e then Some socket else None) (λ f. refl) none
-      (λ f found kept. happened s sc.moment b.doomed (if fails e then Some socket else None) e f other (may f found) (must f found) (λ failed. dooms f (found_number socket b.flows f found) failed) kept) in
+      (λ f found kept. happened s sc.moment b.doomed (if fails e then Some socket else None) e f other (may f found) (must f found)
+      (λ failed. dooms f (found_number socket b.flows f found) failed) kept) in
       record { differ = is.0; below = is.1; each = is.2 }
     where
       dooms : (f : Flow) → f.number ≡ socket → fails e ≡ true → (if fails e then Some socket else None) ≡ Some f.number

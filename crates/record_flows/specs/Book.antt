@@ -110,7 +110,12 @@ turned config scene (Seeks guest) book = record { flows = map (seeks_for scene.m
 turned config scene Pauses book = record { flows = book.flows; rests = filter (is_young scene.moment) book.rests; came = None; doomed = None }
 turned config scene (Joins socket) book = joins_for config scene.moment socket book.came book
 turned config scene (Visits listener socket peer) book = visits_for config scene.moment socket peer (port_of config listener) book
-turned config scene (Calls socket event) book = record { flows = tell (is_numbered socket) (with_event scene.moment event) book.flows; rests = book.rests; came = None; doomed = if fails event then Some socket else None }
+turned config scene (Calls socket event) book = record {
+  flows = tell (is_numbered socket) (with_event scene.moment event) book.flows;
+  rests = book.rests;
+  came = None;
+  doomed = if fails event then Some socket else None;
+}
 turned config scene (Shuts socket) book = shut scene socket (tell (is_numbered socket) (shuts scene book.came) book.flows) book
 
 abbrev pub scene : Config → List Entry → Scene

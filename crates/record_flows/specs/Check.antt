@@ -109,7 +109,8 @@ closes_at_once (f ∷ flows) call = (not (must_close f.story) || is_close f.numb
 
 -- the next call may come, and is made as it must be
 abbrev pub may_flow : Config → List Entry → Call → Bool
-may_flow config past call = may_due (due_for_flows config (book config past) (next_number past)) call && (may_touch config past call && must_touch config past call && closes_at_once (book config past).flows call)
+may_flow config past call = may_due (due_for_flows config (book config past) (next_number past)) call &&
+    (may_touch config past call && must_touch config past call && closes_at_once (book config past).flows call)
 
 -- every call could follow its past
 abbrev pub keeps_flows : Config → List Entry → Bool

@@ -1,5 +1,6 @@
 -- Items of which no two have one number: in another order, and in rising order.
-use Rattle.std.proofs.Common.{◌≡◌, ◌≢◌, ◌↔◌, ℕ, ◌<◌, ◌⊎◌, ◌==◌, ◌&&◌, ◌||◌, not, List, [], ◌∷◌, length, get_or, Bool, true, false, IsTrue, Option, Some, None, IsPermutation, swap, inl, inr, refl, sym, ap, ◌∙◌, arith, eqb}
+use Rattle.std.proofs.Common.{◌≡◌, ◌≢◌, ◌↔◌, ℕ, ◌<◌, ◌⊎◌, ◌==◌, ◌&&◌, ◌||◌, not, List, [], ◌∷◌, length, get_or, Bool, true, false, IsTrue, Option, Some, None, IsPermutation, swap, inl}
+use Rattle.std.proofs.Common.{inr, refl, sym, ap, ◌∙◌, arith, eqb}
 use Rattle.std.specs.List.{AllPairs, AllByRecursion, IsDistinct, list_any}
 use Rattle.std.specs.List.Sorted.{IsNonDecreasing, IsStrictlyIncreasing}
 use Rattle.std.proofs.lemmas.Bool.{cases_eq}
@@ -85,7 +86,8 @@ same_truth true b f g = sym (f refl)
 same_truth false true f g = g refl
 same_truth false false f g = refl
 
-pub apart_is : (wants : List Want) (sorted : List ℕ) (apart : Bool) → IsPermutation (keys_of wants) sorted → IsNonDecreasing sorted → (IsTrue apart ↔ IsStrictlyIncreasing sorted) → apart ≡ differ wants
+pub apart_is : (wants : List Want) (sorted : List ℕ) (apart : Bool) → IsPermutation (keys_of wants) sorted → IsNonDecreasing sorted → (IsTrue apart ↔ IsStrictlyIncreasing sorted) →
+    apart ≡ differ wants
 apart_is wants sorted apart moved order is =
     same_truth apart (differ wants)
     (λ yes. let rising = AllPairs-from_increasing sorted (is.0 yes) in

@@ -18,10 +18,12 @@ use Rattle.world_face.specs.declared.FileSize.{FileSize}
 use Rattle.world_face.specs.declared.FileSize.TheVariants.{Length, Missing, Failed as SizeFailed}
 use Rattle.world_face.specs.declared.Waited.{Waited}
 use Rattle.world_face.specs.declared.Waited.TheVariants.{Ready, Stop, Failed as WaitFailed}
-use Rattle.world_face.specs.Journal.{MayAccept, MayMeasure, Leaves, LeavesGot, Entry, call_of, Now, Wait, LinkOpen, LinkRead, LinkWrite, Connect, Connected, Listen, Accept, TcpRead, TcpWrite, TcpEnd, Close, UdpOpen, UdpSend, UdpRecv, FileLen, FileRead}
+use Rattle.world_face.specs.Journal.{MayAccept, MayMeasure, Leaves, LeavesGot, Entry, call_of, Now, Wait, LinkOpen, LinkRead, LinkWrite, Connect, Connected, Listen, Accept, TcpRead}
+use Rattle.world_face.specs.Journal.{TcpWrite, TcpEnd, Close, UdpOpen, UdpSend, UdpRecv, FileLen, FileRead}
 use Rattle.address_text.specs.Texts.{endpoint_text}
 use Rattle.address_text.proofs.Parting.{fit_append, fit_weaker}
-use Rattle.replay.specs.Text.{hexadecimal, joined_text, made_text, waited_text, read_text, written_text, joined_answer, accepted_text, sent_text, got_text, size_text, call_text, answer_text, line_text}
+use Rattle.replay.specs.Text.{hexadecimal, joined_text, made_text, waited_text, read_text, written_text, joined_answer, accepted_text, sent_text, got_text, size_text, call_text}
+use Rattle.replay.specs.Text.{answer_text, line_text}
 use Rattle.replay.proofs.Parting.{is_word, is_plain, is_line, word_is_line, plain_is_line, decimal_word, hexadecimal_word}
 use Rattle.replay.proofs.Words.{endpoint_word, joined_word}
 use Rattle.replay.proofs.Calls.{call_plain, name_word, spaced}
@@ -113,7 +115,8 @@ pub line_form : (e : Entry) → line_text e ≡ ((call_text (call_of e) ++ 32 �
 line_form e = regroup (call_text (call_of e)) (answer_text e)
 
 pub body_line : (e : Entry) → IsSayable e → list_all is_line ((call_text (call_of e) ++ 32 ∷ []) ++ 61 ∷ 32 ∷ answer_text e) ≡ true
-body_line e h = fit_append is_line (call_text (call_of e) ++ 32 ∷ []) (61 ∷ 32 ∷ answer_text e) (fit_weaker is_plain is_line plain_is_line (call_text (call_of e) ++ 32 ∷ []) (call_plain (call_of e) h.0)) (answer_line e h.1)
+body_line e h = fit_append is_line (call_text (call_of e) ++ 32 ∷ []) (61 ∷ 32 ∷ answer_text e) (fit_weaker is_plain is_line plain_is_line (call_text (call_of e) ++ 32 ∷ [])
+    (call_plain (call_of e) h.0)) (answer_line e h.1)
 
 pub then_more : (e : Entry) (r : List ℕ) → line_text e ++ r ≡ ((call_text (call_of e) ++ 32 ∷ []) ++ 61 ∷ 32 ∷ answer_text e) ++ 10 ∷ r
 then_more e r = ap (λ t. t ++ r) (line_form e) ∙ append_assoc ((call_text (call_of e) ++ 32 ∷ []) ++ 61 ∷ 32 ∷ answer_text e) (10 ∷ []) r

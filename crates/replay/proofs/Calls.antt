@@ -1,9 +1,11 @@
 -- A call is a name and arguments, of octets that stand in a call.
 use Rattle.std.proofs.Common.{◌≡◌, ℕ, Bool, true, false, cond, eqb, ◌&&◌, List, [], ◌∷◌, ◌++◌, decimal, codes, refl, sym, ◌∙◌, ap, append_assoc}
 use Rattle.std.specs.List.{list_all}
-use Rattle.world_face.specs.Journal.{Call, CallNow, CallWait, CallLinkOpen, CallLinkRead, CallLinkWrite, CallConnect, CallConnected, CallListen, CallAccept, CallTcpRead, CallTcpWrite, CallTcpEnd, CallClose, CallUdpOpen, CallUdpSend, CallUdpRecv, CallFileLen, CallFileRead}
+use Rattle.world_face.specs.Journal.{Call, CallNow, CallWait, CallLinkOpen, CallLinkRead, CallLinkWrite, CallConnect, CallConnected, CallListen, CallAccept, CallTcpRead, CallTcpWrite}
+use Rattle.world_face.specs.Journal.{CallTcpEnd, CallClose, CallUdpOpen, CallUdpSend, CallUdpRecv, CallFileLen, CallFileRead}
 use Rattle.replay.specs.declared.CallName.{CallName}
-use Rattle.replay.specs.declared.CallName.TheVariants.{Now, Wait, LinkOpen, LinkRead, LinkWrite, Connect, Connected, Listen, Accept, TcpRead, TcpWrite, TcpEnd, Close, UdpOpen, UdpSend, UdpRecv, FileLen, FileRead}
+use Rattle.replay.specs.declared.CallName.TheVariants.{Now, Wait, LinkOpen, LinkRead, LinkWrite, Connect, Connected, Listen, Accept, TcpRead, TcpWrite, TcpEnd, Close, UdpOpen, UdpSend}
+use Rattle.replay.specs.declared.CallName.TheVariants.{UdpRecv, FileLen, FileRead}
 use Rattle.replay.specs.Names.{name_text, name_of}
 use Rattle.address_text.specs.Texts.{endpoint_text, place_text}
 use Rattle.address_text.proofs.Parting.{fit_append, fit_weaker}
@@ -103,10 +105,12 @@ args_plain (CallTcpWrite socket octets) h = spaced (decimal socket) (hexadecimal
 args_plain (CallTcpEnd socket) h = spaced (decimal socket) [] (decimal_word socket h) refl
 args_plain (CallClose socket) h = spaced (decimal socket) [] (decimal_word socket h) refl
 args_plain (CallUdpOpen socket at) h = spaced (decimal socket) (endpoint_text at ++ 32 ∷ []) (decimal_word socket h.0) (spaced (endpoint_text at) [] (endpoint_word at h.1) refl)
-args_plain (CallUdpSend socket to octets) h = spaced (decimal socket) (endpoint_text to ++ 32 ∷ (hexadecimal octets ++ 32 ∷ [])) (decimal_word socket h.0) (spaced (endpoint_text to) (hexadecimal octets ++ 32 ∷ []) (endpoint_word to h.1) (spaced (hexadecimal octets) [] (hexadecimal_word octets h.2) refl))
+args_plain (CallUdpSend socket to octets) h = spaced (decimal socket) (endpoint_text to ++ 32 ∷ (hexadecimal octets ++ 32 ∷ [])) (decimal_word socket h.0)
+    (spaced (endpoint_text to) (hexadecimal octets ++ 32 ∷ []) (endpoint_word to h.1) (spaced (hexadecimal octets) [] (hexadecimal_word octets h.2) refl))
 args_plain (CallUdpRecv socket asked) h = spaced (decimal socket) (decimal asked ++ 32 ∷ []) (decimal_word socket h.0) (spaced (decimal asked) [] (decimal_word asked h.1) refl)
 args_plain (CallFileLen name) h = spaced (hexadecimal name) [] (hexadecimal_word name h) refl
-args_plain (CallFileRead name place asked) h = spaced (hexadecimal name) (decimal place ++ 32 ∷ (decimal asked ++ 32 ∷ [])) (hexadecimal_word name h.0) (spaced (decimal place) (decimal asked ++ 32 ∷ []) (decimal_word place h.1) (spaced (decimal asked) [] (decimal_word asked h.2) refl))
+args_plain (CallFileRead name place asked) h = spaced (hexadecimal name) (decimal place ++ 32 ∷ (decimal asked ++ 32 ∷ [])) (hexadecimal_word name h.0)
+    (spaced (decimal place) (decimal asked ++ 32 ∷ []) (decimal_word place h.1) (spaced (decimal asked) [] (decimal_word asked h.2) refl))
 
 pub call_plain : (c : Call) → InRange c → list_all is_plain (call_text c ++ 32 ∷ []) ≡ true
 call_plain c h = rw (named c) (spaced (name_text (name_of c)) (args_text c) (name_word (name_of c)) (args_plain c h))

@@ -53,10 +53,12 @@ module _ (rows : List ARow) (used : ℕ) (old : ARow) (value : old ≡ get_or ro
 
     row_entry : (row : Row) → slice_get (rows_of (slice_set rows used new)) used ≡ Some row → row.entry ≡ e
     row_entry row there =
-        let here : slice_get (rows_of (slice_set rows used new)) used ≡ Some (row_of new) = ap (λ rs. slice_get rs used) (set_rows rows used new) ∙ set_at (rows_of rows) used (row_of new) next.within in
+        let here : slice_get (rows_of (slice_set rows used new)) used ≡ Some (row_of new) = ap (λ rs. slice_get rs used) (set_rows rows used new) ∙ set_at (rows_of rows) used
+        (row_of new) next.within in
         ap (λ (r : Row). r.entry) (sym (same_Some (row_of new) row (sym here ∙ there)) ∙ now_is)
 
-    pub completed : IsCompleted (record { lines = rows_of rows; used = used; live = live; stop = stop; faults = faults }) (record { lines = rows_of (slice_set rows used new); used = used; live = live; stop = stop; faults = faults }) e
+    pub completed : IsCompleted (record { lines = rows_of rows; used = used; live = live; stop = stop; faults = faults })
+        (record { lines = rows_of (slice_set rows used new); used = used; live = live; stop = stop; faults = faults }) e
     completed = record {
       next = row_entry;
       source = same_text;
@@ -69,7 +71,8 @@ module _ (rows : List ARow) (used : ℕ) (old : ARow) (value : old ≡ get_or ro
     }
 
 -- The entry of the next line, after it was completed.
-pub its_entry : (rows : List ARow) (used : ℕ) (row : ARow) (live : Bool) (stop : Option Call) (faults : Counts) (old mid : Script) (e : Entry) → record { lines = rows_of rows; used = used; live = live; stop = stop; faults = faults } ≡ mid → row ≡ get_or rows used row
+pub its_entry : (rows : List ARow) (used : ℕ) (row : ARow) (live : Bool) (stop : Option Call) (faults : Counts) (old mid : Script) (e : Entry) →
+    record { lines = rows_of rows; used = used; live = live; stop = stop; faults = faults } ≡ mid → row ≡ get_or rows used row
     → FitsNext old e → IsCompleted old mid e → entry_of row.line ≡ e
 its_entry rows used row live stop faults old mid e view value next done =
     let told : used < length (rows_of rows) = subst (λ (s : Script). s.used < length s.lines) (sym view) (omega (arith, next.within, done.count, done.used)) in

@@ -14,10 +14,13 @@ use Rattle.replay.proofs.Following.{one_more}
 use Rattle.replay.proofs.Rowing.{row_at}
 
 -- the moment after one more line
-pub moment_more : (rows : List ARow) (n moment : ℕ) (row : ARow) → n < length rows → row ≡ get_or rows n row → moment ≡ last_moment (newest_onto n (entries_of (rows_of rows)) []) → moment_after (entry_of row.line) moment ≡ last_moment (newest_onto (n + 1) (entries_of (rows_of rows)) [])
+pub moment_more : (rows : List ARow) (n moment : ℕ) (row : ARow) → n < length rows → row ≡ get_or rows n row → moment ≡ last_moment (newest_onto n (entries_of (rows_of rows)) []) →
+    moment_after (entry_of row.line) moment ≡ last_moment (newest_onto (n + 1) (entries_of (rows_of rows)) [])
 moment_more rows n moment row lt is so_far =
-    let here : slice_get (entries_of (rows_of rows)) n ≡ Some (entry_of row.line) = slice_get-map (λ (r : Row). r.entry) (rows_of rows) n ∙ ap (option_map (λ (r : Row). r.entry)) (row_at rows n row lt is) in
-    let more : newest_onto (n + 1) (entries_of (rows_of rows)) [] ≡ entry_of row.line ∷ newest_onto n (entries_of (rows_of rows)) [] = rw add-one (one_more n (entries_of (rows_of rows)) [] (entry_of row.line) here) in
+    let here : slice_get (entries_of (rows_of rows)) n ≡ Some (entry_of row.line) = slice_get-map (λ (r : Row). r.entry) (rows_of rows) n ∙ ap (option_map (λ (r : Row). r.entry))
+    (row_at rows n row lt is) in
+    let more : newest_onto (n + 1) (entries_of (rows_of rows)) [] ≡ entry_of row.line ∷ newest_onto n (entries_of (rows_of rows)) [] = rw add-one
+    (one_more n (entries_of (rows_of rows)) [] (entry_of row.line) here) in
     ap (moment_after (entry_of row.line)) so_far ∙ ap last_moment (sym more)
 
 -- a World that answers has not stopped

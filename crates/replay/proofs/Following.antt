@@ -1,6 +1,7 @@
 -- What is told of a call that a line fits, and of one that none fits.
 use Rattle.std.proofs.Common.{◌≡◌, ℕ, zero, suc, ◌+◌, ◌≤◌, min, max, Bool, true, false, cond, ◌||◌, ◌<◌, List, [], ◌∷◌, length, Some, IfSome, refl, sym, ◌∙◌, ap, subst, arith, add-one, slice_get}
-use Rattle.world_face.specs.Journal.{Entry, call_of, Allowed, Now, Wait, LinkOpen, LinkRead, LinkWrite, Connect, Connected, Listen, Accept, TcpRead, TcpWrite, TcpEnd, Close, UdpOpen, UdpSend, UdpRecv, FileLen, FileRead}
+use Rattle.world_face.specs.Journal.{Entry, call_of, Allowed, Now, Wait, LinkOpen, LinkRead, LinkWrite, Connect, Connected, Listen, Accept, TcpRead, TcpWrite, TcpEnd, Close, UdpOpen}
+use Rattle.world_face.specs.Journal.{UdpSend, UdpRecv, FileLen, FileRead}
 use Rattle.world_face.specs.Tells.{Told, on, ceased, silent, Counts, Counted, Answers}
 use Rattle.world_face.specs.Faults.{io_failed, made_failed, join_failed, accept_failed, sent_failed, got_failed, size_failed, waited_failed}
 use Rattle.world_face.specs.Limits.{last_count}
@@ -63,10 +64,30 @@ raises (FileRead n p k a o) f = record { link = none f.link; wait = none f.wait;
 -- an entry that is no failure counts for nothing
 unfailed : (e : Entry) (f : Counts) → has_failed e ≡ false → Counted f f (e ∷ [])
 unfailed (Now m) f h = record { link = none f.link; wait = none f.wait; socket = none f.socket; file = none f.file }
-unfailed (Wait w t a r) f h = record { link = none f.link; wait = quiet (waited_failed a) f.wait (off (waited_failed a) (off ((waited_failed a) || false) h)); socket = none f.socket; file = none f.file }
-unfailed (LinkOpen at a) f h = record { link = quiet (made_failed a) f.link (off (made_failed a) (off ((made_failed a) || false) (off (((made_failed a) || false) || false) h))); wait = none f.wait; socket = none f.socket; file = none f.file }
-unfailed (LinkRead n a o) f h = record { link = quiet (io_failed a) f.link (off (io_failed a) (off ((io_failed a) || false) (off (((io_failed a) || false) || false) h))); wait = none f.wait; socket = none f.socket; file = none f.file }
-unfailed (LinkWrite o a) f h = record { link = quiet (io_failed a) f.link (off (io_failed a) (off ((io_failed a) || false) (off (((io_failed a) || false) || false) h))); wait = none f.wait; socket = none f.socket; file = none f.file }
+unfailed (Wait w t a r) f h = record {
+  link = none f.link;
+  wait = quiet (waited_failed a) f.wait (off (waited_failed a) (off ((waited_failed a) || false) h));
+  socket = none f.socket;
+  file = none f.file;
+}
+unfailed (LinkOpen at a) f h = record {
+  link = quiet (made_failed a) f.link (off (made_failed a) (off ((made_failed a) || false) (off (((made_failed a) || false) || false) h)));
+  wait = none f.wait;
+  socket = none f.socket;
+  file = none f.file;
+}
+unfailed (LinkRead n a o) f h = record {
+  link = quiet (io_failed a) f.link (off (io_failed a) (off ((io_failed a) || false) (off (((io_failed a) || false) || false) h)));
+  wait = none f.wait;
+  socket = none f.socket;
+  file = none f.file;
+}
+unfailed (LinkWrite o a) f h = record {
+  link = quiet (io_failed a) f.link (off (io_failed a) (off ((io_failed a) || false) (off (((io_failed a) || false) || false) h)));
+  wait = none f.wait;
+  socket = none f.socket;
+  file = none f.file;
+}
 unfailed (Connect s to a) f h = record { link = none f.link; wait = none f.wait; socket = quiet (made_failed a) f.socket (off (made_failed a) h); file = none f.file }
 unfailed (Connected s a) f h = record { link = none f.link; wait = none f.wait; socket = quiet (join_failed a) f.socket (off (join_failed a) h); file = none f.file }
 unfailed (Listen s at a) f h = record { link = none f.link; wait = none f.wait; socket = quiet (made_failed a) f.socket (off (made_failed a) h); file = none f.file }
@@ -107,15 +128,18 @@ ceases old new e allowed to =
     }
 
 -- The next line was completed, and then it is used up and counted.
-pub used_up : (old mid new : Script) (e : Entry) → FitsNext old e → IsCompleted old mid e → new.lines ≡ mid.lines → new.used ≡ mid.used + 1 → new.live ≡ mid.live → new.stop ≡ mid.stop → new.faults ≡ counted e mid.faults → Advances old new e
+pub used_up : (old mid new : Script) (e : Entry) → FitsNext old e → IsCompleted old mid e → new.lines ≡ mid.lines → new.used ≡ mid.used + 1 → new.live ≡ mid.live →
+    new.stop ≡ mid.stop → new.faults ≡ counted e mid.faults → Advances old new e
 used_up old mid new e next done lines used live stop faults =
     let within : old.used < length mid.lines = subst (λ n. old.used < n) (sym done.count) next.within in
     let at = there mid.lines old.used within in
-    let here : slice_get (entries_of mid.lines) old.used ≡ Some e = slice_get-map (λ (row : Row). row.entry) mid.lines old.used ∙ ap (option_map (λ (row : Row). row.entry)) at.1 ∙ ap Some (done.next at.0 at.1) in
+    let here : slice_get (entries_of mid.lines) old.used ≡ Some e = slice_get-map (λ (row : Row). row.entry) mid.lines old.used ∙ ap (option_map (λ (row : Row). row.entry)) at.1
+    ∙ ap Some (done.next at.0 at.1) in
     let step : newest_onto (old.used + 1) (entries_of mid.lines) [] ≡ e ∷ newest_onto old.used (entries_of mid.lines) [] = rw add-one (one_more old.used (entries_of mid.lines) [] e here) in
     record {
       source = ap schedule_text lines ∙ done.source;
-      kept = ap (λ ls. newest_onto new.used (entries_of ls) []) lines ∙ ap (λ n. newest_onto n (entries_of mid.lines) []) (used ∙ ap (λ n. n + 1) done.used) ∙ step ∙ ap (λ k. e ∷ k) (ap (λ n. newest_onto n (entries_of mid.lines) []) (sym done.used) ∙ done.kept);
+      kept = ap (λ ls. newest_onto new.used (entries_of ls) []) lines ∙ ap (λ n. newest_onto n (entries_of mid.lines) []) (used ∙ ap (λ n. n + 1) done.used) ∙ step ∙ ap
+          (λ k. e ∷ k) (ap (λ n. newest_onto n (entries_of mid.lines) []) (sym done.used) ∙ done.kept);
       live = live ∙ done.live;
       stop = stop ∙ done.stop;
       faults = faults ∙ ap (counted e) done.faults;

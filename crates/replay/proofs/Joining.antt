@@ -23,9 +23,11 @@ joined_push (w ∷ v ∷ ws) want = ap (λ t. (want_text w ++ 44 ∷ []) ++ t) (
 regroup : (each w after : List ℕ) → each ++ (w ++ 44 ∷ after) ≡ (each ++ (w ++ 44 ∷ [])) ++ after
 regroup each w after = simp append_assoc
 
-pub each_more : (text rest item after : List ℕ) (wants more : List Want) (want : Want) → text ≡ each_text wants ++ rest → rest ≡ item ++ 44 ∷ after → item ≡ want_text want → more ≡ wants ++ want ∷ [] → text ≡ each_text more ++ after
+pub each_more : (text rest item after : List ℕ) (wants more : List Want) (want : Want) → text ≡ each_text wants ++ rest → rest ≡ item ++ 44 ∷ after → item ≡ want_text want →
+    more ≡ wants ++ want ∷ [] → text ≡ each_text more ++ after
 each_more text rest item after wants more want so_far split is pushed =
-    so_far ∙ ap (λ t. each_text wants ++ t) (split ∙ ap (λ t. t ++ 44 ∷ after) is) ∙ regroup (each_text wants) (want_text want) after ∙ ap (λ t. t ++ after) (sym (each_push wants want) ∙ ap each_text (sym pushed))
+    so_far ∙ ap (λ t. each_text wants ++ t) (split ∙ ap (λ t. t ++ 44 ∷ after) is) ∙ regroup (each_text wants) (want_text want) after ∙ ap (λ t. t ++ after)
+    (sym (each_push wants want) ∙ ap each_text (sym pushed))
 
 pub joined_all : (text rest : List ℕ) (wants more : List Want) (want : Want) → text ≡ each_text wants ++ rest → rest ≡ want_text want → more ≡ wants ++ want ∷ [] → text ≡ joined_text more
 joined_all text rest wants more want so_far is pushed = so_far ∙ ap (λ t. each_text wants ++ t) is ∙ sym (joined_push wants want) ∙ ap joined_text (sym pushed)

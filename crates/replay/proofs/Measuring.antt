@@ -1,7 +1,8 @@
 -- A schedule takes one room.
 use Rattle.std.proofs.Common.{◌≡◌, ◌≢◌, ◌⊎◌, inr, Result, Err, ℕ, ◌+◌, ◌<◌, ◌≤◌, Bool, true, false, cond, List, [], ◌∷◌, ◌++◌, length, refl, sym, ◌∙◌, ap, arith, Some, None, Option}
 use Rattle.std.specs.List.{list_all}
-use Rattle.world_face.specs.Journal.{Call, CallNow, CallWait, CallLinkOpen, CallLinkRead, CallLinkWrite, CallConnect, CallConnected, CallListen, CallAccept, CallTcpRead, CallTcpWrite, CallTcpEnd, CallClose, CallUdpOpen, CallUdpSend, CallUdpRecv, CallFileLen, CallFileRead, call_of, IsTimeout}
+use Rattle.world_face.specs.Journal.{Call, CallNow, CallWait, CallLinkOpen, CallLinkRead, CallLinkWrite, CallConnect, CallConnected, CallListen, CallAccept, CallTcpRead, CallTcpWrite}
+use Rattle.world_face.specs.Journal.{CallTcpEnd, CallClose, CallUdpOpen, CallUdpSend, CallUdpRecv, CallFileLen, CallFileRead, call_of, IsTimeout}
 use Rattle.replay.specs.declared.CallName.{CallName}
 use Rattle.replay.specs.declared.ScriptFault.{ScriptFault}
 use Rattle.replay.specs.declared.ScriptFault.TheVariants.{Line as AtLine, NoMemory, TooLarge}
@@ -26,7 +27,8 @@ same_call_said : (a b : Row) (r s : List ℕ) → IsReadable a → IsReadable b 
 same_call_said a b r s ha hb is =
     let parted = parts_once 10 (is_other 10) refl (row_body a) (row_body b) r s (no_feed a ha) (no_feed b hb) (sym (row_then a r) ∙ is ∙ row_then b s) in
     let sides = parts_once 61 (is_other 61) refl (said_call a ++ 32 ∷ []) (said_call b ++ 32 ∷ []) (32 ∷ said_answer a) (32 ∷ said_answer b)
-    (fit_weaker is_plain (is_other 61) plain_no_sign (said_call a ++ 32 ∷ []) (said_plain a ha)) (fit_weaker is_plain (is_other 61) plain_no_sign (said_call b ++ 32 ∷ []) (said_plain b hb)) parted.0 in
+    (fit_weaker is_plain (is_other 61) plain_no_sign (said_call a ++ 32 ∷ []) (said_plain a ha)) (fit_weaker is_plain (is_other 61) plain_no_sign (said_call b ++ 32 ∷ [])
+    (said_plain b hb)) parted.0 in
     (last_same 32 (said_call a) (said_call b) sides.0, parted.1)
 
 -- no call has a star for its arguments
@@ -64,9 +66,11 @@ no_star_call : (n : CallName) (c : Call) → InRange c → name_text n ++ 32 ∷
 no_star_call n c h is = no_star_args c h (call_parts (call_text c) (name_text n) (42 ∷ []) (sym is) (no_space (name_text n) (name_word n)) c refl).1
 
 same_starred : (n m : CallName) → name_text n ++ 32 ∷ 42 ∷ [] ≡ name_text m ++ 32 ∷ 42 ∷ [] → n ≡ m
-same_starred n m is = same_name n m (parts_once 32 (is_other 32) refl (name_text n) (name_text m) (42 ∷ []) (42 ∷ []) (no_space (name_text n) (name_word n)) (no_space (name_text m) (name_word m)) is).0
+same_starred n m is = same_name n m (parts_once 32 (is_other 32) refl (name_text n) (name_text m) (42 ∷ []) (42 ∷ []) (no_space (name_text n) (name_word n))
+    (no_space (name_text m) (name_word m)) is).0
 
-same_room : (x y : Bool) (c d : Call) → InRange c → InRange d → cond x (name_text (name_of c) ++ 32 ∷ 42 ∷ []) (call_text c) ≡ cond y (name_text (name_of d) ++ 32 ∷ 42 ∷ []) (call_text d) → cond x (room_of (name_of c)) 0 ≡ cond y (room_of (name_of d)) 0
+same_room : (x y : Bool) (c d : Call) → InRange c → InRange d → cond x (name_text (name_of c) ++ 32 ∷ 42 ∷ []) (call_text c) ≡ cond y (name_text (name_of d) ++ 32 ∷ 42 ∷ [])
+    (call_text d) → cond x (room_of (name_of c)) 0 ≡ cond y (room_of (name_of d)) 0
 same_room true true c d hc hd is = ap room_of (same_starred (name_of c) (name_of d) is)
 same_room true false c d hc hd is = absurd (no_star_call (name_of c) d hd is)
 same_room false true c d hc hd is = absurd (no_star_call (name_of d) c hc (sym is))
@@ -88,7 +92,8 @@ pub within_room : (schedule : List ℕ) (rows : List Row) → schedule_text rows
 within_room schedule rows is readable fits large = omega (arith, fits, large.over, one_room rows large.rows readable large.readable (is ∙ large.is))
 
 -- a fault in reading names a line that has no reading, or that memory ran out
-pub too_much : {X Y : Type 0} (schedule : List ℕ) (fault : ScriptFault) → ◌≢◌ {A = Result X ScriptFault} (Err fault) (Err TooLarge) → ((m : ℕ) → ◌≡◌ {A = Result X ScriptFault} (Err fault) (Err (AtLine m)) → IsFirstUnread schedule m) → TakesTooMuch schedule
+pub too_much : {X Y : Type 0} (schedule : List ℕ) (fault : ScriptFault) → ◌≢◌ {A = Result X ScriptFault} (Err fault) (Err TooLarge) →
+    ((m : ℕ) → ◌≡◌ {A = Result X ScriptFault} (Err fault) (Err (AtLine m)) → IsFirstUnread schedule m) → TakesTooMuch schedule
     → ◌≡◌ {A = Result Y ScriptFault} (Err fault) (Err TooLarge) ⊎ ◌≡◌ {A = Result Y ScriptFault} (Err fault) (Err NoMemory)
 too_much schedule (AtLine m) other names large = absurd (all_read schedule large.rows m (sym large.is) large.readable (names m refl))
 too_much schedule TooLarge other names large = absurd (other refl)

@@ -1,5 +1,6 @@
 -- Pieces put one after another.
-use Rattle.std.proofs.Common.{◌≡◌, ℕ, ◌+◌, ◌/◌, ◌%◌, ◌<◌, ◌≤◌, List, [], ◌∷◌, ◌++◌, length, take, drop, get_or, slice_index, add-one, append-nil, Option, Some, None, Result, refl, sym, ◌∙◌, ap, subst, arith, append_assoc}
+use Rattle.std.proofs.Common.{◌≡◌, ℕ, ◌+◌, ◌/◌, ◌%◌, ◌<◌, ◌≤◌, List, [], ◌∷◌, ◌++◌, length, take, drop, get_or, slice_index, add-one, append-nil, Option, Some, None, Result, refl, sym}
+use Rattle.std.proofs.Common.{◌∙◌, ap, subst, arith, append_assoc}
 use Rattle.std.proofs.Math.Seq.{take-suc}
 use Rattle.std.proofs.lemmas.List.{take-append-drop}
 use Rattle.hex.specs.Hex.{encode_with, encode_lower, lower_digits}
@@ -11,7 +12,8 @@ use Rattle.world_face.specs.Puts.{Puts, added}
 use Rattle.world_face.specs.declared.sink.Failed.{Failed}
 
 -- what was put before, and the last piece
-pub puts_after : {X : Type 0} (old mid new : Option (List ℕ)) (f g h : ℕ) (a b whole : List ℕ) (s : Result X Failed) → mid ≡ added a old → f ≤ g → Puts mid new g h b s → a ++ b ≡ whole → Puts old new f h whole s
+pub puts_after : {X : Type 0} (old mid new : Option (List ℕ)) (f g h : ℕ) (a b whole : List ℕ) (s : Result X Failed) → mid ≡ added a old → f ≤ g → Puts mid new g h b s → a
+    ++ b ≡ whole → Puts old new f h whole s
 puts_after old mid new f g h a b whole s so_far grew last is = record {
   ok = λ done. last.ok done ∙ ap (added b) so_far ∙ added_then a b old ∙ ap (λ t. added t old) is;
   err = λ failed. omega (arith, grew, last.err failed);

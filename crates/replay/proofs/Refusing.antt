@@ -1,5 +1,6 @@
 -- Why a text that was refused spells nothing in range: the parts of octets and wants.
-use Rattle.std.proofs.Common.{◌≡◌, ◌≢◌, ℕ, zero, suc, ◌/◌, ◌%◌, ◌^◌, ◌<◌, true, false, cond, ◌&&◌, ◌||◌, List, [], ◌∷◌, ◌++◌, length, get_or, slice_index, decimal, Option, Result, Ok, Err, codes, refl, sym, ◌∙◌, ap, subst, arith, append_assoc, length-append}
+use Rattle.std.proofs.Common.{◌≡◌, ◌≢◌, ℕ, zero, suc, ◌/◌, ◌%◌, ◌^◌, ◌<◌, true, false, cond, ◌&&◌, ◌||◌, List, [], ◌∷◌, ◌++◌, length, get_or, slice_index, decimal, Option, Result, Ok, Err}
+use Rattle.std.proofs.Common.{codes, refl, sym, ◌∙◌, ap, subst, arith, append_assoc, length-append}
 use Rattle.std.specs.List.{list_all}
 use Rattle.std.proofs.lemmas.Bool.Decides.{nat_tests}
 use Rattle.hex.specs.Hex.{encode_with, lower_digits, decode_of}
@@ -91,8 +92,10 @@ has_way w h = (both (w.read || w.write) (is_who w.of) (both ((w.read || w.write)
 pub has_who : (w : Want) → are_wants (w ∷ []) ≡ true → is_who w.of ≡ true
 has_who w h = (head_of w [] h).0
 
-pub want_parts : (text who way : List ℕ) → text ≡ who ++ 58 ∷ way → list_all (is_other 58) who ≡ true → (w : Want) → are_wants (w ∷ []) ≡ true → text ≡ want_text w → (who ≡ who_text w.of) × (way ≡ direction_text w.read w.write)
-want_parts text who way split lacks w h is = parts_once 58 (is_other 58) refl who (who_text w.of) way (direction_text w.read w.write) lacks (who_fits (is_other 58) digit_is_no_colon refl w.of (has_who w h)) (sym split ∙ is ∙ want_form w)
+pub want_parts : (text who way : List ℕ) → text ≡ who ++ 58 ∷ way → list_all (is_other 58) who ≡ true → (w : Want) → are_wants (w ∷ []) ≡ true → text ≡ want_text w →
+    (who ≡ who_text w.of) × (way ≡ direction_text w.read w.write)
+want_parts text who way split lacks w h is = parts_once 58 (is_other 58) refl who (who_text w.of) way (direction_text w.read w.write) lacks
+    (who_fits (is_other 58) digit_is_no_colon refl w.of (has_who w h)) (sym split ∙ is ∙ want_form w)
 
 pub wants_push : (ws : List Want) (w : Want) → are_wants ws ≡ true → are_wants (w ∷ []) ≡ true → are_wants (ws ++ w ∷ []) ≡ true
 wants_push [] w hs h = h
@@ -111,10 +114,12 @@ no_comma w h = want_fits (is_other 44) digit_is_no_comma refl refl refl w h
 two_parts : (a b : List ℕ) → (a ++ 44 ∷ []) ++ b ≡ a ++ 44 ∷ b
 two_parts a b = append_assoc a (44 ∷ []) b
 
-pub next_left : (rest item after : List ℕ) → rest ≡ item ++ 44 ∷ after → list_all (is_other 44) item ≡ true → (w : Want) (ws : List Want) → are_wants (w ∷ ws) ≡ true → rest ≡ joined_text (w ∷ ws) → (item ≡ want_text w) × Left after
+pub next_left : (rest item after : List ℕ) → rest ≡ item ++ 44 ∷ after → list_all (is_other 44) item ≡ true → (w : Want) (ws : List Want) → are_wants (w ∷ ws) ≡ true →
+    rest ≡ joined_text (w ∷ ws) → (item ≡ want_text w) × Left after
 next_left rest item after split lacks w [] h is = absurd (no_part 44 rest item after (subst (λ (t : List ℕ). list_all (is_other 44) t ≡ true) (sym is) (no_comma w (head_of w [] h).0)) split)
 next_left rest item after split lacks w (v ∷ vs) h is =
-    let parted = parts_once 44 (is_other 44) refl item (want_text w) after (joined_text (v ∷ vs)) lacks (no_comma w (head_of w (v ∷ vs) h).0) (sym split ∙ is ∙ two_parts (want_text w) (joined_text (v ∷ vs))) in
+    let parted = parts_once 44 (is_other 44) refl item (want_text w) after (joined_text (v ∷ vs)) lacks (no_comma w (head_of w (v ∷ vs) h).0)
+    (sym split ∙ is ∙ two_parts (want_text w) (joined_text (v ∷ vs))) in
     (parted.0, record { want = v; more = vs; range = (head_of w (v ∷ vs) h).1; is = parted.1 })
 
 pub last_left : (rest : List ℕ) → list_all (is_other 44) rest ≡ true → (w : Want) (ws : List Want) → are_wants (w ∷ ws) ≡ true → rest ≡ joined_text (w ∷ ws) → rest ≡ want_text w
@@ -129,7 +134,8 @@ pub spaced_parts : (text first second a b : List ℕ) → text ≡ first ++ 32 �
 spaced_parts text first second a b split lacks word is = parts_once 32 (is_other 32) refl first a second b lacks (no_space a word) (sym split ∙ is)
 
 -- what a line of a name says
-pub says_wait : (args answer : List ℕ) → ((wants : List Want) (timeout : Option ℕ) → IsTimeout timeout → are_wants wants ≡ true → args ≡ timeout_text timeout ++ 32 ∷ wants_text wants → ⊥) → (e : Entry) → Says names.Wait args answer e → ⊥
+pub says_wait : (args answer : List ℕ) → ((wants : List Want) (timeout : Option ℕ) → IsTimeout timeout → are_wants wants ≡ true → args ≡ timeout_text timeout ++ 32
+    ∷ wants_text wants → ⊥) → (e : Entry) → Says names.Wait args answer e → ⊥
 says_wait args answer never (Wait wants timeout a r) h = never wants timeout h.3.0.0 h.3.0.1 h.1
 says_wait args answer never _ h = absurd (cc h.0)
 
@@ -137,20 +143,24 @@ pub says_link_open : (args answer : List ℕ) → ((at : Place) → IsPlace at �
 says_link_open args answer never (LinkOpen at a) h = never at h.3.0 h.1
 says_link_open args answer never _ h = absurd (cc h.0)
 
-pub says_tcp_write : (args answer : List ℕ) → ((socket : ℕ) (octets : List ℕ) → IsNumber socket → AreOctets octets → args ≡ decimal socket ++ 32 ∷ hexadecimal octets → ⊥) → (e : Entry) → Says names.TcpWrite args answer e → ⊥
+pub says_tcp_write : (args answer : List ℕ) → ((socket : ℕ) (octets : List ℕ) → IsNumber socket → AreOctets octets → args ≡ decimal socket ++ 32 ∷ hexadecimal octets → ⊥) →
+    (e : Entry) → Says names.TcpWrite args answer e → ⊥
 says_tcp_write args answer never (TcpWrite socket octets a) h = never socket octets h.3.0.0 h.3.0.1 h.1
 says_tcp_write args answer never _ h = absurd (cc h.0)
 
-pub says_udp_send : (args answer : List ℕ) → ((socket : ℕ) (to : Endpoint) (octets : List ℕ) → IsNumber socket → IsEndpoint to → AreOctets octets → args ≡ decimal socket ++ 32 ∷ (endpoint_text to ++ 32 ∷ hexadecimal octets) → ⊥) → (e : Entry) → Says names.UdpSend args answer e → ⊥
+pub says_udp_send : (args answer : List ℕ) → ((socket : ℕ) (to : Endpoint) (octets : List ℕ) → IsNumber socket → IsEndpoint to → AreOctets octets → args ≡ decimal socket ++ 32 ∷
+    (endpoint_text to ++ 32 ∷ hexadecimal octets) → ⊥) → (e : Entry) → Says names.UdpSend args answer e → ⊥
 says_udp_send args answer never (UdpSend socket to octets a) h = never socket to octets h.3.0.0 h.3.0.1 h.3.0.2 h.1
 says_udp_send args answer never _ h = absurd (cc h.0)
 
-pub says_file_read : (args answer : List ℕ) → ((name : List ℕ) (place asked : ℕ) → AreOctets name → IsNumber place → IsNumber asked → args ≡ hexadecimal name ++ 32 ∷ (decimal place ++ 32 ∷ decimal asked) → ⊥) → (e : Entry) → Says names.FileRead args answer e → ⊥
+pub says_file_read : (args answer : List ℕ) → ((name : List ℕ) (place asked : ℕ) → AreOctets name → IsNumber place → IsNumber asked → args ≡ hexadecimal name ++ 32 ∷
+    (decimal place ++ 32 ∷ decimal asked) → ⊥) → (e : Entry) → Says names.FileRead args answer e → ⊥
 says_file_read args answer never (FileRead name place asked a o) h = never name place asked h.3.0.0 h.3.0.1 h.3.0.2 h.1
 says_file_read args answer never _ h = absurd (cc h.0)
 
 -- the kind of a place
-pub place_kind : (text kind place : List ℕ) → text ≡ kind ++ 58 ∷ place → list_all (is_other 58) kind ≡ true → (kind ≡ codes "unix" → ⊥) → (kind ≡ codes "tcp" → ⊥) → (at : Place) → text ≡ place_text at → ⊥
+pub place_kind : (text kind place : List ℕ) → text ≡ kind ++ 58 ∷ place → list_all (is_other 58) kind ≡ true → (kind ≡ codes "unix" → ⊥) → (kind ≡ codes "tcp" → ⊥) → (at : Place) →
+    text ≡ place_text at → ⊥
 place_kind text kind place split lacks unix tcp (AtPath path) is = unix (parts_once 58 (is_other 58) refl kind (codes "unix") place path lacks refl (sym split ∙ is)).0
 place_kind text kind place split lacks unix tcp (AtEndpoint at) is = tcp (parts_once 58 (is_other 58) refl kind (codes "tcp") place (endpoint_text at) lacks refl (sym split ∙ is)).0
 
@@ -168,19 +178,23 @@ last_same octet (x ∷ a) (y ∷ b) is =
 pub plain_no_sign : (c : ℕ) → is_plain c ≡ true → is_other 61 c ≡ true
 plain_no_sign c h = grind (arith, nat_tests)
 
-pub answer_parts : (text before after : List ℕ) → text ≡ before ++ 61 ∷ after → list_all (is_other 61) before ≡ true → (row : Row) → IsReadable row → text ++ 10 ∷ [] ≡ row_text row → (before ≡ said_call row ++ 32 ∷ []) × (after ≡ 32 ∷ said_answer row)
+pub answer_parts : (text before after : List ℕ) → text ≡ before ++ 61 ∷ after → list_all (is_other 61) before ≡ true → (row : Row) → IsReadable row → text ++ 10
+    ∷ [] ≡ row_text row → (before ≡ said_call row ++ 32 ∷ []) × (after ≡ 32 ∷ said_answer row)
 answer_parts text before after split lacks row h is =
     let body = last_same 10 text (row_body row) (is ∙ row_form row) in
-    parts_once 61 (is_other 61) refl before (said_call row ++ 32 ∷ []) after (32 ∷ said_answer row) lacks (fit_weaker is_plain (is_other 61) plain_no_sign (said_call row ++ 32 ∷ []) (said_plain row h)) (sym split ∙ body)
+    parts_once 61 (is_other 61) refl before (said_call row ++ 32 ∷ []) after (32 ∷ said_answer row) lacks (fit_weaker is_plain (is_other 61) plain_no_sign
+    (said_call row ++ 32 ∷ []) (said_plain row h)) (sym split ∙ body)
 
 tail_same : (octet : ℕ) (a b : List ℕ) → octet ∷ a ≡ octet ∷ b → a ≡ b
 tail_same octet a b is = cc
 
-pub spelt_once : (before after call answer : List ℕ) (row : Row) → before ≡ call ++ 32 ∷ [] → after ≡ 32 ∷ answer → (before ≡ said_call row ++ 32 ∷ []) × (after ≡ 32 ∷ said_answer row) → IsWritten call answer row
+pub spelt_once : (before after call answer : List ℕ) (row : Row) → before ≡ call ++ 32 ∷ [] → after ≡ 32 ∷ answer → (before ≡ said_call row ++ 32 ∷ []) ×
+    (after ≡ 32 ∷ said_answer row) → IsWritten call answer row
 spelt_once before after call answer row front back parts = (last_same 32 call (said_call row) (sym front ∙ parts.0), tail_same 32 answer (said_answer row) (sym back ∙ parts.1))
 
 -- a call's name and the rest
-pub call_parts : (call word args : List ℕ) → call ≡ word ++ 32 ∷ args → list_all (is_other 32) word ≡ true → (c : Call) → call ≡ call_text c → (word ≡ name_text (name_of c)) × (args ++ 32 ∷ [] ≡ args_text c)
+pub call_parts : (call word args : List ℕ) → call ≡ word ++ 32 ∷ args → list_all (is_other 32) word ≡ true → (c : Call) → call ≡ call_text c → (word ≡ name_text (name_of c)) ×
+    (args ++ 32 ∷ [] ≡ args_text c)
 call_parts call word args split lacks c is =
     parts_once 32 (is_other 32) refl word (name_text (name_of c)) (args ++ 32 ∷ []) (args_text c) lacks (no_space (name_text (name_of c)) (name_word (name_of c)))
     (sym (append_assoc word (32 ∷ args) (32 ∷ [])) ∙ ap (λ t. t ++ 32 ∷ []) (sym split ∙ is) ∙ named c)
@@ -188,12 +202,14 @@ call_parts call word args split lacks c is =
 pub call_word : (call word args : List ℕ) → call ≡ word ++ 32 ∷ args → list_all (is_other 32) word ≡ true → (c : Call) → call ≡ call_text c → word ≡ name_text (name_of c)
 call_word call word args split lacks c is = (call_parts call word args split lacks c is).0
 
-starred_parts : (call word args : List ℕ) → call ≡ word ++ 32 ∷ args → list_all (is_other 32) word ≡ true → (n : CallName) → call ≡ name_text n ++ 32 ∷ 42 ∷ [] → (word ≡ name_text n) × (args ≡ 42 ∷ [])
+starred_parts : (call word args : List ℕ) → call ≡ word ++ 32 ∷ args → list_all (is_other 32) word ≡ true → (n : CallName) → call ≡ name_text n ++ 32 ∷ 42 ∷ [] →
+    (word ≡ name_text n) × (args ≡ 42 ∷ [])
 starred_parts call word args split lacks n is = parts_once 32 (is_other 32) refl word (name_text n) args (42 ∷ []) lacks (no_space (name_text n) (name_word n)) (sym split ∙ is)
 
 -- the name of a line
 pub said_word : (call word args : List ℕ) → call ≡ word ++ 32 ∷ args → list_all (is_other 32) word ≡ true → (row : Row) → call ≡ said_call row → word ≡ name_text (name_of (call_of row.entry))
-said_word call word args split lacks row is = elim row.starred as (λ b. call ≡ cond b (name_text (name_of (call_of row.entry)) ++ 32 ∷ 42 ∷ []) (call_text (call_of row.entry)) → word ≡ name_text (name_of (call_of row.entry))) [
-  | true ↦ λ whole. (starred_parts call word args split lacks (name_of (call_of row.entry)) whole).0
-  | false ↦ λ whole. call_word call word args split lacks (call_of row.entry) whole
-] is
+said_word call word args split lacks row is = elim row.starred as (λ b. call ≡ cond b (name_text (name_of (call_of row.entry)) ++ 32 ∷ 42 ∷ []) (call_text (call_of row.entry)) →
+    word ≡ name_text (name_of (call_of row.entry))) [
+      | true ↦ λ whole. (starred_parts call word args split lacks (name_of (call_of row.entry)) whole).0
+      | false ↦ λ whole. call_word call word args split lacks (call_of row.entry) whole
+    ] is

@@ -1,8 +1,11 @@
 -- Lists of lines, one of which is completed.
-use Rattle.std.proofs.Common.{◌≡◌, ℕ, zero, suc, ◌+◌, ◌<◌, ◌≤◌, true, false, cond, List, [], ◌∷◌, ◌++◌, length, take, get_or, slice_get, slice_set, Some, None, refl, sym, ◌∙◌, ap, subst, arith, add-one}
+use Rattle.std.proofs.Common.{◌≡◌, ℕ, zero, suc, ◌+◌, ◌<◌, ◌≤◌, true, false, cond, List, [], ◌∷◌, ◌++◌, length, take, get_or, slice_get, slice_set, Some, None, refl, sym, ◌∙◌, ap, subst}
+use Rattle.std.proofs.Common.{arith, add-one}
 use Rattle.std.specs.Option.{option_map}
 use Rattle.std.proofs.lemmas.Option.{slice_get-map, slice_get_read, slice_get_past, slice_get_within, same_Some}
-use Rattle.world_face.specs.Journal.{Entry, Now, Wait, LinkOpen, LinkRead, LinkWrite, Connect, Connected, Listen, Accept, TcpRead, TcpWrite, TcpEnd, Close, UdpOpen, UdpSend, UdpRecv, FileLen, FileRead, Call, CallNow, CallWait, CallLinkOpen, CallLinkRead, CallLinkWrite, CallConnect, CallConnected, CallListen, CallAccept, CallTcpRead, CallTcpWrite, CallTcpEnd, CallClose, CallUdpOpen, CallUdpSend, CallUdpRecv, CallFileLen, CallFileRead, call_of}
+use Rattle.world_face.specs.Journal.{Entry, Now, Wait, LinkOpen, LinkRead, LinkWrite, Connect, Connected, Listen, Accept, TcpRead, TcpWrite, TcpEnd, Close, UdpOpen, UdpSend, UdpRecv}
+use Rattle.world_face.specs.Journal.{FileLen, FileRead, Call, CallNow, CallWait, CallLinkOpen, CallLinkRead, CallLinkWrite, CallConnect, CallConnected, CallListen, CallAccept, CallTcpRead}
+use Rattle.world_face.specs.Journal.{CallTcpWrite, CallTcpEnd, CallClose, CallUdpOpen, CallUdpSend, CallUdpRecv, CallFileLen, CallFileRead, call_of}
 use Rattle.replay.specs.Fitting.{FitsRow, FitsNext, FitsNone, IsOf, Refuses, Serves, answered, with_answer}
 use Rattle.replay.specs.Lines.{row_of, rows_of}
 use Rattle.replay.specs.Names.{name_of, name_text}
@@ -112,10 +115,11 @@ all_kept (TcpWrite s o a) _ h = h
 all_kept _ call h = absurd h
 
 said_call_kept : (row : Row) (e : Entry) → FitsRow row e → said_call (record row { entry = e }) ≡ said_call row
-said_call_kept row e fits = elim row.starred as (λ b. row.starred ≡ b → cond b (name_text (name_of (call_of e)) ++ 32 ∷ 42 ∷ []) (call_text (call_of e)) ≡ cond b (name_text (name_of (call_of row.entry)) ++ 32 ∷ 42 ∷ []) (call_text (call_of row.entry))) [
-  | true ↦ λ is. ap (λ n. name_text n ++ 32 ∷ 42 ∷ []) (sym fits.of.name)
-  | false ↦ λ is. ap call_text (sym (fits.of.same is))
-] refl
+said_call_kept row e fits = elim row.starred as (λ b. row.starred ≡ b → cond b (name_text (name_of (call_of e)) ++ 32 ∷ 42 ∷ []) (call_text (call_of e)) ≡ cond b
+    (name_text (name_of (call_of row.entry)) ++ 32 ∷ 42 ∷ []) (call_text (call_of row.entry))) [
+      | true ↦ λ is. ap (λ n. name_text n ++ 32 ∷ 42 ∷ []) (sym fits.of.name)
+      | false ↦ λ is. ap call_text (sym (fits.of.same is))
+    ] refl
 
 said_answer_kept : (row : Row) (e : Entry) → FitsRow row e → said_answer (record row { entry = e }) ≡ said_answer row
 said_answer_kept row e fits = elim row.all as (λ b. row.all ≡ b → cond b (97 ∷ 108 ∷ 108 ∷ []) (answer_text e) ≡ cond b (97 ∷ 108 ∷ 108 ∷ []) (answer_text row.entry)) [
@@ -124,7 +128,8 @@ said_answer_kept row e fits = elim row.all as (λ b. row.all ≡ b → cond b (9
 ] refl
 
 pub text_kept : (row : Row) (e : Entry) → FitsRow row e → row_text (record row { entry = e }) ≡ row_text row
-text_kept row e fits = ap (λ c. c ++ (32 ∷ 61 ∷ 32 ∷ []) ++ said_answer (record row { entry = e }) ++ 10 ∷ []) (said_call_kept row e fits) ∙ ap (λ a. said_call row ++ (32 ∷ 61 ∷ 32 ∷ []) ++ a ++ 10 ∷ []) (said_answer_kept row e fits)
+text_kept row e fits = ap (λ c. c ++ (32 ∷ 61 ∷ 32 ∷ []) ++ said_answer (record row { entry = e }) ++ 10 ∷ []) (said_call_kept row e fits) ∙ ap
+    (λ a. said_call row ++ (32 ∷ 61 ∷ 32 ∷ []) ++ a ++ 10 ∷ []) (said_answer_kept row e fits)
 
 -- and has a reading
 pub readable_kept : (row : Row) (e : Entry) → FitsRow row e → IsReadable row → IsReadable (record row { entry = e })
@@ -144,7 +149,8 @@ next_fits script row e live at fits = record {
 }
 
 -- a line that is of the call is that of an entry of it
-pub served_next : (script : Script) (row : Row) (call : Call) → script.live ≡ true → slice_get script.lines script.used ≡ Some row → Serves row call → (e : Entry) × FitsNext script e × (call_of e ≡ call)
+pub served_next : (script : Script) (row : Row) (call : Call) → script.live ≡ true → slice_get script.lines script.used ≡ Some row → Serves row call →
+    (e : Entry) × FitsNext script e × (call_of e ≡ call)
 served_next script row call live at serves =
     let is : FitsRow row (answered row call) = record { of = subst (IsOf row) (sym serves.asks) serves.of; is = ap (answered row) serves.asks; allowed = serves.allowed } in
     (answered row call, next_fits script row (answered row call) live at is, serves.asks)

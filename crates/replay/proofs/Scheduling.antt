@@ -16,7 +16,8 @@ schedule_push (r ∷ rows) row = ap (λ t. row_text (row_of r) ++ t) (schedule_p
 regroup : (before text after : List ℕ) → before ++ (text ++ 10 ∷ after) ≡ (before ++ (text ++ 10 ∷ [])) ++ after
 regroup before text after = simp append_assoc
 
-pub row_more : (octets rest text after : List ℕ) (rows more : List ARow) (row : ARow) → octets ≡ schedule_text (rows_of rows) ++ rest → rest ≡ text ++ 10 ∷ after → text ++ 10 ∷ [] ≡ row_text (row_of row) → more ≡ rows ++ row ∷ [] → octets ≡ schedule_text (rows_of more) ++ after
+pub row_more : (octets rest text after : List ℕ) (rows more : List ARow) (row : ARow) → octets ≡ schedule_text (rows_of rows) ++ rest → rest ≡ text ++ 10 ∷ after → text ++ 10
+    ∷ [] ≡ row_text (row_of row) → more ≡ rows ++ row ∷ [] → octets ≡ schedule_text (rows_of more) ++ after
 row_more octets rest text after rows more row so_far split read pushed =
     so_far ∙ ap (λ t. schedule_text (rows_of rows) ++ t) split ∙ regroup (schedule_text (rows_of rows)) text after ∙ ap (λ t. (schedule_text (rows_of rows) ++ t) ++ after) read
     ∙ ap (λ t. t ++ after) (sym (schedule_push rows row) ∙ ap (λ rs. schedule_text (rows_of rs)) (sym pushed))
@@ -28,10 +29,13 @@ all_rows octets (x ∷ xs) rows is none = absurd (omega arith)
 -- lines that are printed
 lines_push : (rows : List ARow) (row : ARow) → lines_text (entries_of (rows_of (rows ++ row ∷ []))) ≡ lines_text (entries_of (rows_of rows)) ++ line_text (entry_of row.line)
 lines_push [] row = simp append-nil
-lines_push (r ∷ rows) row = ap (λ t. line_text (entry_of r.line) ++ t) (lines_push rows row) ∙ sym (append_assoc (line_text (entry_of r.line)) (lines_text (entries_of (rows_of rows))) (line_text (entry_of row.line)))
+lines_push (r ∷ rows) row = ap (λ t. line_text (entry_of r.line) ++ t) (lines_push rows row) ∙ sym
+    (append_assoc (line_text (entry_of r.line)) (lines_text (entries_of (rows_of rows))) (line_text (entry_of row.line)))
 
-pub lines_more : (rows : List ARow) (i : ℕ) (row : ARow) → i < length rows → row ≡ get_or rows i row → lines_text (entries_of (rows_of (take i rows))) ++ line_text (entry_of row.line) ≡ lines_text (entries_of (rows_of (take (i + 1) rows)))
-lines_more rows i row lt is = sym (lines_push (take i rows) row) ∙ ap (λ rs. lines_text (entries_of (rows_of rs))) (sym (rw add-one (take-suc rows i row lt) ∙ ap (λ r. take i rows ++ r ∷ []) (sym is)))
+pub lines_more : (rows : List ARow) (i : ℕ) (row : ARow) → i < length rows → row ≡ get_or rows i row → lines_text (entries_of (rows_of (take i rows))) ++ line_text
+    (entry_of row.line) ≡ lines_text (entries_of (rows_of (take (i + 1) rows)))
+lines_more rows i row lt is = sym (lines_push (take i rows) row) ∙ ap (λ rs. lines_text (entries_of (rows_of rs)))
+    (sym (rw add-one (take-suc rows i row lt) ∙ ap (λ r. take i rows ++ r ∷ []) (sym is)))
 
 text_onto : (n : ℕ) (rows : List Row) (older : List Entry) → text older ++ lines_text (entries_of (take n rows)) ≡ text (newest_onto n (entries_of rows) older)
 text_onto zero rows older = append-nil (text older)

@@ -1,8 +1,11 @@
 -- A star is read as arguments of no meaning, and `all` as a count of none.
-use Rattle.std.proofs.Common.{◌≡◌, ◌≢◌, ◌↔◌, ℕ, ◌<◌, ◌^◌, Bool, true, false, cond, IsTrue, List, [], ◌∷◌, ◌++◌, length, decimal, codes, refl, sym, ◌∙◌, ap, subst, arith, append_assoc, length-append, None}
+use Rattle.std.proofs.Common.{◌≡◌, ◌≢◌, ◌↔◌, ℕ, ◌<◌, ◌^◌, Bool, true, false, cond, IsTrue, List, [], ◌∷◌, ◌++◌, length, decimal, codes, refl, sym, ◌∙◌, ap, subst, arith, append_assoc}
+use Rattle.std.proofs.Common.{length-append, None}
 use Rattle.world_face.specs.declared.Io.{Io}
 use Rattle.world_face.specs.declared.Io.TheVariants.{Done, End, NotYet, Failed}
-use Rattle.world_face.specs.Journal.{AreOctets, AtEndpoint, Entry, Now, Wait, LinkOpen, LinkRead, LinkWrite, Connect, Connected, Listen, Accept, TcpRead, TcpWrite, TcpEnd, Close, UdpOpen, UdpSend, UdpRecv, FileLen, FileRead, Call, CallNow, CallWait, CallLinkOpen, CallLinkRead, CallLinkWrite, CallConnect, CallConnected, CallListen, CallAccept, CallTcpRead, CallTcpWrite, CallTcpEnd, CallClose, CallUdpOpen, CallUdpSend, CallUdpRecv, CallFileLen, CallFileRead, call_of}
+use Rattle.world_face.specs.Journal.{AreOctets, AtEndpoint, Entry, Now, Wait, LinkOpen, LinkRead, LinkWrite, Connect, Connected, Listen, Accept, TcpRead, TcpWrite, TcpEnd, Close, UdpOpen}
+use Rattle.world_face.specs.Journal.{UdpSend, UdpRecv, FileLen, FileRead, Call, CallNow, CallWait, CallLinkOpen, CallLinkRead, CallLinkWrite, CallConnect, CallConnected, CallListen}
+use Rattle.world_face.specs.Journal.{CallAccept, CallTcpRead, CallTcpWrite, CallTcpEnd, CallClose, CallUdpOpen, CallUdpSend, CallUdpRecv, CallFileLen, CallFileRead, call_of}
 use Rattle.std.proofs.lemmas.List.Elements.{All-nil}
 use Rattle.net_octets.specs.declared.Endpoint.{Endpoint}
 use Rattle.replay.specs.declared.CallName.{CallName}
@@ -243,7 +246,8 @@ counted_as true e takes = uncounted_answer e (takes refl)
 counted_as false e takes = ap answer_text (sym (uncounted_none e))
 
 -- what a reading has in the place of a line
-said_as : (name : CallName) (starred all : Bool) (e : Entry) → name_of (call_of e) ≡ name → (starred ≡ true → name ≢ names.Now) → IsSayable e → (all ≡ true → TakesAll e) → (args : List ℕ) → (starred ≡ false → HasArguments (call_of e) args)
+said_as : (name : CallName) (starred all : Bool) (e : Entry) → name_of (call_of e) ≡ name → (starred ≡ true → name ≢ names.Now) → IsSayable e → (all ≡ true → TakesAll e) →
+    (args : List ℕ) → (starred ≡ false → HasArguments (call_of e) args)
     → Says name (given_args starred name args) (counted_answer all (answer_text e)) (blanked starred (uncounted all e))
 said_as name true all e is some h takes args has =
     let u = uncounted all e in
@@ -268,7 +272,8 @@ same_star c args true false h tells has = absurd (no_star c h (subst (HasArgumen
 same_star c args false true h tells has = absurd (cc (tells.1 has))
 same_star c args false false h tells has = refl
 
-same_all : (e : Entry) (answer : List ℕ) (all other : Bool) → (IsTrue all ↔ (IsTrue (is_write (name_of (call_of e))) × (answer ≡ codes "all"))) → (other ≡ true → TakesAll e) → answer ≡ cond other (codes "all") (answer_text e) → other ≡ all
+same_all : (e : Entry) (answer : List ℕ) (all other : Bool) → (IsTrue all ↔ (IsTrue (is_write (name_of (call_of e))) × (answer ≡ codes "all"))) → (other ≡ true → TakesAll e) →
+    answer ≡ cond other (codes "all") (answer_text e) → other ≡ all
 same_all e answer true true tells takes is = refl
 same_all e answer true false tells takes is = absurd (no_all_text e (tells.0 refl).0 (sym (tells.0 refl).1 ∙ is))
 same_all e answer false true tells takes is = absurd (cc (tells.1 (all_is_write e (takes refl), is)))
@@ -292,7 +297,8 @@ row_refused name args answer given said starred all tells_star tells_all given_i
     let own = said_as name row.starred row.all e says.0 (λ st now. h.star st (says.0 ∙ now)) h.range h.all args (has_own (call_of e) args row.starred says.1) in
     let answers : counted_answer row.all (answer_text e) ≡ said = counted_same row.all (answer_text e) answer says.2 ∙ ap (λ b. counted_answer b answer) every ∙ sym said_is in
     let gives : given_args row.starred name args ≡ given = ap (λ b. given_args b name args) star ∙ sym given_is in
-    refused (blanked row.starred (uncounted row.all e)) (subst (λ t. Says name given t (blanked row.starred (uncounted row.all e))) answers (subst (λ t. Says name t (counted_answer row.all (answer_text e)) (blanked row.starred (uncounted row.all e))) gives own))
+    refused (blanked row.starred (uncounted row.all e)) (subst (λ t. Says name given t (blanked row.starred (uncounted row.all e))) answers
+    (subst (λ t. Says name t (counted_answer row.all (answer_text e)) (blanked row.starred (uncounted row.all e))) gives own))
 
 -- what was read
 call_kept : (all : Bool) (e : Entry) → call_of (with_answer all (call_of e) e) ≡ call_of e
@@ -320,12 +326,15 @@ counts_all (LinkWrite o a) write = refl
 counts_all (TcpWrite s o a) write = refl
 counts_all _ write = cc write
 
-call_written : (name : CallName) (args given : List ℕ) (starred all : Bool) (e : Entry) → (IsTrue starred ↔ (args ≡ codes "*")) → given ≡ given_args starred name args → name_of (call_of e) ≡ name → name_text name ++ 32 ∷ given ≡ call_text (call_of e)
+call_written : (name : CallName) (args given : List ℕ) (starred all : Bool) (e : Entry) → (IsTrue starred ↔ (args ≡ codes "*")) → given ≡ given_args starred name args → name_of
+    (call_of e) ≡ name → name_text name ++ 32 ∷ given ≡ call_text (call_of e)
     → name_text name ++ 32 ∷ args ≡ said_call (record { entry = with_answer all (call_of e) e; starred = starred; all = all })
-call_written name args given true all e tells given_is is spelt = ap (λ n. name_text n ++ 32 ∷ args) (sym is ∙ sym (ap name_of (call_kept all e))) ∙ ap (λ t. name_text (name_of (call_of (with_answer all (call_of e) e))) ++ 32 ∷ t) (tells.0 refl)
+call_written name args given true all e tells given_is is spelt = ap (λ n. name_text n ++ 32 ∷ args) (sym is ∙ sym (ap name_of (call_kept all e))) ∙ ap
+    (λ t. name_text (name_of (call_of (with_answer all (call_of e) e))) ++ 32 ∷ t) (tells.0 refl)
 call_written name args given false all e tells given_is is spelt = ap (λ t. name_text name ++ 32 ∷ t) (sym given_is) ∙ spelt ∙ ap call_text (sym (call_kept all e))
 
-answer_written : (name : CallName) (answer said : List ℕ) (all : Bool) (e : Entry) → (IsTrue all ↔ (IsTrue (is_write name) × (answer ≡ codes "all"))) → said ≡ counted_answer all answer → said ≡ answer_text e
+answer_written : (name : CallName) (answer said : List ℕ) (all : Bool) (e : Entry) → (IsTrue all ↔ (IsTrue (is_write name) × (answer ≡ codes "all"))) →
+    said ≡ counted_answer all answer → said ≡ answer_text e
     → answer ≡ cond all (codes "all") (answer_text (with_answer all (call_of e) e))
 answer_written name answer said true e tells said_is spelt = (tells.0 refl).1
 answer_written name answer said false e tells said_is spelt = sym said_is ∙ spelt ∙ sym (answer_kept (call_of e) e)
@@ -361,14 +370,16 @@ with_arguments (CallFileRead name place asked) args has = ap (λ t. codes "fread
 says_spelt : (name : CallName) (args answer : List ℕ) (e : Entry) → Says name args answer e → IsSpelt (name_text name ++ 32 ∷ args) answer e
 says_spelt name args answer e says = (ap (λ n. name_text n ++ 32 ∷ args) (sym says.0) ∙ with_arguments (call_of e) args says.1, says.2)
 
-pub row_written : (name : CallName) (args answer given said : List ℕ) (starred all : Bool) (e : Entry) → (IsTrue starred ↔ (args ≡ codes "*")) → (IsTrue all ↔ (IsTrue (is_write name) × (answer ≡ codes "all")))
+pub row_written : (name : CallName) (args answer given said : List ℕ) (starred all : Bool) (e : Entry) → (IsTrue starred ↔ (args ≡ codes "*")) →
+    (IsTrue all ↔ (IsTrue (is_write name) × (answer ≡ codes "all")))
     → given ≡ given_args starred name args → said ≡ counted_answer all answer → Says name given said e
     → IsWritten (name_text name ++ 32 ∷ args) answer (record { entry = with_answer all (call_of e) e; starred = starred; all = all })
 row_written name args answer given said starred all e tells_star tells_all given_is said_is says =
     let spelt = says_spelt name given said e says in
     (call_written name args given starred all e tells_star given_is says.0 spelt.0, answer_written name answer said all e tells_all said_is spelt.1)
 
-pub row_readable : (name : CallName) (args answer given said : List ℕ) (starred all : Bool) (e : Entry) → name ≢ names.Now → (IsTrue all ↔ (IsTrue (is_write name) × (answer ≡ codes "all"))) → Says name given said e
+pub row_readable : (name : CallName) (args answer given said : List ℕ) (starred all : Bool) (e : Entry) → name ≢ names.Now →
+    (IsTrue all ↔ (IsTrue (is_write name) × (answer ≡ codes "all"))) → Says name given said e
     → (AnswersInRange e → AnswersInRange (with_answer all (call_of e) e)) → IsReadable (record { entry = with_answer all (call_of e) e; starred = starred; all = all })
 row_readable name args answer given said starred all e some tells says range = record {
   range = (subst InRange (sym (call_kept all e)) says.3.0, range says.3.1);

@@ -1,5 +1,6 @@
 -- What a World tells that went on by a line, or ceased, is what stands in its last line.
-use Rattle.std.proofs.Common.{◌≡◌, ℕ, zero, suc, ◌+◌, ◌^◌, ◌<◌, ◌≤◌, Bool, true, false, cond, List, [], ◌∷◌, length, take, get_or, Option, Some, None, refl, sym, ◌∙◌, ap, subst, arith, add-one, slice_get}
+use Rattle.std.proofs.Common.{◌≡◌, ℕ, zero, suc, ◌+◌, ◌^◌, ◌<◌, ◌≤◌, Bool, true, false, cond, List, [], ◌∷◌, length, take, get_or, Option, Some, None, refl, sym, ◌∙◌, ap, subst, arith}
+use Rattle.std.proofs.Common.{add-one, slice_get}
 use Rattle.std.specs.Option.{option_map}
 use Rattle.std.proofs.lemmas.Option.{slice_get-map}
 use Rattle.std.proofs.lemmas.List.Elements.{All-nil}
@@ -10,11 +11,17 @@ use Rattle.world_face.specs.declared.Got.{Got}
 use Rattle.world_face.specs.declared.Got.TheVariants.{From, NotYet as NothingGot, Failed as GetFailed}
 use Rattle.world_face.specs.declared.Waited.{Waited}
 use Rattle.world_face.specs.declared.Waited.TheVariants.{Ready, Stop as WaitStop, Failed as WaitFailed}
-use Rattle.world_face.specs.Journal.{Entry, call_of, Allowed, IsNumber, Leaves, LeavesGot, MayGet, MayRead, MayReadFile, MayWait, count_of, count_got, filled, filled_got, Now, Wait, LinkOpen, LinkRead, LinkWrite, Connect, Connected, Listen, Accept, TcpRead, TcpWrite, TcpEnd, Close, UdpOpen, UdpSend, UdpRecv, FileLen, FileRead, Call, CallNow, CallWait, CallLinkOpen, CallLinkRead, CallLinkWrite, CallConnect, CallConnected, CallListen, CallAccept, CallTcpRead, CallTcpWrite, CallTcpEnd, CallClose, CallUdpOpen, CallUdpSend, CallUdpRecv, CallFileLen, CallFileRead}
+use Rattle.world_face.specs.Journal.{Entry, call_of, Allowed, IsNumber, Leaves, LeavesGot, MayGet, MayRead, MayReadFile, MayWait, count_of, count_got, filled, filled_got, Now, Wait}
+use Rattle.world_face.specs.Journal.{LinkOpen, LinkRead, LinkWrite, Connect, Connected, Listen, Accept, TcpRead, TcpWrite, TcpEnd, Close, UdpOpen, UdpSend, UdpRecv, FileLen, FileRead}
+use Rattle.world_face.specs.Journal.{Call, CallNow, CallWait, CallLinkOpen, CallLinkRead, CallLinkWrite, CallConnect, CallConnected, CallListen, CallAccept, CallTcpRead, CallTcpWrite}
+use Rattle.world_face.specs.Journal.{CallTcpEnd, CallClose, CallUdpOpen, CallUdpSend, CallUdpRecv, CallFileLen, CallFileRead}
 use Rattle.world_face.specs.Limits.{most_ready, most_to_udp}
 use Rattle.world_face.specs.Tells.{Answers, Telling}
 use Rattle.replay.specs.declared.line.Stop.{Stop}
-use Rattle.replay.specs.declared.line.Stop.TheVariants.{Now as StopNow, Wait as StopWait, LinkOpenPath as StopPath, LinkOpenAt as StopAt, LinkRead as StopLinkRead, LinkWrite as StopLinkWrite, Connect as StopConnect, Connected as StopConnected, Listen as StopListen, Accept as StopAccept, TcpRead as StopTcpRead, TcpWrite as StopTcpWrite, TcpEnd as StopTcpEnd, Close as StopClose, UdpOpen as StopUdpOpen, UdpSend as StopUdpSend, UdpRecv as StopUdpRecv, FileLen as StopFileLen, FileRead as StopFileRead}
+use Rattle.replay.specs.declared.line.Stop.TheVariants.{Now as StopNow, Wait as StopWait, LinkOpenPath as StopPath, LinkOpenAt as StopAt, LinkRead as StopLinkRead}
+use Rattle.replay.specs.declared.line.Stop.TheVariants.{LinkWrite as StopLinkWrite, Connect as StopConnect, Connected as StopConnected, Listen as StopListen, Accept as StopAccept}
+use Rattle.replay.specs.declared.line.Stop.TheVariants.{TcpRead as StopTcpRead, TcpWrite as StopTcpWrite, TcpEnd as StopTcpEnd, Close as StopClose, UdpOpen as StopUdpOpen}
+use Rattle.replay.specs.declared.line.Stop.TheVariants.{UdpSend as StopUdpSend, UdpRecv as StopUdpRecv, FileLen as StopFileLen, FileRead as StopFileRead}
 use Rattle.replay.specs.declared.row.Row.{Row as ARow}
 use Rattle.replay.specs.Fitting.{Advances, Ceases, FitsNext, last_moment, moment_after}
 use Rattle.replay.specs.Last.{answer_by, answer_to, last_of, newest}
@@ -82,7 +89,8 @@ failed_call m (CallFileLen n) = refl
 failed_call m (CallFileRead n p k) = refl
 
 -- a failure is an answer that a World may give
-failed_allowed : (given : Stop) (octets : List ℕ) (wants : List Want) (m : ℕ) → IsNumber m → IsNumber (length octets) → InRange (call_at given octets wants) → Allowed (answer_by m None (call_at given octets wants))
+failed_allowed : (given : Stop) (octets : List ℕ) (wants : List Want) (m : ℕ) → IsNumber m → IsNumber (length octets) → InRange (call_at given octets wants) → Allowed
+    (answer_by m None (call_at given octets wants))
 failed_allowed StopNow o w m small few h = small
 failed_allowed (StopWait t) o w m small few h = (refl, h.1, h.0)
 failed_allowed StopPath o w m small few h = h
@@ -137,13 +145,17 @@ told_ceased old new given octets wants readable range few to =
     subst (λ (l : Option Entry). Answers (script_tells old) (script_tells new) (answer_by m l call)) (sym (none_last new to.dead)) told
 
 -- the line that was used up last
-last_line : (rows : List ARow) (used n : ℕ) (row : ARow) → used ≡ n + 1 → n < length rows → row ≡ get_or rows n row → newest (newest_onto used (entries_of (rows_of rows)) []) ≡ Some (entry_of row.line)
+last_line : (rows : List ARow) (used n : ℕ) (row : ARow) → used ≡ n + 1 → n < length rows → row ≡ get_or rows n row → newest
+    (newest_onto used (entries_of (rows_of rows)) []) ≡ Some (entry_of row.line)
 last_line rows used n row is lt at =
-    let here : slice_get (entries_of (rows_of rows)) n ≡ Some (entry_of row.line) = slice_get-map (λ (r : Row). r.entry) (rows_of rows) n ∙ ap (option_map (λ (r : Row). r.entry)) (row_at rows n row lt at) in
-    let more : newest_onto (n + 1) (entries_of (rows_of rows)) [] ≡ entry_of row.line ∷ newest_onto n (entries_of (rows_of rows)) [] = rw add-one (one_more n (entries_of (rows_of rows)) [] (entry_of row.line) here) in
+    let here : slice_get (entries_of (rows_of rows)) n ≡ Some (entry_of row.line) = slice_get-map (λ (r : Row). r.entry) (rows_of rows) n ∙ ap (option_map (λ (r : Row). r.entry))
+    (row_at rows n row lt at) in
+    let more : newest_onto (n + 1) (entries_of (rows_of rows)) [] ≡ entry_of row.line ∷ newest_onto n (entries_of (rows_of rows)) [] = rw add-one
+    (one_more n (entries_of (rows_of rows)) [] (entry_of row.line) here) in
     ap (λ (k : ℕ). newest (newest_onto k (entries_of (rows_of rows)) [])) is ∙ ap newest more
 
-pub a_line : (live : Bool) (rows : List ARow) (used n : ℕ) (row : ARow) → live ≡ true → used ≡ n + 1 → n < length rows → row ≡ get_or rows n row → Some (entry_of row.line) ≡ cond live (newest (newest_onto used (entries_of (rows_of rows)) [])) None
+pub a_line : (live : Bool) (rows : List ARow) (used n : ℕ) (row : ARow) → live ≡ true → used ≡ n + 1 → n < length rows → row ≡ get_or rows n row → Some
+    (entry_of row.line) ≡ cond live (newest (newest_onto used (entries_of (rows_of rows)) [])) None
 a_line live rows used n row is more lt at = sym (last_line rows used n row more lt at) ∙ sym (ap (λ (b : Bool). cond b (newest (newest_onto used (entries_of (rows_of rows)) [])) None) is)
 
 -- what a read brought has room where it was asked for
@@ -170,12 +182,14 @@ wait_fits wants WaitStop ready h = let none = ap length h in omega (arith, none)
 wait_fits wants WaitFailed ready h = let none = ap length h in omega (arith, none)
 
 -- and stands at the front
-pub read_told : (old new : Telling) (f : Io → List ℕ → Entry) (a b : Io) (from octets into : List ℕ) → a ≡ b → from ≡ octets → length octets ≡ count_of b → take (length from) into ≡ from → Answers old new (f b octets) → Answers old new (f a (filled a into))
+pub read_told : (old new : Telling) (f : Io → List ℕ → Entry) (a b : Io) (from octets into : List ℕ) → a ≡ b → from ≡ octets → length octets ≡ count_of b → take
+    (length from) into ≡ from → Answers old new (f b octets) → Answers old new (f a (filled a into))
 read_told old new f a b from octets into same brought many put told =
     let filled_is : filled a into ≡ octets = ap (λ (n : ℕ). take n into) (ap count_of same ∙ sym many ∙ ap length (sym brought)) ∙ put ∙ brought in
     subst (λ (x : Io). Answers old new (f x (filled a into))) (sym same) (subst (λ (o : List ℕ). Answers old new (f b o)) (sym filled_is) told)
 
-pub got_told : (old new : Telling) (f : Got → List ℕ → Entry) (a b : Got) (from octets into : List ℕ) → a ≡ b → from ≡ octets → length octets ≡ count_got b → take (length from) into ≡ from → Answers old new (f b octets) → Answers old new (f a (filled_got a into))
+pub got_told : (old new : Telling) (f : Got → List ℕ → Entry) (a b : Got) (from octets into : List ℕ) → a ≡ b → from ≡ octets → length octets ≡ count_got b → take
+    (length from) into ≡ from → Answers old new (f b octets) → Answers old new (f a (filled_got a into))
 got_told old new f a b from octets into same brought many put told =
     let filled_is : filled_got a into ≡ octets = ap (λ (n : ℕ). take n into) (ap count_got same ∙ sym many ∙ ap length (sym brought)) ∙ put ∙ brought in
     subst (λ (x : Got). Answers old new (f x (filled_got a into))) (sym same) (subst (λ (o : List ℕ). Answers old new (f b o)) (sym filled_is) told)

@@ -31,7 +31,8 @@ no_feed e h = fit_weaker is_line (is_other 10) line_no_feed (row_body e) (row_li
 pub no_line : (rest : List ℕ) → list_all (is_other 10) rest ≡ true → (e : Row) (more : List ℕ) → IsReadable e → rest ≢ row_text e ++ more
 no_line rest lacks e more h is = no_part 10 rest (row_body e) more lacks (is ∙ row_then e more)
 
-pub line_refused : (rest text after : List ℕ) → rest ≡ text ++ 10 ∷ after → list_all (is_other 10) text ≡ true → ((e : Row) → IsReadable e → text ++ 10 ∷ [] ≢ row_text e) → (e : Row) (more : List ℕ) → IsReadable e → rest ≢ row_text e ++ more
+pub line_refused : (rest text after : List ℕ) → rest ≡ text ++ 10 ∷ after → list_all (is_other 10) text ≡ true → ((e : Row) → IsReadable e → text ++ 10 ∷ [] ≢ row_text e) →
+    (e : Row) (more : List ℕ) → IsReadable e → rest ≢ row_text e ++ more
 line_refused rest text after split lacks refused e more h is =
     let first = (parts_once 10 (is_other 10) refl text (row_body e) after more lacks (no_feed e h) (sym split ∙ is ∙ row_then e more)).0 in
     refused e h (ap (λ t. t ++ 10 ∷ []) first ∙ sym (row_form e))
@@ -39,7 +40,8 @@ line_refused rest text after split lacks refused e more h is =
 some_left : (rest : List ℕ) → 0 < length rest → rest ≢ []
 some_left rest some is = omega (arith, some, ap length is)
 
-pub first_unread : (octets rest : List ℕ) (rows : List ARow) (n : ℕ) → octets ≡ schedule_text (rows_of rows) ++ rest → AreReadable (rows_of rows) → n ≡ length rows + 1 → 0 < length rest → ((e : Row) (more : List ℕ) → IsReadable e → rest ≢ row_text e ++ more) → IsFirstUnread octets n
+pub first_unread : (octets rest : List ℕ) (rows : List ARow) (n : ℕ) → octets ≡ schedule_text (rows_of rows) ++ rest → AreReadable (rows_of rows) → n ≡ length rows + 1 →
+    0 < length rest → ((e : Row) (more : List ℕ) → IsReadable e → rest ≢ row_text e ++ more) → IsFirstUnread octets n
 first_unread octets rest rows n is readable number some refused = record {
   before = rows_of rows;
   readable = readable;
@@ -75,14 +77,17 @@ all_said : (es fs : List Row) (s : List ℕ) → AreReadable es → AreReadable 
 all_said [] [] s he hf ns some is = some (sym is)
 all_said [] (f ∷ fs) s he hf ns some is = some_row f (schedule_text fs ++ s) (is ∙ append_assoc (row_text f) (schedule_text fs) s)
 all_said (e ∷ es) [] s he hf ns some is = ns e (schedule_text es) he.0 (sym is)
-all_said (e ∷ es) (f ∷ fs) s he hf ns some is = all_said es fs s he.1 hf.1 ns some (after_line e f (schedule_text es) (schedule_text fs ++ s) he.0 hf.0 (is ∙ append_assoc (row_text f) (schedule_text fs) s))
+all_said (e ∷ es) (f ∷ fs) s he hf ns some is = all_said es fs s he.1 hf.1 ns some (after_line e f (schedule_text es) (schedule_text fs ++ s) he.0 hf.0
+    (is ∙ append_assoc (row_text f) (schedule_text fs) s))
 
 -- where each line has a reading none is the first that has none
 pub all_read : (schedule : List ℕ) (es : List Row) (n : ℕ) → schedule_text es ≡ schedule → AreReadable es → IsFirstUnread schedule n → ⊥
 all_read schedule es n is readable first = all_said es first.before first.rest readable first.readable first.none first.left (is ∙ first.text)
 
 -- a fault that names the first such line names it
-pub named_line : {X Y : Type 0} (schedule : List ℕ) (fault : ScriptFault) → ◌≢◌ {A = Result X ScriptFault} (Err fault) (Err TooLarge) → ((m : ℕ) → ◌≡◌ {A = Result X ScriptFault} (Err fault) (Err (AtLine m)) → IsFirstUnread schedule m) → (n : ℕ) → IsFirstUnread schedule n → ◌≡◌ {A = Result Y ScriptFault} (Err fault) (Err (AtLine n)) ⊎ ◌≡◌ {A = Result Y ScriptFault} (Err fault) (Err NoMemory)
+pub named_line : {X Y : Type 0} (schedule : List ℕ) (fault : ScriptFault) → ◌≢◌ {A = Result X ScriptFault} (Err fault) (Err TooLarge) →
+    ((m : ℕ) → ◌≡◌ {A = Result X ScriptFault} (Err fault) (Err (AtLine m)) → IsFirstUnread schedule m) → (n : ℕ) → IsFirstUnread schedule n → ◌≡◌ {A = Result Y ScriptFault}
+    (Err fault) (Err (AtLine n)) ⊎ ◌≡◌ {A = Result Y ScriptFault} (Err fault) (Err NoMemory)
 named_line schedule (AtLine m) other names n first = inl (ap (λ k. Err (AtLine k)) (one_first schedule m n (names m refl) first))
 named_line schedule TooLarge other names n first = absurd (other refl)
 named_line schedule NoMemory other names n first = inr refl

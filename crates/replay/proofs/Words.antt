@@ -1,5 +1,6 @@
 -- Of what octets the parts of a line are.
-use Rattle.std.proofs.Common.{◌≡◌, inl, inr, ℕ, ◌^◌, ◌<◌, Bool, true, false, ◌&&◌, ◌||◌, List, [], ◌∷◌, ◌++◌, length, get_or, decimal, Option, Some, None, Result, codes, refl, sym, ◌∙◌, ap, arith, append_assoc}
+use Rattle.std.proofs.Common.{◌≡◌, inl, inr, ℕ, ◌^◌, ◌<◌, Bool, true, false, ◌&&◌, ◌||◌, List, [], ◌∷◌, ◌++◌, length, get_or, decimal, Option, Some, None, Result, codes, refl, sym, ◌∙◌}
+use Rattle.std.proofs.Common.{ap, arith, append_assoc}
 use Rattle.std.specs.List.{list_all}
 use Rattle.std.specs.Result.{result_unwrap_or}
 use Rattle.std.proofs.lemmas.List.Elements.{All-get_or, All-append, All-cons, All-nil}
@@ -68,9 +69,11 @@ direction_fits p letters false false = refl
 pub want_form : (w : Want) → want_text w ≡ who_text w.of ++ 58 ∷ direction_text w.read w.write
 want_form w = append_assoc (who_text w.of) (58 ∷ []) (direction_text w.read w.write)
 
-pub want_fits : (p : ℕ → Bool) → ((c : ℕ) → is_digit c ≡ true → p c ≡ true) → list_all p (codes "linkut") ≡ true → p 58 ≡ true → list_all p (codes "rw") ≡ true → (w : Want) → is_who w.of ≡ true → list_all p (want_text w) ≡ true
+pub want_fits : (p : ℕ → Bool) → ((c : ℕ) → is_digit c ≡ true → p c ≡ true) → list_all p (codes "linkut") ≡ true → p 58 ≡ true → list_all p (codes "rw") ≡ true → (w : Want) →
+    is_who w.of ≡ true → list_all p (want_text w) ≡ true
 want_fits p digits letters colon ways w h =
-    rw (want_form w) (fit_append p (who_text w.of) (58 ∷ direction_text w.read w.write) (who_fits p digits letters w.of h) (pair (p 58) (list_all p (direction_text w.read w.write)) colon (direction_fits p ways w.read w.write)))
+    rw (want_form w) (fit_append p (who_text w.of) (58 ∷ direction_text w.read w.write) (who_fits p digits letters w.of h)
+    (pair (p 58) (list_all p (direction_text w.read w.write)) colon (direction_fits p ways w.read w.write)))
 
 -- the parts of a list of wants
 pub head_of : (w : Want) (ws : List Want) → are_wants (w ∷ ws) ≡ true → (is_who w.of ≡ true) × (are_wants ws ≡ true)
@@ -78,7 +81,8 @@ head_of w ws h = let a = both ((w.read || w.write) && is_who w.of) (are_wants ws
 
 pub joined_each : (w : Want) (ws : List Want) → joined_text (w ∷ ws) ++ 44 ∷ [] ≡ each_text (w ∷ ws)
 joined_each w [] = refl
-joined_each w (v ∷ vs) = append_assoc (want_text w ++ 44 ∷ []) (joined_text (v ∷ vs)) (44 ∷ []) ∙ append_assoc (want_text w) (44 ∷ []) (joined_text (v ∷ vs) ++ 44 ∷ []) ∙ ap (λ t. want_text w ++ 44 ∷ t) (joined_each v vs)
+joined_each w (v ∷ vs) = append_assoc (want_text w ++ 44 ∷ []) (joined_text (v ∷ vs)) (44 ∷ []) ∙ append_assoc (want_text w) (44 ∷ []) (joined_text (v ∷ vs) ++ 44 ∷ []) ∙ ap
+    (λ t. want_text w ++ 44 ∷ t) (joined_each v vs)
 
 pub joined_word : (w : Want) (ws : List Want) → are_wants (w ∷ ws) ≡ true → list_all is_word (joined_text (w ∷ ws)) ≡ true
 joined_word w [] h = want_fits is_word digit_is_word refl refl refl w (head_of w [] h).0
@@ -96,7 +100,8 @@ who_first (Tcp s) more is = omega arith
 
 pub no_dash : (w : Want) (ws : List Want) → codes "-" ≡ joined_text (w ∷ ws) → ⊥
 no_dash w ws is =
-    let each : codes "-," ≡ who_text w.of ++ (58 ∷ direction_text w.read w.write ++ 44 ∷ each_text ws) = ap (λ t. t ++ 44 ∷ []) is ∙ joined_each w ws ∙ ap (λ t. t ++ 44 ∷ each_text ws) (want_form w) ∙ append_assoc (who_text w.of) (58 ∷ direction_text w.read w.write) (44 ∷ each_text ws) in
+    let each : codes "-," ≡ who_text w.of ++ (58 ∷ direction_text w.read w.write ++ 44 ∷ each_text ws) = ap (λ t. t ++ 44 ∷ []) is ∙ joined_each w ws ∙ ap
+    (λ t. t ++ 44 ∷ each_text ws) (want_form w) ∙ append_assoc (who_text w.of) (58 ∷ direction_text w.read w.write) (44 ∷ each_text ws) in
     who_first w.of (58 ∷ direction_text w.read w.write ++ 44 ∷ each_text ws) (sym (ap first each))
 
 pub wants_word : (ws : List Want) → are_wants ws ≡ true → list_all is_word (wants_text ws) ≡ true
@@ -124,10 +129,12 @@ pub place_octets : (at : Place) → IsPlace at → AreOctets (place_text at)
 place_octets (AtPath path) h = All-append (λ octet. octet < 2 ^ 8) (codes "unix:") path (word_octet (codes "unix:") refl) h.1
 place_octets (AtEndpoint e) h =
     All-append (λ octet. octet < 2 ^ 8) (codes "tcp:") (endpoint_text e) (word_octet (codes "tcp:") refl)
-    (word_octet (endpoint_text e) (rw (endpoint_form e) (fit_append is_small (address e.addr.0) (58 ∷ decimal e.port) (address_fits is_small digit_is_small refl e.addr.0 h.0) (fit_weaker is_digit is_small digit_is_small (decimal e.port) (decimal_digits e.port (omega (arith, h.1)))))))
+    (word_octet (endpoint_text e) (rw (endpoint_form e) (fit_append is_small (address e.addr.0) (58 ∷ decimal e.port) (address_fits is_small digit_is_small refl e.addr.0 h.0)
+    (fit_weaker is_digit is_small digit_is_small (decimal e.port) (decimal_digits e.port (omega (arith, h.1)))))))
 
 pub same_encoded : (xs ys : List ℕ) → AreOctets xs → AreOctets ys → encode_lower xs ≡ encode_lower ys → xs ≡ ys
-same_encoded xs ys hx hy is = ap (λ (r : Result (List ℕ) FromHexError). result_unwrap_or r []) (sym (decode_of-encode_lower xs (bytes xs hx)) ∙ ap decode_of is ∙ decode_of-encode_lower ys (bytes ys hy))
+same_encoded xs ys hx hy is = ap (λ (r : Result (List ℕ) FromHexError). result_unwrap_or r []) (sym (decode_of-encode_lower xs (bytes xs hx)) ∙ ap decode_of is
+    ∙ decode_of-encode_lower ys (bytes ys hy))
 
 pub one_dash : (x : ℕ) (xs : List ℕ) → codes "-" ≡ encode_lower (x ∷ xs) → ⊥
 one_dash x xs is = omega (arith, length-encode_with lower_digits (x ∷ xs), ap length is)

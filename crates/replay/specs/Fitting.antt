@@ -3,7 +3,11 @@ use Rattle.std.specs.Prelude.{◌≡◌, ℕ, ◌+◌, ◌<◌, ◌||◌, Bool, 
 use Rattle.std.specs.Option.{option_map}
 use Rattle.world_face.specs.declared.Io.{Io}
 use Rattle.world_face.specs.declared.Io.TheVariants.{Done}
-use Rattle.world_face.specs.Journal.{Entry, Now as EntryNow, Wait as EntryWait, LinkOpen as EntryLinkOpen, LinkRead as EntryLinkRead, LinkWrite as EntryLinkWrite, Connect as EntryConnect, Connected as EntryConnected, Listen as EntryListen, Accept as EntryAccept, TcpRead as EntryTcpRead, TcpWrite as EntryTcpWrite, TcpEnd as EntryTcpEnd, Close as EntryClose, UdpOpen as EntryUdpOpen, UdpSend as EntryUdpSend, UdpRecv as EntryUdpRecv, FileLen as EntryFileLen, FileRead as EntryFileRead, Call, CallNow, CallWait, CallLinkOpen, CallLinkRead, CallLinkWrite, CallConnect, CallConnected, CallListen, CallAccept, CallTcpRead, CallTcpWrite, CallTcpEnd, CallClose, CallUdpOpen, CallUdpSend, CallUdpRecv, CallFileLen, CallFileRead, call_of, Allowed}
+use Rattle.world_face.specs.Journal.{Entry, Now as EntryNow, Wait as EntryWait, LinkOpen as EntryLinkOpen, LinkRead as EntryLinkRead, LinkWrite as EntryLinkWrite, Connect as EntryConnect}
+use Rattle.world_face.specs.Journal.{Connected as EntryConnected, Listen as EntryListen, Accept as EntryAccept, TcpRead as EntryTcpRead, TcpWrite as EntryTcpWrite, TcpEnd as EntryTcpEnd}
+use Rattle.world_face.specs.Journal.{Close as EntryClose, UdpOpen as EntryUdpOpen, UdpSend as EntryUdpSend, UdpRecv as EntryUdpRecv, FileLen as EntryFileLen, FileRead as EntryFileRead}
+use Rattle.world_face.specs.Journal.{Call, CallNow, CallWait, CallLinkOpen, CallLinkRead, CallLinkWrite, CallConnect, CallConnected, CallListen, CallAccept, CallTcpRead, CallTcpWrite}
+use Rattle.world_face.specs.Journal.{CallTcpEnd, CallClose, CallUdpOpen, CallUdpSend, CallUdpRecv, CallFileLen, CallFileRead, call_of, Allowed}
 use Rattle.world_face.specs.Tells.{Counts}
 use Rattle.world_face.specs.Faults.{link_failed, wait_failed, socket_failed, file_failed}
 use Rattle.world_face.specs.Limits.{last_count}
@@ -12,7 +16,8 @@ use Rattle.replay.specs.Script.{Script, kept_of}
 use Rattle.replay.specs.Names.{name_of}
 use Rattle.replay.specs.declared.Divergence.{Divergence}
 use Rattle.replay.specs.declared.CallName.{CallName}
-use Rattle.replay.specs.declared.CallName.TheVariants.{Now, Wait, LinkOpen, LinkRead, LinkWrite, Connect, Connected, Listen, Accept, TcpRead, TcpWrite, TcpEnd, Close, UdpOpen, UdpSend, UdpRecv, FileLen, FileRead}
+use Rattle.replay.specs.declared.CallName.TheVariants.{Now, Wait, LinkOpen, LinkRead, LinkWrite, Connect, Connected, Listen, Accept, TcpRead, TcpWrite, TcpEnd, Close, UdpOpen, UdpSend}
+use Rattle.replay.specs.declared.CallName.TheVariants.{UdpRecv, FileLen, FileRead}
 
 -- a line of this call: of its name, and with its arguments where no star stands for them
 pub record IsOf (row : Row) (call : Call) : Type 0 where
@@ -143,7 +148,12 @@ pub record Ceases (old new : Script) (call : Call) : Type 0 where
 
 -- where the schedule was left: the line after those used up, the call that fitted none, and the call of that line
 abbrev pub divergence_of : Script → Option Divergence
-divergence_of script = option_map (λ call. record { line = script.used + 1; made = name_of call; wanted = option_map (λ (row : Row). name_of (call_of row.entry)) (slice_get script.lines script.used) }) script.stop
+divergence_of script = option_map (λ call. record {
+  line = script.used + 1;
+  made = name_of call;
+  wanted = option_map (λ (row : Row). name_of (call_of row.entry))
+      (slice_get script.lines script.used);
+}) script.stop
 
 -- the moment after an entry, and after a record of calls
 abbrev pub moment_after : Entry → ℕ → ℕ

@@ -2,14 +2,22 @@
 use Rattle.std.specs.Prelude.{ℕ, List, map, Option, Some, None}
 use Rattle.net_octets.specs.declared.Endpoint.{Endpoint}
 use Rattle.poll_list.specs.declared.Want.{Want}
-use Rattle.world_face.specs.Journal.{Place, AtPath, AtEndpoint, Entry, Now, Wait, LinkOpen, LinkRead, LinkWrite, Connect, Connected, Listen, Accept, TcpRead, TcpWrite, TcpEnd, Close, UdpOpen, UdpSend, UdpRecv, FileLen, FileRead, Call, CallNow, CallWait, CallLinkOpen, CallLinkRead, CallLinkWrite, CallConnect, CallConnected, CallListen, CallAccept, CallTcpRead, CallTcpWrite, CallTcpEnd, CallClose, CallUdpOpen, CallUdpSend, CallUdpRecv, CallFileLen, CallFileRead}
+use Rattle.world_face.specs.Journal.{Place, AtPath, AtEndpoint, Entry, Now, Wait, LinkOpen, LinkRead, LinkWrite, Connect, Connected, Listen, Accept, TcpRead, TcpWrite, TcpEnd, Close}
+use Rattle.world_face.specs.Journal.{UdpOpen, UdpSend, UdpRecv, FileLen, FileRead, Call, CallNow, CallWait, CallLinkOpen, CallLinkRead, CallLinkWrite, CallConnect, CallConnected}
+use Rattle.world_face.specs.Journal.{CallListen, CallAccept, CallTcpRead, CallTcpWrite, CallTcpEnd, CallClose, CallUdpOpen, CallUdpSend, CallUdpRecv, CallFileLen, CallFileRead}
 use Rattle.replay.specs.Rows.{Row}
 use Rattle.replay.specs.declared.line.Seat.{Seat}
 use Rattle.replay.specs.declared.line.Line.{Line}
-use Rattle.replay.specs.declared.line.Line.TheVariants.{Now as LineNow, Wait as LineWait, LinkOpen as LineLinkOpen, LinkRead as LineLinkRead, LinkWrite as LineLinkWrite, Connect as LineConnect, Connected as LineConnected, Listen as LineListen, Accept as LineAccept, TcpRead as LineTcpRead, TcpWrite as LineTcpWrite, TcpEnd as LineTcpEnd, Close as LineClose, UdpOpen as LineUdpOpen, UdpSend as LineUdpSend, UdpRecv as LineUdpRecv, FileLen as LineFileLen, FileRead as LineFileRead}
+use Rattle.replay.specs.declared.line.Line.TheVariants.{Now as LineNow, Wait as LineWait, LinkOpen as LineLinkOpen, LinkRead as LineLinkRead, LinkWrite as LineLinkWrite}
+use Rattle.replay.specs.declared.line.Line.TheVariants.{Connect as LineConnect, Connected as LineConnected, Listen as LineListen, Accept as LineAccept, TcpRead as LineTcpRead}
+use Rattle.replay.specs.declared.line.Line.TheVariants.{TcpWrite as LineTcpWrite, TcpEnd as LineTcpEnd, Close as LineClose, UdpOpen as LineUdpOpen, UdpSend as LineUdpSend}
+use Rattle.replay.specs.declared.line.Line.TheVariants.{UdpRecv as LineUdpRecv, FileLen as LineFileLen, FileRead as LineFileRead}
 use Rattle.replay.specs.declared.row.Row.{Row as ARow}
 use Rattle.replay.specs.declared.line.Stop.{Stop}
-use Rattle.replay.specs.declared.line.Stop.TheVariants.{Now as StopNow, Wait as StopWait, LinkOpenPath as StopPath, LinkOpenAt as StopAt, LinkRead as StopLinkRead, LinkWrite as StopLinkWrite, Connect as StopConnect, Connected as StopConnected, Listen as StopListen, Accept as StopAccept, TcpRead as StopTcpRead, TcpWrite as StopTcpWrite, TcpEnd as StopTcpEnd, Close as StopClose, UdpOpen as StopUdpOpen, UdpSend as StopUdpSend, UdpRecv as StopUdpRecv, FileLen as StopFileLen, FileRead as StopFileRead}
+use Rattle.replay.specs.declared.line.Stop.TheVariants.{Now as StopNow, Wait as StopWait, LinkOpenPath as StopPath, LinkOpenAt as StopAt, LinkRead as StopLinkRead}
+use Rattle.replay.specs.declared.line.Stop.TheVariants.{LinkWrite as StopLinkWrite, Connect as StopConnect, Connected as StopConnected, Listen as StopListen, Accept as StopAccept}
+use Rattle.replay.specs.declared.line.Stop.TheVariants.{TcpRead as StopTcpRead, TcpWrite as StopTcpWrite, TcpEnd as StopTcpEnd, Close as StopClose, UdpOpen as StopUdpOpen}
+use Rattle.replay.specs.declared.line.Stop.TheVariants.{UdpSend as StopUdpSend, UdpRecv as StopUdpRecv, FileLen as StopFileLen, FileRead as StopFileRead}
 
 -- an endpoint, or else a path
 abbrev pub place_of_two : Option Endpoint → List ℕ → Place

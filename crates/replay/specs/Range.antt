@@ -8,7 +8,10 @@ use Rattle.world_face.specs.declared.Got.{Got}
 use Rattle.world_face.specs.declared.Got.TheVariants.{From, NotYet as NothingGot, Failed as GetFailed}
 use Rattle.world_face.specs.declared.Waited.{Waited}
 use Rattle.world_face.specs.declared.Waited.TheVariants.{Ready, Stop, Failed as WaitFailed}
-use Rattle.world_face.specs.Journal.{AreOctets, IsEndpoint, IsNumber, IsPlace, IsTimeout, MayAccept, MayMeasure, Leaves, LeavesGot, Entry, Now, Wait, LinkOpen, LinkRead, LinkWrite, Connect, Connected, Listen, Accept, TcpRead, TcpWrite, TcpEnd, Close, UdpOpen, UdpSend, UdpRecv, FileLen, FileRead, Call, call_of, CallNow, CallWait, CallLinkOpen, CallLinkRead, CallLinkWrite, CallConnect, CallConnected, CallListen, CallAccept, CallTcpRead, CallTcpWrite, CallTcpEnd, CallClose, CallUdpOpen, CallUdpSend, CallUdpRecv, CallFileLen, CallFileRead}
+use Rattle.world_face.specs.Journal.{AreOctets, IsEndpoint, IsNumber, IsPlace, IsTimeout, MayAccept, MayMeasure, Leaves, LeavesGot, Entry, Now, Wait, LinkOpen, LinkRead, LinkWrite}
+use Rattle.world_face.specs.Journal.{Connect, Connected, Listen, Accept, TcpRead, TcpWrite, TcpEnd, Close, UdpOpen, UdpSend, UdpRecv, FileLen, FileRead, Call, call_of, CallNow, CallWait}
+use Rattle.world_face.specs.Journal.{CallLinkOpen, CallLinkRead, CallLinkWrite, CallConnect, CallConnected, CallListen, CallAccept, CallTcpRead, CallTcpWrite, CallTcpEnd, CallClose}
+use Rattle.world_face.specs.Journal.{CallUdpOpen, CallUdpSend, CallUdpRecv, CallFileLen, CallFileRead}
 
 -- each argument is in the range of its type, and each want has a direction
 abbrev pub InRange : Call → Type 0

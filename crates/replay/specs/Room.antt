@@ -5,7 +5,10 @@ use Rattle.world_face.specs.Limits.{most_name, most_to_flow, most_to_link, most_
 use Rattle.replay.specs.declared.line.Line.{Line}
 use Rattle.replay.specs.declared.line.Line.TheVariants.{Wait, LinkOpen, LinkWrite, TcpWrite, UdpSend, FileLen, FileRead}
 use Rattle.replay.specs.declared.line.Stop.{Stop}
-use Rattle.replay.specs.declared.line.Stop.TheVariants.{Now as StopNow, Wait as StopWait, LinkOpenPath as StopPath, LinkOpenAt as StopAt, LinkRead as StopLinkRead, LinkWrite as StopLinkWrite, Connect as StopConnect, Connected as StopConnected, Listen as StopListen, Accept as StopAccept, TcpRead as StopTcpRead, TcpWrite as StopTcpWrite, TcpEnd as StopTcpEnd, Close as StopClose, UdpOpen as StopUdpOpen, UdpSend as StopUdpSend, UdpRecv as StopUdpRecv, FileLen as StopFileLen, FileRead as StopFileRead}
+use Rattle.replay.specs.declared.line.Stop.TheVariants.{Now as StopNow, Wait as StopWait, LinkOpenPath as StopPath, LinkOpenAt as StopAt, LinkRead as StopLinkRead}
+use Rattle.replay.specs.declared.line.Stop.TheVariants.{LinkWrite as StopLinkWrite, Connect as StopConnect, Connected as StopConnected, Listen as StopListen, Accept as StopAccept}
+use Rattle.replay.specs.declared.line.Stop.TheVariants.{TcpRead as StopTcpRead, TcpWrite as StopTcpWrite, TcpEnd as StopTcpEnd, Close as StopClose, UdpOpen as StopUdpOpen}
+use Rattle.replay.specs.declared.line.Stop.TheVariants.{UdpSend as StopUdpSend, UdpRecv as StopUdpRecv, FileLen as StopFileLen, FileRead as StopFileRead}
 use Rattle.replay.specs.declared.row.Row.{Row}
 
 -- as many octets and wants as a call may bring

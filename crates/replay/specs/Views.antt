@@ -1,5 +1,6 @@
 -- What a line stands for that lies elsewhere.
-use Rattle.world_face.specs.Journal.{Entry, Now, Wait, LinkOpen, LinkRead, LinkWrite, Connect, Connected, Listen, Accept, TcpRead, TcpWrite, TcpEnd, Close, UdpOpen, UdpSend, UdpRecv, FileLen, FileRead}
+use Rattle.world_face.specs.Journal.{Entry, Now, Wait, LinkOpen, LinkRead, LinkWrite, Connect, Connected, Listen, Accept, TcpRead, TcpWrite, TcpEnd, Close, UdpOpen, UdpSend, UdpRecv}
+use Rattle.world_face.specs.Journal.{FileLen, FileRead}
 use Rattle.replay.specs.Lines.{place_of_two}
 use Rattle.replay.specs.declared.view.LineView.{LineView}
 use Rattle.replay.specs.declared.view.LineView.TheVariants as view

@@ -12,6 +12,8 @@ use crate::line::Seat;
 use crate::reported::Reported;
 use world_face::{Endpoint, Got, Io, MOST_READY, Waited, Want, Who};
 
+/// Whether a read of the link or a connection that asked for `asked` octets may be answered so: a Done tells 1 to `asked` of them, and any other
+/// answer may be given.
 pub fn may_read(asked: usize, answer: Io) -> bool
     ensures { IsTrue result ↔ MayRead asked answer }
 {
@@ -21,6 +23,7 @@ pub fn may_read(asked: usize, answer: Io) -> bool
     }
 }
 
+/// Whether a read of a file that asked for `asked` octets may be answered so: a Done tells 1 to `asked` of them, and NotYet is never given.
 pub fn may_read_file(asked: usize, answer: Io) -> bool
     ensures { IsTrue result ↔ MayReadFile asked answer }
 {
@@ -31,6 +34,7 @@ pub fn may_read_file(asked: usize, answer: Io) -> bool
     }
 }
 
+/// Whether a write of `offered` octets may be answered so: a Done tells 1 to `offered` of them, and End is never given.
 pub fn may_write(offered: usize, answer: Io) -> bool
     ensures { IsTrue result ↔ MayWrite offered answer }
 {
@@ -41,6 +45,7 @@ pub fn may_write(offered: usize, answer: Io) -> bool
     }
 }
 
+/// Whether a call that takes a datagram into `asked` octets may be answered so: one that came has at most so many, and may have none.
 pub fn may_get(asked: usize, answer: Got) -> bool
     ensures { IsTrue result ↔ MayGet asked answer }
 {
@@ -50,6 +55,7 @@ pub fn may_get(asked: usize, answer: Got) -> bool
     }
 }
 
+/// Whether the octets are the same.
 pub fn same(a: &[u8], b: &[u8]) -> bool
     ensures { IsTrue result ↔ (a.now ≡ b.now) }
 {
@@ -62,6 +68,7 @@ fn same_want(a: &Want, b: &Want) -> bool
     *a == *b
 }
 
+/// Whether the wants are the same, in the same order.
 pub fn same_wants(a: &[Want], b: &[Want]) -> bool
     ensures { IsTrue result ↔ (a.now ≡ b.now) }
 {
@@ -94,6 +101,7 @@ fn has_direction(want: Want) -> bool
     ensures value { result ≡ (want.read || want.write) }
     ensures of { IsTrue (is_who want.of) }
 {
+    // for the prover: the number of a socket is in its range.
     match want.of {
         Who::Link => {}
         Who::Listener(_socket) | Who::Udp(_socket) | Who::Tcp(_socket) => {}
@@ -101,7 +109,7 @@ fn has_direction(want: Want) -> bool
     want.read || want.write
 }
 
-// The number of a socket.
+/// The number of a listener, a connection or a socket for datagrams; None for the link.
 pub fn number_of(who: &Who) -> Option<u64>
     ensures { result ≡ number_of who.now }
 {
@@ -145,6 +153,8 @@ fn differ(wants: &[Want]) -> bool
     true
 }
 
+/// Whether a wait for these wants may be answered so. Ready comes with at most `MOST_READY` items, each with a direction, and among them no number
+/// of a socket twice, nor the link, unless that is so among the wants. Any other answer comes with no item.
 pub fn may_wait(wants: &[Want], answer: Waited, ready: &Reported) -> bool
     ensures { IsTrue result ↔ MayWait wants.now answer ready.now }
 {
@@ -157,6 +167,7 @@ pub fn may_wait(wants: &[Want], answer: Waited, ready: &Reported) -> bool
     }
 }
 
+/// Whether the link is at this path; never where it is at an endpoint.
 pub fn is_path(seat: &Seat, path: &[u8]) -> bool
     ensures { IsTrue result ↔ (place_at seat.now ≡ AtPath path.now) }
 {
@@ -166,6 +177,7 @@ pub fn is_path(seat: &Seat, path: &[u8]) -> bool
     }
 }
 
+/// Whether the link is at this endpoint; never where it is at a path.
 pub fn is_endpoint(seat: &Seat, at: Endpoint) -> bool
     ensures { IsTrue result ↔ (place_at seat.now ≡ AtEndpoint at) }
 {

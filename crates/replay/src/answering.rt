@@ -6,6 +6,7 @@ ghost use Rattle.replay.specs.Last.{accepted_of, got_of, io_of, joined_of, made_
 use crate::line::Line;
 use world_face::{Accepted, FileSize, Got, Io, Joined, Made, Sent, Waited, Want};
 
+/// What the line answers to a wait; Failed where there is no line, or it is of another call.
 pub fn waited(line: Option<&Line>) -> Waited
     ensures { result ≡ waited_of (option_map entry_of (option_copied line.entry)) }
 {
@@ -18,7 +19,7 @@ pub fn waited(line: Option<&Line>) -> Waited
     }
 }
 
-// What a wait reports as ready.
+/// What the line of a wait reports as ready; nothing where there is no line, or it is of another call.
 pub fn reported(line: Option<&Line>) -> &[Want]
     ensures { result.now ≡ ready_of (option_map entry_of (option_copied line.entry)) }
 {
@@ -31,6 +32,8 @@ pub fn reported(line: Option<&Line>) -> &[Want]
     }
 }
 
+/// What the line answers to a call that opens the link or a socket, or that ends the writing direction of a connection; Failed where there is no
+/// line, or it is of another call.
 pub fn made(line: Option<&Line>) -> Made
     ensures { result ≡ made_of (option_map entry_of (option_copied line.entry)) }
 {
@@ -47,6 +50,8 @@ pub fn made(line: Option<&Line>) -> Made
     }
 }
 
+/// What the line answers to a read or a write of the link or a connection, or to a read of a file; Failed where there is no line, or it is of
+/// another call.
 pub fn io(line: Option<&Line>) -> Io
     ensures { result ≡ io_of (option_map entry_of (option_copied line.entry)) }
 {
@@ -63,7 +68,7 @@ pub fn io(line: Option<&Line>) -> Io
     }
 }
 
-// The octets that a read or a datagram brought.
+/// The octets that the line of a read or of a datagram brought; none where there is no line, or it is of another call.
 pub fn brought(line: Option<&Line>) -> &[u8]
     ensures { result.now ≡ octets_of (option_map entry_of (option_copied line.entry)) }
 {
@@ -79,6 +84,7 @@ pub fn brought(line: Option<&Line>) -> &[u8]
     }
 }
 
+/// What the line answers to `connected`; Failed where there is no line, or it is of another call.
 pub fn joined(line: Option<&Line>) -> Joined
     ensures { result ≡ joined_of (option_map entry_of (option_copied line.entry)) }
 {
@@ -91,6 +97,7 @@ pub fn joined(line: Option<&Line>) -> Joined
     }
 }
 
+/// What the line answers to `accept`; Failed where there is no line, or it is of another call.
 pub fn accepted(line: Option<&Line>) -> Accepted
     ensures { result ≡ accepted_of (option_map entry_of (option_copied line.entry)) }
 {
@@ -103,6 +110,7 @@ pub fn accepted(line: Option<&Line>) -> Accepted
     }
 }
 
+/// What the line answers to a datagram that is sent; Failed where there is no line, or it is of another call.
 pub fn sent(line: Option<&Line>) -> Sent
     ensures { result ≡ sent_of (option_map entry_of (option_copied line.entry)) }
 {
@@ -115,6 +123,7 @@ pub fn sent(line: Option<&Line>) -> Sent
     }
 }
 
+/// What the line answers to a call that takes a datagram; Failed where there is no line, or it is of another call.
 pub fn got(line: Option<&Line>) -> Got
     ensures { result ≡ got_of (option_map entry_of (option_copied line.entry)) }
 {
@@ -127,6 +136,7 @@ pub fn got(line: Option<&Line>) -> Got
     }
 }
 
+/// What the line answers to the question for a file's length; Failed where there is no line, or it is of another call.
 pub fn size(line: Option<&Line>) -> FileSize
     ensures { result ≡ size_of (option_map entry_of (option_copied line.entry)) }
 {

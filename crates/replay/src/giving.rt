@@ -17,6 +17,7 @@ use crate::row::{Row, wrote};
 use std::alloc::AllocError;
 use world_face::{MOST_NAME, MOST_TO_FLOW, MOST_TO_LINK, MOST_TO_UDP, MOST_WANTS, Want};
 
+/// Holds just these octets from now on, for which there is room already.
 pub fn keep(into: &mut Vec<u8>, from: &[u8])
     requires { length from.now ≤ vec_capacity into.old }
     ensures items { into.new.items ≡ from.now }
@@ -26,6 +27,7 @@ pub fn keep(into: &mut Vec<u8>, from: &[u8])
     let _ = into.extend_from_slice(from);
 }
 
+/// Holds just these wants from now on, for which there is room already.
 pub fn keep_wants(into: &mut Vec<Want>, from: &[Want])
     requires { length from.now ≤ vec_capacity into.old }
     ensures items { into.new.items ≡ from.now }
@@ -274,7 +276,8 @@ fn room_of(name: CallName) -> u64
 }
 
 impl Row {
-    // Puts the call's arguments in the place of a star.
+    /// Puts the call's arguments in the place of a star, and where `all` stands for the count of its write the count of its octets. A line without
+    /// a star stays as it is.
     pub fn complete(&mut self, given: Stop, octets: &[u8], wants: &[Want])
         requires of { IsOf (row_of self.old) (call_at given octets.now wants.now) }
         requires all { self.old.all ≡ true → TakesAll (entry_of self.old.line) }
@@ -288,7 +291,7 @@ impl Row {
         }
     }
 
-    // Takes the room that a star needs.
+    /// Takes the room that the arguments behind a star need at most; a line without a star needs none. Err where there is no memory for it.
     pub fn reserve(&mut self) -> Result<(), AllocError>
         ensures row { row_of self.new ≡ row_of self.old }
         ensures room { OnOk result (IsRoomy self.new) }
@@ -311,7 +314,7 @@ impl Row {
     }
 }
 
-// The room that all stars take, in octets.
+/// The room that the stars of these lines take in all, in octets.
 pub fn rooms(rows: &[Row]) -> u64
     requires { length rows.now ≤ 67108864 }
     ensures { result ≡ rooms (rows_of rows.now) }
@@ -325,6 +328,7 @@ pub fn rooms(rows: &[Row]) -> u64
     sum
 }
 
+/// Takes the room that the stars of these lines need. Err where there is no memory for it.
 pub fn reserve_all(rows: &mut [Row]) -> Result<(), AllocError>
     ensures rows { OnOk result (rows_of rows.new ≡ rows_of rows.old) }
     ensures room { OnOk result (AreRoomy rows.new) }

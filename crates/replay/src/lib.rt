@@ -20,7 +20,7 @@ pub use printing::put_line;
 pub use view::LineView;
 pub use world::ScriptWorld;
 
-/// The names of the calls, as they stand in a line.
+/// The calls on a World, without their arguments; `name` spells each as it stands in a line.
 #[derive(Clone, Copy, PartialEq, Eq)]
 pub enum CallName {
     Now,

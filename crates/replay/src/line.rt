@@ -12,11 +12,15 @@ use world_face::{Accepted, Endpoint, FileSize, Got, Io, Joined, Made, Sent, Wait
 /// Where the link is: an endpoint, or where there is none the octets of a path.
 #[derive(Drop)]
 pub struct Seat {
+    /// The octets of the path; they count only where `at` is None.
     pub path: Vec<u8>,
+    /// The endpoint, where the link isn't at a path.
     pub at: Option<Endpoint>,
 }
 
-/// A call with its arguments and its answer, in the order in which a World takes them.
+/// A call with its arguments and its answer, in the order in which a World takes them. Sockets stand by their numbers, moments and timeouts in
+/// milliseconds. A read has the count of octets that it asked for, and behind its answer those that it brought; a wait has behind its answer what
+/// it reported as ready.
 #[derive(Drop)]
 pub enum Line {
     Now(u64),
@@ -39,7 +43,7 @@ pub enum Line {
     FileRead(Vec<u8>, u64, usize, Io, Vec<u8>),
 }
 
-/// The call that fitted no line, with its arguments; its octets and its wants stand beside it.
+/// A call that is made, with its arguments; its octets and its wants stand beside it. A World that has ceased keeps the one that fitted no line.
 #[derive(Clone, Copy)]
 pub enum Stop {
     Now,
@@ -63,7 +67,7 @@ pub enum Stop {
     FileRead(u64, usize),
 }
 
-// The name of the line's call.
+/// The call of the line, without its arguments.
 pub fn name_of(line: &Line) -> CallName
     ensures { result ≡ name_of (call_of (entry_of line.now)) }
 {
@@ -89,7 +93,7 @@ pub fn name_of(line: &Line) -> CallName
     }
 }
 
-// The moment after it.
+/// The moment in force behind the line, in milliseconds: a line of `now` tells it, and any other leaves the one `before`.
 pub fn moment_after(line: &Line, before: u64) -> u64
     ensures { result ≡ moment_after (entry_of line.now) before }
 {
@@ -99,7 +103,7 @@ pub fn moment_after(line: &Line, before: u64) -> u64
     }
 }
 
-// Whether its answer is a failure.
+/// Whether the line answers its call by a failure. Lines of `now` and of `close` never do.
 pub fn has_failed(line: &Line) -> bool
     ensures { result ≡ has_failed (entry_of line.now) }
 {
@@ -129,7 +133,7 @@ impl Stop {
     ghost use Rattle.poll_list.specs.declared.Want.{Want as AWant};
     ghost use Rattle.replay.specs.Lines.{call_at};
 
-    // The name of the call.
+    /// The call without its arguments.
     pub fn name(&self) -> CallName
         ensures { (octets : List ℕ) (wants : List AWant) → result ≡ name_of (call_at self.now octets wants) }
     {

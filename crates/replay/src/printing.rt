@@ -12,7 +12,8 @@ ghost use Rattle.world_face.specs.Journal.{call_of};
 ghost use Rattle.replay.specs.Lines.{entry_of, rows_of, place_of_two};
 ghost use Rattle.replay.specs.Views.{viewed};
 ghost use Rattle.address_text.specs.Texts.{endpoint_text, place_text};
-ghost use Rattle.replay.specs.Text.{hexadecimal, who_text, direction_text, want_text, joined_text, wants_text, timeout_text, made_text, read_text, written_text, joined_answer, accepted_text, sent_text, got_text, size_text, ready_text, waited_text, call_text, answer_text, line_text};
+ghost use Rattle.replay.specs.Text.{hexadecimal, who_text, direction_text, want_text, joined_text, wants_text, timeout_text, made_text, read_text, written_text, joined_answer};
+ghost use Rattle.replay.specs.Text.{accepted_text, sent_text, got_text, size_text, ready_text, waited_text, call_text, answer_text, line_text};
 
 use crate::row::Row;
 use crate::view::LineView;
@@ -25,7 +26,7 @@ use world_face::{
 // Octets that are put in hexadecimal at a time.
 const CHUNK: usize = 512;
 
-// The lines as calls that were made, with what stars and `all` stood for.
+/// Puts the text of the calls of these lines with their answers, a line each. Where a star or `all` stood the text has what it stood for.
 pub fn put_rows<K: Sink>(rows: &[Row], out: &mut K) -> Result<(), Failed>
     ensures { Puts (K.holds out.old) (K.holds out.new) (K.faults out.old) (K.faults out.new) (lines_text (entries_of (rows_of rows.now))) result }
 {

@@ -20,7 +20,8 @@ ghost use Rattle.world_face.specs.declared.Got.{Got as AGot};
 ghost use Rattle.world_face.specs.declared.FileSize.{FileSize as ASize};
 ghost use Rattle.world_face.specs.declared.Waited.{Waited as AWaited};
 ghost use Rattle.world_face.specs.Journal.{Place, Entry, AreOctets, IsEndpoint, IsNumber, IsPlace, MayAccept, MayMeasure, Leaves, LeavesGot, call_of};
-ghost use Rattle.replay.specs.declared.CallName.TheVariants.{Now, Wait, LinkOpen, LinkRead, LinkWrite, Connect, Connected, Listen, Accept, TcpRead, TcpWrite, TcpEnd, Close, UdpOpen, UdpSend, UdpRecv, FileLen, FileRead};
+ghost use Rattle.replay.specs.declared.CallName.TheVariants.{Now, Wait, LinkOpen, LinkRead, LinkWrite, Connect, Connected, Listen, Accept, TcpRead, TcpWrite, TcpEnd, Close, UdpOpen};
+ghost use Rattle.replay.specs.declared.CallName.TheVariants.{UdpSend, UdpRecv, FileLen, FileRead};
 ghost use Rattle.replay.specs.declared.tokens.Unread.TheVariants.{NoReading};
 ghost use Rattle.replay.specs.Range.{AnswersInRange, LeavesReady, Counts, IsAtOnce, ComesFrom};
 ghost use Rattle.replay.specs.Spelling.{IsWritten, Says, SaysRow, blank_args, counted_answer, given_args, is_write};
@@ -37,7 +38,7 @@ use crate::tokens::{
 use std::alloc::Global;
 use world_face::{Accepted, Endpoint, FileSize, Got, Io, Joined, Made, Sent, Waited, Want};
 
-// A line without its line feed.
+/// Reads a line, given without its line feed. NoReading where no line is written so, NoMemory where there is no room for what it holds.
 pub fn read_line(alloc: Global, text: &[u8]) -> Result<Row, Unread>
     ensures line { IfOk result (λ row. text.now ++ 10 ∷ [] ≡ row_text (row_of row)) }
     ensures range { IfOk result (λ row. IsReadable (row_of row)) }

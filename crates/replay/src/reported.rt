@@ -32,7 +32,7 @@ impl Model for Reported {
 }
 
 impl Reported {
-    // No items.
+    /// The report of no item.
     pub fn none(alloc: Global) -> Reported
         ensures { result ≡ [] }
     {
@@ -42,7 +42,7 @@ impl Reported {
         }
     }
 
-    // These items.
+    /// The report of these items. Err where there is no memory to find whether a socket stands twice.
     pub fn of(alloc: Global, items: Vec<Want>) -> Result<Reported, AllocError>
         ensures { IfOk result (λ reported. reported ≡ items.items) }
     {
@@ -50,13 +50,14 @@ impl Reported {
         Ok(Reported { items, apart })
     }
 
+    /// The items, in the order in which they stand in the line.
     pub fn items(&self) -> &[Want]
         ensures { result.now ≡ self.now }
     {
         self.items.as_slice()
     }
 
-    // No socket stands twice, nor the link.
+    /// Whether no socket stands twice among the items, nor the link.
     pub fn are_apart(&self) -> bool
         ensures { result ≡ differ self.now }
     {

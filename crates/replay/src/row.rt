@@ -22,7 +22,7 @@ pub struct Row {
     pub all: bool,
 }
 
-// What a write answers.
+/// What a write of these octets is answered: that all of them were taken where `all` stands for the count, else `answer`.
 pub fn wrote(all: bool, octets: &[u8], answer: Io) -> Io
     ensures { result ≡ wrote all octets.now answer }
 {
@@ -33,7 +33,8 @@ pub fn wrote(all: bool, octets: &[u8], answer: Io) -> Io
 }
 
 impl Row {
-    // Whether the line is of this call, with an answer that a World may give.
+    /// Whether the line serves this call: it is of that call, it has the same arguments or a star for them, and its answer is one that a World may
+    /// give to it.
     pub fn fits(&self, given: Stop, octets: &[u8], wants: &[Want]) -> bool
         requires asked { InRange (call_at given octets.now wants.now) }
         requires answer { AnswersInRange (entry_of self.now.line) }

@@ -47,11 +47,13 @@ const NAMES: [CallName; 18] = [
 /// Why a line wasn't read.
 #[derive(Clone, Copy)]
 pub enum Unread {
+    /// The text isn't written as such a part or line is.
     NoReading,
+    /// There was no memory for what it holds.
     NoMemory,
 }
 
-// What stands before the first such octet, and what after it.
+/// What stands before the first such octet, and what after it. NoReading where there is none.
 pub fn split_at(text: &[u8], octet: u8) -> Result<(&[u8], &[u8]), Unread>
     ensures parts { IfOk result (λ parts. text.now ≡ parts.0.now ++ octet ∷ parts.1.now) }
     ensures first { IfOk result (λ parts. list_all (is_other octet) parts.0.now ≡ true) }
@@ -63,7 +65,7 @@ pub fn split_at(text: &[u8], octet: u8) -> Result<(&[u8], &[u8]), Unread>
     }
 }
 
-// A number in decimal digits, the first of them no needless zero.
+/// Reads a number below 2^64 in decimal digits, the first of them no needless zero. NoReading where the text is none.
 pub fn read_number(text: &[u8]) -> Result<u64, Unread>
     ensures number { IfOk result (λ n. text.now ≡ decimal n) }
     ensures range { IfOk result (λ n. IsNumber n) }
@@ -75,7 +77,7 @@ pub fn read_number(text: &[u8]) -> Result<u64, Unread>
     }
 }
 
-// Four parts and a port.
+/// Reads an endpoint of IPv4, as `10.0.2.2:80`: four parts and a port. NoReading where the text is none.
 pub fn read_endpoint(text: &[u8]) -> Result<Endpoint, Unread>
     ensures endpoint { IfOk result (λ at. text.now ≡ endpoint_text at) }
     ensures range { IfOk result (λ at. IsEndpoint at) }
@@ -87,7 +89,7 @@ pub fn read_endpoint(text: &[u8]) -> Result<Endpoint, Unread>
     }
 }
 
-// Octets in lower case hexadecimal, or a dash for none.
+/// Reads octets in lower case hexadecimal, or a dash for none. NoReading where the text is neither, NoMemory where there is no room for them.
 pub fn read_octets(alloc: Global, text: &[u8]) -> Result<Vec<u8>, Unread>
     ensures octets { IfOk result (λ octets. text.now ≡ hexadecimal octets.items) }
     ensures range { IfOk result (λ octets. AreOctets octets.items) }
@@ -170,7 +172,8 @@ fn read_want(text: &[u8]) -> Result<Want, Unread>
     Ok(Want { of, read, write })
 }
 
-// Items joined by commas, at least one.
+/// Reads items that are joined by commas, at least one, each with a direction. NoReading where the text is no such list, NoMemory where there is no
+/// room for them.
 pub fn read_items(alloc: Global, text: &[u8]) -> Result<Vec<Want>, Unread>
     ensures items { IfOk result (λ items. text.now ≡ joined_text items.items) }
     ensures some { IfOk result (λ items. 0 < length items.items) }
@@ -199,7 +202,7 @@ fn push(items: &mut Vec<Want>, want: Want) -> Result<(), Unread>
     }
 }
 
-// Items joined by commas, or a dash for none.
+/// Reads items that are joined by commas, or a dash for none. NoReading where the text is neither, NoMemory where there is no room for them.
 pub fn read_wants(alloc: Global, text: &[u8]) -> Result<Vec<Want>, Unread>
     ensures wants { IfOk result (λ wants. text.now ≡ wants_text wants.items) }
     ensures range { IfOk result (λ wants. are_wants wants.items ≡ true) }
@@ -212,6 +215,7 @@ pub fn read_wants(alloc: Global, text: &[u8]) -> Result<Vec<Want>, Unread>
     Ok(wants)
 }
 
+/// Reads the timeout of a wait: its milliseconds, or a dash where it has none. NoReading where the text is neither.
 pub fn read_timeout(text: &[u8]) -> Result<Option<u64>, Unread>
     ensures timeout { IfOk result (λ timeout. text.now ≡ timeout_text timeout) }
     ensures range { IfOk result (λ timeout. IsTimeout timeout) }
@@ -223,6 +227,7 @@ pub fn read_timeout(text: &[u8]) -> Result<Option<u64>, Unread>
     Ok(Some(read_number(text)?))
 }
 
+/// Reads the name of a call, as `CallName::name` spells it. NoReading where no call has that name.
 pub fn read_name(text: &[u8]) -> Result<CallName, Unread>
     ensures name { IfOk result (λ name. text.now ≡ name_text name) }
     ensures refused { OnErr result ((name : AName) → text.now ≢ name_text name) }

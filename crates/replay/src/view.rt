@@ -6,7 +6,8 @@ ghost use Rattle.replay.specs.Views.{viewed};
 use crate::line::Line;
 use world_face::{Accepted, Endpoint, FileSize, Got, Io, Joined, Made, Sent, Waited, Want};
 
-/// A call with its arguments and its answer, in the order in which a World takes them, which lie elsewhere. Octets stand beside an answer that brought some, and items beside a wait that reported some. A place of the link is an endpoint, or where there is none the octets of a path.
+/// A call with its arguments and its answer, in the order in which a World takes them, which lie elsewhere. Octets stand beside an answer that brought some,
+/// and items beside a wait that reported some. A place of the link is an endpoint, or where there is none the octets of a path.
 #[derive(Clone, Copy)]
 pub enum LineView<'a> {
     Now(u64),
@@ -30,7 +31,7 @@ pub enum LineView<'a> {
 }
 
 impl Line {
-    // The line, seen where it lies.
+    /// The line with its octets and wants where they lie, none of them copied.
     pub fn view(&self) -> LineView<'_>
         ensures { viewed result ≡ entry_of self.now }
     {

@@ -82,7 +82,8 @@ impl World for ScriptWorld {
     ghost use Rattle.std.specs.Prelude.{false};
     ghost use Rattle.world_face.specs.Limits.{most_ready, most_to_link, most_to_flow, most_to_udp, most_wants, most_name};
     ghost use Rattle.poll_list.specs.Listing.{AreWants};
-    ghost use Rattle.world_face.specs.Journal.{filled, filled_got, place_of, Now, Wait, LinkOpen, LinkRead, LinkWrite, Connect, Connected, Listen, Accept, TcpRead, TcpWrite, TcpEnd, UdpOpen, UdpSend, UdpRecv, FileLen, FileRead};
+    ghost use Rattle.world_face.specs.Journal.{filled, filled_got, place_of, Now, Wait, LinkOpen, LinkRead, LinkWrite, Connect, Connected, Listen, Accept, TcpRead, TcpWrite, TcpEnd};
+    ghost use Rattle.world_face.specs.Journal.{UdpOpen, UdpSend, UdpRecv, FileLen, FileRead};
     ghost use Rattle.world_face.specs.Tells.{Answers};
     ghost use Rattle.replay.specs.Fitting.{last_moment};
 

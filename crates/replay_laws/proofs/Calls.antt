@@ -1,7 +1,8 @@
 -- Calls, each of which has one text.
 use Rattle.std.proofs.Common.{◌≡◌, ℕ, true, List, [], ◌∷◌, ◌++◌, decimal, refl, sym, ◌∙◌}
 use Rattle.std.specs.List.{list_all}
-use Rattle.world_face.specs.Journal.{Call, CallNow, CallWait, CallLinkOpen, CallLinkRead, CallLinkWrite, CallConnect, CallConnected, CallListen, CallAccept, CallTcpRead, CallTcpWrite, CallTcpEnd, CallClose, CallUdpOpen, CallUdpSend, CallUdpRecv, CallFileLen, CallFileRead}
+use Rattle.world_face.specs.Journal.{Call, CallNow, CallWait, CallLinkOpen, CallLinkRead, CallLinkWrite, CallConnect, CallConnected, CallListen, CallAccept, CallTcpRead, CallTcpWrite}
+use Rattle.world_face.specs.Journal.{CallTcpEnd, CallClose, CallUdpOpen, CallUdpSend, CallUdpRecv, CallFileLen, CallFileRead}
 use Rattle.replay.specs.Names.{name_text, name_of}
 use Rattle.address_text.specs.Texts.{endpoint_text, place_text}
 use Rattle.address_text.proofs.Parting.{parts_once}
@@ -29,7 +30,8 @@ same_args (CallWait wants timeout) (CallWait wants' timeout') hc hd called is =
     let e1 : wants ≡ wants' = same_wants wants wants' hc.1 hd.1 w1.0 in
     cc
 same_args (CallLinkOpen at) (CallLinkOpen at') hc hd called is =
-    let w0 = next_word (hexadecimal (place_text at)) (hexadecimal (place_text at')) [] [] (hexadecimal_word (place_text at) (place_octets at hc)) (hexadecimal_word (place_text at') (place_octets at' hd)) is in
+    let w0 = next_word (hexadecimal (place_text at)) (hexadecimal (place_text at')) [] [] (hexadecimal_word (place_text at) (place_octets at hc))
+    (hexadecimal_word (place_text at') (place_octets at' hd)) is in
     let e0 : at ≡ at' = same_place at at' hc hd (same_octets (place_text at) (place_text at') (place_octets at hc) (place_octets at' hd) w0.0) in
     cc
 same_args (CallLinkRead asked) (CallLinkRead asked') hc hd called is =
@@ -89,7 +91,8 @@ same_args (CallUdpOpen socket at) (CallUdpOpen socket' at') hc hd called is =
     let e1 : at ≡ at' = same_endpoint at at' hc.1 hd.1 w1.0 in
     cc
 same_args (CallUdpSend socket to octets) (CallUdpSend socket' to' octets') hc hd called is =
-    let w0 = next_word (decimal socket) (decimal socket') (endpoint_text to ++ 32 ∷ (hexadecimal octets ++ 32 ∷ [])) (endpoint_text to' ++ 32 ∷ (hexadecimal octets' ++ 32 ∷ [])) (decimal_word socket hc.0) (decimal_word socket' hd.0) is in
+    let w0 = next_word (decimal socket) (decimal socket') (endpoint_text to ++ 32 ∷ (hexadecimal octets ++ 32 ∷ [])) (endpoint_text to' ++ 32 ∷ (hexadecimal octets' ++ 32 ∷ []))
+    (decimal_word socket hc.0) (decimal_word socket' hd.0) is in
     let e0 : socket ≡ socket' = decimal_injective socket socket' hc.0 hd.0 w0.0 in
     let w1 = next_word (endpoint_text to) (endpoint_text to') (hexadecimal octets ++ 32 ∷ []) (hexadecimal octets' ++ 32 ∷ []) (endpoint_word to hc.1) (endpoint_word to' hd.1) w0.1 in
     let e1 : to ≡ to' = same_endpoint to to' hc.1 hd.1 w1.0 in
@@ -107,7 +110,8 @@ same_args (CallFileLen name) (CallFileLen name') hc hd called is =
     let e0 : name ≡ name' = same_octets name name' hc hd w0.0 in
     cc
 same_args (CallFileRead name place asked) (CallFileRead name' place' asked') hc hd called is =
-    let w0 = next_word (hexadecimal name) (hexadecimal name') (decimal place ++ 32 ∷ (decimal asked ++ 32 ∷ [])) (decimal place' ++ 32 ∷ (decimal asked' ++ 32 ∷ [])) (hexadecimal_word name hc.0) (hexadecimal_word name' hd.0) is in
+    let w0 = next_word (hexadecimal name) (hexadecimal name') (decimal place ++ 32 ∷ (decimal asked ++ 32 ∷ [])) (decimal place' ++ 32 ∷ (decimal asked' ++ 32 ∷ []))
+    (hexadecimal_word name hc.0) (hexadecimal_word name' hd.0) is in
     let e0 : name ≡ name' = same_octets name name' hc.0 hd.0 w0.0 in
     let w1 = next_word (decimal place) (decimal place') (decimal asked ++ 32 ∷ []) (decimal asked' ++ 32 ∷ []) (decimal_word place hc.1) (decimal_word place' hd.1) w0.1 in
     let e1 : place ≡ place' = decimal_injective place place' hc.1 hd.1 w1.0 in

@@ -21,12 +21,14 @@ use Rattle.world_face.specs.declared.FileSize.{FileSize}
 use Rattle.world_face.specs.declared.FileSize.TheVariants.{Length, Missing, Failed as SizeFailed}
 use Rattle.world_face.specs.declared.Waited.{Waited}
 use Rattle.world_face.specs.declared.Waited.TheVariants.{Ready, Stop, Failed as WaitFailed}
-use Rattle.world_face.specs.Journal.{MayAccept, MayMeasure, Leaves, LeavesGot, AreAllowed, Entry, call_of, Now, Wait, LinkOpen, LinkRead, LinkWrite, Connect, Connected, Listen, Accept, TcpRead, TcpWrite, TcpEnd, Close, UdpOpen, UdpSend, UdpRecv, FileLen, FileRead}
+use Rattle.world_face.specs.Journal.{MayAccept, MayMeasure, Leaves, LeavesGot, AreAllowed, Entry, call_of, Now, Wait, LinkOpen, LinkRead, LinkWrite, Connect, Connected, Listen, Accept}
+use Rattle.world_face.specs.Journal.{TcpRead, TcpWrite, TcpEnd, Close, UdpOpen, UdpSend, UdpRecv, FileLen, FileRead}
 use Rattle.replay.specs.Pieces.{lines_text}
 use Rattle.replay.specs.Rows.{Row, AreReadable, schedule_text}
 use Rattle.address_text.specs.Texts.{endpoint_text}
 use Rattle.address_text.proofs.Parting.{parts_once}
-use Rattle.replay.specs.Text.{hexadecimal, joined_text, made_text, ready_text, waited_text, read_text, written_text, joined_answer, accepted_text, sent_text, got_text, size_text, call_text, answer_text, line_text, text}
+use Rattle.replay.specs.Text.{hexadecimal, joined_text, made_text, ready_text, waited_text, read_text, written_text, joined_answer, accepted_text, sent_text, got_text, size_text}
+use Rattle.replay.specs.Text.{call_text, answer_text, line_text, text}
 use Rattle.replay.proofs.Parting.{is_word, is_plain, is_line}
 use Rattle.replay.proofs.Words.{same_octets, endpoint_word}
 use Rattle.address_text.proofs.Addresses.{same_endpoint}
@@ -100,7 +102,8 @@ same_written _ _ ha hb is = absurd (omega (arith, ap second is))
 same_got : (a b : Got) (o p : List ℕ) → ComesFrom a → ComesFrom b → LeavesGot a o → LeavesGot b p → got_text a o ≡ got_text b p → (a ≡ b) × (o ≡ p)
 same_got (From p n) (From q m) o r ga gb ha hb is =
     let tail : (endpoint_text p ++ 32 ∷ []) ++ hexadecimal o ≡ (endpoint_text q ++ 32 ∷ []) ++ hexadecimal r = cc in
-    let parted = parts_once 32 is_word refl (endpoint_text p) (endpoint_text q) (hexadecimal o) (hexadecimal r) (endpoint_word p ga) (endpoint_word q gb) (sym (append_assoc (endpoint_text p) (32 ∷ []) (hexadecimal o)) ∙ tail ∙ append_assoc (endpoint_text q) (32 ∷ []) (hexadecimal r)) in
+    let parted = parts_once 32 is_word refl (endpoint_text p) (endpoint_text q) (hexadecimal o) (hexadecimal r) (endpoint_word p ga) (endpoint_word q gb)
+    (sym (append_assoc (endpoint_text p) (32 ∷ []) (hexadecimal o)) ∙ tail ∙ append_assoc (endpoint_text q) (32 ∷ []) (hexadecimal r)) in
     let peer = same_endpoint p q ga gb parted.0 in
     let octets = same_octets o r ha.1 hb.1 parted.1 in
     let count : n ≡ m = sym ha.0 ∙ ap length octets ∙ hb.0 in
@@ -199,14 +202,16 @@ tail_of a b is = cc
 
 same_body : (e f : Entry) → IsSayable e → IsSayable f → (call_text (call_of e) ++ 32 ∷ []) ++ 61 ∷ 32 ∷ answer_text e ≡ (call_text (call_of f) ++ 32 ∷ []) ++ 61 ∷ 32 ∷ answer_text f → e ≡ f
 same_body e f ha hb is =
-    let parted = parts_once 61 is_plain refl (call_text (call_of e) ++ 32 ∷ []) (call_text (call_of f) ++ 32 ∷ []) (32 ∷ answer_text e) (32 ∷ answer_text f) (call_plain (call_of e) ha.0) (call_plain (call_of f) hb.0) is in
+    let parted = parts_once 61 is_plain refl (call_text (call_of e) ++ 32 ∷ []) (call_text (call_of f) ++ 32 ∷ []) (32 ∷ answer_text e) (32 ∷ answer_text f)
+    (call_plain (call_of e) ha.0) (call_plain (call_of f) hb.0) is in
     let answers : answer_text e ≡ answer_text f = tail_of (answer_text e) (answer_text f) parted.1 in
     same_entry e f ha hb (same_call (call_of e) (call_of f) ha.0 hb.0 parted.0) answers
 
 -- the first line of a text is of one entry
 same_first : (e f : Entry) (r s : List ℕ) → IsSayable e → IsSayable f → line_text e ++ r ≡ line_text f ++ s → (e ≡ f) × (r ≡ s)
 same_first e f r s ha hb is =
-    let parted = parts_once 10 is_line refl ((call_text (call_of e) ++ 32 ∷ []) ++ 61 ∷ 32 ∷ answer_text e) ((call_text (call_of f) ++ 32 ∷ []) ++ 61 ∷ 32 ∷ answer_text f) r s (body_line e ha) (body_line f hb) (sym (then_more e r) ∙ is ∙ then_more f s) in
+    let parted = parts_once 10 is_line refl ((call_text (call_of e) ++ 32 ∷ []) ++ 61 ∷ 32 ∷ answer_text e) ((call_text (call_of f) ++ 32 ∷ []) ++ 61 ∷ 32 ∷ answer_text f) r s
+    (body_line e ha) (body_line f hb) (sym (then_more e r) ∙ is ∙ then_more f s) in
     (same_body e f ha hb parted.0, parted.1)
 
 same_lines : (xs ys : List Entry) → AreSayable xs → AreSayable ys → lines_text xs ≡ lines_text ys → xs ≡ ys
@@ -260,4 +265,5 @@ plain_readable [] h = tt
 plain_readable (e ∷ es) h = (record { range = h.0; star = λ is. absurd (cc is); all = λ is. absurd (cc is) }, plain_readable es h.1)
 
 pub text_is_read : (past : List Entry) (n : ℕ) → AreAllowed past → ¬ IsFirstUnread (text past) n
-text_is_read past n allowed first = all_read (text past) (plain (reverse past)) n (plain_text (reverse past) ∙ sym (turned past)) (plain_readable (reverse past) (sayable_turned past (all_sayable past allowed))) first
+text_is_read past n allowed first = all_read (text past) (plain (reverse past)) n (plain_text (reverse past) ∙ sym (turned past))
+    (plain_readable (reverse past) (sayable_turned past (all_sayable past allowed))) first

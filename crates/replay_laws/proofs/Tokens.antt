@@ -50,7 +50,8 @@ want_of of read write = record { of = of; read = read; write = write }
 
 same_want : (w v : Want) → is_who w.of ≡ true → is_who v.of ≡ true → want_text w ≡ want_text v → w ≡ v
 same_want w v hw hv is =
-    let parted = parts_once 58 (is_other 58) refl (who_text w.of) (who_text v.of) (direction_text w.read w.write) (direction_text v.read v.write) (who_fits (is_other 58) digit_is_no_colon refl w.of hw) (who_fits (is_other 58) digit_is_no_colon refl v.of hv) (sym (want_form w) ∙ is ∙ want_form v) in
+    let parted = parts_once 58 (is_other 58) refl (who_text w.of) (who_text v.of) (direction_text w.read w.write) (direction_text v.read v.write)
+    (who_fits (is_other 58) digit_is_no_colon refl w.of hw) (who_fits (is_other 58) digit_is_no_colon refl v.of hv) (sym (want_form w) ∙ is ∙ want_form v) in
     let who_is = same_who w.of v.of hw hv parted.0 in
     let ways = same_direction w.read w.write v.read v.write parted.1 in
     ap (λ o. want_of o w.read w.write) who_is ∙ ap (λ r. want_of v.of r w.write) ways.0 ∙ ap (λ x. want_of v.of v.read x) ways.1
@@ -62,7 +63,8 @@ same_each (w ∷ ws) [] hw hv is = absurd (omega (arith, length-append (want_tex
 same_each (w ∷ ws) (v ∷ vs) hw hv is =
     let h = head_of w ws hw in
     let k = head_of v vs hv in
-    let parted = parts_once 44 (is_other 44) refl (want_text w) (want_text v) (each_text ws) (each_text vs) (want_fits (is_other 44) digit_is_no_comma refl refl refl w h.0) (want_fits (is_other 44) digit_is_no_comma refl refl refl v k.0) is in
+    let parted = parts_once 44 (is_other 44) refl (want_text w) (want_text v) (each_text ws) (each_text vs) (want_fits (is_other 44) digit_is_no_comma refl refl refl w h.0)
+    (want_fits (is_other 44) digit_is_no_comma refl refl refl v k.0) is in
     let one = same_want w v h.0 k.0 parted.0 in
     let more = same_each ws vs h.1 k.1 parted.1 in
     ap (λ x. x ∷ ws) one ∙ ap (λ x. v ∷ x) more

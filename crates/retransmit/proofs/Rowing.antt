@@ -34,7 +34,8 @@ after_other x t never other =
     ]
 
 -- a step of the search
-pub before_read : (row : List SlotTimer) (m : ℕ) (d t : SlotTimer) → Rise row → m < length row → IsBefore (get_or row m d) t → (i : ℕ) (x : SlotTimer) → i < m + 1 → slice_get row i ≡ Some x → IsBefore x t
+pub before_read : (row : List SlotTimer) (m : ℕ) (d t : SlotTimer) → Rise row → m < length row → IsBefore (get_or row m d) t → (i : ℕ) (x : SlotTimer) → i < m + 1 →
+    slice_get row i ≡ Some x → IsBefore x t
 before_read row m d t rise within is i x small h =
     let here = slice_get-get_or row m d within in
     elim (cases_eq i m) [
@@ -42,7 +43,8 @@ before_read row m d t rise within is i x small h =
       | inr other ↦ before_more x (get_or row m d) t (rise i m x (get_or row m d) (omega (arith, small, other)) h here) is
     ]
 
-pub after_read : (row : List SlotTimer) (m : ℕ) (d t : SlotTimer) → Rise row → m < length row → (IsBefore (get_or row m d) t → ⊥) → (i : ℕ) (x : SlotTimer) → m ≤ i → slice_get row i ≡ Some x → IsBefore x t → ⊥
+pub after_read : (row : List SlotTimer) (m : ℕ) (d t : SlotTimer) → Rise row → m < length row → (IsBefore (get_or row m d) t → ⊥) → (i : ℕ) (x : SlotTimer) → m ≤ i →
+    slice_get row i ≡ Some x → IsBefore x t → ⊥
 after_read row m d t rise within never i x large h is =
     let here = slice_get-get_or row m d within in
     elim (cases_eq i m) [
@@ -80,13 +82,15 @@ timer_once row i j a b rise h g same =
     let not_above : j < i → ⊥ = λ less. not_before_itself b (subst (λ (x : SlotTimer). IsBefore b x) same (rise j i b a less g h)) in
     omega (arith, not_below, not_above)
 
-pub timers_removed : (moments : List (Option ℕ)) (row left : List SlotTimer) (place : ℕ) (x : SlotTimer) → slice_get row place ≡ Some x → left ≡ remove row place → AreTimers moments row → AreTimers (slice_set moments x.slot None) left
+pub timers_removed : (moments : List (Option ℕ)) (row left : List SlotTimer) (place : ℕ) (x : SlotTimer) → slice_get row place ≡ Some x → left ≡ remove row place →
+    AreTimers moments row → AreTimers (slice_set moments x.slot None) left
 timers_removed moments row left place x stands is are = subst (AreTimers (slice_set moments x.slot None)) (sym is) (record {
   runs = λ i y h.
       let from = removed_from row place i y h in
       let had = are.runs from.0 y from.1.0 in
       let moved : from.0 ≢ place = λ same. omega (arith, from.1.1, same) in
-      let other : y.slot ≢ x.slot = λ same. moved (timer_once row from.0 place y x are.rise from.1.0 stands (same_timer y x same (one_moment moments x.slot y.at x.at (subst (λ n. RunsUntil moments n y.at) same had) (are.runs place x stands)))) in
+      let other : y.slot ≢ x.slot = λ same. moved (timer_once row from.0 place y x are.rise from.1.0 stands
+      (same_timer y x same (one_moment moments x.slot y.at x.at (subst (λ n. RunsUntil moments n y.at) same had) (are.runs place x stands)))) in
       set_to moments x.slot y.slot None (Some y.at) had other;
   all = λ slot at h.
       elim (set_from moments x.slot slot None (Some at) h) [
@@ -101,8 +105,10 @@ timers_removed moments row left place x stands is are = subst (AreTimers (slice_
       are.rise p.0 q.0 a b (omega (arith, p.1.1, q.1.1, less)) p.1.0 q.1.0;
 })
 
-pub none_removed : (moments : List (Option ℕ)) (row : List SlotTimer) (d : Option ℕ) (k : ℕ) → k < length moments → ((at : ℕ) → get_or moments k d ≡ Some at → ⊥) → AreTimers moments row → AreTimers (slice_set moments k None) row
-none_removed moments row d k within never are = subst (λ (ms : List (Option ℕ)). AreTimers ms row) (sym (set_same moments k None (slice_get-get_or moments k d within ∙ ap Some (is_none (get_or moments k d) never)))) are
+pub none_removed : (moments : List (Option ℕ)) (row : List SlotTimer) (d : Option ℕ) (k : ℕ) → k < length moments → ((at : ℕ) → get_or moments k d ≡ Some at → ⊥) →
+    AreTimers moments row → AreTimers (slice_set moments k None) row
+none_removed moments row d k within never are = subst (λ (ms : List (Option ℕ)). AreTimers ms row)
+    (sym (set_same moments k None (slice_get-get_or moments k d within ∙ ap Some (is_none (get_or moments k d) never)))) are
   where
     is_none : (o : Option ℕ) → ((at : ℕ) → o ≡ Some at → ⊥) → o ≡ None
     is_none None never = refl
@@ -111,10 +117,12 @@ none_removed moments row d k within never are = subst (λ (ms : List (Option ℕ
 pub runs_read : (moments : List (Option ℕ)) (d : Option ℕ) (k at : ℕ) → k < length moments → get_or moments k d ≡ Some at → RunsUntil moments k at
 runs_read moments d k at within is = slice_get-get_or moments k d within ∙ ap Some is
 
-apart_from : (moments : List (Option ℕ)) (row : List SlotTimer) (k : ℕ) → k < length moments → AreTimers (slice_set moments k None) row → (i : ℕ) (x : SlotTimer) → slice_get row i ≡ Some x → x.slot ≢ k
+apart_from : (moments : List (Option ℕ)) (row : List SlotTimer) (k : ℕ) → k < length moments → AreTimers (slice_set moments k None) row → (i : ℕ) (x : SlotTimer) →
+    slice_get row i ≡ Some x → x.slot ≢ k
 apart_from moments row k fits are i x h same = let e = sym (set_at moments k None fits) ∙ subst (λ n. RunsUntil (slice_set moments k None) n x.at) same (are.runs i x h) in cc
 
-pub timers_inserted : (moments : List (Option ℕ)) (row new : List SlotTimer) (place k at : ℕ) → k < length moments → BelongsAt row place (timer_of k at) → new ≡ insert row place (timer_of k at) → AreTimers (slice_set moments k None) row → AreTimers (slice_set moments k (Some at)) new
+pub timers_inserted : (moments : List (Option ℕ)) (row new : List SlotTimer) (place k at : ℕ) → k < length moments → BelongsAt row place (timer_of k at) → new ≡ insert row place
+    (timer_of k at) → AreTimers (slice_set moments k None) row → AreTimers (slice_set moments k (Some at)) new
 timers_inserted moments row new place k at fits belongs is are =
     let le = belongs.within in
     let t = timer_of k at in
@@ -153,7 +161,9 @@ timers_below moments row k fits are =
     let within : (i : ℕ) (t : SlotTimer) → slice_get row i ≡ Some t → t.slot < length moments =
     λ i t h. let w = slice_get_within (slice_set moments k None) t.slot (Some t.at) (are.runs i t h) in omega (arith, w, size) in
     let other : (i j : ℕ) (a b : SlotTimer) → i < j → slice_get row i ≡ Some a → slice_get row j ≡ Some b → a.slot ≢ b.slot =
-    λ i j a b less h g same. let e = timer_once row i j a b are.rise h g (same_timer a b same (one_moment (slice_set moments k None) b.slot a.at b.at (subst (λ n. RunsUntil (slice_set moments k None) n a.at) same (are.runs i a h)) (are.runs j b g))) in omega (arith, less, e) in
+    λ i j a b less h g same. let e = timer_once row i j a b are.rise h g
+    (same_timer a b same (one_moment (slice_set moments k None) b.slot a.at b.at (subst (λ n. RunsUntil (slice_set moments k None) n a.at) same (are.runs i a h))
+    (are.runs j b g))) in omega (arith, less, e) in
     fewer_than (λ (t : SlotTimer). t.slot) row (length moments) k fits within apart other
 
 -- the first of the row is the earliest
@@ -186,7 +196,8 @@ none_found moments (t ∷ row) None is are = absurd (let e = is in cc)
 pub row_room : (moments now : List (Option ℕ)) (row : List SlotTimer) (k : ℕ) → moments ≡ now → k < length now → AreTimers (slice_set moments k None) row → length row < length moments
 row_room moments now row k view fits are = timers_below moments row k (subst (λ (ms : List (Option ℕ)). k < length ms) (sym view) fits) are
 
-pub set_row : (moments now : List (Option ℕ)) (row new : List SlotTimer) (place k at room room_new : ℕ) → moments ≡ now → k < length now → BelongsAt row place (timer_of k at) → new ≡ insert row place (timer_of k at) → AreTimers (slice_set moments k None) row → length moments ≤ room → room ≤ room_new → IsRow (slice_set moments k (Some at)) new room_new
+pub set_row : (moments now : List (Option ℕ)) (row new : List SlotTimer) (place k at room room_new : ℕ) → moments ≡ now → k < length now → BelongsAt row place (timer_of k at) →
+    new ≡ insert row place (timer_of k at) → AreTimers (slice_set moments k None) row → length moments ≤ room → room ≤ room_new → IsRow (slice_set moments k (Some at)) new room_new
 set_row moments now row new place k at room room_new view fits belongs is are enough more =
     let size = length-set moments k (Some at) in
     record {

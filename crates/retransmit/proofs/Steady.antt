@@ -2,7 +2,8 @@
 use Rattle.std.proofs.Common.{◌≡◌, ℕ, ◌+◌, ◌*◌, ◌^◌, ◌<◌, ◌≤◌, Bool, true, false, Option, None, Some, min, if◌then◌else◌, arith, rules, add-one, refl}
 use Rattle.std.proofs.lemmas.Bool.Decides.{nat_tests}
 use Rattle.retransmit.specs.Estimate.{Estimate}
-use Rattle.retransmit.specs.Resending.{IsSteady, Resending, after_answered, after_expired, after_measured, after_moved, after_sent, after_start, after_stop, begun, counted, doublings, expired_by, is_given_up, least_wait, resending, set_unless_running}
+use Rattle.retransmit.specs.Resending.{IsSteady, Resending, after_answered, after_expired, after_measured, after_moved, after_sent, after_start, after_stop, begun, counted, doublings}
+use Rattle.retransmit.specs.Resending.{expired_by, is_given_up, least_wait, resending, set_unless_running}
 use Rattle.retransmit.specs.declared.Timer.{Timer}
 use Rattle.retransmit.specs.declared.Timer.TheVariants.{Off, Since, Expired}
 use Rattle.retransmit.proofs.Waiting.{doubled_less, fewer}
@@ -78,7 +79,14 @@ steady_moved r measured false now few steady = let w = moved_wait r measured ste
 
 expired_now : (e : Estimate) (timer : Timer) (resent : ℕ) → is_given_up (resending e timer resent) ≡ false → IsSteady (resending e timer resent)
     → IsSteady (resending (record e { wait = min 60000 (2 * e.wait) }) (expired_by timer e.wait) resent)
-expired_now e Off resent on steady = let none : resent ≡ 0 = steady.rests refl in record { few = steady.few; rests = steady.rests; doubled = omega (arith, steady.doubled, steady.longest); longest = omega arith; range = tt }
+expired_now e Off resent on steady = let none : resent ≡ 0 = steady.rests refl in record {
+  few = steady.few;
+  rests = steady.rests;
+  doubled = omega
+      (arith, steady.doubled, steady.longest);
+  longest = omega arith;
+  range = tt;
+}
 expired_now e (Since base) resent on steady =
     let below : resent < 8 = grind (arith, nat_tests) in
     let twice : 2 ^ (resent + 1) ≡ 2 * 2 ^ resent = rw add-one (omega arith) in
@@ -94,6 +102,9 @@ expired_now e (Expired at) resent on steady = record { few = steady.few; rests =
 pub steady_expired : (r : Resending) → IsSteady r → IsSteady (after_expired r)
 steady_expired r steady = by_test (is_given_up r) refl
   where
-    by_test : (b : Bool) → is_given_up r ≡ b → IsSteady (if b then r else record r { estimate = record r.estimate { wait = min 60000 (2 * r.estimate.wait) }; timer = expired_by r.timer r.estimate.wait })
+    by_test : (b : Bool) → is_given_up r ≡ b → IsSteady (if b then r else record r {
+      estimate = record r.estimate { wait = min 60000 (2 * r.estimate.wait) };
+      timer = expired_by r.timer r.estimate.wait;
+    })
     by_test true is = steady
     by_test false is = expired_now r.estimate r.timer r.resent is steady

@@ -33,7 +33,7 @@ impl Rto {
         self.wait = timeout(round_trips);
     }
 
-    /// The timer expired.
+    /// The timer expired: the timeout doubles, 60,000 ms at most (RFC 6298, 5.5).
     pub fn expired(&mut self)
         ensures step { self.new ≡ after_expiry self.old }
         ensures fold { (past : List Event) → self.old ≡ estimate_after past

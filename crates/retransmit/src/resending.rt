@@ -1,6 +1,7 @@
 // What goes again where it wasn't acknowledged, when, and how often.
 ghost use Rattle.std.specs.Prelude.{◌≡◌, ℕ, ◌+◌, ◌^◌, ◌≤◌, IsSome, IfSome, IsTrue, ◌↔◌, Some};
-ghost use Rattle.retransmit.specs.Resending.{HasWaitedSince, counted as counted_by, doublings, IsNotBefore, after_answered, after_expired, after_moved, after_sent, after_start, after_stop, at_rest, due_of, is_expired as is_expired_by, expired_by, IsInRange, set_unless_running};
+ghost use Rattle.retransmit.specs.Resending.{HasWaitedSince, counted as counted_by, doublings, IsNotBefore, after_answered, after_expired, after_moved, after_sent, after_start};
+ghost use Rattle.retransmit.specs.Resending.{after_stop, at_rest, due_of, is_expired as is_expired_by, expired_by, IsInRange, set_unless_running};
 
 use crate::{Resend, Rto, Timer};
 
@@ -113,7 +114,7 @@ impl Resend {
         }
     }
 
-    /// The timer.
+    /// Whether the timer is off, runs since a moment in milliseconds, or has expired at one and what it made owed isn't out.
     pub fn timer(&self) -> Timer
         ensures { result ≡ self.now.timer }
     {

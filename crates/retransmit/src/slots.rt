@@ -74,7 +74,7 @@ impl Timers {
         }
     }
 
-    /// The earliest moment.
+    /// The earliest moment, in milliseconds, at which a slot's timer is due; None where none runs.
     pub fn next(&self) -> Option<u64>
         ensures earliest { IfSome result (λ at. (slot : ℕ) × IsEarliest self.now slot at) }
         ensures none { IfNone result (NoneRuns self.now) }

@@ -28,16 +28,19 @@ pub fewer_than : {X : Type 0} (number : X → ℕ) (row : List X) (bound k : ℕ
 fewer_than number row bound k fits within apart other =
     let all = k ∷ map number row in
     let differ = all_differ number row k apart other in
-    let few = length-le_from_distinct_below all bound (IsDistinct-from_AllPairs Decides-eqb all (λ i j d less inside e. differ i j less (get_or all i d) (slice_get-get_or all i d (omega (arith, less, inside))) (slice_get-get_or all j d inside ∙ ap Some (sym e))))
+    let few = length-le_from_distinct_below all bound (IsDistinct-from_AllPairs Decides-eqb all (λ i j d less inside e. differ i j less (get_or all i d)
+    (slice_get-get_or all i d (omega (arith, less, inside))) (slice_get-get_or all j d inside ∙ ap Some (sym e))))
     (λ q h. let w = any_at q all h in all_within number row bound k fits within w.0 q w.1) in
     let same = length-map row number in
     omega (arith, few, same)
   where
-    all_within : {X : Type 0} (number : X → ℕ) (row : List X) (bound k : ℕ) → k < bound → ((i : ℕ) (x : X) → slice_get row i ≡ Some x → number x < bound) → (i n : ℕ) → slice_get (k ∷ map number row) i ≡ Some n → n < bound
+    all_within : {X : Type 0} (number : X → ℕ) (row : List X) (bound k : ℕ) → k < bound → ((i : ℕ) (x : X) → slice_get row i ≡ Some x → number x < bound) → (i n : ℕ) → slice_get
+        (k ∷ map number row) i ≡ Some n → n < bound
     all_within number row bound k fits within zero n h = omega (arith, fits, same_Some k n h)
     all_within number row bound k fits within (suc i) n h = let w = map_at number row i n h in let small = within i w.0 w.1.0 in omega (arith, small, w.1.1)
 
-    all_differ : {X : Type 0} (number : X → ℕ) (row : List X) (k : ℕ) → ((i : ℕ) (x : X) → slice_get row i ≡ Some x → number x ≢ k) → ((i j : ℕ) (a b : X) → i < j → slice_get row i ≡ Some a → slice_get row j ≡ Some b → number a ≢ number b)
+    all_differ : {X : Type 0} (number : X → ℕ) (row : List X) (k : ℕ) → ((i : ℕ) (x : X) → slice_get row i ≡ Some x → number x ≢ k) →
+        ((i j : ℕ) (a b : X) → i < j → slice_get row i ≡ Some a → slice_get row j ≡ Some b → number a ≢ number b)
         → (i j : ℕ) → i < j → (n : ℕ) → slice_get (k ∷ map number row) i ≡ Some n → slice_get (k ∷ map number row) j ≡ Some n → ⊥
     all_differ number row k apart other i zero less n h g = omega (arith, less)
     all_differ number row k apart other zero (suc j) less n h g = let w = map_at number row j n g in apart j w.0 w.1.0 (w.1.1 ∙ sym (same_Some k n h))

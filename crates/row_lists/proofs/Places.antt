@@ -53,7 +53,8 @@ removed_to (z ∷ xs) (suc n) zero x h o = (zero, (h, inl (omega arith, refl)))
 removed_to (z ∷ xs) (suc n) (suc j) x h o = let r = removed_to xs n j x h (λ e. o (ap suc e)) in
     (suc r.0, (r.1.0, elim r.1.1 [ inl p ↦ inl (omega (arith, p.0), ap suc p.1) | inr p ↦ inr (omega (arith, p.0), omega (arith, p.1)) ]))
 
-pub inserted_from : {X : Type 0} (xs : List X) (n i : ℕ) (y x : X) → n ≤ length xs → slice_get (insert xs n y) i ≡ Some x → ((i ≡ n) × (x ≡ y)) ⊎ ((j : ℕ) × ((slice_get xs j ≡ Some x) × (((i < n) × (j ≡ i)) ⊎ ((n < i) × (i ≡ j + 1)))))
+pub inserted_from : {X : Type 0} (xs : List X) (n i : ℕ) (y x : X) → n ≤ length xs → slice_get (insert xs n y) i ≡ Some x → ((i ≡ n) × (x ≡ y)) ⊎
+    ((j : ℕ) × ((slice_get xs j ≡ Some x) × (((i < n) × (j ≡ i)) ⊎ ((n < i) × (i ≡ j + 1)))))
 inserted_from [] zero zero y x le h = inl (refl, sym (same_Some y x h))
 inserted_from [] zero (suc i) y x le h = cc
 inserted_from [] (suc n) i y x le h = absurd (omega (arith, le))

@@ -20,7 +20,8 @@ use Rattle.record_flows.specs.Book.{book, scene}
 use Rattle.record_flows.specs.Flows.{Flow, flow_of, guest_is_known, is_numbered}
 use Rattle.record_flows.specs.Laws.{flow_settings}
 use Rattle.slirp_laws.proofs.Bools.{equal, first_of, second_of}
-use Rattle.run_duties.specs.Check.{all_flows, all_may, all_served, flows_are, implies, is_by, is_dutiful, is_from, is_must, is_settled_now, is_wanted, may_be_wanted, may_be_written, may_write_flow, must_wait, reported, sockets_are, waits_for}
+use Rattle.run_duties.specs.Check.{all_flows, all_may, all_served, flows_are, implies, is_by, is_dutiful, is_from, is_must, is_settled_now, is_wanted, may_be_wanted, may_be_written}
+use Rattle.run_duties.specs.Check.{may_write_flow, must_wait, reported, sockets_are, waits_for}
 use Rattle.run_duties.specs.Duties.{Dutiful, Must as MustCome, MustWait, is_at_rest}
 use Rattle.run_duties.specs.Serving.{AllServed, is_left_to_read, is_left_to_write}
 use Rattle.run_duties.specs.Times.{alarms, deadlines, lives, wait_end}
@@ -93,7 +94,8 @@ found_wanted config past wants number (g ∷ flows) f all found =
   where
     by : (flow_of number flows ≡ Some f → is_wanted config past wants (Tcp number) ≡ true) → (b : Bool) → is_numbered number g ≡ b → (if b then Some g else flow_of number flows) ≡ Some f
         → is_wanted config past wants (Tcp number) ≡ true
-    by rest true test is = subst (λ n. is_wanted config past wants (Tcp n) ≡ true) (equal g.number number test) (first_of (is_wanted config past wants (Tcp g.number)) (flows_are config past wants flows) all)
+    by rest true test is = subst (λ n. is_wanted config past wants (Tcp n) ≡ true) (equal g.number number test) (first_of (is_wanted config past wants (Tcp g.number))
+        (flows_are config past wants flows) all)
     by rest false test is = rest is
 
 -- ---- what is waited for
@@ -103,7 +105,8 @@ module _ (config : Config) (past : List Entry) where
   may_read [] who all is = absurd cc
   may_read (want ∷ wants) who all is = by (may_read wants who (second_of (may_be_wanted config past want) (all_may config past wants) all)) (same_who who want.of) refl want.read refl is
     where
-      by : (reads who wants ≡ true → is_read config past who ≡ true) → (s : Bool) → same_who who want.of ≡ s → (r : Bool) → want.read ≡ r → ((s && r) || reads who wants) ≡ true → is_read config past who ≡ true
+      by : (reads who wants ≡ true → is_read config past who ≡ true) → (s : Bool) → same_who who want.of ≡ s → (r : Bool) → want.read ≡ r → ((s && r) || reads who wants) ≡ true →
+          is_read config past who ≡ true
       by rest true same_test true read_is one =
           let all_of = first_of (may_be_wanted config past want) (all_may config past wants) all in
           let part = first_of (implies want.read (is_read config past want.of)) (implies want.write (may_be_written config past want.of)) all_of in
@@ -115,7 +118,8 @@ module _ (config : Config) (past : List Entry) where
   may_write [] who all is = absurd cc
   may_write (want ∷ wants) who all is = by (may_write wants who (second_of (may_be_wanted config past want) (all_may config past wants) all)) (same_who who want.of) refl want.write refl is
     where
-      by : (writes who wants ≡ true → may_be_written config past who ≡ true) → (s : Bool) → same_who who want.of ≡ s → (r : Bool) → want.write ≡ r → ((s && r) || writes who wants) ≡ true → may_be_written config past who ≡ true
+      by : (writes who wants ≡ true → may_be_written config past who ≡ true) → (s : Bool) → same_who who want.of ≡ s → (r : Bool) → want.write ≡ r →
+          ((s && r) || writes who wants) ≡ true → may_be_written config past who ≡ true
       by rest true same_test true write_is one =
           let all_of = first_of (may_be_wanted config past want) (all_may config past wants) all in
           let part = second_of (implies want.read (is_read config past want.of)) (implies want.write (may_be_written config past want.of)) all_of in
@@ -191,7 +195,8 @@ module _ (config : Config) (past : List Entry) where
 
   waits_for_is : (wants : List Want) → waits_for config past wants ≡ true → WaitsFor config past wants
   waits_for_is wants is =
-      let p = three (all_may config past wants && is_wanted config past wants Link) (sockets_are config past wants (open_sockets past) && flows_are config past wants (book config past).flows) (are_in_order wants) is in
+      let p = three (all_may config past wants && is_wanted config past wants Link) (sockets_are config past wants (open_sockets past) && flows_are config past wants
+      (book config past).flows) (are_in_order wants) is in
       let all = first_of (all_may config past wants) (is_wanted config past wants Link) p.0 in
       let link = second_of (all_may config past wants) (is_wanted config past wants Link) p.0 in
       let sockets = first_of (sockets_are config past wants (open_sockets past)) (flows_are config past wants (book config past).flows) p.1 in
@@ -229,7 +234,8 @@ module _ (config : Config) (past : List Entry) where
       parts : (is_left_to_read config past item.of ≡ false) × (is_left_to_write config past item.of ≡ false) × (all_served config past items ≡ true)
       parts = none_of (is_left_to_read config past item.of) (is_left_to_write config past item.of) (all_served config past items) all
 
-      by : (s : Bool) → same_who who item.of ≡ s → (reads who items ≡ true → is_left_to_read config past who ≡ false) → ((s && item.read) || reads who items) ≡ true → is_left_to_read config past who ≡ false
+      by : (s : Bool) → same_who who item.of ≡ s → (reads who items ≡ true → is_left_to_read config past who ≡ false) → ((s && item.read) || reads who items) ≡ true →
+          is_left_to_read config past who ≡ false
       by true test rest one = subst (λ w. is_left_to_read config past w ≡ false) (sym (same_is who item.of test)) parts.0
       by false test rest one = rest one
 
@@ -240,7 +246,8 @@ module _ (config : Config) (past : List Entry) where
       parts : (is_left_to_read config past item.of ≡ false) × (is_left_to_write config past item.of ≡ false) × (all_served config past items ≡ true)
       parts = none_of (is_left_to_read config past item.of) (is_left_to_write config past item.of) (all_served config past items) all
 
-      by : (s : Bool) → same_who who item.of ≡ s → (writes who items ≡ true → is_left_to_write config past who ≡ false) → ((s && item.write) || writes who items) ≡ true → is_left_to_write config past who ≡ false
+      by : (s : Bool) → same_who who item.of ≡ s → (writes who items ≡ true → is_left_to_write config past who ≡ false) → ((s && item.write) || writes who items) ≡ true →
+          is_left_to_write config past who ≡ false
       by true test rest one = subst (λ w. is_left_to_write config past w ≡ false) (sym (same_is who item.of test)) parts.1
       by false test rest one = rest one
 
@@ -279,13 +286,17 @@ module _ (config : Config) (past : List Entry) where
   wait_is : (wants : List Want) (timeout : Option ℕ) → must_wait config past wants timeout ≡ true → MustWait config past wants timeout
   wait_is wants timeout is =
       let p = three (waits_for config past wants && (is_blocked past || is_all_sent config past))
-      ((is_blocked past || all_flows (is_settled_now config past) (book config past).flows) && all_flows (λ f. may_wait f.story (moment past)) (book config past).flows && all_ahead (moment past) (lives config past))
+      ((is_blocked past || all_flows (is_settled_now config past) (book config past).flows) && all_flows (λ f. may_wait f.story (moment past)) (book config past).flows && all_ahead
+      (moment past) (lives config past))
       ((is_by (wait_end (moment past) timeout) (deadlines config past) && is_from (wait_end (moment past) timeout) (alarms config past)) && all_served config past (reported past)) is in
-      let times = first_of (is_by (wait_end (moment past) timeout) (deadlines config past) && is_from (wait_end (moment past) timeout) (alarms config past)) (all_served config past (reported past)) p.2 in
-      let served = second_of (is_by (wait_end (moment past) timeout) (deadlines config past) && is_from (wait_end (moment past) timeout) (alarms config past)) (all_served config past (reported past)) p.2 in
+      let times = first_of (is_by (wait_end (moment past) timeout) (deadlines config past) && is_from (wait_end (moment past) timeout) (alarms config past))
+      (all_served config past (reported past)) p.2 in
+      let served = second_of (is_by (wait_end (moment past) timeout) (deadlines config past) && is_from (wait_end (moment past) timeout) (alarms config past))
+      (all_served config past (reported past)) p.2 in
       let listed = first_of (waits_for config past wants) (is_blocked past || is_all_sent config past) p.0 in
       let out = second_of (waits_for config past wants) (is_blocked past || is_all_sent config past) p.0 in
-      let r = three (is_blocked past || all_flows (is_settled_now config past) (book config past).flows) (all_flows (λ f. may_wait f.story (moment past)) (book config past).flows) (all_ahead (moment past) (lives config past)) p.1 in
+      let r = three (is_blocked past || all_flows (is_settled_now config past) (book config past).flows) (all_flows (λ f. may_wait f.story (moment past)) (book config past).flows)
+      (all_ahead (moment past) (lives config past)) p.1 in
       record {
         waits_for = waits_for_is wants listed;
         served = served_all served;
@@ -295,8 +306,10 @@ module _ (config : Config) (past : List Entry) where
             (found_passes (is_settled_now config past) number (book config past).flows f (either (is_blocked past) (all_flows (is_settled_now config past) (book config past).flows) r.0 free) found);
         unused = ahead_is (moment past) (lives config past) r.2;
         closed = λ number f found. waits f.story (moment past) (found_passes (λ g. may_wait g.story (moment past)) number (book config past).flows f r.1 found);
-        until = by_is (wait_end (moment past) timeout) (deadlines config past) (first_of (is_by (wait_end (moment past) timeout) (deadlines config past)) (is_from (wait_end (moment past) timeout) (alarms config past)) times);
-        from = from_is (wait_end (moment past) timeout) (alarms config past) (second_of (is_by (wait_end (moment past) timeout) (deadlines config past)) (is_from (wait_end (moment past) timeout) (alarms config past)) times);
+        until = by_is (wait_end (moment past) timeout) (deadlines config past) (first_of (is_by (wait_end (moment past) timeout) (deadlines config past))
+            (is_from (wait_end (moment past) timeout) (alarms config past)) times);
+        from = from_is (wait_end (moment past) timeout) (alarms config past) (second_of (is_by (wait_end (moment past) timeout) (deadlines config past))
+            (is_from (wait_end (moment past) timeout) (alarms config past)) times);
       }
 
   pub must_come : (call : Call) → is_must config past call ≡ true → MustCome config past call
@@ -309,5 +322,9 @@ module _ (config : Config) (past : List Entry) where
 pub is_sound : (config : Config) (past : List Entry) → is_dutiful config past ≡ true → Dutiful config past
 is_sound config [] is = tt
 is_sound config (e ∷ past) is =
-    let parts : (is_must config past (call_of e) ≡ true) × (is_dutiful config past ≡ true) = (first_of (is_must config past (call_of e)) (is_dutiful config past) is, second_of (is_must config past (call_of e)) (is_dutiful config past) is) in
+    let parts : (is_must config past (call_of e) ≡ true) × (is_dutiful config past ≡ true) = (
+      first_of (is_must config past (call_of e)) (is_dutiful config past) is,
+      second_of
+          (is_must config past (call_of e)) (is_dutiful config past) is,
+    ) in
     (must_come config past (call_of e) parts.0, is_sound config past parts.1)

@@ -1,7 +1,8 @@
 -- A run that has ended waits no more, and one whose port the host refused never waited.
 use Rattle.std.proofs.Common.{◌≡◌, ℕ, ◌&&◌, ◌||◌, nat_le, nat_lt, Bool, true, false, List, [], ◌∷◌, ◌++◌, Option, Some, None, refl, sym, ◌∙◌, ap, subst, arith}
 use Rattle.std.proofs.lemmas.Bool.Decides.{nat_tests}
-use Rattle.world_face.specs.Journal.{Entry, call_of, Now, Wait, LinkOpen, LinkRead, LinkWrite, Connect, Connected, Listen, Accept, TcpRead, TcpWrite, TcpEnd, Close, UdpOpen, UdpSend, UdpRecv, FileLen, FileRead}
+use Rattle.world_face.specs.Journal.{Entry, call_of, Now, Wait, LinkOpen, LinkRead, LinkWrite, Connect, Connected, Listen, Accept, TcpRead, TcpWrite, TcpEnd, Close, UdpOpen, UdpSend}
+use Rattle.world_face.specs.Journal.{UdpRecv, FileLen, FileRead}
 use Rattle.world_face.specs.Frames.{Ending, ending, partial}
 use Rattle.world_face.specs.declared.Made.TheVariants.{Done, Failed}
 use Rattle.host_policy.specs.Addresses.{Config}
@@ -24,7 +25,8 @@ turns_yet (Over cause) is = cc
 
 unended : (config : Config) (past : List Entry) → (may_turn (phase config past) && nat_lt (waits past) config.turns) ≡ true → is_ended config past ≡ true → ⊥
 unended config past place ended =
-    by (is_over (phase config past)) (turns_yet (phase config past) (first_of (may_turn (phase config past)) (nat_lt (waits past) config.turns) place)) (second_of (may_turn (phase config past)) (nat_lt (waits past) config.turns) place) ended
+    by (is_over (phase config past)) (turns_yet (phase config past) (first_of (may_turn (phase config past)) (nat_lt (waits past) config.turns) place))
+    (second_of (may_turn (phase config past)) (nat_lt (waits past) config.turns) place) ended
   where
     by : (b : Bool) → b ≡ false → nat_lt (waits past) config.turns ≡ true → (b || nat_le config.turns (waits past)) ≡ true → ⊥
     by true yet few is = cc

@@ -1,5 +1,6 @@
 -- When the idle lives of sockets are over, by the list in the order of use.
-use Rattle.std.proofs.Common.{◌≡◌, ℕ, zero, suc, ◌+◌, ◌⊎◌, inl, inr, slice_get, ◌-◌, ◌<◌, ◌≤◌, ◌==◌, ◌||◌, nat_le, Bool, true, false, List, [], ◌∷◌, length, map, All, Some, refl, sym, ap, ◌∙◌, subst, arith, if◌then◌else◌}
+use Rattle.std.proofs.Common.{◌≡◌, ℕ, zero, suc, ◌+◌, ◌⊎◌, inl, inr, slice_get, ◌-◌, ◌<◌, ◌≤◌, ◌==◌, ◌||◌, nat_le, Bool, true, false, List, [], ◌∷◌, length, map, All, Some, refl, sym, ap}
+use Rattle.std.proofs.Common.{◌∙◌, subst, arith, if◌then◌else◌}
 use Rattle.std.proofs.lemmas.Bool.Decides.{nat_tests}
 use Rattle.world_face.specs.Journal.{Entry, Now}
 use Rattle.host_policy.specs.Addresses.{Config}
@@ -144,7 +145,8 @@ module _ (config : Config) (past : List Entry) (lawful : Lawful config past) (no
       order = subst (λ l. AreByLastUse past (numbers l)) is (rising past (associations config past) (joined config past lawful).order)
 
       first : used_at o.number past ≡ o.used
-      first = (says_of config past o.number (associations config past) o (joined config past lawful).kept (ap (numbered o.number) is ∙ ap (λ (b : Bool). if b then Some o else numbered o.number rest) (same o.number))).used
+      first = (says_of config past o.number (associations config past) o (joined config past lawful).kept
+          (ap (numbered o.number) is ∙ ap (λ (b : Bool). if b then Some o else numbered o.number rest) (same o.number))).used
 
       of_each : (n : ℕ) → is_among n (associations_open config past) ≡ true → now + (idle_life - (now - o.used)) ≤ used_at n past + idle_life
       of_each n among =
@@ -168,7 +170,8 @@ module _ (config : Config) (past : List Entry) (lawful : Lawful config past) (no
       (same_sockets config past (associations config past) (joined config past lawful) o.number ∙ ap (λ l. is_among o.number (numbers l)) is ∙ at_front o.number (numbers rest)) low
     where
       first : used_at o.number past ≡ o.used
-      first = (says_of config past o.number (associations config past) o (joined config past lawful).kept (ap (numbered o.number) is ∙ ap (λ (b : Bool). if b then Some o else numbered o.number rest) (same o.number))).used
+      first = (says_of config past o.number (associations config past) o (joined config past lawful).kept
+          (ap (numbered o.number) is ∙ ap (λ (b : Bool). if b then Some o else numbered o.number rest) (same o.number))).used
 
       low : used_at o.number past + idle_life ≤ now + (idle_life - (now - o.used))
       low = let mine = first in omega (arith, mine, soon)

@@ -20,7 +20,8 @@ use Rattle.run_duties.specs.Times.{association_lives, lives, question_lives}
 use Rattle.run_duties.proofs.Lives.{ahead_each, at_front, by_each, from_each, used_last}
 
 -- what the record says of one with a number, and what holds of all
-has_one : (past : List Entry) (P : Question → Type 0) (n : ℕ) (list : List Question) → AllQuestions (IsUsed past) list → All P list → is_among n (numbers list) ≡ true → (q : Question) × (used_at n past ≡ q.used) × P q
+has_one : (past : List Entry) (P : Question → Type 0) (n : ℕ) (list : List Question) → AllQuestions (IsUsed past) list → All P list → is_among n (numbers list) ≡ true →
+    (q : Question) × (used_at n past ≡ q.used) × P q
 has_one past P n [] used all among = absurd cc
 has_one past P n (x ∷ list) used all among = by (n == x.number) refl among (has_one past P n list used.1 (λ k d low. all (suc k) d (omega (arith, low)))) (all 0 x (omega arith))
   where

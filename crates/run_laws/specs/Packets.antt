@@ -31,7 +31,8 @@ datagram_of mac ip udp = record { mac = mac; from = endpoint ip.from udp.from_po
 abbrev pub may_come : Config → Ip → Udp → Bool
 may_come config ip udp = is_guest config ip.from || ((ip.from == 0) && (udp.to_port == 67))
 
--- A packet of the guests: one of ARP, a message, a datagram, a segment between two ends, each whole, the last three with the hardware address from which the frame came by which it was whole; or nothing that anybody listens to.
+-- A packet of the guests: one of ARP, a message, a datagram, a segment between two ends, each whole, the last three with the hardware address from which the
+-- frame came by which it was whole; or nothing that anybody listens to.
 pub data Packet : Type 0 where
   Unheard : Packet
   ArpPacket : Arp → Packet

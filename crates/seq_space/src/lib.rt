@@ -4,7 +4,7 @@
 ghost use Rattle.std.specs.Prelude.{◌≡◌, ◌≤◌, ◌^◌};
 ghost use Rattle.seq_space.specs.Places.{IsAhead, IsPlace, number_of, place as place_of};
 
-/// A sequence number.
+/// A sequence number of TCP, modulo 2^32 (RFC 9293, 3.4).
 #[derive(Clone, Copy, Debug, PartialEq, Eq)]
 pub struct Seq(pub u32);
 

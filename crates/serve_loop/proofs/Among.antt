@@ -30,11 +30,13 @@ push_write false is x xs = refl
 
 reads_kept : (is : Want → Bool) (who : Who) → ((w : Want) → same_who who w.of ≡ true → is w ≡ true) → (wants : List Want) → reads who (filter is wants) ≡ reads who wants
 reads_kept is who all [] = refl
-reads_kept is who all (x ∷ wants) = push (is x) who x (filter is wants) ∙ step_read (is x) (same_who who x.of) x.read (reads who wants) (reads who (filter is wants)) (all x) (reads_kept is who all wants)
+reads_kept is who all (x ∷ wants) = push (is x) who x (filter is wants) ∙ step_read (is x) (same_who who x.of) x.read (reads who wants) (reads who (filter is wants)) (all x)
+    (reads_kept is who all wants)
 
 writes_kept : (is : Want → Bool) (who : Who) → ((w : Want) → same_who who w.of ≡ true → is w ≡ true) → (wants : List Want) → writes who (filter is wants) ≡ writes who wants
 writes_kept is who all [] = refl
-writes_kept is who all (x ∷ wants) = push_write (is x) who x (filter is wants) ∙ step_read (is x) (same_who who x.of) x.write (writes who wants) (writes who (filter is wants)) (all x) (writes_kept is who all wants)
+writes_kept is who all (x ∷ wants) = push_write (is x) who x (filter is wants) ∙ step_read (is x) (same_who who x.of) x.write (writes who wants) (writes who (filter is wants))
+    (all x) (writes_kept is who all wants)
 
 listener_kind : (n : ℕ) (who : Who) → same_who (Listener n) who ≡ true → names_link_or_listener who ≡ true
 listener_kind n Link is = cc

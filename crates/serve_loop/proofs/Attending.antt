@@ -44,14 +44,16 @@ same_marks number old new same = record {
 }
 
 module _ (config : Config) (count : ℕ) (wants : List Want) (items : List Want) where
-  same_waits : (old new : List Want) (slirp mid : SlirpState) (link next : LinkState) (made past : List Entry) → HoldsNow config (standing count wants old) false slirp link past → HoldsNow config (standing count wants new) false mid next (made ++ past)
+  same_waits : (old new : List Want) (slirp mid : SlirpState) (link next : LinkState) (made past : List Entry) → HoldsNow config (standing count wants old) false slirp link past →
+      HoldsNow config (standing count wants new) false mid next (made ++ past)
       → waits (made ++ past) ≡ waits past
   same_waits old new slirp mid link next made past before after = after.clock.counted ∙ sym before.clock.counted
 
   -- a pump goes on with what is left
   pub pump_serves : (turn : Turn) (to_read : Bool) (mid new : SlirpState) (link next : LinkState) (a b : Telling) → KeepsMarks mid.number mid.flows new.flows → (turn ≡ Again → AllSent new next)
       → Brings a b (HoldsNow config (standing count wants items) false mid link) (AfterTurn turn config (standing count wants items) false new next)
-      → Brings a b (λ past. HoldsNow config (standing count wants items) false mid link past × IsLeftAmong config wants items to_read mid past) (AfterItem turn config count wants items to_read new next)
+      → Brings a b (λ past. HoldsNow config (standing count wants items) false mid link past × IsLeftAmong config wants items to_read mid past)
+      (AfterItem turn config count wants items to_read new next)
   pump_serves Again to_read mid new link next a b marks sent brings = record {
     made = brings.made;
     same = brings.same;
@@ -62,7 +64,8 @@ module _ (config : Config) (count : ℕ) (wants : List Want) (items : List Want)
         let after = brings.brings past now.0 in
         record {
           holds = after;
-          left = left_on config (standing count wants items) false wants items to_read mid new link brings.made past (same_waits items items mid new link next brings.made past now.0 after) now.0 marks now.1;
+          left = left_on config (standing count wants items) false wants items to_read mid new link brings.made past
+              (same_waits items items mid new link next brings.made past now.0 after) now.0 marks now.1;
           can_take = can_take config (standing count wants items) false new next (brings.made ++ past) after (sent refl);
         };
   }
@@ -73,7 +76,8 @@ module _ (config : Config) (count : ℕ) (wants : List Want) (items : List Want)
     pub socket_serves : (who : Who) (to_read : Bool) → item.of ≡ who → ((past : List Entry) → is_written config past who ≡ false) → KeepsMarks slirp.number slirp.flows mid.flows
         → Brings a b (λ past. HoldsNow config (standing count wants (item ∷ items)) false slirp link past × CanTake config slirp link past)
         (λ past. HoldsNow config (standing count wants items) false mid next past × (is_left_to_read config past who ≡ false))
-        → Brings a b (ServesNow config count wants (item ∷ items) to_read slirp link) (λ past. HoldsNow config (standing count wants items) false mid next past × IsLeftAmong config wants items to_read mid past)
+        → Brings a b (ServesNow config count wants (item ∷ items) to_read slirp link)
+        (λ past. HoldsNow config (standing count wants items) false mid next past × IsLeftAmong config wants items to_read mid past)
     socket_serves who to_read of unwanted marks brings = record {
       made = brings.made;
       same = brings.same;
@@ -85,7 +89,8 @@ module _ (config : Config) (count : ℕ) (wants : List Want) (items : List Want)
           let same = same_waits (item ∷ items) items slirp mid link next brings.made past now.holds after.0 in (
             after.0,
             left_behind_socket config wants item items to_read slirp brings.made past same now.left
-                (λ read wanted. ap (is_left_to_read config (brings.made ++ past)) of ∙ after.1) (λ write wanted. ap (is_left_to_write config (brings.made ++ past)) of ∙ unwritten config (brings.made ++ past) who (unwanted (brings.made ++ past))) mid
+                (λ read wanted. ap (is_left_to_read config (brings.made ++ past)) of ∙ after.1) (λ write wanted. ap (is_left_to_write config (brings.made ++ past)) of
+                ∙ unwritten config (brings.made ++ past) who (unwanted (brings.made ++ past))) mid
                 (still_told config (standing count wants (item ∷ items)) false slirp mid link brings.made past same now.holds marks now.left.told),
           );
     }
@@ -94,7 +99,8 @@ module _ (config : Config) (count : ℕ) (wants : List Want) (items : List Want)
     pub link_serves : (to_read : Bool) → item.of ≡ TheLink → (to_read ≡ true → reads TheLink wants ≡ true) → KeepsMarks slirp.number slirp.flows mid.flows
         → Brings a b (λ past. HoldsNow config (standing count wants (item ∷ items)) false slirp link past × CanTake config slirp link past)
         (λ past. HoldsNow config (standing count wants items) false mid next past × (is_left_to_read config past TheLink ≡ false))
-        → Brings a b (ServesNow config count wants (item ∷ items) to_read slirp link) (λ past. HoldsNow config (standing count wants items) false mid next past × IsLeftAmong config wants items (still to_read item) mid past)
+        → Brings a b (ServesNow config count wants (item ∷ items) to_read slirp link)
+        (λ past. HoldsNow config (standing count wants items) false mid next past × IsLeftAmong config wants items (still to_read item) mid past)
     link_serves to_read of wanted marks brings = record {
       made = brings.made;
       same = brings.same;
@@ -106,16 +112,20 @@ module _ (config : Config) (count : ℕ) (wants : List Want) (items : List Want)
           let same = same_waits (item ∷ items) items slirp mid link next brings.made past now.holds after.0 in (
             after.0,
             left_behind_link config wants item items to_read slirp brings.made past same now.left
-                (λ read wanted_too. ap (is_left_to_read config (brings.made ++ past)) of ∙ after.1) (λ write wanted_too. ap (is_left_to_write config (brings.made ++ past)) of ∙ writing_on config brings.made past TheLink same now.left.freed) mid wanted of
+                (λ read wanted_too. ap (is_left_to_read config (brings.made ++ past)) of ∙ after.1) (λ write wanted_too. ap (is_left_to_write config (brings.made ++ past)) of
+                ∙ writing_on config brings.made past TheLink same now.left.freed) mid wanted of
                 (still_told config (standing count wants (item ∷ items)) false slirp mid link brings.made past same now.holds marks now.left.told),
           );
     }
 
   -- a flow was told, unless it was in this turn before
-  module _ (item : Want) (number : ℕ) (of : item.of ≡ Tcp number) (slirp mid : SlirpState) (link : LinkState) (read write : Bool) (counts : wanted_of wants item ≡ record { of = Tcp number; read = read; write = write })
-      (told : (k : ℕ) (p : Splice) → IsOpenAt slirp.flows.flows.slots k p → number_of p ≡ number → mid.flows.served ≡ slice_set slirp.flows.served k slirp.flows.turn) (untold : NoneOpen number slirp.flows.flows.slots → mid.flows ≡ slirp.flows)
+  module _ (item : Want) (number : ℕ) (of : item.of ≡ Tcp number) (slirp mid : SlirpState) (link : LinkState) (read write : Bool)
+      (counts : wanted_of wants item ≡ record { of = Tcp number; read = read; write = write })
+      (told : (k : ℕ) (p : Splice) → IsOpenAt slirp.flows.flows.slots k p → number_of p ≡ number → mid.flows.served ≡ slice_set slirp.flows.served k slirp.flows.turn)
+      (untold : NoneOpen number slirp.flows.flows.slots → mid.flows ≡ slirp.flows)
       (stays : Stays slirp.flows mid.flows) (turn : mid.flows.turn ≡ slirp.flows.turn) (a b : Telling) (to_read : Bool) where
-    module _ (made past : List Entry) (same : waits (made ++ past) ≡ waits past) (left : IsLeftAmong config wants (item ∷ items) to_read slirp past) (once : ServesOnce config number read write slirp.flows (made ++ past)) where
+    module _ (made past : List Entry) (same : waits (made ++ past) ≡ waits past) (left : IsLeftAmong config wants (item ∷ items) to_read slirp past)
+        (once : ServesOnce config number read write slirp.flows (made ++ past)) where
       before : WasTold number slirp.flows → IsServed config (made ++ past) (Tcp number)
       before was = subst (λ n. IsServed config (made ++ past) (Tcp n)) was.number_is (served_on config made past (Tcp (number_of was.part)) same (left.told was.slot was.part was.at.here was.mark))
 
@@ -145,8 +155,10 @@ module _ (config : Config) (count : ℕ) (wants : List Want) (items : List Want)
           (λ k p here mark. served_on config made past (Tcp (number_of p)) same (left.told k p here mark))
           (its_flow config wants item items to_read slirp made past same left flow_read flow_written number of))
 
-    pub flow_serves : Brings a b (HoldsNow config (standing count wants (item ∷ items)) false slirp link) (λ past. HoldsNow config (standing count wants items) false mid link past × ServesOnce config number read write slirp.flows past)
-        → Brings a b (ServesNow config count wants (item ∷ items) to_read slirp link) (λ past. HoldsNow config (standing count wants items) false mid link past × IsLeftAmong config wants items to_read mid past)
+    pub flow_serves : Brings a b (HoldsNow config (standing count wants (item ∷ items)) false slirp link)
+        (λ past. HoldsNow config (standing count wants items) false mid link past × ServesOnce config number read write slirp.flows past)
+        → Brings a b (ServesNow config count wants (item ∷ items) to_read slirp link)
+        (λ past. HoldsNow config (standing count wants items) false mid link past × IsLeftAmong config wants items to_read mid past)
     flow_serves brings = record {
       made = brings.made;
       same = brings.same;
@@ -165,7 +177,8 @@ module _ (config : Config) (count : ℕ) (wants : List Want) (items : List Want)
     passed_holds holds = passes_over config count wants item items slirp (flowing false slirp.flows) link past holds
 
     -- an item whose directions weren't waited for
-    pub socket_passed : (to_read : Bool) → (item.read ≡ true → reads item.of wants ≡ true → is_left_to_read config past item.of ≡ false) → (item.write ≡ true → writes item.of wants ≡ true → is_left_to_write config past item.of ≡ false)
+    pub socket_passed : (to_read : Bool) → (item.read ≡ true → reads item.of wants ≡ true → is_left_to_read config past item.of ≡ false) →
+        (item.write ≡ true → writes item.of wants ≡ true → is_left_to_write config past item.of ≡ false)
         → ServesNow config count wants (item ∷ items) to_read slirp link past → ServesNow config count wants items to_read slirp link past
     socket_passed to_read read write now = record {
       holds = passed_holds now.holds;
@@ -178,7 +191,8 @@ module _ (config : Config) (count : ℕ) (wants : List Want) (items : List Want)
         → ServesNow config count wants (item ∷ items) to_read slirp link past → ServesNow config count wants items (still to_read item) slirp link past
     link_passed to_read of wanted none now = record {
       holds = passed_holds now.holds;
-      left = left_behind_link config wants item items to_read slirp [] past refl now.left (λ read wanted_too. ap (is_left_to_read config past) of ∙ now.left.frame (none read)) (λ write wanted_too. ap (is_left_to_write config past) of ∙ now.left.freed) slirp wanted of now.left.told;
+      left = left_behind_link config wants item items to_read slirp [] past refl now.left (λ read wanted_too. ap (is_left_to_read config past) of ∙ now.left.frame (none read))
+          (λ write wanted_too. ap (is_left_to_write config past) of ∙ now.left.freed) slirp wanted of now.left.told;
       can_take = now.can_take;
     }
 
@@ -212,7 +226,8 @@ pub none_came : (config : Config) (made past : List Entry) → EndsBy NotYet mad
 none_came config made past ends same = read_since config made past TheLink same (none_serves made past ends)
 
 -- calls that don't wait leave it read
-pub read_then : {a b : Telling} {Before After : List Entry → Type 0} (config : Config) → Brings a b Before After → ((past made : List Entry) → Before past → After (made ++ past) → waits (made ++ past) ≡ waits past)
+pub read_then : {a b : Telling} {Before After : List Entry → Type 0} (config : Config) → Brings a b Before After → ((past made : List Entry) → Before past → After (made ++ past) →
+    waits (made ++ past) ≡ waits past)
     → Brings a b (λ past. Before past × (is_left_to_read config past TheLink ≡ false)) (λ past. After past × (is_left_to_read config past TheLink ≡ false))
 read_then config brings same = record {
   made = brings.made;

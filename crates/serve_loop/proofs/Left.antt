@@ -1,5 +1,6 @@
 -- What is left of the reports of a wait, from item to item.
-use Rattle.std.proofs.Common.{◌≡◌, ◌⊎◌, inl, inr, ℕ, ◌+◌, ◌≤◌, ◌==◌, ◌&&◌, ◌||◌, not, nat_lt, if◌then◌else◌, Bool, true, false, List, [], ◌∷◌, ◌++◌, length, slice_get, Option, Some, refl, sym, ap, ◌∙◌, subst, arith}
+use Rattle.std.proofs.Common.{◌≡◌, ◌⊎◌, inl, inr, ℕ, ◌+◌, ◌≤◌, ◌==◌, ◌&&◌, ◌||◌, not, nat_lt, if◌then◌else◌, Bool, true, false, List, [], ◌∷◌, ◌++◌, length, slice_get, Option, Some, refl}
+use Rattle.std.proofs.Common.{sym, ap, ◌∙◌, subst, arith}
 use Rattle.std.specs.List.{list_any}
 use Rattle.poll_list.specs.Listing.{differ, number_of as socket_number, reads, same_number, same_who, writes}
 use Rattle.poll_list.specs.declared.Want.{Want}
@@ -44,7 +45,8 @@ both_true false b one two = absurd cc
 -- ---- the first item, or one behind it
 
 module _ (wants : List Want) (item : Want) (items : List Want) where
-  pub read_or_behind : (who : Who) → reads who (all_wanted wants (item ∷ items)) ≡ true → ((item.of ≡ who) × (item.read ≡ true) × (reads item.of wants ≡ true)) ⊎ (reads who (all_wanted wants items) ≡ true)
+  pub read_or_behind : (who : Who) → reads who (all_wanted wants (item ∷ items)) ≡ true → ((item.of ≡ who) × (item.read ≡ true) × (reads item.of wants ≡ true)) ⊎
+      (reads who (all_wanted wants items) ≡ true)
   read_or_behind who is = by (same_who who item.of) refl item.read refl (reads item.of wants) refl is
     where
       by : (s : Bool) → same_who who item.of ≡ s → (r : Bool) → item.read ≡ r → (w : Bool) → reads item.of wants ≡ w → ((s && (r && w)) || reads who (all_wanted wants items)) ≡ true
@@ -54,7 +56,8 @@ module _ (wants : List Want) (item : Want) (items : List Want) where
       by true one false two w three it = inr it
       by false one r two w three it = inr it
 
-  pub write_or_behind : (who : Who) → writes who (all_wanted wants (item ∷ items)) ≡ true → ((item.of ≡ who) × (item.write ≡ true) × (writes item.of wants ≡ true)) ⊎ (writes who (all_wanted wants items) ≡ true)
+  pub write_or_behind : (who : Who) → writes who (all_wanted wants (item ∷ items)) ≡ true → ((item.of ≡ who) × (item.write ≡ true) × (writes item.of wants ≡ true)) ⊎
+      (writes who (all_wanted wants items) ≡ true)
   write_or_behind who is = by (same_who who item.of) refl item.write refl (writes item.of wants) refl is
     where
       by : (s : Bool) → same_who who item.of ≡ s → (r : Bool) → item.write ≡ r → (w : Bool) → writes item.of wants ≡ w → ((s && (r && w)) || writes who (all_wanted wants items)) ≡ true
@@ -65,28 +68,32 @@ module _ (wants : List Want) (item : Want) (items : List Want) where
       by false one r two w three it = inr it
 
 -- items that name no socket twice name that of the first no more behind it
-unnamed_read : (wants items : List Want) (m : ℕ) (of : Who) → of ≡ Tcp m → list_any (λ w. same_number (socket_number of) (socket_number w.of)) items ≡ false → reads (Tcp m) (all_wanted wants items) ≡ false
+unnamed_read : (wants items : List Want) (m : ℕ) (of : Who) → of ≡ Tcp m → list_any (λ w. same_number (socket_number of) (socket_number w.of)) items ≡ false → reads (Tcp m)
+    (all_wanted wants items) ≡ false
 unnamed_read wants [] m of is none = refl
 unnamed_read wants (x ∷ items) m of is none = by (same_who (Tcp m) x.of) refl (same_number (socket_number of) (socket_number x.of)) refl none (unnamed_read wants items m of is)
   where
     alike : same_who (Tcp m) x.of ≡ true → same_number (socket_number of) (socket_number x.of) ≡ true
     alike one = ap (λ w. same_number (socket_number w) (socket_number x.of)) is ∙ ap (λ w. same_number (Some m) (socket_number w)) (sym (same_is (Tcp m) x.of one)) ∙ same m
 
-    by : (s : Bool) → same_who (Tcp m) x.of ≡ s → (t : Bool) → same_number (socket_number of) (socket_number x.of) ≡ t → (t || list_any (λ w. same_number (socket_number of) (socket_number w.of)) items) ≡ false
+    by : (s : Bool) → same_who (Tcp m) x.of ≡ s → (t : Bool) → same_number (socket_number of) (socket_number x.of) ≡ t →
+        (t || list_any (λ w. same_number (socket_number of) (socket_number w.of)) items) ≡ false
         → (list_any (λ w. same_number (socket_number of) (socket_number w.of)) items ≡ false → reads (Tcp m) (all_wanted wants items) ≡ false)
         → ((s && (x.read && reads x.of wants)) || reads (Tcp m) (all_wanted wants items)) ≡ false
     by s one true two all rest = absurd cc
     by true one false two all rest = true_false _ (alike one) two
     by false one false two all rest = rest all
 
-unnamed_written : (wants items : List Want) (m : ℕ) (of : Who) → of ≡ Tcp m → list_any (λ w. same_number (socket_number of) (socket_number w.of)) items ≡ false → writes (Tcp m) (all_wanted wants items) ≡ false
+unnamed_written : (wants items : List Want) (m : ℕ) (of : Who) → of ≡ Tcp m → list_any (λ w. same_number (socket_number of) (socket_number w.of)) items ≡ false → writes (Tcp m)
+    (all_wanted wants items) ≡ false
 unnamed_written wants [] m of is none = refl
 unnamed_written wants (x ∷ items) m of is none = by (same_who (Tcp m) x.of) refl (same_number (socket_number of) (socket_number x.of)) refl none (unnamed_written wants items m of is)
   where
     alike : same_who (Tcp m) x.of ≡ true → same_number (socket_number of) (socket_number x.of) ≡ true
     alike one = ap (λ w. same_number (socket_number w) (socket_number x.of)) is ∙ ap (λ w. same_number (Some m) (socket_number w)) (sym (same_is (Tcp m) x.of one)) ∙ same m
 
-    by : (s : Bool) → same_who (Tcp m) x.of ≡ s → (t : Bool) → same_number (socket_number of) (socket_number x.of) ≡ t → (t || list_any (λ w. same_number (socket_number of) (socket_number w.of)) items) ≡ false
+    by : (s : Bool) → same_who (Tcp m) x.of ≡ s → (t : Bool) → same_number (socket_number of) (socket_number x.of) ≡ t →
+        (t || list_any (λ w. same_number (socket_number of) (socket_number w.of)) items) ≡ false
         → (list_any (λ w. same_number (socket_number of) (socket_number w.of)) items ≡ false → writes (Tcp m) (all_wanted wants items) ≡ false)
         → ((s && (x.write && writes x.of wants)) || writes (Tcp m) (all_wanted wants items)) ≡ false
     by s one true two all rest = absurd cc
@@ -124,7 +131,8 @@ module _ (config : Config) (wants : List Want) (item : Want) (items : List Want)
   pub its_flow : (m : ℕ) → item.of ≡ Tcp m → IsServed config (made ++ past) (Tcp m)
   its_flow m of = record {
     reading = unless (is_left_to_read config (made ++ past) (Tcp m)) (λ is. true_false _ (reading_behind (Tcp m) is) (unnamed_read wants items m item.of of (none_like_first item items left.differ)));
-    writing = unless (is_left_to_write config (made ++ past) (Tcp m)) (λ is. true_false _ (writing_behind (Tcp m) is) (unnamed_written wants items m item.of of (none_like_first item items left.differ)));
+    writing = unless (is_left_to_write config (made ++ past) (Tcp m)) (λ is. true_false _ (writing_behind (Tcp m) is)
+        (unnamed_written wants items m item.of of (none_like_first item items left.differ)));
   }
 
   -- no frame is to be read behind the link's item for reading
@@ -150,7 +158,8 @@ module _ (config : Config) (wants : List Want) (item : Want) (items : List Want)
   }
 
   -- behind an item of a socket, and behind one of the link
-  pub left_behind_socket : (new : SlirpState) → ((k : ℕ) (p : Splice) → slice_get new.flows.flows.slots k ≡ Some (Some p) → slice_get new.flows.served k ≡ Some new.flows.turn → IsServed config (made ++ past) (Tcp (number_of p)))
+  pub left_behind_socket : (new : SlirpState) → ((k : ℕ) (p : Splice) → slice_get new.flows.flows.slots k ≡ Some (Some p) → slice_get new.flows.served k ≡ Some new.flows.turn →
+      IsServed config (made ++ past) (Tcp (number_of p)))
       → IsLeftAmong config wants items to_read new (made ++ past)
   left_behind_socket new told = left_behind new to_read (λ none. reading_on config made past TheLink same (left.frame none)) told
 
@@ -162,7 +171,8 @@ module _ (config : Config) (wants : List Want) (item : Want) (items : List Want)
 -- ---- the marks of flows
 
 -- calls that keep the marks leave what is said of those that were told
-pub still_told : (config : Config) (at : Standing) (aged : Bool) (slirp new : SlirpState) (link : LinkState) (made past : List Entry) → waits (made ++ past) ≡ waits past → HoldsNow config at aged slirp link past → KeepsMarks slirp.number slirp.flows new.flows
+pub still_told : (config : Config) (at : Standing) (aged : Bool) (slirp new : SlirpState) (link : LinkState) (made past : List Entry) → waits (made ++ past) ≡ waits past →
+    HoldsNow config at aged slirp link past → KeepsMarks slirp.number slirp.flows new.flows
     → ((k : ℕ) (p : Splice) → slice_get slirp.flows.flows.slots k ≡ Some (Some p) → slice_get slirp.flows.served k ≡ Some slirp.flows.turn → IsServed config past (Tcp (number_of p)))
     → (k : ℕ) (p : Splice) → slice_get new.flows.flows.slots k ≡ Some (Some p) → slice_get new.flows.served k ≡ Some new.flows.turn → IsServed config (made ++ past) (Tcp (number_of p))
 still_told config at aged slirp new link made past same holds marks told k p here mark = served_on config made past (Tcp (number_of p)) same (by (marks.numbers k p here))
@@ -175,7 +185,8 @@ still_told config at aged slirp new link made past same holds marks told k p her
     by (inr drawn) = let next = holds.sockets.number in unopened config past (number_of p) holds.lawful (omega (arith, drawn, next))
 
 -- calls that keep the marks, with no item between
-pub left_on : (config : Config) (at : Standing) (aged : Bool) (wants items : List Want) (to_read : Bool) (slirp new : SlirpState) (link : LinkState) (made past : List Entry) → waits (made ++ past) ≡ waits past → HoldsNow config at aged slirp link past
+pub left_on : (config : Config) (at : Standing) (aged : Bool) (wants items : List Want) (to_read : Bool) (slirp new : SlirpState) (link : LinkState) (made past : List Entry) →
+    waits (made ++ past) ≡ waits past → HoldsNow config at aged slirp link past
     → KeepsMarks slirp.number slirp.flows new.flows → IsLeftAmong config wants items to_read slirp past → IsLeftAmong config wants items to_read new (made ++ past)
 left_on config at aged wants items to_read slirp new link made past same holds marks left = record {
   reading = λ who is. left.reading who (read_left config made past who same is);
@@ -214,7 +225,8 @@ taken_in config at aged slirp link past holds sent who comes is = by (is_settled
         none (Listener n) one = absurd cc
         none (Tcp n) one = absurd cc
 
-pub can_take : (config : Config) (at : Standing) (aged : Bool) (slirp : SlirpState) (link : LinkState) (past : List Entry) → HoldsNow config at aged slirp link past → AllSent slirp link → CanTake config slirp link past
+pub can_take : (config : Config) (at : Standing) (aged : Bool) (slirp : SlirpState) (link : LinkState) (past : List Entry) → HoldsNow config at aged slirp link past →
+    AllSent slirp link → CanTake config slirp link past
 can_take config at aged slirp link past holds sent who comes is = taken_in config at aged slirp link past holds sent who comes (waited (is_read config past who) refl)
   where
     waited : (b : Bool) → is_read config past who ≡ b → b ≡ true
@@ -285,14 +297,16 @@ module _ (config : Config) (past : List Entry) (wants : List Want) (timeout : Op
   left_at_first slirp none apart = record {
     reading = λ who is. let both = both_read who is in wanted_read who wants ready both.0 both.1;
     writing = λ who is. let both = both_written who is in wanted_write who wants ready both.0 both.1;
-    frame = λ not_due. unless (is_left_to_read config woken TheLink) (λ is. let both = both_read TheLink is in true_false (is_frame_due wants ready) (both_true (reads TheLink wants) (reads TheLink ready) both.0 both.1) not_due);
+    frame = λ not_due. unless (is_left_to_read config woken TheLink) (λ is. let both = both_read TheLink is in true_false (is_frame_due wants ready)
+        (both_true (reads TheLink wants) (reads TheLink ready) both.0 both.1) not_due);
     freed = unless (is_left_to_write config woken TheLink) (λ is. let both = both_written TheLink is in absurd (unblocked (writes TheLink ready) both.2 both.1));
     told = λ k p here mark. absurd (none k mark);
     differ = apart;
   }
 
   -- and where a frame or a datagram is left, nothing is left to be sent
-  pub can_take_at_first : (at : Standing) (aged : Bool) (slirp new : SlirpState) (link next : LinkState) → HoldsNow config at aged slirp link past → AllSent slirp link → WaitsFor config past wants → next.tail ≡ link.tail → new.pending ≡ slirp.pending
+  pub can_take_at_first : (at : Standing) (aged : Bool) (slirp new : SlirpState) (link next : LinkState) → HoldsNow config at aged slirp link past → AllSent slirp link →
+      WaitsFor config past wants → next.tail ≡ link.tail → new.pending ≡ slirp.pending
       → CanTake config new next woken
   can_take_at_first at aged slirp new link next holds sent waits_for tail_same pending_same who comes is =
       (λ i. (length (tail_same i) == 0) && not (nat_lt 0 (length (pending_same i))))

@@ -77,7 +77,8 @@ pub ran : (config : Config) (count : ℕ) (end : End) (forwards : List Opened) (
 ran config count end forwards o made ended = record { closing = ran_by config count ended.why forwards o made ended.ended; is = ended.is ∙ sym (ap (end_of config) ended.ended.over) }
 
 -- after as many waits as there may be
-pub spent : (config : Config) (count turns : ℕ) (service : ServiceState) (made : List Entry) → 1 ≤ config.turns → config.turns ≤ count → turns ≡ config.turns → HoldsNow config (after count) false service.slirp service.link made
+pub spent : (config : Config) (count turns : ℕ) (service : ServiceState) (made : List Entry) → 1 ≤ config.turns → config.turns ≤ count → turns ≡ config.turns → HoldsNow config
+    (after count) false service.slirp service.link made
     → Closes config (TurnsSpent turns) service.slirp.forwards (holders_of service.slirp) made
 spent config count turns service made some all is holds = record {
   closing = spent_by config count service.slirp (flowing false service.slirp.flows) service.link made some all holds;
@@ -107,7 +108,8 @@ pub finishes : (config : Config) (end : End) (forwards : List Opened) (o : Holde
 finishes config end forwards o a b c ran closed = makes_then a b c _ _ (AttendsTo config end) ran closed (λ made more closes all. attends_to config end forwards o more made closes.0 closes.1 all)
 
 -- a run whose first wait hasn't been attends
-pub none_waited : (config : Config) (count : ℕ) (aged : Bool) (slirp : SlirpState) (link : LinkState) (made : List Entry) → count ≡ 0 → HoldsNow config (after count) aged slirp link made → Dutiful config made
+pub none_waited : (config : Config) (count : ℕ) (aged : Bool) (slirp : SlirpState) (link : LinkState) (made : List Entry) → count ≡ 0 → HoldsNow config
+    (after count) aged slirp link made → Dutiful config made
 none_waited config count aged slirp link made none holds = dutiful_unwaited config made (holds.clock.counted ∙ none)
 
 -- and has no reports

@@ -1,5 +1,6 @@
 -- The parts of a turn, and the items that it serves.
-use Rattle.std.proofs.Common.{◌≡◌, ℕ, zero, suc, ◌+◌, ◌<◌, ◌≤◌, ◌==◌, ◌&&◌, ◌||◌, not, nat_lt, Bool, true, false, List, [], ◌∷◌, ◌++◌, drop, length, get_or, inl, inr, map, sym, ◌∙◌, ap, arith, refl, if◌then◌else◌}
+use Rattle.std.proofs.Common.{◌≡◌, ℕ, zero, suc, ◌+◌, ◌<◌, ◌≤◌, ◌==◌, ◌&&◌, ◌||◌, not, nat_lt, Bool, true, false, List, [], ◌∷◌, ◌++◌, drop, length, get_or, inl, inr, map, sym, ◌∙◌, ap}
+use Rattle.std.proofs.Common.{arith, refl, if◌then◌else◌}
 use Rattle.std.proofs.lemmas.Bool.Decides.{nat_tests}
 use Rattle.poll_list.specs.Listing.{same_who, reads, writes}
 use Rattle.poll_list.specs.declared.Want.{Want}
@@ -30,7 +31,8 @@ use Rattle.slirp_core.proofs.Associating.{with_agenda}
 use Rattle.slirp_core.proofs.Parts.{or_second}
 use Rattle.slirp_laws.proofs.Bools.{same}
 use Rattle.serve_loop.specs.Ends.{end_by, turn_of}
-use Rattle.serve_loop.specs.Turns.{all_passed_over, is_passed_over, is_read_now, still, AfterTurn, AllSent, AttendsAfterTaking, AttendsAfterTurn, AttendsNow, EndedAs, HoldsNow, IsAttended, IsAttendedAfter, IsCalm, IsCalmAfter, IsInTime, MayRest, ServedAfter, ServesNow, is_frame_due}
+use Rattle.serve_loop.specs.Turns.{all_passed_over, is_passed_over, is_read_now, still, AfterTurn, AllSent, AttendsAfterTaking, AttendsAfterTurn, AttendsNow, EndedAs, HoldsNow, IsAttended}
+use Rattle.serve_loop.specs.Turns.{IsAttendedAfter, IsCalm, IsCalmAfter, IsInTime, MayRest, ServedAfter, ServesNow, is_frame_due}
 use Rattle.serve_loop.specs.declared.service.Turn.{Turn}
 use Rattle.serve_loop.specs.declared.service.Turn.TheVariants.{Again, Ended as TurnEnded}
 
@@ -63,7 +65,8 @@ pub ended_as : (config : Config) (count : ℕ) (why : Ending) (forwards : List O
 ended_as config count why forwards o past ended = record { why = why; ended = ended; is = refl }
 
 -- a pump is a part of a turn
-pub pumped : (answer : Pumped) (config : Config) (at : Standing) (aged : Bool) (slirp : SlirpState) (link : LinkState) (past : List Entry) → AfterPump answer config at slirp (flowing aged slirp.flows) link past
+pub pumped : (answer : Pumped) (config : Config) (at : Standing) (aged : Bool) (slirp : SlirpState) (link : LinkState) (past : List Entry) → AfterPump answer config at slirp
+    (flowing aged slirp.flows) link past
     → AfterTurn (turn_of answer) config at aged slirp link past
 pumped Clear config at aged slirp link past holds = holds
 pumped Blocked config at aged slirp link past holds = holds
@@ -101,7 +104,8 @@ of_socket number wants item of read wanted =
     ap (λ (who : Who). same_who (Udp number) who && (item.read && reads who wants)) of
     ∙ ap (λ (b : Bool). b && (item.read && reads (Udp number) wants)) (same number) ∙ ap (λ (b : Bool). b && reads (Udp number) wants) read ∙ wanted
 
-pub of_listener : (number : ℕ) (wants : List Want) (item : Want) → item.of ≡ Listener number → item.read ≡ true → reads (Listener number) wants ≡ true → is_to_read (Listener number) (wanted_of wants item) ≡ true
+pub of_listener : (number : ℕ) (wants : List Want) (item : Want) → item.of ≡ Listener number → item.read ≡ true → reads (Listener number) wants ≡ true → is_to_read
+    (Listener number) (wanted_of wants item) ≡ true
 of_listener number wants item of read wanted =
     ap (λ (who : Who). same_who (Listener number) who && (item.read && reads who wants)) of
     ∙ ap (λ (b : Bool). b && (item.read && reads (Listener number) wants)) (same number) ∙ ap (λ (b : Bool). b && reads (Listener number) wants) read ∙ wanted
@@ -141,7 +145,8 @@ still_reads true item is = refl
 still_reads false item is = is
 
 -- so often the run waited
-waited_so : (turn : Turn) (config : Config) (at : Standing) (aged : Bool) (slirp : SlirpState) (link : LinkState) (past : List Entry) → AfterTurn turn config at aged slirp link past → waits past ≡ at.count
+waited_so : (turn : Turn) (config : Config) (at : Standing) (aged : Bool) (slirp : SlirpState) (link : LinkState) (past : List Entry) →
+    AfterTurn turn config at aged slirp link past → waits past ≡ at.count
 waited_so Again config at aged slirp link past holds = holds.clock.counted
 waited_so (TurnEnded end) config at aged slirp link past ended = ended.ended.waited
 
@@ -152,7 +157,8 @@ attended_after (TurnEnded end) config past now = now.0
 
 -- a part of a turn that doesn't wait attends on
 pub attends_on : (turn : Turn) (config : Config) (at later : Standing) (aged then_aged : Bool) (slirp new : SlirpState) (link next : LinkState) (a b : Telling) → at.count ≡ later.count
-    → Brings a b (HoldsNow config at aged slirp link) (AfterTurn turn config later then_aged new next) → Brings a b (AttendsNow config at aged slirp link) (AttendsAfterTurn turn config later then_aged new next)
+    → Brings a b (HoldsNow config at aged slirp link) (AfterTurn turn config later then_aged new next) → Brings a b (AttendsNow config at aged slirp link)
+    (AttendsAfterTurn turn config later then_aged new next)
 attends_on turn config at later aged then_aged slirp new link next a b same brings = record {
   made = brings.made;
   same = brings.same;
@@ -186,7 +192,8 @@ attends_to_reports turn config count wants ready slirp new link next a b brings 
     by (TurnEnded end) past served dutiful = dutiful
 
 -- a part of a turn after which it may wait, where it did what has a time
-pub rests_after : (config : Config) (at : Standing) (aged : Bool) (slirp new : SlirpState) (link next : LinkState) (a b : Telling) → Brings a b (AttendsNow config at aged slirp link) (AttendsNow config at true new next)
+pub rests_after : (config : Config) (at : Standing) (aged : Bool) (slirp new : SlirpState) (link next : LinkState) (a b : Telling) → Brings a b
+    (AttendsNow config at aged slirp link) (AttendsNow config at true new next)
     → ((past : List Entry) → HoldsNow config at aged slirp link past → IsInTime new next) → Brings a b (AttendsNow config at aged slirp link) (MayRest config at new next)
 rests_after config at aged slirp new link next a b brings early = record {
   made = brings.made;
@@ -198,7 +205,8 @@ rests_after config at aged slirp new link next a b brings early = record {
 }
 
 -- and one after which it may where it might before
-pub rests_on : (config : Config) (at : Standing) (slirp new : SlirpState) (link next : LinkState) (a b : Telling) → Brings a b (AttendsNow config at true slirp link) (AttendsNow config at true new next)
+pub rests_on : (config : Config) (at : Standing) (slirp new : SlirpState) (link next : LinkState) (a b : Telling) → Brings a b (AttendsNow config at true slirp link)
+    (AttendsNow config at true new next)
     → ((past : List Entry) → HoldsNow config at true slirp link past → IsInTime slirp link → IsInTime new next) → Brings a b (MayRest config at slirp link) (MayRest config at new next)
 rests_on config at slirp new link next a b brings early = record {
   made = brings.made;
@@ -210,7 +218,8 @@ rests_on config at slirp new link next a b brings early = record {
 }
 
 -- a whole turn, where its wait was made
-pub taken : (turn : Turn) (config : Config) (count : ℕ) (slirp : SlirpState) (link : LinkState) (past : List Entry) → AttendsAfterTurn turn config (after (count + 1)) false slirp link past → AttendsAfterTaking turn config count slirp link past
+pub taken : (turn : Turn) (config : Config) (count : ℕ) (slirp : SlirpState) (link : LinkState) (past : List Entry) → AttendsAfterTurn turn config
+    (after (count + 1)) false slirp link past → AttendsAfterTaking turn config count slirp link past
 taken Again config count slirp link past now = now
 taken (TurnEnded end) config count slirp link past now = ((count + 1, now.0), now.1)
 
@@ -223,7 +232,8 @@ sent_by Blocked slirp link left again free = absurd (let never : true ≡ false 
 sent_by PumpFailed slirp link left again free = cc
 
 -- no flow owes a frame after a pump that goes on, unless the link is blocked
-pub calm_by : (answer : Pumped) (slirp : SlirpState) (link : LinkState) → Leaves answer slirp link → (answer ≡ Clear → AreClear slirp.known slirp.flows.flows) → turn_of answer ≡ Again → IsCalm slirp link
+pub calm_by : (answer : Pumped) (slirp : SlirpState) (link : LinkState) → Leaves answer slirp link → (answer ≡ Clear → AreClear slirp.known slirp.flows.flows) →
+    turn_of answer ≡ Again → IsCalm slirp link
 calm_by Clear slirp link left clear again free = clear refl
 calm_by Blocked slirp link left clear again free = absurd (let never : true ≡ false = sym left ∙ free in cc)
 calm_by PumpFailed slirp link left clear again free = cc
@@ -235,7 +245,8 @@ clear_by Blocked slirp link left again free = absurd (let never : true ≡ false
 clear_by PumpFailed slirp link left again free = cc
 
 -- an item that doesn't free the link leaves what is calm, or is once the link is freed
-pub calm_behind : (wants items : List Want) (item : Want) (slirp : SlirpState) (link : LinkState) → (same_who TheLink item.of && item.write) ≡ false → IsCalmAfter wants (item ∷ items) slirp link → IsCalmAfter wants items slirp link
+pub calm_behind : (wants items : List Want) (item : Want) (slirp : SlirpState) (link : LinkState) → (same_who TheLink item.of && item.write) ≡ false → IsCalmAfter wants
+    (item ∷ items) slirp link → IsCalmAfter wants items slirp link
 calm_behind wants items item slirp link other (inl calm) = inl calm
 calm_behind wants items item slirp link other (inr freed) = inr (record { wanted = freed.wanted; reported = ap (λ (b : Bool). b || writes TheLink items) (sym other) ∙ freed.reported })
 
@@ -245,7 +256,8 @@ calm_at_end wants slirp link (inl calm) = calm
 calm_at_end wants slirp link (inr freed) = absurd (let never : false ≡ true = freed.reported in cc)
 
 -- a wait that frees the link was for it
-pub calm_after_wait : (wants items : List Want) (slirp : SlirpState) (link next : LinkState) (frees : Bool) → writes TheLink items ≡ frees → next.blocked ≡ (if frees then false else link.blocked) → (link.blocked ≡ true → writes TheLink wants ≡ true)
+pub calm_after_wait : (wants items : List Want) (slirp : SlirpState) (link next : LinkState) (frees : Bool) → writes TheLink items ≡ frees → next.blocked ≡
+    (if frees then false else link.blocked) → (link.blocked ≡ true → writes TheLink wants ≡ true)
     → IsCalm slirp link → IsCalmAfter wants items slirp next
 calm_after_wait wants items slirp link next false unfreed stays waited calm = inl (λ free. calm (sym stays ∙ free))
 calm_after_wait wants items slirp link next true frees stays waited calm = by link.blocked refl
@@ -262,8 +274,10 @@ front_written false wants = refl
 pub link_written : (slirp : SlirpState) (link : LinkState) (wants : List Want) → WantsOf slirp link wants → link.blocked ≡ true → writes TheLink wants ≡ true
 link_written slirp link wants of blocked =
     ap (writes TheLink) of.is
-    ∙ written_behind (link_want (is_settled slirp link) link.blocked ++ map listener_want (listeners_of slirp)) (socket_wants (is_settled slirp link) (sockets_over OverUdp slirp.forwards ++ of.sockets)) of.flows
-    (ap (λ (b : Bool). writes TheLink (link_want (is_settled slirp link) b ++ map listener_want (listeners_of slirp))) blocked ∙ front_written (is_settled slirp link) (map listener_want (listeners_of slirp)))
+    ∙ written_behind (link_want (is_settled slirp link) link.blocked ++ map listener_want (listeners_of slirp))
+    (socket_wants (is_settled slirp link) (sockets_over OverUdp slirp.forwards ++ of.sockets)) of.flows
+    (ap (λ (b : Bool). writes TheLink (link_want (is_settled slirp link) b ++ map listener_want (listeners_of slirp))) blocked ∙ front_written (is_settled slirp link)
+    (map listener_want (listeners_of slirp)))
   where
     first_written : (front rest : List Want) → writes TheLink front ≡ true → writes TheLink (front ++ rest) ≡ true
     first_written [] rest is = absurd cc
@@ -284,7 +298,8 @@ pub still_sent : (slirp new : SlirpState) (link : LinkState) → new.pending ≡
 still_sent slirp new link same sent free = ap (λ (frames : List (List ℕ)). (length link.tail == 0) && not (nat_lt 0 (length frames))) same ∙ sent free
 
 -- no report is left any more
-pub weaker : (config : Config) (count : ℕ) (wants items : List Want) (aged : Bool) (slirp : SlirpState) (link : LinkState) (past : List Entry) → HoldsNow config (standing count wants items) aged slirp link past
+pub weaker : (config : Config) (count : ℕ) (wants items : List Want) (aged : Bool) (slirp : SlirpState) (link : LinkState) (past : List Entry) → HoldsNow config
+    (standing count wants items) aged slirp link past
     → HoldsNow config (after count) aged slirp link past
 weaker config count wants items aged slirp link past holds =
     with_agenda config (standing count wants items) (after count) slirp (flowing aged slirp.flows) link past refl holds (agenda past, at_end (agenda past))

@@ -36,7 +36,8 @@ there_is (x ∷ wants) zero want other few there = ap Some (sym there)
 there_is (x ∷ wants) (suc k) want other few there = there_is wants k want other (omega (arith, few)) there
 
 -- the directions of an item of a flow's socket are those of its one want
-pub counted_of : (number : ℕ) (before wants : List Want) (k : ℕ) (want other item : Want) → k < length wants → want ≡ get_or wants k other → want.of ≡ Tcp number → TcpOnce (before ++ wants) → item.of ≡ Tcp number
+pub counted_of : (number : ℕ) (before wants : List Want) (k : ℕ) (want other item : Want) → k < length wants → want ≡ get_or wants k other → want.of ≡ Tcp number → TcpOnce
+    (before ++ wants) → item.of ≡ Tcp number
     → record { of = item.of; read = item.read && want.read; write = item.write && want.write } ≡ wanted_of (before ++ wants) item
 counted_of number before wants k want other item few there of once is =
     let at = there_is wants k want other few there in

@@ -1,7 +1,9 @@
 // The loop of turns.
 //
-// A run begins with the ports of the host that are given to guests and with the moment (`start`), then goes by turns until one ends it (`serve`). A turn tells the flows of TCP the time, closes what has been
-// idle too long, sends what is owed, with the packets of files that are due to go again, and waits for what it wants; then it asks for the moment and serves what was reported, in the order of the list: a
+// A run begins with the ports of the host that are given to guests and with the moment (`start`), then goes by turns until one ends it (`serve`). A turn tells
+// the flows of TCP the time, closes what has been
+// idle too long, sends what is owed, with the packets of files that are due to go again, and waits for what it wants; then it asks for the moment and serves
+// what was reported, in the order of the list: a
 // frame is read and taken in, a peer of a forward is taken, a peer's datagram is received, or a flow's socket is served, writing before reading, and after each what is owed for it is
 // sent. A frame or a datagram is read only while nothing is left to be sent. At the end every socket is closed, by rising number.
 ghost use Rattle.std.specs.Prelude.{◌≡◌, ◌&&◌, ◌||◌, List, true, false, IfSome, None, if◌then◌else◌};
@@ -48,15 +50,20 @@ pub enum End {
 /// What came of a turn.
 #[derive(Clone, Copy, Debug, PartialEq, Eq)]
 pub enum Turn {
+    /// The run goes on with the next turn.
     Again,
+    /// It ended, so.
     Ended(End),
 }
 
-// What came of a wait.
+/// What came of a wait.
 #[derive(Clone, Copy)]
 pub enum Slept {
+    /// Something is ready, or the time is over: a turn follows.
     Ready,
+    /// The World said that the run is to stop.
     Stopped,
+    /// It failed.
     Failed,
 }
 
@@ -104,7 +111,9 @@ impl Service {
     ghost use Rattle.serve_loop.specs.Ends.{end_of, IsCounted};
     ghost use Rattle.slirp_core.specs.Counts.{AreGrown};
     ghost use Rattle.slirp_core.specs.Holds.{AfterListening, after, standing};
-    ghost use Rattle.serve_loop.specs.Turns.{AfterItem, AfterTurn, AllSent, AreYoung, AttendsAfterSleep, AttendsAfterTaking, AttendsAfterTurn, AttendsAfterWholeTurn, AttendsNow, CanTake, HoldsNow, IsCalm, IsCalmAfter, IsInTime, IsStep, MayRest, NoneGoesAgain, NoneTold, ServedAfter, ServesNow, all_passed_over, is_frame_due, is_passed_over};
+    ghost use Rattle.serve_loop.specs.Turns.{AfterItem, AfterTurn, AllSent, AreYoung, AttendsAfterSleep, AttendsAfterTaking, AttendsAfterTurn, AttendsAfterWholeTurn, AttendsNow, CanTake};
+    ghost use Rattle.serve_loop.specs.Turns.{HoldsNow, IsCalm, IsCalmAfter, IsInTime, IsStep, MayRest, NoneGoesAgain, NoneTold, ServedAfter, ServesNow, all_passed_over, is_frame_due};
+    ghost use Rattle.serve_loop.specs.Turns.{is_passed_over};
     ghost use Rattle.run_duties.specs.Duties.{Attended, Dutiful};
     ghost use Rattle.run_duties.specs.Serving.{is_left_to_read};
     ghost use Rattle.slirp_core.specs.Marks.{KeepsMarks};
@@ -203,7 +212,9 @@ impl Service {
         self.slirp.listen_all(world, self.forwards.as_slice())
     }
 
-    /// One turn, before which unless the link is blocked no flow owes a frame: the flows are told the time, sockets that were idle for long are closed and what is owed is sent, then it waits, then what the wait reported is served, with what is then owed. Where it ends the run all sockets are closed, by rising number. A turn opens a socket at most for each item that a wait reports, and needs numbers for them under 2^64. There are at most 2^45 turns.
+    /// One turn, before which unless the link is blocked no flow owes a frame: the flows are told the time, sockets that were idle for long are closed and what
+    /// is owed is sent, then it waits, then what the wait reported is served, with what is then owed. Where it ends the run all sockets are closed, by rising
+    /// number. A turn opens a socket at most for each item that a wait reports, and needs numbers for them under 2^64. There are at most 2^45 turns.
     pub fn turn<W: World>(&mut self, world: &mut W) -> Turn
         requires on { ReadsOn (under_way self.old.link) }
         requires number { self.old.slirp.number + most_ready < 2 ^ 64 }

@@ -105,9 +105,16 @@ past_frame octets rest [] fit is whole long =
 past_frame octets rest (frame ∷ later) fit is whole long =
     let told = starts octets rest frame (spelt later) is (omega arith) fit.0 in
     let size : length (spelling frame) ≡ length octets = spelling_long frame ∙ ap (λ n. 4 + n) (sym told) ∙ sym long in
-    record { later = later; fit = fit.1; is = sym (drop_at octets rest (length octets) refl) ∙ ap (drop (length octets)) is ∙ drop_at (spelling frame) (spelt later) (length octets) size; part = none_whole }
+    record {
+      later = later;
+      fit = fit.1;
+      is = sym (drop_at octets rest (length octets) refl) ∙ ap (drop (length octets)) is ∙ drop_at (spelling frame) (spelt later)
+          (length octets) size;
+      part = none_whole;
+    }
 
-read_step : (under_way octets rest : List ℕ) → Carried under_way (octets ++ rest) → length octets ≤ missing under_way → (whole : Bool) → is_whole (under_way ++ octets) ≡ whole → Carried (cond whole [] (under_way ++ octets)) rest
+read_step : (under_way octets rest : List ℕ) → Carried under_way (octets ++ rest) → length octets ≤ missing under_way → (whole : Bool) → is_whole (under_way ++ octets) ≡ whole →
+    Carried (cond whole [] (under_way ++ octets)) rest
 read_step under_way octets rest before few false is =
     record { later = before.later; fit = before.fit; is = append_assoc under_way octets rest ∙ before.is; part = is }
 read_step under_way octets rest before few true is =
@@ -119,7 +126,8 @@ few_read asked End may = omega arith
 few_read asked NotYet may = omega arith
 few_read asked Failed may = omega arith
 
-pub carried : (journal : List Entry) (frames : List (List ℕ)) (rest : List ℕ) → AreAllowed journal → Follows MayFrame journal → MayCome frames → link_octets journal ++ rest ≡ spelt frames → Carried (partial journal) rest
+pub carried : (journal : List Entry) (frames : List (List ℕ)) (rest : List ℕ) → AreAllowed journal → Follows MayFrame journal → MayCome frames → link_octets journal
+    ++ rest ≡ spelt frames → Carried (partial journal) rest
 carried [] frames rest allowed framed fit is = record { later = frames; fit = fit; is = is; part = none_whole }
 carried (LinkRead asked answer octets ∷ past) frames rest allowed framed fit is =
     let before = carried past frames (octets ++ rest) allowed.1 framed.1 fit (sym (append_assoc (link_octets past) octets rest) ∙ is) in
@@ -159,7 +167,8 @@ too_long End (x ∷ octets) n is = cc
 too_long NotYet octets n is = cc
 too_long Failed octets n is = cc
 
-pub no_long_frame : (e : Entry) (past : List Entry) (frames : List (List ℕ)) (rest : List ℕ) (n : ℕ) → AreAllowed past → Follows MayFrame past → MayCome frames → link_octets (e ∷ past) ++ rest ≡ spelt frames → ending e (partial past) ≡ Some (LongFrame n) → ⊥
+pub no_long_frame : (e : Entry) (past : List Entry) (frames : List (List ℕ)) (rest : List ℕ) (n : ℕ) → AreAllowed past → Follows MayFrame past → MayCome frames → link_octets
+    (e ∷ past) ++ rest ≡ spelt frames → ending e (partial past) ≡ Some (LongFrame n) → ⊥
 no_long_frame (LinkRead asked answer octets) past frames rest n allowed framed fit is ends =
     let before = carried past frames (octets ++ rest) allowed framed fit (sym (append_assoc (link_octets past) octets rest) ∙ is) in
     not_long (partial past ++ octets) rest before.later before.fit (append_assoc (partial past) octets rest ∙ before.is) (too_long answer (partial past ++ octets) n ends)
@@ -227,8 +236,10 @@ cut_ended (LinkWrite octets NotYet) past n ends = cc
 cut_ended (LinkWrite octets Failed) past n ends = cc
 cut_ended _ past n ends = cc
 
-pub no_frame_cut : (e : Entry) (past : List Entry) (frames : List (List ℕ)) (n : ℕ) → AreAllowed (e ∷ past) → Follows MayFrame past → MayCome frames → link_octets (e ∷ past) ≡ spelt frames → ending e (partial past) ≡ Some (LinkCut n) → ⊥
-no_frame_cut (LinkRead asked answer octets) past frames n allowed framed fit is ends = no_cut asked answer octets past frames n allowed framed fit (cut_ended (LinkRead asked answer octets) past n ends) is ends
+pub no_frame_cut : (e : Entry) (past : List Entry) (frames : List (List ℕ)) (n : ℕ) → AreAllowed (e ∷ past) → Follows MayFrame past → MayCome frames → link_octets
+    (e ∷ past) ≡ spelt frames → ending e (partial past) ≡ Some (LinkCut n) → ⊥
+no_frame_cut (LinkRead asked answer octets) past frames n allowed framed fit is ends = no_cut asked answer octets past frames n allowed framed fit
+    (cut_ended (LinkRead asked answer octets) past n ends) is ends
 no_frame_cut (Wait wants timeout Ready ready) past frames n allowed framed fit is ends = cc
 no_frame_cut (Wait wants timeout Stop ready) past frames n allowed framed fit is ends = cc
 no_frame_cut (Wait wants timeout WaitFails ready) past frames n allowed framed fit is ends = cc

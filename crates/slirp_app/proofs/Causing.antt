@@ -12,7 +12,8 @@ use Rattle.app_edges.specs.Statuses.{code_of, is_run}
 use Rattle.slirp_app.specs.Statuses.{outcome_of}
 use Rattle.app_edges.specs.Texts.{text_of}
 use Rattle.app_edges.specs.declared.status.Outcome.{Outcome}
-use Rattle.app_edges.specs.declared.status.Outcome.TheVariants.{Done, Usage, BadConfig, ScheduleRead, ScheduleTooLarge, ScheduleLine, Diverged, FrameTooLong, FrameCut, LinkFault, WaitFault, TurnsSpent, ListenRefused, SinkFault, NoMemory}
+use Rattle.app_edges.specs.declared.status.Outcome.TheVariants.{Done, Usage, BadConfig, ScheduleRead, ScheduleTooLarge, ScheduleLine, Diverged, FrameTooLong, FrameCut, LinkFault}
+use Rattle.app_edges.specs.declared.status.Outcome.TheVariants.{WaitFault, TurnsSpent, ListenRefused, SinkFault, NoMemory}
 use Rattle.slirp_app.proofs.Courses.{other}
 use Rattle.slirp_app.proofs.Ending.{ends_by, long_frame, waits_spent, meant_by}
 use Rattle.serve_loop.specs.Ends.{end_of}
@@ -39,11 +40,13 @@ pub cannot_read : (old new : Telling) (made : List Entry) → AreAllowed made �
 cannot_read old new [] allowed counted is = absurd (not_run is)
 cannot_read old new (FileLen name (Length n) ∷ past) allowed counted is = inr is
 cannot_read old new (FileLen name Missing ∷ past) allowed counted is = inr refl
-cannot_read old new (FileLen name SizeFailed ∷ past) allowed counted is = inl (file_rose old.faults new.faults (FileLen name SizeFailed ∷ past) counted (some_failed file_failed (FileLen name SizeFailed) past refl))
+cannot_read old new (FileLen name SizeFailed ∷ past) allowed counted is = inl (file_rose old.faults new.faults (FileLen name SizeFailed ∷ past) counted
+    (some_failed file_failed (FileLen name SizeFailed) past refl))
 cannot_read old new (FileRead name place asked (IoDone k) octets ∷ past) allowed counted is = absurd (not_run is)
 cannot_read old new (FileRead name place asked End octets ∷ past) allowed counted is = inr refl
 cannot_read old new (FileRead name place asked NotYet octets ∷ past) allowed counted is = absurd allowed.0.0
-cannot_read old new (FileRead name place asked IoFailed octets ∷ past) allowed counted is = inl (file_rose old.faults new.faults (FileRead name place asked IoFailed octets ∷ past) counted (some_failed file_failed (FileRead name place asked IoFailed octets) past refl))
+cannot_read old new (FileRead name place asked IoFailed octets ∷ past) allowed counted is = inl
+    (file_rose old.faults new.faults (FileRead name place asked IoFailed octets ∷ past) counted (some_failed file_failed (FileRead name place asked IoFailed octets) past refl))
 cannot_read old new (_ ∷ past) allowed counted is = absurd (not_run is)
 
 -- a text that was put where the count of faults didn't rise
@@ -100,7 +103,8 @@ is_refusal (ListenRefused n) is = (n, refl)
 is_refusal _ is = absurd (other 11 _ is refl refl)
 
 -- the same record, of which more is known
-replayed_as : (config : Config) (status : ℕ) (schedule : List ℕ) (old new : Option (List ℕ)) (P Q : List Entry → Type 0) → Replayed config status schedule old new P → ((journal : List Entry) → Lawful config journal → P journal → Q journal) → Replayed config status schedule old new Q
+replayed_as : (config : Config) (status : ℕ) (schedule : List ℕ) (old new : Option (List ℕ)) (P Q : List Entry → Type 0) → Replayed config status schedule old new P →
+    ((journal : List Entry) → Lawful config journal → P journal → Q journal) → Replayed config status schedule old new Q
 replayed_as config status schedule old new P Q ran here =
     record { journal = ran.journal; put = ran.put; fits = ran.fits; allowed = ran.allowed; lawful = ran.lawful; dutiful = ran.dutiful; holds = here ran.journal ran.lawful ran.holds }
 
@@ -113,24 +117,38 @@ module _ (config : Config) (world world_new : Telling) (file : List ℕ) (old ne
       → ((schedule : List ℕ) → Came config outcome schedule old new → Replayed config status schedule old new (Q schedule))
       → ((schedule : List ℕ) (journal : List Entry) → Lawful config journal → Q schedule journal → P schedule journal) → RanOn config world world_new status old new P
   of_run outcome status P Q makes read came here =
-      makes_as world world_new _ _ makes (λ made holds. (holds.1.whole read, replayed_as config status (octets_read made) old new (Q (octets_read made)) (P (octets_read made)) (came (octets_read made) (holds.1.came read)) (here (octets_read made))))
+      makes_as world world_new _ _ makes (λ made holds. (
+        holds.1.whole read,
+        replayed_as config status (octets_read made) old new (Q (octets_read made)) (P (octets_read made))
+            (came (octets_read made) (holds.1.came read)) (here (octets_read made)),
+      ))
 
   unreadable_by : (outcome : Outcome) → By_calls outcome → (outcome ≡ ScheduleRead) ⊎ (outcome ≡ ScheduleTooLarge) → Makes world world_new (λ made. CannotRead world world_new made ⊎ IsTooLarge made)
   unreadable_by outcome makes (inl is) =
-      record { made = makes.made; same = makes.same; allowed = makes.allowed; told = makes.told; counted = makes.counted; holds = inl (cannot_read world world_new makes.made makes.allowed makes.counted (makes.holds.1.unreadable is)) }
+      record {
+        made = makes.made;
+        same = makes.same;
+        allowed = makes.allowed;
+        told = makes.told;
+        counted = makes.counted;
+        holds = inl
+            (cannot_read world world_new makes.made makes.allowed makes.counted (makes.holds.1.unreadable is));
+      }
   unreadable_by outcome makes (inr is) = makes_as world world_new _ _ makes (λ made holds. inr (holds.1.large is))
 
   pub unreadable : (outcome : Outcome) → By_calls outcome → code_of outcome ≡ 3 → Makes world world_new (λ made. CannotRead world world_new made ⊎ IsTooLarge made)
   unreadable outcome makes is = unreadable_by outcome makes (is_no_schedule outcome is)
 
   -- a line that has no reading
-  pub misspelt : (outcome : Outcome) → By_calls outcome → IsTrue (is_read (code_of outcome)) → Makes world world_new (λ made. (code_of outcome ≡ 4) ↔ (line : ℕ) × IsFirstUnread (octets_read made) line)
+  pub misspelt : (outcome : Outcome) → By_calls outcome → IsTrue (is_read (code_of outcome)) → Makes world world_new (λ made. (code_of outcome ≡ 4) ↔ (line : ℕ) × IsFirstUnread
+      (octets_read made) line)
   misspelt outcome makes read = makes_as world world_new _ _ makes (λ made holds. (
     (λ is. let at = is_misspelt outcome is in (at.0, holds.1.first at.0 at.1)),
     (λ at. ap code_of (holds.1.misspelt read at.0 at.1)),
   ))
 
-  pub named : (Told : Outcome → Type 0) (outcome : Outcome) → By_calls outcome → Told outcome → code_of outcome ≡ 4 → Makes world world_new (λ made. (line : ℕ) × IsFirstUnread (octets_read made) line × Told (ScheduleLine line))
+  pub named : (Told : Outcome → Type 0) (outcome : Outcome) → By_calls outcome → Told outcome → code_of outcome ≡ 4 → Makes world world_new
+      (λ made. (line : ℕ) × IsFirstUnread (octets_read made) line × Told (ScheduleLine line))
   named Told outcome makes told is =
       let at = is_misspelt outcome is in
       makes_as world world_new _ _ makes (λ made holds. (at.0, holds.1.first at.0 at.1, subst Told at.1 told))
@@ -138,8 +156,10 @@ module _ (config : Config) (world world_new : Telling) (file : List ℕ) (old ne
   abbrev AtEnd : ℕ → List ℕ → List Entry → Type 0
   AtEnd status schedule journal = status ≢ 5 → Finished config journal × (status ≡ code_of (outcome_of (end_of config (phase config journal))))
 
-  ended_run : (outcome : Outcome) → By_calls outcome → IsTrue (is_read (code_of outcome)) → ((schedule : List ℕ) → Came config outcome schedule old new → Replayed config (code_of outcome) schedule old new (IsAtEnd config outcome)) → RanOn config world world_new (code_of outcome) old new (AtEnd (code_of outcome))
-  ended_run outcome makes read came = of_run outcome (code_of outcome) (AtEnd (code_of outcome)) (λ schedule. IsAtEnd config outcome) makes read came (λ schedule journal lawful at other. (at.0, ap code_of at.1))
+  ended_run : (outcome : Outcome) → By_calls outcome → IsTrue (is_read (code_of outcome)) → ((schedule : List ℕ) → Came config outcome schedule old new → Replayed config
+      (code_of outcome) schedule old new (IsAtEnd config outcome)) → RanOn config world world_new (code_of outcome) old new (AtEnd (code_of outcome))
+  ended_run outcome makes read came = of_run outcome (code_of outcome) (AtEnd (code_of outcome)) (λ schedule. IsAtEnd config outcome) makes read came
+      (λ schedule journal lawful at other. (at.0, ap code_of at.1))
 
   pub ran : (outcome : Outcome) → By_calls outcome → IsTrue (is_run (code_of outcome)) → RanOn config world world_new (code_of outcome) old new (AtEnd (code_of outcome))
   ran Done makes is = ended_run Done makes refl (λ schedule came. came)
@@ -148,7 +168,8 @@ module _ (config : Config) (world world_new : Telling) (file : List ℕ) (old ne
   ran ScheduleRead _ is = absurd (not_run is)
   ran ScheduleTooLarge _ is = absurd (not_run is)
   ran (ScheduleLine line) _ is = absurd (not_run is)
-  ran (Diverged divergence) makes is = of_run (Diverged divergence) 5 (AtEnd 5) (λ schedule. Ceased config schedule divergence) makes refl (λ schedule came. came) (λ schedule journal lawful ceased other. absurd (other refl))
+  ran (Diverged divergence) makes is = of_run (Diverged divergence) 5 (AtEnd 5) (λ schedule. Ceased config schedule divergence) makes refl (λ schedule came. came)
+      (λ schedule journal lawful ceased other. absurd (other refl))
   ran (FrameTooLong n) makes is = ended_run (FrameTooLong n) makes refl (λ schedule came. came)
   ran (FrameCut octets) makes is = ended_run (FrameCut octets) makes refl (λ schedule came. came)
   ran LinkFault makes is = ended_run LinkFault makes refl (λ schedule came. came)
@@ -173,7 +194,8 @@ module _ (config : Config) (world world_new : Telling) (file : List ℕ) (old ne
 
     of_length : (n : ℕ) → By_calls (FrameTooLong n) → Told (FrameTooLong n) → RanOn config world world_new 6 old new IsTooLong
     of_length n makes told = of_run (FrameTooLong n) 6 IsTooLong (λ schedule. IsAtEnd config (FrameTooLong n)) makes refl (λ schedule came. came)
-        (λ schedule journal lawful at. let by = ends_by config (LongFrame n) journal (meant_by config (FrameTooLong n) (phase config journal) at.1) in (n, by, long_frame by.entry (partial by.past) n by.ends, told))
+        (λ schedule journal lawful at. let by = ends_by config (LongFrame n) journal (meant_by config (FrameTooLong n) (phase config journal) at.1) in
+        (n, by, long_frame by.entry (partial by.past) n by.ends, told))
 
     pub too_long : (outcome : Outcome) → By_calls outcome → Told outcome → code_of outcome ≡ 6 → RanOn config world world_new 6 old new IsTooLong
     too_long outcome makes told is = let found = is_length outcome is in of_length found.0 (subst By_calls found.1 makes) (subst Told found.1 told)
@@ -219,7 +241,8 @@ module _ (config : Config) (world world_new : Telling) (file : List ℕ) (old ne
   either_end journal (inr ended) = inr (ends_by config LinkEnded journal ended)
 
   of_done : By_calls Done → RanOn config world world_new 0 old new IsDone
-  of_done makes = of_run Done 0 IsDone (λ schedule. IsAtEnd config Done) makes refl (λ schedule came. came) (λ schedule journal lawful at. either_end journal (meant_by config Done (phase config journal) at.1))
+  of_done makes = of_run Done 0 IsDone (λ schedule. IsAtEnd config Done) makes refl (λ schedule came. came) (λ schedule journal lawful at. either_end journal
+      (meant_by config Done (phase config journal) at.1))
 
   pub done : (outcome : Outcome) → By_calls outcome → code_of outcome ≡ 0 → RanOn config world world_new 0 old new IsDone
   done outcome makes is = of_done (subst By_calls (is_done outcome is) makes)
@@ -228,7 +251,8 @@ module _ (config : Config) (world world_new : Telling) (file : List ℕ) (old ne
   HasLinkFault schedule journal = EndsBy LinkFailed journal
 
   of_link_fault : By_calls LinkFault → RanOn config world world_new 8 old new HasLinkFault
-  of_link_fault makes = of_run LinkFault 8 HasLinkFault (λ schedule. IsAtEnd config LinkFault) makes refl (λ schedule came. came) (λ schedule journal lawful at. ends_by config LinkFailed journal (meant_by config LinkFault (phase config journal) at.1))
+  of_link_fault makes = of_run LinkFault 8 HasLinkFault (λ schedule. IsAtEnd config LinkFault) makes refl (λ schedule came. came)
+      (λ schedule journal lawful at. ends_by config LinkFailed journal (meant_by config LinkFault (phase config journal) at.1))
 
   pub link_fault : (outcome : Outcome) → By_calls outcome → code_of outcome ≡ 8 → RanOn config world world_new 8 old new HasLinkFault
   link_fault outcome makes is = of_link_fault (subst By_calls (is_link_fault outcome is) makes)
@@ -237,7 +261,8 @@ module _ (config : Config) (world world_new : Telling) (file : List ℕ) (old ne
   HasWaitFault schedule journal = EndsBy WaitFailed journal
 
   of_wait_fault : By_calls WaitFault → RanOn config world world_new 9 old new HasWaitFault
-  of_wait_fault makes = of_run WaitFault 9 HasWaitFault (λ schedule. IsAtEnd config WaitFault) makes refl (λ schedule came. came) (λ schedule journal lawful at. ends_by config WaitFailed journal (meant_by config WaitFault (phase config journal) at.1))
+  of_wait_fault makes = of_run WaitFault 9 HasWaitFault (λ schedule. IsAtEnd config WaitFault) makes refl (λ schedule came. came)
+      (λ schedule journal lawful at. ends_by config WaitFailed journal (meant_by config WaitFault (phase config journal) at.1))
 
   pub wait_fault : (outcome : Outcome) → By_calls outcome → code_of outcome ≡ 9 → RanOn config world world_new 9 old new HasWaitFault
   wait_fault outcome makes is = of_wait_fault (subst By_calls (is_wait_fault outcome is) makes)

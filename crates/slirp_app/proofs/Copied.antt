@@ -19,7 +19,9 @@ use Rattle.replay.specs.Text.{answer_text, call_text, hexadecimal, line_text, te
 use Rattle.replay_laws.proofs.Calls.{same_call}
 use Rattle.replay_laws.proofs.Lines.{one_text}
 use Rattle.world_face.proofs.Following.{all_before}
-use Rattle.world_face.specs.Journal.{Allowed, AreAllowed, Call, CallNow, CallWait, CallLinkOpen, CallLinkRead, CallLinkWrite, CallConnect, CallConnected, CallListen, CallAccept, CallTcpRead, CallTcpWrite, CallTcpEnd, CallClose, CallUdpOpen, CallUdpSend, CallUdpRecv, CallFileLen, CallFileRead, Entry, Now, Wait, LinkOpen, LinkRead, LinkWrite, Connect, Connected, Listen, Accept, TcpRead, TcpWrite, TcpEnd, Close, UdpOpen, UdpSend, UdpRecv, FileLen, FileRead, call_of}
+use Rattle.world_face.specs.Journal.{Allowed, AreAllowed, Call, CallNow, CallWait, CallLinkOpen, CallLinkRead, CallLinkWrite, CallConnect, CallConnected, CallListen, CallAccept}
+use Rattle.world_face.specs.Journal.{CallTcpRead, CallTcpWrite, CallTcpEnd, CallClose, CallUdpOpen, CallUdpSend, CallUdpRecv, CallFileLen, CallFileRead, Entry, Now, Wait, LinkOpen}
+use Rattle.world_face.specs.Journal.{LinkRead, LinkWrite, Connect, Connected, Listen, Accept, TcpRead, TcpWrite, TcpEnd, Close, UdpOpen, UdpSend, UdpRecv, FileLen, FileRead, call_of}
 use Rattle.world_face.specs.declared.Io.{Io}
 use Rattle.world_face.specs.declared.Io.TheVariants.{Done, End, NotYet, Failed}
 
@@ -111,7 +113,8 @@ record SaysJust (row : Row) (e : Entry) : Type 0 where
 says_just : (row : Row) (e : Entry) → IsReadable row → IsSayable e → row_text row ≡ row_text (plain e) → SaysJust row e
 says_just row e readable said is =
     let body : row_body row ≡ row_body (plain e) = append_cancel_right (row_body row) (row_body (plain e)) (10 ∷ []) (sym (row_form row) ∙ is ∙ row_form (plain e)) in
-    let halves = parts_once 61 is_plain refl (said_call row ++ 32 ∷ []) (call_text (call_of e) ++ 32 ∷ []) (32 ∷ said_answer row) (32 ∷ answer_text e) (said_plain row readable) (call_plain (call_of e) said.0) body in
+    let halves = parts_once 61 is_plain refl (said_call row ++ 32 ∷ []) (call_text (call_of e) ++ 32 ∷ []) (32 ∷ said_answer row) (32 ∷ answer_text e) (said_plain row readable)
+    (call_plain (call_of e) said.0) body in
     let answer : said_answer row ≡ answer_text e = append_cancel_left (32 ∷ []) (said_answer row) (answer_text e) halves.1 in
     let no_stars : row.starred ≡ false = unstarred row (call_of e) said.0 halves.0 in
     let own_call : call_text (call_of row.entry) ≡ said_call row = ap (λ b. cond b (name_text (name_of (call_of row.entry)) ++ codes " *") (call_text (call_of row.entry))) (sym no_stars) in
@@ -121,7 +124,8 @@ says_just row e readable said is =
     record {
       unstarred = no_stars;
       uncounted = no_alls;
-      entry = same_entry row.entry e readable.range said (ap (λ t. t ++ codes " = " ++ answer_text row.entry ++ 10 ∷ []) own_call ∙ ap (λ t. said_call row ++ codes " = " ++ t ++ 10 ∷ []) own_answer ∙ is);
+      entry = same_entry row.entry e readable.range said (ap (λ t. t ++ codes " = " ++ answer_text row.entry ++ 10 ∷ []) own_call ∙ ap
+          (λ t. said_call row ++ codes " = " ++ t ++ 10 ∷ []) own_answer ∙ is);
     }
 
 -- the first of some lines
@@ -159,12 +163,14 @@ own_answer (FileRead name place asked answer octets) = refl
 
 refuses_another : (row : Row) (e : Entry) (call : Call) → SaysJust row e → Allowed e → Refuses row call → call ≢ call_of e
 refuses_another row e call says allowed refuses is =
-    let own : answered row call ≡ e = ap (λ c. with_answer row.all c row.entry) is ∙ ap (λ b. with_answer b (call_of e) row.entry) says.uncounted ∙ ap (with_answer false (call_of e)) says.entry ∙ own_answer e in
+    let own : answered row call ≡ e = ap (λ c. with_answer row.all c row.entry) is ∙ ap (λ b. with_answer b (call_of e) row.entry) says.uncounted ∙ ap
+    (with_answer false (call_of e)) says.entry ∙ own_answer e in
     refuses (record { name = ap (λ d. name_of (call_of d)) says.entry ∙ ap name_of (sym is); same = λ unstarred_too. ap call_of says.entry ∙ sym is }) (subst Allowed (sym own) allowed)
 
 pub another : (rows : List Row) (e : Entry) (left : List ℕ) (call : Call) → AreReadable rows → Allowed e → schedule_text rows ≡ line_text e ++ left → FitsNone rows 0 call → call ≢ call_of e
 another [] e left call readable allowed is none same = some_line e left is
-another (row ∷ rows) e left call readable allowed is none same = refuses_another row e call (first_line row (schedule_text rows) e left readable.0 (sayable e allowed) is).says allowed (none row refl) same
+another (row ∷ rows) e left call readable allowed is none same = refuses_another row e call (first_line row (schedule_text rows) e left readable.0
+    (sayable e allowed) is).says allowed (none row refl) same
 
 -- ---- a record in the order of its calls
 
@@ -210,7 +216,8 @@ next_part whole row rows rest all readable before = by before.back before.is bef
 
 first_part : (whole : List Entry) (rows : List Row) (rest : List ℕ) → AreAllowed whole → AreReadable rows → turned_text rows ++ rest ≡ text whole → FirstPart whole rows rest
 first_part whole [] rest all readable is = record { back = in_order whole []; is = sym (ordered whole []); left = is ∙ sym (order_text whole [] ∙ append-nil (text whole)) }
-first_part whole (row ∷ rows) rest all readable is = next_part whole row rows rest all readable.0 (first_part whole rows (row_text row ++ rest) all readable.1 (sym (append_assoc (turned_text rows) (row_text row) rest) ∙ is))
+first_part whole (row ∷ rows) rest all readable is = next_part whole row rows rest all readable.0 (first_part whole rows (row_text row ++ rest) all readable.1
+    (sym (append_assoc (turned_text rows) (row_text row) rest) ∙ is))
 
 -- the record goes on by these from where the journal ends, and their lines are left
 pub record GoesOn (journal whole : List Entry) (rest : List ℕ) : Type 0 where

@@ -1,5 +1,6 @@
 -- What is done by what the words mean, and the status of it.
-use Rattle.std.proofs.Common.{◌≡◌, ◌≢◌, ◌↔◌, ◌⊎◌, inl, inr, ℕ, ◌<◌, ◌≤◌, ◌==◌, ltb, Bool, true, false, cond, length, List, [], Option, Some, None, Result, Ok, Err, IsOk, IsErr, MatchOption, refl, sym, ◌∙◌, ap, subst, arith}
+use Rattle.std.proofs.Common.{◌≡◌, ◌≢◌, ◌↔◌, ◌⊎◌, inl, inr, ℕ, ◌<◌, ◌≤◌, ◌==◌, ltb, Bool, true, false, cond, length, List, [], Option, Some, None, Result, Ok, Err, IsOk, IsErr}
+use Rattle.std.proofs.Common.{MatchOption, refl, sym, ◌∙◌, ap, subst, arith}
 use Rattle.std.proofs.lemmas.Bool.Decides.{nat_tests}
 use Rattle.world_face.specs.Journal.{Entry, Place}
 use Rattle.world_face.specs.Puts.{Puts, added}
@@ -111,15 +112,28 @@ pub record Texted (text : List ℕ) (outcome : Outcome) (old new : Option (List 
   pub ran : is_unrun (code_of outcome) ≡ false
   pub refused : code_of outcome ≡ 12 → Rose f g
 
-pub texted : {X : Type 0} (text : List ℕ) (outcome : Outcome) (old new : Option (List ℕ)) (f g : ℕ) (put : Result X Failed) → (IsOk put → outcome ≡ Done) → (IsErr put → outcome ≡ SinkFault) → Puts old new f g text put → Texted text outcome old new f g
+pub texted : {X : Type 0} (text : List ℕ) (outcome : Outcome) (old new : Option (List ℕ)) (f g : ℕ) (put : Result X Failed) → (IsOk put → outcome ≡ Done) →
+    (IsErr put → outcome ≡ SinkFault) → Puts old new f g text put → Texted text outcome old new f g
 texted text outcome old new f g (Ok x) done failed puts =
     let is = done refl in
-    record { ends = inl (ap code_of is); put = λ zero. puts.ok refl; ran = ap (λ (o : Outcome). is_unrun (code_of o)) is; refused = λ twelve. absurd (other 12 0 (sym (ap code_of is) ∙ twelve) refl refl) }
+    record {
+      ends = inl (ap code_of is);
+      put = λ zero. puts.ok refl;
+      ran = ap (λ (o : Outcome). is_unrun (code_of o)) is;
+      refused = λ twelve. absurd
+          (other 12 0 (sym (ap code_of is) ∙ twelve) refl refl);
+    }
 texted text outcome old new f g (Err e) done failed puts =
     let is = failed refl in
-    record { ends = inr (ap code_of is); put = λ zero. absurd (other 0 12 (sym (ap code_of is) ∙ zero) refl refl); ran = ap (λ (o : Outcome). is_unrun (code_of o)) is; refused = λ twelve. puts.err refl }
+    record {
+      ends = inr (ap code_of is);
+      put = λ zero. absurd (other 0 12 (sym (ap code_of is) ∙ zero) refl refl);
+      ran = ap (λ (o : Outcome). is_unrun (code_of o)) is;
+      refused = λ twelve. puts.err refl;
+    }
 
-pub texted_tells : (text : List ℕ) (outcome : Outcome) (world : Telling) (old new : Option (List ℕ)) (f g : ℕ) → Makes world world (λ made. made ≡ []) → Texted text outcome old new f g → TellsText text (code_of outcome) world world old new
+pub texted_tells : (text : List ℕ) (outcome : Outcome) (world : Telling) (old new : Option (List ℕ)) (f g : ℕ) → Makes world world (λ made. made ≡ []) →
+    Texted text outcome old new f g → TellsText text (code_of outcome) world world old new
 texted_tells text outcome world old new f g makes t = record { untouched = makes; ends = t.ends; put = t.put }
 
 pub texted_nothing : (text : List ℕ) (outcome : Outcome) (old new : Option (List ℕ)) (f g : ℕ) → Texted text outcome old new f g → is_unrun (code_of outcome) ≡ true → new ≡ old
@@ -174,7 +188,8 @@ nothing_put : (outcome : Outcome) {P : Type 0} → (is_unrun (code_of outcome) �
 nothing_put outcome (inl ran) unrun = let clash : ◌≡◌ {A = Bool} true false = sym unrun ∙ ran in absurd (cc clash)
 nothing_put outcome (inr (is, same)) unrun = same
 
-module _ (config : Config) (at : Place) (tap : Tap) (outcome : Outcome) (world world_new : Telling) (old new : Option (List ℕ)) (makes : Makes world world_new (ServesAt config at tap outcome old new)) where
+module _ (config : Config) (at : Place) (tap : Tap) (outcome : Outcome) (world world_new : Telling) (old new : Option (List ℕ))
+    (makes : Makes world world_new (ServesAt config at tap outcome old new)) where
   pub serves_read : (code_of outcome ≢ 1) × (code_of outcome ≢ 2)
   serves_read = status_of outcome (served_code config at tap outcome old new makes.made makes.holds)
 
@@ -238,6 +253,7 @@ pub refused_course : (words : List Word) (result : Result Command WordFault) (fa
     → ((field : Field) → result ≡ Err (BadField field) → (meaning : Meaning) × Means words meaning × (broken_in meaning ≡ Some field))
     → ((stop : Stop) → result ≡ Err (Misread stop) → StopsAt words stop) → ((meaning : Meaning) → Means words meaning → AnswersBy result meaning)
     → Makes world world (λ made. made ≡ []) → Course words (refusal_of fault) world world old old
-refused_course words result (Misread stop) world old is bad stops only makes = Misused stop (stops stop is) (λ meaning means. no_answer meaning (broken_in meaning) result stop is (only meaning means)) refl makes
+refused_course words result (Misread stop) world old is bad stops only makes = Misused stop (stops stop is) (λ meaning means. no_answer meaning (broken_in meaning) result stop is
+    (only meaning means)) refl makes
 refused_course words result (BadField field) world old is bad stops only makes =
     let found = bad field is in Misset found.0 field found.1 (λ other this. one_field result field other is (only other this)) refl makes

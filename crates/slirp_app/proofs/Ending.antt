@@ -8,7 +8,8 @@ use Rattle.slirp_laws.specs.Laws.{Finished, Lawful}
 use Rattle.run_laws.specs.Shape.{By, Refused, Phase, Opening, Started, Woken, Working, Over, is_over, may_turn, phase, phase_by, phase_after}
 use Rattle.run_laws.specs.Moments.{waits}
 use Rattle.world_face.specs.Frames.{Ending, LinkEnded, LinkCut, LongFrame, LinkFailed, Stopped, WaitFailed, ending, partial, read_ending, spelt_length, is_too_long}
-use Rattle.world_face.specs.Journal.{Entry, Now, Wait, LinkOpen, LinkRead, LinkWrite, Connect, Connected, Listen, Accept, TcpRead, TcpWrite, TcpEnd, Close, UdpOpen, UdpSend, UdpRecv, FileLen, FileRead}
+use Rattle.world_face.specs.Journal.{Entry, Now, Wait, LinkOpen, LinkRead, LinkWrite, Connect, Connected, Listen, Accept, TcpRead, TcpWrite, TcpEnd, Close, UdpOpen, UdpSend, UdpRecv}
+use Rattle.world_face.specs.Journal.{FileLen, FileRead}
 use Rattle.world_face.specs.declared.Io.{Io}
 use Rattle.world_face.specs.declared.Io.TheVariants.{Done as IoDone, End as IoEnd, NotYet, Failed as IoFailed}
 use Rattle.world_face.specs.declared.Made.TheVariants.{Done as MadeDone, Failed as MadeFailed}
@@ -140,7 +141,8 @@ few_waits config [] lawful = omega arith
 few_waits config (Wait wants timeout answer ready ∷ past) lawful = few (may_turn (phase config past)) (waits past) config.turns lawful.0.place
 few_waits config (_ ∷ past) lawful = few_waits config past lawful.1
 
-pub waits_spent : (config : Config) (journal : List Entry) → Lawful config journal → Finished config journal → outcome_of (end_of config (phase config journal)) ≡ TurnsSpent config.turns → waits journal ≡ config.turns
+pub waits_spent : (config : Config) (journal : List Entry) → Lawful config journal → Finished config journal → outcome_of
+    (end_of config (phase config journal)) ≡ TurnsSpent config.turns → waits journal ≡ config.turns
 waits_spent config journal lawful finished is = omega (arith, few_waits config journal lawful, waited config (phase config journal) (waits journal) finished.ended is)
 
 -- what each outcome says of where the run stood

@@ -1,5 +1,6 @@
 -- The frames of a lawful run are of lengths that may be.
-use Rattle.std.proofs.Common.{◌≡◌, ℕ, ◌+◌, ◌-◌, ◌≤◌, ltb, Bool, true, false, cond, ◌&&◌, List, [], ◌∷◌, ◌++◌, length, Some, None, sym, ◌∙◌, ap, subst, refl, arith, length-append, length-drop, append-nil}
+use Rattle.std.proofs.Common.{◌≡◌, ℕ, ◌+◌, ◌-◌, ◌≤◌, ltb, Bool, true, false, cond, ◌&&◌, List, [], ◌∷◌, ◌++◌, length, Some, None, sym, ◌∙◌, ap, subst, refl, arith, length-append}
+use Rattle.std.proofs.Common.{length-drop, append-nil}
 use Rattle.std.proofs.lemmas.Bool.Decides.{nat_tests}
 use Rattle.world_face.specs.Frames.{Ending, LinkCut, LinkEnded, LinkFailed, LongFrame, is_too_long, is_whole, missing, partial, partial_after, read_ending, rest_after, spelt_length, tail, MayOffer}
 use Rattle.world_face.specs.Journal.{Entry, Place, AreAllowed, Now, Wait, LinkOpen, LinkRead, LinkWrite, Listen, UdpOpen, count_of, MayRead}
@@ -92,7 +93,8 @@ module _ (config : Config) (asked : ℕ) (octets : List ℕ) (past : List Entry)
   abbrev Stands : Io → Type 0
   Stands answer = is_over (phase config (LinkRead asked answer octets ∷ past)) ≡ false
 
-  done_read : (n : ℕ) (long : Bool) → is_too_long so_far ≡ long → is_over (phase_after (LinkRead asked (Done n) octets) (cond long (Some (LongFrame (spelt_length so_far))) None) (phase config past)) ≡ false → is_too_long so_far ≡ false
+  done_read : (n : ℕ) (long : Bool) → is_too_long so_far ≡ long → is_over (phase_after (LinkRead asked (Done n) octets) (cond long (Some (LongFrame (spelt_length so_far))) None)
+      (phase config past)) ≡ false → is_too_long so_far ≡ false
   done_read n true is going = ended (phase config past) (LongFrame (spelt_length so_far)) going
   done_read n false is going = is
 

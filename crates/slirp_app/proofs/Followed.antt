@@ -72,7 +72,8 @@ stopped_at None f divergence is = cc
 stopped_at (Some call) f divergence is = (call, refl, cc)
 
 -- a run that came to its end
-at_end : (config : Config) (end : End) (schedule : List ℕ) (old new : Option (List ℕ)) → Replayed config (code_of (outcome_of end)) schedule old new (IsAtEnd config (outcome_of end)) → Came config (outcome_of end) schedule old new
+at_end : (config : Config) (end : End) (schedule : List ℕ) (old new : Option (List ℕ)) → Replayed config (code_of (outcome_of end)) schedule old new
+    (IsAtEnd config (outcome_of end)) → Came config (outcome_of end) schedule old new
 at_end config Done schedule old new ran = ran
 at_end config (TooLong n) schedule old new ran = ran
 at_end config (Cut n) schedule old new ran = ran
@@ -105,7 +106,8 @@ module _ (config : Config) (script new : Script) (done outcome : Outcome) (befor
 
   -- where it ceased
   there : (divergence : Divergence) → divergence_of new ≡ Some divergence → (told : List Entry) (e : Entry) → told ≡ (script_tells new).kept → IfSome new.stop (λ s. s ≡ call_of e)
-      → May config told (call_of e) → Must config told (call_of e) → schedule_text new.lines ≡ schedule_text script.lines → Ceased config (schedule_text script.lines) divergence (script_tells new).kept
+      → May config told (call_of e) → Must config told (call_of e) → schedule_text new.lines ≡ schedule_text script.lines → Ceased config (schedule_text script.lines) divergence
+      (script_tells new).kept
   there divergence is told e kept stop may attends same =
       let f : Call → Divergence = λ call. record { line = new.used + 1; made = name_of call; wanted = option_map (λ (row : Row). name_of (call_of row.entry)) (slice_get new.lines new.used) } in
       let at = stopped_at new.stop f divergence is in
@@ -118,12 +120,14 @@ module _ (config : Config) (script new : Script) (done outcome : Outcome) (befor
         may = subst (λ k. May config k at.0) kept (subst (May config told) (sym of) may);
         attends = subst (λ k. Must config k at.0) kept (subst (Must config told) (sym of) attends);
         fits_none = none_left new.lines new.used at.0 (rightly at.0 at.1);
-        line = ap (λ (d : Divergence). d.line) at.2 ∙ ap (λ n. n + 1) (sym (omega (arith, kept_count new.used (entries_of new.lines) [] (omega (arith, within, length-map new.lines (λ (row : Row). row.entry))))));
+        line = ap (λ (d : Divergence). d.line) at.2 ∙ ap (λ n. n + 1)
+            (sym (omega (arith, kept_count new.used (entries_of new.lines) [] (omega (arith, within, length-map new.lines (λ (row : Row). row.entry))))));
         made = ap (λ (d : Divergence). d.made) at.2;
         wanted = ap (λ (d : Divergence). d.wanted) at.2 ∙ ap (λ o. option_map (λ (row : Row). name_of (call_of row.entry)) o) (sym (first_left new.used new.lines));
       }
 
-  by_told : (made : List Entry) → schedule_text new.lines ≡ schedule_text script.lines → AreAllowed made → IsRun config done made → Told (script_tells script) (script_tells new) made → Came config outcome (schedule_text script.lines) before after
+  by_told : (made : List Entry) → schedule_text new.lines ≡ schedule_text script.lines → AreAllowed made → IsRun config done made → Told (script_tells script)
+      (script_tells new) made → Came config outcome (schedule_text script.lines) before after
   by_told made same allowed run (on was now kept) =
       let is : made ≡ (script_tells new).kept = sym (kept ∙ ap (λ l. made ++ l) nothing_kept ∙ append-nil made) in
       let end = end_of config (phase config made) in

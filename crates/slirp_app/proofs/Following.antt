@@ -25,7 +25,8 @@ at_end : (config : Config) (p : Phase) → (p ≡ Over (By LinkEnded)) ⊎ (p �
 at_end config p (inl ended) = ap (end_of config) ended
 at_end config p (inr stopped) = ap (end_of config) stopped
 
-pub is_at_end : (config : Config) (journal : List Entry) → AreAllowed journal → Lawful config journal → Finished config journal → Untroubled config journal → end_of config (phase config journal) ≡ AtEnd
+pub is_at_end : (config : Config) (journal : List Entry) → AreAllowed journal → Lawful config journal → Finished config journal → Untroubled config journal → end_of config
+    (phase config journal) ≡ AtEnd
 is_at_end config journal allowed lawful finished untroubled = at_end config (phase config journal) (ends_well config journal allowed lawful untroubled finished)
 
 pub is_served : (config : Config) (outcome : Outcome) (run : List Entry) → IsRun config outcome run → AreAllowed run → Untroubled config run → outcome ≡ Done
@@ -70,7 +71,8 @@ module _ (file : List ℕ) (config : Config) (status : ℕ) (world world_new : T
   made_where : 5 < status → status ≢ 12 → status ≢ 13 → is_run status ≡ true
   made_where over unput unfit =
       none_of (status == 1) (status == 2) (status == 3) (status == 4) (status == 13) (status == 12)
-      (unlike status 1 (λ is. omega arith)) (unlike status 2 (λ is. omega arith)) (unlike status 3 (λ is. omega arith)) (unlike status 4 (λ is. omega arith)) (unlike status 13 unfit) (unlike status 12 unput)
+      (unlike status 1 (λ is. omega arith)) (unlike status 2 (λ is. omega arith)) (unlike status 3 (λ is. omega arith)) (unlike status 4 (λ is. omega arith))
+      (unlike status 13 unfit) (unlike status 12 unput)
 
   followed : ((made : List Entry) → Told world world_new made → IsWhole made → CanBeFollowed config (octets_read made)) → IsTrue (is_run status) → status ≢ 5 → status ≡ 0
   followed can made other =
@@ -78,7 +80,8 @@ module _ (file : List ℕ) (config : Config) (status : ℕ) (world world_new : T
       let it = ran.holds.1 in
       it.holds (can ran.made ran.told ran.holds.0 it.journal it.fits it.allowed it.lawful)
 
-  pub follows_file : ¬ ((1 ≤ status) × (status ≤ 5)) → ((made : List Entry) → Told world world_new made → IsWhole made → CanBeFollowed config (octets_read made)) → (status ≡ 0) ⊎ (status ≡ 12) ⊎ (status ≡ 13)
+  pub follows_file : ¬ ((1 ≤ status) × (status ≤ 5)) → ((made : List Entry) → Told world world_new made → IsWhole made → CanBeFollowed config (octets_read made)) → (status ≡ 0) ⊎
+      (status ≡ 12) ⊎ (status ≡ 13)
   follows_file read can = by (status == 0) refl (status == 12) refl (status == 13) refl
     where
       by : (a : Bool) → (status == 0) ≡ a → (b : Bool) → (status == 12) ≡ b → (c : Bool) → (status == 13) ≡ c → (status ≡ 0) ⊎ (status ≡ 12) ⊎ (status ≡ 13)

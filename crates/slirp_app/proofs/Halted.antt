@@ -5,7 +5,8 @@ use Rattle.run_duties.proofs.Ended.{ended_yet}
 use Rattle.run_laws.specs.Moments.{waits}
 use Rattle.run_laws.specs.Shape.{Phase, Opening, Started, Woken, Working, Over, is_ended, is_over, is_working, may_turn, phase}
 use Rattle.run_laws.specs.Sockets.{is_among, open_sockets}
-use Rattle.slirp_laws.specs.Laws.{Deed, Asks, Waits, Reads, Writes, Opens, Sends, Hears, Connects, Accepts, Looks, Gives, Ends, Takes, Shuts, Seeks, Unbuilt, Finished, Lawful, May, deed_of, due, has_place, has_socket, is_closing, is_least, parts}
+use Rattle.slirp_laws.specs.Laws.{Deed, Asks, Waits, Reads, Writes, Opens, Sends, Hears, Connects, Accepts, Looks, Gives, Ends, Takes, Shuts, Seeks, Unbuilt, Finished, Lawful, May}
+use Rattle.slirp_laws.specs.Laws.{deed_of, due, has_place, has_socket, is_closing, is_least, parts}
 use Rattle.slirp_laws.proofs.Bools.{first_of}
 use Rattle.slirp_app.proofs.Copied.{later_than, onto}
 use Rattle.std.specs.Prelude.{nat_lt}
@@ -57,7 +58,8 @@ module _ (config : Config) (past : List Entry) (finished : Finished config past)
   no_deed (Gives socket) place socket_is = no_work place
   no_deed (Ends socket) place socket_is = no_work place
   no_deed (Takes socket) place socket_is = no_work place
-  no_deed (Shuts socket) place socket_is = none_open socket (cond (is_closing config past) (is_least socket (open_sockets past)) (parts config past socket || (is_ended config past && is_least socket (open_sockets past)))) socket_is
+  no_deed (Shuts socket) place socket_is = none_open socket (cond (is_closing config past) (is_least socket (open_sockets past))
+      (parts config past socket || (is_ended config past && is_least socket (open_sockets past)))) socket_is
   no_deed Seeks place socket_is = none_due place
   no_deed Unbuilt place socket_is = cc
 

@@ -14,7 +14,9 @@ use Rattle.replay.specs.Range.{AnswersInRange}
 use Rattle.replay.specs.Rows.{AreReadable, IsReadable, Row, TakesAll, entries_of, row_text, said_answer, said_call, schedule_text, turned_text}
 use Rattle.replay.specs.Text.{answer_text, call_text, hexadecimal, read_text}
 use Rattle.replay.specs.declared.CallName.{CallName}
-use Rattle.replay.specs.declared.CallName.TheVariants.{Wait as NameWait, LinkOpen as NameLinkOpen, LinkRead as NameLinkRead, LinkWrite as NameLinkWrite, Connect as NameConnect, Connected as NameConnected, Listen as NameListen, Accept as NameAccept, TcpRead as NameTcpRead, TcpWrite as NameTcpWrite, TcpEnd as NameTcpEnd, UdpOpen as NameUdpOpen, UdpSend as NameUdpSend, UdpRecv as NameUdpRecv}
+use Rattle.replay.specs.declared.CallName.TheVariants.{Wait as NameWait, LinkOpen as NameLinkOpen, LinkRead as NameLinkRead, LinkWrite as NameLinkWrite, Connect as NameConnect}
+use Rattle.replay.specs.declared.CallName.TheVariants.{Connected as NameConnected, Listen as NameListen, Accept as NameAccept, TcpRead as NameTcpRead, TcpWrite as NameTcpWrite}
+use Rattle.replay.specs.declared.CallName.TheVariants.{TcpEnd as NameTcpEnd, UdpOpen as NameUdpOpen, UdpSend as NameUdpSend, UdpRecv as NameUdpRecv}
 use Rattle.run_laws.specs.Moments.{waits}
 use Rattle.slirp_app.specs.Untroubled.{CanBeFollowed, NoneComesLater, SaysUntroubled, Untroubled, before_waits, link_ended, link_octets, record_of, tells_end}
 use Rattle.world_face.specs.Faults.{failures, link_failed, socket_failed, wait_failed}
@@ -203,13 +205,15 @@ same_read Failed End octets others left left_others is = none_both octets others
 same_read Failed NotYet octets others left left_others is = none_both octets others left.0 left_others.0
 same_read Failed Failed octets others left left_others is = none_both octets others left.0 left_others.0
 
-read_as : (asked : ℕ) (answer : Io) (octets : List ℕ) (f : Entry) (b : Bool) → (b ≡ true → TakesAll f) → Leaves answer octets → AnswersInRange f → of_read (name_of (call_of f)) ≡ true → read_text answer octets ≡ said f b → octets ≡ octets_in f
+read_as : (asked : ℕ) (answer : Io) (octets : List ℕ) (f : Entry) (b : Bool) → (b ≡ true → TakesAll f) → Leaves answer octets → AnswersInRange f → of_read
+    (name_of (call_of f)) ≡ true → read_text answer octets ≡ said f b → octets ≡ octets_in f
 unfolding answer_text
 read_as asked answer octets (LinkRead n other others) true takes left range named is = absurd (takes refl)
 read_as asked answer octets (LinkRead n other others) false takes left range named is = same_read answer other octets others left range is
 read_as asked answer octets _ b takes left range named is = cc
 
-same_in : (e f : Entry) (a b : Bool) → (a ≡ true → TakesAll e) → (b ≡ true → TakesAll f) → AnswersInRange e → AnswersInRange f → name_of (call_of e) ≡ name_of (call_of f) → said e a ≡ said f b → octets_in e ≡ octets_in f
+same_in : (e f : Entry) (a b : Bool) → (a ≡ true → TakesAll e) → (b ≡ true → TakesAll f) → AnswersInRange e → AnswersInRange f → name_of (call_of e) ≡ name_of (call_of f) →
+    said e a ≡ said f b → octets_in e ≡ octets_in f
 unfolding answer_text
 same_in (LinkRead asked answer octets) f true b takes takes_f range range_f name is = absurd (takes refl)
 same_in (LinkRead asked answer octets) f false b takes takes_f range range_f name is = read_as asked answer octets f b takes_f range range_f (sym (ap of_read name)) is
@@ -232,7 +236,8 @@ pub record Alike (e f : Entry) : Type 0 where
 named_row : (row : Row) → (rest : List ℕ) × (said_call row ++ 32 ∷ [] ≡ name_text (name_of (call_of row.entry)) ++ 32 ∷ rest)
 named_row row = by row.starred
   where
-    by : (b : Bool) → (rest : List ℕ) × (cond b (name_text (name_of (call_of row.entry)) ++ codes " *") (call_text (call_of row.entry)) ++ 32 ∷ [] ≡ name_text (name_of (call_of row.entry)) ++ 32 ∷ rest)
+    by : (b : Bool) → (rest : List ℕ) × (cond b (name_text (name_of (call_of row.entry)) ++ codes " *") (call_text (call_of row.entry)) ++ 32 ∷ [] ≡ name_text
+        (name_of (call_of row.entry)) ++ 32 ∷ rest)
     by true = (42 ∷ 32 ∷ [], append_assoc (name_text (name_of (call_of row.entry))) (32 ∷ 42 ∷ []) (32 ∷ []))
     by false = (args_text (call_of row.entry), named (call_of row.entry))
 
@@ -244,8 +249,10 @@ alike r s readable readable_s is =
     let one = named_row r in
     let other = named_row s in
     let name : name_of (call_of r.entry) ≡ name_of (call_of s.entry) =
-    same_name (name_of (call_of r.entry)) (name_of (call_of s.entry)) (parts_once 32 is_word refl (name_text (name_of (call_of r.entry))) (name_text (name_of (call_of s.entry))) one.0 other.0 (name_word (name_of (call_of r.entry))) (name_word (name_of (call_of s.entry))) (sym one.1 ∙ split.0 ∙ other.1)).0 in
-    let told : (of : CallName → Bool) (test : List ℕ → Bool) → (of (name_of (call_of r.entry)) && test (said_answer r)) ≡ (of (name_of (call_of s.entry)) && test (said_answer s)) = λ of test. ap (λ n. of n && test (said_answer r)) name ∙ ap (λ t. of (name_of (call_of s.entry)) && test t) text in
+    same_name (name_of (call_of r.entry)) (name_of (call_of s.entry)) (parts_once 32 is_word refl (name_text (name_of (call_of r.entry)))
+    (name_text (name_of (call_of s.entry))) one.0 other.0 (name_word (name_of (call_of r.entry))) (name_word (name_of (call_of s.entry))) (sym one.1 ∙ split.0 ∙ other.1)).0 in
+    let told : (of : CallName → Bool) (test : List ℕ → Bool) → (of (name_of (call_of r.entry)) && test (said_answer r)) ≡
+    (of (name_of (call_of s.entry)) && test (said_answer s)) = λ of test. ap (λ n. of n && test (said_answer r)) name ∙ ap (λ t. of (name_of (call_of s.entry)) && test t) text in
     record {
       octets = same_in r.entry s.entry r.all s.all readable.all readable_s.all readable.range.1 readable_s.range.1 name text;
       end = end_told r.entry r.all readable.all ∙ told of_read is_end ∙ sym (end_told s.entry s.all readable_s.all);
@@ -272,7 +279,8 @@ waits_next _ past = refl
 
 same_octets_in : (past others : List Entry) → AreAlike past others → link_octets past ≡ link_octets others
 same_octets_in [] [] are = refl
-same_octets_in (e ∷ past) (f ∷ others) are = octets_next e past ∙ ap (λ l. l ++ octets_in e) (same_octets_in past others are.1) ∙ ap (λ l. link_octets others ++ l) are.0.octets ∙ sym (octets_next f others)
+same_octets_in (e ∷ past) (f ∷ others) are = octets_next e past ∙ ap (λ l. l ++ octets_in e) (same_octets_in past others are.1) ∙ ap (λ l. link_octets others ++ l) are.0.octets
+    ∙ sym (octets_next f others)
 same_octets_in [] (f ∷ others) are = absurd are
 same_octets_in (e ∷ past) [] are = absurd are
 
@@ -290,7 +298,8 @@ same_failures of same (e ∷ past) [] are = absurd are
 
 same_waits : (past others : List Entry) → AreAlike past others → waits past ≡ waits others
 same_waits [] [] are = refl
-same_waits (e ∷ past) (f ∷ others) are = waits_next e past ∙ ap (λ b. cond b (waits past + 1) (waits past)) are.0.waits ∙ ap (λ n. cond (is_a_wait f) (n + 1) n) (same_waits past others are.1) ∙ sym (waits_next f others)
+same_waits (e ∷ past) (f ∷ others) are = waits_next e past ∙ ap (λ b. cond b (waits past + 1) (waits past)) are.0.waits ∙ ap (λ n. cond (is_a_wait f) (n + 1) n)
+    (same_waits past others are.1) ∙ sym (waits_next f others)
 same_waits [] (f ∷ others) are = absurd are
 same_waits (e ∷ past) [] are = absurd are
 
@@ -414,7 +423,8 @@ next_line lines rows row rest readable all before = by before.back before.is bef
 
 split : (lines rows : List Row) (rest : List ℕ) → AreReadable rows → AreReadable lines → turned_text rows ++ rest ≡ schedule_text lines → Split lines rows rest
 split lines [] rest readable all is = record { front = []; back = lines; is = refl; left = is; are_alike = tt }
-split lines (row ∷ rows) rest readable all is = next_line lines rows row rest readable.0 all (split lines rows (row_text row ++ rest) readable.1 all (sym (append_assoc (turned_text rows) (row_text row) rest) ∙ is))
+split lines (row ∷ rows) rest readable all is = next_line lines rows row rest readable.0 all (split lines rows (row_text row ++ rest) readable.1 all
+    (sym (append_assoc (turned_text rows) (row_text row) rest) ∙ is))
 
 pub can_be_followed : (config : Config) (schedule : List ℕ) → SaysUntroubled config schedule → CanBeFollowed config schedule
 can_be_followed config schedule says journal fits allowed lawful =

@@ -16,7 +16,8 @@ use Rattle.serve_loop.specs.Ends.{end_of}
 use Rattle.serve_loop.specs.declared.service.End.{End}
 
 -- the calls of a run, with the end that they tell
-pub runs : (a b : Telling) (config : Config) (end : End) (outcome : Outcome) → Makes a b (λ made. Lawful config made × Dutiful config made × Finished config made × (end ≡ end_of config (phase config made)))
+pub runs : (a b : Telling) (config : Config) (end : End) (outcome : Outcome) → Makes a b (λ made. Lawful config made × Dutiful config made × Finished config made ×
+    (end ≡ end_of config (phase config made)))
     → outcome ≡ outcome_of end → Makes a b (IsRun config outcome)
 runs a b config end outcome calls told =
     makes_as a b (λ made. Lawful config made × Dutiful config made × Finished config made × (end ≡ end_of config (phase config made))) (IsRun config outcome) calls
@@ -33,7 +34,8 @@ behind {P} {Q} a b c at first calls here =
 pub opened : (a b c : Telling) (at : Place) (outcome : Outcome) (config : Config) → Answers a b (LinkOpen at Done) → Makes b c (IsRun config outcome) → Makes a c (OpensAt config at outcome)
 opened a b c at outcome config first calls = behind a b c at first calls (λ run holds. Runs run refl holds)
 
-pub opened_recorded : (a b c : Telling) (at : Place) (outcome : Outcome) (config : Config) (old new : Option (List ℕ)) → Answers a b (LinkOpen at Done) → Makes b c (IsRecorded config outcome old new) → Makes a c (RecordsAt config at outcome old new)
+pub opened_recorded : (a b c : Telling) (at : Place) (outcome : Outcome) (config : Config) (old new : Option (List ℕ)) → Answers a b (LinkOpen at Done) → Makes b c
+    (IsRecorded config outcome old new) → Makes a c (RecordsAt config at outcome old new)
 opened_recorded a b c at outcome config old new first calls = behind a b c at first calls (λ run holds. Records run refl holds)
 
 -- it couldn't be opened

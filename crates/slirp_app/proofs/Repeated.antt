@@ -57,10 +57,12 @@ abbrev pub PrintsAll : Config → ℕ → (whole : List Entry) (old new : Option
 PrintsAll config status whole old new = (new ≡ added (text whole ++ end_line status) old) × Finished config whole × (status ≡ code_of (outcome_of (end_of config (phase config whole))))
 
 abbrev pub PrintsFirst : Config → (whole : List Entry) (old new : Option (List ℕ)) → Type 0
-PrintsFirst config whole old new = (rest : List Entry) × (front : List Entry) × (whole ≡ rest ++ front) × (new ≡ added (text front ++ end_line 10) old) × Finished config front × (waits front ≡ config.turns) × (waits whole ≡ config.turns)
+PrintsFirst config whole old new = (rest : List Entry) × (front : List Entry) × (whole ≡ rest ++ front) × (new ≡ added (text front ++ end_line 10) old) × Finished config front ×
+    (waits front ≡ config.turns) × (waits whole ≡ config.turns)
 
 abbrev pub Departs : Config → (whole : List Entry) (old new : Option (List ℕ)) → Type 0
-Departs config whole old new = (rest : List Entry) × (entry : Entry) × (front : List Entry) × (call : Call) × (whole ≡ rest ++ (entry ∷ front)) × (new ≡ added (text front ++ end_line 5) old) × May config front call × (call ≢ call_of entry)
+Departs config whole old new = (rest : List Entry) × (entry : Entry) × (front : List Entry) × (call : Call) × (whole ≡ rest ++ (entry ∷ front)) ×
+    (new ≡ added (text front ++ end_line 5) old) × May config front call × (call ≢ call_of entry)
 
 module _ (file : List ℕ) (config : Config) (status : ℕ) (world world_new : Telling) (old new : Option (List ℕ)) (Said : Outcome → Type 0) (whole : List Entry)
     (replays : ReplaysFile file config status world world_new old new Said) (allowed : AreAllowed whole) (lawful : Lawful config whole) where
@@ -95,14 +97,17 @@ module _ (file : List ℕ) (config : Config) (status : ℕ) (world world_new : T
         ap waits on.is ∙ waits_no_more config on.back journal (subst (Lawful config) on.is lawful) ended.0.ended ∙ all,
       ))
 
-  pub departs : Finished config whole → code_of (outcome_of (end_of config (phase config whole))) ≢ 10 → status ≡ 5 → Makes world world_new (λ calls. octets_read calls ≡ text whole → Departs config whole old new)
+  pub departs : Finished config whole → code_of (outcome_of (end_of config (phase config whole))) ≢ 10 → status ≡ 5 → Makes world world_new
+      (λ calls. octets_read calls ≡ text whole → Departs config whole old new)
   departs finished unspent diverged = makes_as world world_new _ _ (replays.diverged diverged) (λ calls ran same.
       let ceased = ran.1.holds.1 in
       let on = goes_on ran.1.journal whole (schedule_text ceased.left) allowed (subst (λ s. FitsBefore ran.1.journal s (schedule_text ceased.left)) same ceased.before) in
       from_there ran.1.journal ceased.call ceased.left on.back on.is on.left ceased.readable ceased.may ceased.fits_none ran.1.put)
     where
-      from_there : (journal : List Entry) (call : Call) (left : List Row) (back : List Entry) → whole ≡ onto back journal → schedule_text left ≡ lines_text back → AreReadable left → May config journal call → FitsNone left 0 call → new ≡ added (text journal ++ end_line 5) old → Departs config whole old new
-      from_there journal call left [] is text_is readable may none put = absurd (no_more config whole finished (over_unless config (phase config whole) unspent) call (subst (λ j. May config j call) (sym is) may))
+      from_there : (journal : List Entry) (call : Call) (left : List Row) (back : List Entry) → whole ≡ onto back journal → schedule_text left ≡ lines_text back →
+          AreReadable left → May config journal call → FitsNone left 0 call → new ≡ added (text journal ++ end_line 5) old → Departs config whole old new
+      from_there journal call left [] is text_is readable may none put = absurd (no_more config whole finished (over_unless config (phase config whole) unspent) call
+          (subst (λ j. May config j call) (sym is) may))
       from_there journal call left (e ∷ back) is text_is readable may none put =
           let allowed_e : Allowed e = (allowed_before back (e ∷ journal) (subst AreAllowed is allowed)).0 in
           (onto back [], e, journal, call, is ∙ later_than back (e ∷ journal), put, may, another left e (lines_text back) call readable allowed_e text_is none)
@@ -125,7 +130,8 @@ module _ (config : Config) (at : Place) (status again : ℕ) (live live_new worl
 
   -- a run of no call would have spent its turns
   of_none : octets ≡ [] → Makes world world_new Prints
-  of_none none = makes_as world world_new _ _ (prints_all file config again world world_new old new Said [] replays tt tt made other unspent) (λ calls prints read. absurd (unspent (prints (read ∙ none)).2))
+  of_none none = makes_as world world_new _ _ (prints_all file config again world world_new old new Said [] replays tt tt made other unspent)
+      (λ calls prints read. absurd (unspent (prints (read ∙ none)).2))
 
   of_run : (run : List Entry) → AreAllowed run → (outcome : Outcome) → IsRun config outcome run → IsGiven (text run) outcome serves.outcome (Some []) (Some octets) → Makes world world_new Prints
   of_run run allowed outcome ran (Took put is) =

@@ -36,7 +36,8 @@ all_noted {P} began began_new source source_new first noted faults faults_new no
     record { holds = subst P (sym same) from.holds; allowed = subst AreAllowed (sym same) from.allowed; same_world = mark.0; same_sink = mark.1 }
 
 module _ (failed : Bool) (done outcome : Outcome) (is : outcome ≡ (if failed then SinkFault else done)) where
-  given_by : (octets : List ℕ) (old new : Option (List ℕ)) (b : Bool) → failed ≡ b → outcome ≡ (if b then SinkFault else done) → (failed ≡ false → new ≡ added octets old) → IsGiven octets done outcome old new
+  given_by : (octets : List ℕ) (old new : Option (List ℕ)) (b : Bool) → failed ≡ b → outcome ≡ (if b then SinkFault else done) → (failed ≡ false → new ≡ added octets old) →
+      IsGiven octets done outcome old new
   given_by octets old new true of told put = TookNot told
   given_by octets old new false of told put = Took (put of) told
 
@@ -54,15 +55,18 @@ module _ (failed : Bool) (done outcome : Outcome) (is : outcome ≡ (if failed t
 pub recorded : (world world_new : Telling) (noted : List Entry) (config : Config) (done outcome : Outcome) (old new : Option (List ℕ))
     → ArePassed world world_new noted → IsRun config done noted → IsGiven (text noted) done outcome old new → Makes world world_new (IsRecorded config outcome old new)
 recorded world world_new noted config done outcome old new passed ran given =
-    makes_as world world_new (λ made. made ≡ noted) (IsRecorded config outcome old new) passed (λ made is. subst (IsRecorded config outcome old new) (sym is) (record { done = done; ran = ran; given = given }))
+    makes_as world world_new (λ made. made ≡ noted) (IsRecorded config outcome old new) passed (λ made is. subst (IsRecorded config outcome old new) (sym is)
+    (record { done = done; ran = ran; given = given }))
 
 pub captured : (world world_new : Telling) (noted : List Entry) (config : Config) (at : Place) (done outcome : Outcome) (old new : Option (List ℕ))
     → ArePassed world world_new noted → OpensAt config at done noted → IsGiven (capture noted) done outcome old new → Makes world world_new (CapturesAt config at outcome old new)
 captured world world_new noted config at done outcome old new passed opens given =
-    makes_as world world_new (λ made. made ≡ noted) (CapturesAt config at outcome old new) passed (λ made is. subst (CapturesAt config at outcome old new) (sym is) (record { done = done; opens = opens; given = given }))
+    makes_as world world_new (λ made. made ≡ noted) (CapturesAt config at outcome old new) passed (λ made is. subst (CapturesAt config at outcome old new) (sym is)
+    (record { done = done; opens = opens; given = given }))
 
 -- a run that a World with a record of it served
-pub run_recorded : {W K : Type 0} (tells : W → Telling) (config : Config) (done outcome : Outcome) (failed : Bool) (world world_new : W) (sink : K) (before after : Option (List ℕ)) (faults faults_new : ℕ)
+pub run_recorded : {W K : Type 0} (tells : W → Telling) (config : Config) (done outcome : Outcome) (failed : Bool) (world world_new : W) (sink : K) (before after : Option (List ℕ))
+    (faults faults_new : ℕ)
     (counts counts_new : Counts) (fresh : Written K) (tap tap_new : Tapped W (Written K)) (book : Written K)
     → fresh ≡ record { out = sink; source = beginning faults before; made = []; failed = false }
     → tap ≡ record { world = world; began = world; book = fresh }
@@ -72,11 +76,13 @@ pub run_recorded : {W K : Type 0} (tells : W → Telling) (config : Config) (don
     → ((old : Option (List ℕ)) (f : ℕ) → book.source ≡ beginning f old → IsWritten old after f faults_new book.made failed)
     → outcome ≡ (if failed then SinkFault else done)
     → Makes (tells world) (tells world_new) (IsRecorded config outcome before after) × (code_of outcome ≡ 12 → Rose faults faults_new)
-run_recorded {W} {K} tells config done outcome failed world world_new sink before after faults faults_new counts counts_new fresh tap tap_new book fresh_is tap_is makes passed book_is written outcome_is =
+run_recorded {W} {K} tells config done outcome failed world world_new sink before after faults faults_new counts counts_new fresh tap tap_new book fresh_is tap_is makes passed
+    book_is written outcome_is =
     let none : tap.book.made ≡ [] = ap (λ (t : Tapped W (Written K)). t.book.made) tap_is ∙ ap (λ (b : Written K). b.made) fresh_is in
     let noted = all_noted {P = IsRun config done} (tells tap.began) (tells tap_new.began) tap.book.source tap_new.book.source tap.book.made tap_new.book.made counts counts_new none makes in
     let began : tells tap_new.began ≡ tells world = noted.same_world ∙ ap (λ (t : Tapped W (Written K)). tells t.began) tap_is in
-    let source : book.source ≡ beginning faults before = ap (λ (b : Written K). b.source) book_is ∙ noted.same_sink ∙ ap (λ (t : Tapped W (Written K)). t.book.source) tap_is ∙ ap (λ (b : Written K). b.source) fresh_is in
+    let source : book.source ≡ beginning faults before = ap (λ (b : Written K). b.source) book_is ∙ noted.same_sink ∙ ap (λ (t : Tapped W (Written K)). t.book.source) tap_is ∙ ap
+    (λ (b : Written K). b.source) fresh_is in
     let put = written before faults source in
     let ran : IsRun config done book.made = subst (IsRun config done) (sym (ap (λ (b : Written K). b.made) book_is)) noted.holds in (
       recorded (tells world) (tells world_new) book.made config done outcome before after (subst (λ t. ArePassed t (tells world_new) book.made) began passed)
@@ -85,7 +91,8 @@ run_recorded {W} {K} tells config done outcome failed world world_new sink befor
     )
 
 -- and one whose frames were put
-pub run_captured : {W K : Type 0} (tells : W → Telling) (config : Config) (at : Place) (done outcome : Outcome) (failed : Bool) (world world_new : W) (before after : Option (List ℕ)) (faults faults_new : ℕ)
+pub run_captured : {W K : Type 0} (tells : W → Telling) (config : Config) (at : Place) (done outcome : Outcome) (failed : Bool) (world world_new : W)
+    (before after : Option (List ℕ)) (faults faults_new : ℕ)
     (counts counts_new : Counts) (fresh : Written K) (tap tap_new : Tapped W (Written K)) (book : Written K)
     → fresh.made ≡ [] → fresh.source ≡ beginning faults before
     → tap ≡ record { world = world; began = world; book = fresh }
@@ -95,7 +102,8 @@ pub run_captured : {W K : Type 0} (tells : W → Telling) (config : Config) (at 
     → ((old : Option (List ℕ)) (f : ℕ) → book.source ≡ beginning f old → IsCaptured old after f faults_new book.made failed)
     → outcome ≡ (if failed then SinkFault else done)
     → Makes (tells world) (tells world_new) (CapturesAt config at outcome before after) × (code_of outcome ≡ 12 → Rose faults faults_new)
-run_captured {W} {K} tells config at done outcome failed world world_new before after faults faults_new counts counts_new fresh tap tap_new book made_is source_is tap_is makes passed book_is written outcome_is =
+run_captured {W} {K} tells config at done outcome failed world world_new before after faults faults_new counts counts_new fresh tap tap_new book made_is source_is tap_is makes
+    passed book_is written outcome_is =
     let none : tap.book.made ≡ [] = ap (λ (t : Tapped W (Written K)). t.book.made) tap_is ∙ made_is in
     let noted = all_noted {P = OpensAt config at done} (tells tap.began) (tells tap_new.began) tap.book.source tap_new.book.source tap.book.made tap_new.book.made counts counts_new none makes in
     let began : tells tap_new.began ≡ tells world = noted.same_world ∙ ap (λ (t : Tapped W (Written K)). tells t.began) tap_is in

@@ -13,7 +13,8 @@ use Rattle.app_edges.specs.Fetching.{IsWhole, IsUnreadable, is_read, octets_read
 use Rattle.slirp_app.specs.Ran.{Replayed, IsAtEnd, Ceased}
 use Rattle.app_edges.specs.Statuses.{code_of}
 use Rattle.app_edges.specs.declared.status.Outcome.{Outcome}
-use Rattle.app_edges.specs.declared.status.Outcome.TheVariants.{Done, Usage, BadConfig, ScheduleRead, ScheduleTooLarge, ScheduleLine, Diverged, FrameTooLong, FrameCut, LinkFault, WaitFault, TurnsSpent, ListenRefused, SinkFault, NoMemory}
+use Rattle.app_edges.specs.declared.status.Outcome.TheVariants.{Done, Usage, BadConfig, ScheduleRead, ScheduleTooLarge, ScheduleLine, Diverged, FrameTooLong, FrameCut, LinkFault}
+use Rattle.app_edges.specs.declared.status.Outcome.TheVariants.{WaitFault, TurnsSpent, ListenRefused, SinkFault, NoMemory}
 
 -- Where a run was made, a record of it was put. It diverged, or came to its end.
 abbrev pub Came : Config → Outcome → (schedule : List ℕ) → (old new : Option (List ℕ)) → Type 0

@@ -44,7 +44,8 @@ pub record ReplaysFile (file : Word) (config : Config) (status : ℕ) (world wor
   pub misspelt : IsTrue (is_read status) → Makes world world_new (λ made. (status ≡ 4) ↔ (line : ℕ) × IsFirstUnread (octets_read made) line)
   pub named : status ≡ 4 → Makes world world_new (λ made. (line : ℕ) × IsFirstUnread (octets_read made) line × Told (ScheduleLine line))
   -- a run's record was put and then the status; but for 5 nothing more is to be done, and the status is that of the end which the record tells
-  pub ran : IsTrue (is_run status) → RanOn config world world_new status old new (λ schedule journal. status ≢ 5 → Finished config journal × (status ≡ code_of (outcome_of (end_of config (phase config journal)))))
+  pub ran : IsTrue (is_run status) → RanOn config world world_new status old new (λ schedule journal. status ≢ 5 → Finished config journal ×
+      (status ≡ code_of (outcome_of (end_of config (phase config journal)))))
   -- with 5 it ceased at a call that may come next and fits no line, and the text names the line, the call, and the call of the line
   pub diverged : status ≡ 5 → RanOn config world world_new 5 old new (λ schedule journal. (divergence : Divergence) × Ceased config schedule divergence journal × Told (Diverged divergence))
   -- with 0 a wait was told to stop, or the link ended between two frames
@@ -61,7 +62,8 @@ pub record ReplaysFile (file : Word) (config : Config) (status : ℕ) (world wor
   -- with 11 the host refused a forward, and the text has its number, counted from 0
   pub forward_refused : status ≡ 11 → RanOn config world world_new 11 old new (λ schedule journal. (forward : ℕ) × (phase config journal ≡ Over (Refused forward)) × Told (ListenRefused forward))
 
--- What `serve --link AT` does: the link is opened, and then the calls are those of one lawful, finished run with the settings of the words; what the words ask for is put of these calls, the same ones whether `world` tells them or not; and `err` got the text of the outcome.
+-- What `serve --link AT` does: the link is opened, and then the calls are those of one lawful, finished run with the settings of the words; what the words ask
+-- for is put of these calls, the same ones whether `world` tells them or not; and `err` got the text of the outcome.
 pub record ServesLink (config : Config) (at : Place) (tap : Tap) (status : ℕ) (world world_new : Telling) (old new : Option (List ℕ)) (Told : Outcome → Type 0) : Type 0 where
   pub outcome : Outcome
   pub is : status ≡ code_of outcome
@@ -117,4 +119,5 @@ pub data Course (words : List Word) (outcome : Outcome) (world world_new : Telli
       → Does meaning outcome world world_new old new → Course words outcome world world_new old new
   Misset : (meaning : Meaning) (field : Field) → Means words meaning → ((other : Meaning) → Means words other → broken_in other ≡ Some field) → outcome ≡ BadConfig field
       → Makes world world_new (λ made. made ≡ []) → Course words outcome world world_new old new
-  Misused : (stop : Stop) → StopsAt words stop → ((meaning : Meaning) → ¬ Means words meaning) → outcome ≡ Usage stop → Makes world world_new (λ made. made ≡ []) → Course words outcome world world_new old new
+  Misused : (stop : Stop) → StopsAt words stop → ((meaning : Meaning) → ¬ Means words meaning) → outcome ≡ Usage stop → Makes world world_new (λ made. made ≡ []) →
+      Course words outcome world world_new old new

@@ -33,7 +33,8 @@ pub record Replayed (config : Config) (status : ℕ) (schedule : List ℕ) (old 
 abbrev pub IsAtEnd : Config → Outcome → List Entry → Type 0
 IsAtEnd config outcome journal = Finished config journal × (outcome ≡ outcome_of (end_of config (phase config journal)))
 
--- The run ceased at a call that may come next, as it must where it is a wait, and that fits no line: of the lines that are left the first isn't of this call, or its answer isn't one that a World may give.
+-- The run ceased at a call that may come next, as it must where it is a wait, and that fits no line: of the lines that are left the first isn't of this call,
+-- or its answer isn't one that a World may give.
 pub record Ceased (config : Config) (schedule : List ℕ) (divergence : Divergence) (journal : List Entry) : Type 0 where
   pub left : List Row
   pub readable : AreReadable left

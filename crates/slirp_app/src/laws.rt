@@ -1,4 +1,5 @@
-// Laws of what the program comes to: where nothing happened to its outside that ends a run early, the run is made to its end; and a record that is replayed is made again. Each contract is proved though its body is empty.
+// Laws of what the program comes to: where nothing happened to its outside that ends a run early, the run is made to its end; and a record that is replayed is
+// made again. Each contract is proved though its body is empty.
 ghost use Rattle.std.specs.Prelude.{◌≡◌, ◌≢◌, ◌⊎◌, ℕ, ◌≤◌, ◌++◌, List, [], ◌∷◌, Option, Some, IsTrue};
 ghost use Rattle.host_policy.specs.Addresses.{Config};
 ghost use Rattle.host_policy.specs.declared.Forward.{Forward};
@@ -38,11 +39,13 @@ pub fn an_untroubled_run_is_made_to_its_end()
 /// A schedule that can be followed is followed to its end: `replay FILE` comes to 0.
 pub fn a_schedule_that_can_be_followed_is_followed_to_its_end()
     // The status of a run that was made and didn't diverge is 0 where its record is untroubled.
-    ensures run { (words : List (List ℕ)) (forwards : List Forward) (file : List ℕ) (config : Config) (status : ℕ) (world world_new : Telling) (old new err err_new : Option (List ℕ)) (faults faults_new : ℕ)
+    ensures run { (words : List (List ℕ)) (forwards : List Forward) (file : List ℕ) (config : Config) (status : ℕ) (world world_new : Telling) (old new err err_new : Option (List ℕ))
+        (faults faults_new : ℕ)
         → ReplaysFile file config status world world_new old new (Got words forwards err err_new faults faults_new)
         → IsTrue (is_run status) → status ≢ 5 → RanOn config world world_new status old new (λ schedule journal. Untroubled config journal → status ≡ 0) }
     // So where the words, FILE and each line of it were read and nothing diverged, which 1 to 5 tell, and FILE can be followed, it is 0; unless a put failed, with 12, or there was no memory, with 13.
-    ensures file { (words : List (List ℕ)) (forwards : List Forward) (file : List ℕ) (config : Config) (status : ℕ) (world world_new : Telling) (old new err err_new : Option (List ℕ)) (faults faults_new : ℕ)
+    ensures file { (words : List (List ℕ)) (forwards : List Forward) (file : List ℕ) (config : Config) (status : ℕ) (world world_new : Telling) (old new err err_new : Option (List ℕ))
+        (faults faults_new : ℕ)
         → ReplaysFile file config status world world_new old new (Got words forwards err err_new faults faults_new)
         → ¬ ((1 ≤ status) × (status ≤ 5)) → ((made : List Entry) → Told world world_new made → IsWhole made → CanBeFollowed config (octets_read made))
         → (status ≡ 0) ⊎ (status ≡ 12) ⊎ (status ≡ 13) }
@@ -52,14 +55,17 @@ pub fn a_schedule_that_can_be_followed_is_followed_to_its_end()
 
 /// A record, replayed with the same settings, prints itself where nothing diverged.
 pub fn a_record_replays_to_itself()
-    // FILE has the lines of a lawful record: a replay with its settings that made a run, and neither diverged (5) nor spent its turns (10), made just its calls with their answers; so the record is that of a finished run, and the status is that of the end which it tells.
-    ensures itself { (words : List (List ℕ)) (forwards : List Forward) (file : List ℕ) (config : Config) (status : ℕ) (world world_new : Telling) (old new err err_new : Option (List ℕ)) (faults faults_new : ℕ)
+    // FILE has the lines of a lawful record: a replay with its settings that made a run, and neither diverged (5) nor spent its turns (10), made just its calls
+    // with their answers; so the record is that of a finished run, and the status is that of the end which it tells.
+    ensures itself { (words : List (List ℕ)) (forwards : List Forward) (file : List ℕ) (config : Config) (status : ℕ) (world world_new : Telling) (old new err err_new : Option (List ℕ))
+        (faults faults_new : ℕ)
         (run : List Entry)
         → ReplaysFile file config status world world_new old new (Got words forwards err err_new faults faults_new) → AreAllowed run → Lawful config run
         → IsTrue (is_run status) → status ≢ 5 → status ≢ 10 → Makes world world_new (λ made. octets_read made ≡ text run
         → (new ≡ added (text run ++ end_line status) old) × Finished config run × (status ≡ code_of (outcome_of (end_of config (phase config run))))) }
     // One that spent its turns made the first calls of the record, those of a finished run with as many waits, and the record has no wait after them.
-    ensures spent { (words : List (List ℕ)) (forwards : List Forward) (file : List ℕ) (config : Config) (status : ℕ) (world world_new : Telling) (old new err err_new : Option (List ℕ)) (faults faults_new : ℕ)
+    ensures spent { (words : List (List ℕ)) (forwards : List Forward) (file : List ℕ) (config : Config) (status : ℕ) (world world_new : Telling) (old new err err_new : Option (List ℕ))
+        (faults faults_new : ℕ)
         (run : List Entry)
         → ReplaysFile file config status world world_new old new (Got words forwards err err_new faults faults_new) → AreAllowed run → Lawful config run
         → status ≡ 10 → Makes world world_new (λ made. octets_read made ≡ text run → (rest : List Entry) × (front : List Entry) × (run ≡ rest ++ front)

@@ -44,7 +44,8 @@ module _ (Of : Meaning → Type 0) (one : (m n : Meaning) → Of m → Of n → 
         bad_config = λ field h. absurd (cc h);
         only = λ m h. let e : m ≡ meaning = one m meaning h of in
             let quiet : broken_in m ≡ None = ap broken_in e ∙ none in
-            subst (λ (o : Option Field). MatchOption o ((command : Command) × (◌≡◌ {A = Result Command WordFault} (Ok c) (Ok command)) × (said command ≡ m)) (λ field. ◌≡◌ {A = Result Command WordFault} (Ok c) (Err (BadConfig field)))) (sym quiet) (c, refl, meant ∙ sym e);
+            subst (λ (o : Option Field). MatchOption o ((command : Command) × (◌≡◌ {A = Result Command WordFault} (Ok c) (Ok command)) × (said command ≡ m))
+            (λ field. ◌≡◌ {A = Result Command WordFault} (Ok c) (Err (BadConfig field)))) (sym quiet) (c, refl, meant ∙ sym e);
       }
   answered command meaning of is (Err fault) same sound whole broken =
       let field = broken.0 in
@@ -52,8 +53,14 @@ module _ (Of : Meaning → Type 0) (one : (m n : Meaning) → Of m → Of n → 
       let fault_is : ◌≡◌ {A = Result Command WordFault} (Err fault) (Err (BadConfig field)) = ap (λ (f : WordFault). Err f) broken.1 in
       record {
         meant = tt;
-        bad_config = λ other h. (meaning, of, named ∙ (let same_fault : ◌≡◌ {A = Result Command WordFault} (Err (BadConfig field)) (Err (BadConfig other)) = sym fault_is ∙ h in let e : field ≡ other = cc in ap (λ (f : Field). Some f) e));
+        bad_config = λ other h. (
+          meaning,
+          of,
+          named ∙ (let same_fault : ◌≡◌ {A = Result Command WordFault} (Err (BadConfig field)) (Err (BadConfig other)) = sym fault_is
+              ∙ h in let e : field ≡ other = cc in ap (λ (f : Field). Some f) e),
+        );
         only = λ m h. let e : m ≡ meaning = one m meaning h of in
             let there : broken_in m ≡ Some field = ap broken_in e ∙ named in
-            subst (λ (o : Option Field). MatchOption o ((command : Command) × (◌≡◌ {A = Result Command WordFault} (Err fault) (Ok command)) × (said command ≡ m)) (λ field. ◌≡◌ {A = Result Command WordFault} (Err fault) (Err (BadConfig field)))) (sym there) fault_is;
+            subst (λ (o : Option Field). MatchOption o ((command : Command) × (◌≡◌ {A = Result Command WordFault} (Err fault) (Ok command)) × (said command ≡ m))
+            (λ field. ◌≡◌ {A = Result Command WordFault} (Err fault) (Err (BadConfig field)))) (sym there) fault_is;
       }

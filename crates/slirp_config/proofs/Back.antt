@@ -1,5 +1,6 @@
 -- Of what form the word is that was taken.
-use Rattle.std.proofs.Common.{◌≡◌, ◌+◌, ◌-◌, ◌<◌, Bool, true, false, cond, not, ◌&&◌, ltb, List, [], ◌∷◌, ◌++◌, length, take, drop, bytes_eq, codes, position, Option, Some, None, is_some, if◌then◌else◌, refl, sym, ◌∙◌, ap, arith, length-drop}
+use Rattle.std.proofs.Common.{◌≡◌, ◌+◌, ◌-◌, ◌<◌, Bool, true, false, cond, not, ◌&&◌, ltb, List, [], ◌∷◌, ◌++◌, length, take, drop, bytes_eq, codes, position, Option, Some, None, is_some}
+use Rattle.std.proofs.Common.{if◌then◌else◌, refl, sym, ◌∙◌, ap, arith, length-drop}
 use Rattle.std.specs.List.{position_or_len, before_first, after_first}
 use Rattle.std.proofs.lemmas.List.{take_all}
 use Rattle.std.proofs.lemmas.Bool.Decides.{nat_tests}
@@ -47,7 +48,8 @@ module _ (verb : Verb) (o : List Given) (a : List Word) where
   pub data Stepped (word : Word) (w : Walk) : Type 0 where
     Ends : (is : word ≡ codes "--") (after : w ≡ behind_end verb o a) → Stepped word w
     Alone : (plain : is_dashed word ≡ false) (after : w ≡ at verb o (a ++ word ∷ [])) → Stepped word w
-    Joins : (name value : Word) (is : word ≡ name ++ 61 ∷ value) (takes : takes_value verb name ≡ Some true) (some : 0 < length value) (free : is_some (value_in o name) ≡ false) (after : w ≡ at verb (o ++ given name value ∷ []) a) → Stepped word w
+    Joins : (name value : Word) (is : word ≡ name ++ 61 ∷ value) (takes : takes_value verb name ≡ Some true) (some : 0 < length value) (free : is_some (value_in o name) ≡ false)
+        (after : w ≡ at verb (o ++ given name value ∷ []) a) → Stepped word w
     Waits : (takes : takes_value verb word ≡ Some true) (free : is_some (value_in o word) ≡ false) (after : w ≡ waiting verb o a word) → Stepped word w
     Flags : (takes : takes_value verb word ≡ Some false) (free : is_some (value_in o word) ≡ false) (after : w ≡ at verb (o ++ given word [] ∷ []) a) → Stepped word w
 
@@ -61,7 +63,8 @@ module _ (verb : Verb) (o : List Given) (a : List Word) where
       Joins name value is (e ∙ ap (λ (t : Bool). Some t) b.0) (grind (arith, nat_tests, b.1)) p.0 p.1
 
   name_back : (word : Word) (w : Walk) (t : Option Bool) → takes_value verb word ≡ t
-      → (elim t [ None ↦ None | Some takes ↦ if takes then (if not (is_some (value_in o word)) then Some (waiting verb o a word) else None) else put_option (at verb o a) word [] ]) ≡ Some w → Stepped word w
+      → (elim t [ None ↦ None | Some takes ↦ if takes then (if not (is_some (value_in o word)) then Some (waiting verb o a word) else None) else put_option (at verb o a) word [] ])
+      ≡ Some w → Stepped word w
   name_back word w None e h = absurd (cc h)
   name_back word w (Some true) e h =
       let c = chosen (not (is_some (value_in o word))) (Some (waiting verb o a word)) w h in

@@ -1,5 +1,6 @@
 -- The loop over the words: what was walked so far, and how a line keeps it.
-use Rattle.std.proofs.Common.{◌≡◌, ◌⊎◌, inl, inr, ℕ, ◌+◌, ◌<◌, List, [], ◌∷◌, ◌++◌, length, map, take, drop, get_or, Result, Ok, Err, OnOk, OnErr, is_err, true, false, Option, Some, None, option_copied, is_some, cond, refl, sym, ◌∙◌, ap, subst, append_assoc, append-nil}
+use Rattle.std.proofs.Common.{◌≡◌, ◌⊎◌, inl, inr, ℕ, ◌+◌, ◌<◌, List, [], ◌∷◌, ◌++◌, length, map, take, drop, get_or, Result, Ok, Err, OnOk, OnErr, is_err, true, false, Option, Some, None}
+use Rattle.std.proofs.Common.{option_copied, is_some, cond, refl, sym, ◌∙◌, ap, subst, append_assoc, append-nil}
 use Rattle.std.proofs.lemmas.List.{map-append, take-append-drop, take_more}
 use Rattle.slirp_config.specs.declared.options.Verb.{Verb}
 use Rattle.slirp_config.specs.declared.options.Verb.TheVariants.{Replay, Serve}
@@ -62,7 +63,8 @@ module _ (verb : Verb) (words : List Word) (word : Word) (old : LineHere) (come 
   come_none why more w is good =
       let f = next_some finished (walk_on ((words ++ word ∷ []) ++ more) (fresh verb)) w is in
       let e = ended f.0 w f.2 in
-      let came : walk_on (word ∷ more) come.walk ≡ Some w = come.goes (word ∷ more) ∙ ap (λ (x : List Word). walk_on x (fresh verb)) (sym (append_assoc words (word ∷ []) more)) ∙ f.1 ∙ ap (λ (x : Walk). Some x) e.0 in
+      let came : walk_on (word ∷ more) come.walk ≡ Some w = come.goes (word ∷ more) ∙ ap (λ (x : List Word). walk_on x (fresh verb)) (sym (append_assoc words (word ∷ []) more))
+      ∙ f.1 ∙ ap (λ (x : Walk). Some x) e.0 in
       let n = next_some (walk_on more) (step come.walk word) w came in
       cause_none why n.0 n.1 (was_good come.walk n.0 word n.1 (good_from more n.0 w n.2 good)).1
 

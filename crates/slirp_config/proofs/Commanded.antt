@@ -1,5 +1,6 @@
 -- The first word is the command; words mean one thing.
-use Rattle.std.proofs.Common.{◌≡◌, ◌≢◌, ℕ, ◌==◌, true, false, cond, List, [], ◌∷◌, ◌++◌, length, map, bytes_eq, codes, Result, Ok, Err, IfErr, IfOk, inl, inr, refl, sym, ◌∙◌, ap, subst, arith, append_assoc}
+use Rattle.std.proofs.Common.{◌≡◌, ◌≢◌, ℕ, ◌==◌, true, false, cond, List, [], ◌∷◌, ◌++◌, length, map, bytes_eq, codes, Result, Ok, Err, IfErr, IfOk, inl, inr, refl, sym, ◌∙◌, ap, subst}
+use Rattle.std.proofs.Common.{arith, append_assoc}
 use Rattle.std.proofs.lemmas.Bool.Decides.{nat_tests}
 use Rattle.host_policy.specs.Addresses.{Config}
 use Rattle.world_face.specs.Journal.{Place}
@@ -104,26 +105,29 @@ module _ (words behind : List Word) (r : Result Command Stop) where
   pub replay_command : words ≡ codes "replay" ∷ behind
       → IfOk r (λ c. (file : List ℕ) × (config : Config) × MeansReplay behind file config × (said c ≡ Replays file (narrowed_settings config)))
       → IfOk r (λ c. (meaning : Meaning) × Means words meaning × (said c ≡ narrowed_meaning meaning))
-  replay_command is h = elim r as (λ x. IfOk x (λ c. (file : List ℕ) × (config : Config) × MeansReplay behind file config × (said c ≡ Replays file (narrowed_settings config))) → IfOk x (λ c. (meaning : Meaning) × Means words meaning × (said c ≡ narrowed_meaning meaning))) [
-    | Ok c ↦ λ m. (Replays m.0 m.1, (behind, is, m.2), m.3)
-    | Err e ↦ λ m. tt
-  ] h
+  replay_command is h = elim r as (λ x. IfOk x (λ c. (file : List ℕ) × (config : Config) × MeansReplay behind file config × (said c ≡ Replays file (narrowed_settings config))) →
+      IfOk x (λ c. (meaning : Meaning) × Means words meaning × (said c ≡ narrowed_meaning meaning))) [
+        | Ok c ↦ λ m. (Replays m.0 m.1, (behind, is, m.2), m.3)
+        | Err e ↦ λ m. tt
+      ] h
 
   pub serve_command : words ≡ codes "serve" ∷ behind
       → IfOk r (λ c. (config : Config) × (at : Place) × (tap : Tap) × MeansServe behind config at tap × (said c ≡ Serves (narrowed_settings config) at tap))
       → IfOk r (λ c. (meaning : Meaning) × Means words meaning × (said c ≡ narrowed_meaning meaning))
-  serve_command is h = elim r as (λ x. IfOk x (λ c. (config : Config) × (at : Place) × (tap : Tap) × MeansServe behind config at tap × (said c ≡ Serves (narrowed_settings config) at tap)) → IfOk x (λ c. (meaning : Meaning) × Means words meaning × (said c ≡ narrowed_meaning meaning))) [
-    | Ok c ↦ λ m. (Serves m.0 m.1 m.2, (behind, is, m.3), m.4)
-    | Err e ↦ λ m. tt
-  ] h
+  serve_command is h = elim r as (λ x. IfOk x (λ c. (config : Config) × (at : Place) × (tap : Tap) × MeansServe behind config at tap ×
+      (said c ≡ Serves (narrowed_settings config) at tap)) → IfOk x (λ c. (meaning : Meaning) × Means words meaning × (said c ≡ narrowed_meaning meaning))) [
+        | Ok c ↦ λ m. (Serves m.0 m.1 m.2, (behind, is, m.3), m.4)
+        | Err e ↦ λ m. tt
+      ] h
 
   pub drive_command : words ≡ codes "drive" ∷ behind
       → IfOk r (λ c. (number : ℕ) × (octets : ℕ) × MeansDrive behind number octets × (said c ≡ Drives number octets))
       → IfOk r (λ c. (meaning : Meaning) × Means words meaning × (said c ≡ narrowed_meaning meaning))
-  drive_command is h = elim r as (λ x. IfOk x (λ c. (number : ℕ) × (octets : ℕ) × MeansDrive behind number octets × (said c ≡ Drives number octets)) → IfOk x (λ c. (meaning : Meaning) × Means words meaning × (said c ≡ narrowed_meaning meaning))) [
-    | Ok c ↦ λ m. (Drives m.0 m.1, (behind, is, m.2), m.3)
-    | Err e ↦ λ m. tt
-  ] h
+  drive_command is h = elim r as (λ x. IfOk x (λ c. (number : ℕ) × (octets : ℕ) × MeansDrive behind number octets × (said c ≡ Drives number octets)) → IfOk x
+      (λ c. (meaning : Meaning) × Means words meaning × (said c ≡ narrowed_meaning meaning))) [
+        | Ok c ↦ λ m. (Drives m.0 m.1, (behind, is, m.2), m.3)
+        | Err e ↦ λ m. tt
+      ] h
 
   pub replay_refused : words ≡ codes "replay" ∷ behind → IfErr r (λ stop. StopsBehind ReplayMeant behind stop) → IfErr r (λ stop. StopsAt words stop)
   replay_refused is h = all_stop (codes "replay") ReplayMeant only_replay (λ b m. (Replays m.0 m.1, (b, refl, m.2))) words behind is r h
@@ -137,10 +141,11 @@ module _ (words behind : List Word) (r : Result Command Stop) where
   -- a word that stands alone
   pub alone_command : (command : Command) (meaning : Meaning) → (behind ≡ [] → Means words meaning) → said command ≡ narrowed_meaning meaning
       → IfOk r (λ c. (c ≡ command) × (behind ≡ [])) → IfOk r (λ c. (meaning : Meaning) × Means words meaning × (said c ≡ narrowed_meaning meaning))
-  alone_command command meaning means says h = elim r as (λ x. IfOk x (λ c. (c ≡ command) × (behind ≡ [])) → IfOk x (λ c. (meaning : Meaning) × Means words meaning × (said c ≡ narrowed_meaning meaning))) [
-    | Ok c ↦ λ m. (meaning, means m.1, ap said m.0 ∙ says)
-    | Err e ↦ λ m. tt
-  ] h
+  alone_command command meaning means says h = elim r as (λ x. IfOk x (λ c. (c ≡ command) × (behind ≡ [])) → IfOk x (λ c. (meaning : Meaning) × Means words meaning ×
+      (said c ≡ narrowed_meaning meaning))) [
+        | Ok c ↦ λ m. (meaning, means m.1, ap said m.0 ∙ says)
+        | Err e ↦ λ m. tt
+      ] h
 
   pub alone_place : (command : Command) → HasPlace (said command) → IfOk r (λ c. (c ≡ command) × (behind ≡ [])) → IfOk r (λ c. HasPlace (said c))
   alone_place command place h = elim r as (λ x. IfOk x (λ c. (c ≡ command) × (behind ≡ [])) → IfOk x (λ c. HasPlace (said c))) [
@@ -230,7 +235,8 @@ stopped words (AtWord place) (before, word, behind, is, long, begun, none) meant
 stopped words AtEnd (begun, none) meant = none meant
 
 -- a list of words isn't empty where what it is seen as isn't
-pub no_behind : {X : Type 0} (f : X → Word) (behind : List X) (r : Result Command Stop) → IfErr r (λ stop. (stop ≡ AtWord 1) × (behind ≢ [])) → IfErr r (λ stop. (stop ≡ AtWord 1) × (map f behind ≢ []))
+pub no_behind : {X : Type 0} (f : X → Word) (behind : List X) (r : Result Command Stop) → IfErr r (λ stop. (stop ≡ AtWord 1) × (behind ≢ [])) → IfErr r
+    (λ stop. (stop ≡ AtWord 1) × (map f behind ≢ []))
 no_behind f behind (Ok c) h = tt
 no_behind f [] (Err stop) h = absurd (h.1 refl)
 no_behind f (x ∷ xs) (Err stop) h = (h.0, (λ is. absurd (cc is)))

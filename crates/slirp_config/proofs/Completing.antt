@@ -1,5 +1,6 @@
 -- Words that can go on begin a reading: what is missing is put behind them.
-use Rattle.std.proofs.Common.{◌≡◌, ◌<◌, Bool, true, false, cond, ◌&&◌, ◌||◌, List, [], ◌∷◌, ◌++◌, length, bytes_eq, codes, Option, Some, None, MatchOption, is_some, refl, sym, ◌∙◌, ap, subst, arith, append_assoc, append-nil}
+use Rattle.std.proofs.Common.{◌≡◌, ◌<◌, Bool, true, false, cond, ◌&&◌, ◌||◌, List, [], ◌∷◌, ◌++◌, length, bytes_eq, codes, Option, Some, None, MatchOption, is_some, refl, sym, ◌∙◌, ap}
+use Rattle.std.proofs.Common.{subst, arith, append_assoc, append-nil}
 use Rattle.std.specs.Fmt.{digits}
 use Rattle.std.specs.Option.{option_map}
 use Rattle.world_face.specs.Journal.{AtPath}
@@ -98,8 +99,10 @@ capture_none Serve h = let same : false ≡ true = cc in cc same
 still_one : (verb : Verb) (o : List Given) (name value : Word) → takes_value verb name ≡ Some true → is_both o ≡ false → is_both (o ++ given name value ∷ []) ≡ false
 still_one verb o name value takes one =
     let g = given name value in
-    let record_same : is_some (value_in (o ++ g ∷ []) (codes "--record")) ≡ is_some (value_in o (codes "--record")) = more_given o g (codes "--record") ∙ or_false _ _ (no_flag verb name (codes "--record") takes (flag_none verb)) in
-    let capture_same : is_some (value_in (o ++ g ∷ []) (codes "--capture")) ≡ is_some (value_in o (codes "--capture")) = more_given o g (codes "--capture") ∙ or_false _ _ (no_flag verb name (codes "--capture") takes (capture_none verb)) in
+    let record_same : is_some (value_in (o ++ g ∷ []) (codes "--record")) ≡ is_some (value_in o (codes "--record")) = more_given o g (codes "--record") ∙ or_false _ _
+    (no_flag verb name (codes "--record") takes (flag_none verb)) in
+    let capture_same : is_some (value_in (o ++ g ∷ []) (codes "--capture")) ≡ is_some (value_in o (codes "--capture")) = more_given o g (codes "--capture") ∙ or_false _ _
+    (no_flag verb name (codes "--capture") takes (capture_none verb)) in
     ap (λ (b : Bool). b && is_some (value_in (o ++ g ∷ []) (codes "--capture"))) record_same ∙ ap (λ (b : Bool). is_some (value_in o (codes "--record")) && b) capture_same ∙ one
 
 valued : (verb : Verb) (name : Word) → takes_value verb name ≡ Some true → (kind : Kind) × (kind_of verb name ≡ Some kind)
@@ -120,7 +123,8 @@ module _ (verb : Verb) (words : List Word) where
   settle : Walks verb words → Comes verb words
   settle w = by_waits w.walk.waits refl w.proper.waiting
     where
-      by_waits : (t : Option Word) → w.walk.waits ≡ t → MatchOption t (Unit {0}) (λ name. (takes_value w.walk.verb name ≡ Some true) × (is_some (value_in w.walk.options name) ≡ false)) → Comes verb words
+      by_waits : (t : Option Word) → w.walk.waits ≡ t → MatchOption t (Unit {0}) (λ name. (takes_value w.walk.verb name ≡ Some true) ×
+          (is_some (value_in w.walk.options name) ≡ false)) → Comes verb words
       by_waits None e h = record { more = []; walks = none_more verb words w; quiet = e }
       by_waits (Some name) e h =
           let kind = valued w.walk.verb name h.0 in
@@ -134,13 +138,16 @@ module _ (verb : Verb) (words : List Word) where
             | false ↦ λ is. refl
           ]) in
           by_ended w.walk.ended refl) in
-          let is : waiting w.walk.verb o a name ≡ w.walk = ap (λ (t : Option Word). record { verb = w.walk.verb; options = o; alone = a; waits = t; ended = false }) (sym e) ∙ ap (λ (b : Bool). record { verb = w.walk.verb; options = o; alone = a; waits = w.walk.waits; ended = b }) (sym open_still) in
+          let is : waiting w.walk.verb o a name ≡ w.walk = ap (λ (t : Option Word). record { verb = w.walk.verb; options = o; alone = a; waits = t; ended = false }) (sym e) ∙ ap
+          (λ (b : Bool). record { verb = w.walk.verb; options = o; alone = a; waits = w.walk.waits; ended = b }) (sym open_still) in
           let room = has_room w.walk.verb o name v.value true w.proper.once w.proper.known h.0 h.1 in
-          let stepped : step (waiting w.walk.verb o a name) v.value ≡ Some (at w.walk.verb (o ++ given name v.value ∷ []) a) = apart_step w.walk.verb o a name v.value v.some v.plain ∙ put_fresh w.walk.verb o a name v.value h.1 room in
+          let stepped : step (waiting w.walk.verb o a name) v.value ≡ Some
+          (at w.walk.verb (o ++ given name v.value ∷ []) a) = apart_step w.walk.verb o a name v.value v.some v.plain ∙ put_fresh w.walk.verb o a name v.value h.1 room in
           let fits : Fits (waiting w.walk.verb o a name) v.value = (tt, (rw (kind.1) v.can, still_one w.walk.verb o name v.value h.0 w.good.one), refl) in
           record {
             more = v.value ∷ [];
-            walks = one_more verb words w v.value (at w.walk.verb (o ++ given name v.value ∷ []) a) (subst (λ (x : Walk). step x v.value ≡ Some (at w.walk.verb (o ++ given name v.value ∷ []) a)) is stepped) (subst (λ (x : Walk). Fits x v.value) is fits);
+            walks = one_more verb words w v.value (at w.walk.verb (o ++ given name v.value ∷ []) a)
+                (subst (λ (x : Walk). step x v.value ≡ Some (at w.walk.verb (o ++ given name v.value ∷ []) a)) is stepped) (subst (λ (x : Walk). Fits x v.value) is fits);
             quiet = refl;
           }
 
@@ -169,7 +176,8 @@ replay_whole words w none file rules alone =
       }),
     )
 
-alone_step : (verb : Verb) (o : List Given) (a : List Word) (ended : Bool) (word : Word) → is_dashed word ≡ false → step (record { verb = verb; options = o; alone = a; waits = None; ended = ended }) word ≡ Some (record { verb = verb; options = o; alone = a ++ word ∷ []; waits = None; ended = ended })
+alone_step : (verb : Verb) (o : List Given) (a : List Word) (ended : Bool) (word : Word) → is_dashed word ≡ false → step
+    (record { verb = verb; options = o; alone = a; waits = None; ended = ended }) word ≡ Some (record { verb = verb; options = o; alone = a ++ word ∷ []; waits = None; ended = ended })
 alone_step verb o a true word plain = refl
 alone_step verb o a false word plain = plain_step verb o a word plain
 
@@ -189,7 +197,8 @@ replay_quiet words w none = by_alone w.walk.alone refl
         ap (λ (v : Verb). record { verb = v; options = w.walk.options; alone = []; waits = None; ended = w.walk.ended }) (sym w.verb_is)
         ∙ ap (λ (a : List Word). record { verb = w.walk.verb; options = w.walk.options; alone = a; waits = None; ended = w.walk.ended }) (sym e)
         ∙ ap (λ (t : Option Word). record { verb = w.walk.verb; options = w.walk.options; alone = w.walk.alone; waits = t; ended = w.walk.ended }) (sym none) in
-        let more = one_more Replay words w (codes "F") behind (subst (λ (x : Walk). step x (codes "F") ≡ Some behind) is (alone_step Replay w.walk.options [] w.walk.ended (codes "F") refl)) (subst (λ (x : Walk). Fits x (codes "F")) is (file_fits w.walk.options w.walk.ended)) in
+        let more = one_more Replay words w (codes "F") behind (subst (λ (x : Walk). step x (codes "F") ≡ Some behind) is (alone_step Replay w.walk.options [] w.walk.ended
+        (codes "F") refl)) (subst (λ (x : Walk). Fits x (codes "F")) is (file_fits w.walk.options w.walk.ended)) in
         (codes "F" ∷ [], replay_whole (words ++ codes "F" ∷ []) more refl (codes "F") [] refl)
 
 pub replay_begins : (words : List Word) → Walks Replay words → BeginsOne ReplayMeant words
@@ -233,7 +242,8 @@ link_word = codes "--link=unix:s"
 link_fits : (o : List Given) (a : List Word) → is_both o ≡ false → Fits (at Serve o a) link_word
 link_fits o a one = (tt, ((AtPath (codes "s"), (refl, (omega arith, omega arith))), still_one Serve o (codes "--link") (codes "unix:s") refl one), refl)
 
-value_last : (o : List Given) (name value : Word) → is_some (value_in (o ++ given name value ∷ []) name) ≡ true → is_some (value_in o name) ≡ false → (text : Word) × (value_in (o ++ given name value ∷ []) name ≡ Some text)
+value_last : (o : List Given) (name value : Word) → is_some (value_in (o ++ given name value ∷ []) name) ≡ true → is_some (value_in o name) ≡ false → (text : Word) ×
+    (value_in (o ++ given name value ∷ []) name ≡ Some text)
 value_last o name value there free = by_value (value_in (o ++ given name value ∷ []) name) refl there
   where
     by_value : (t : Option Word) → value_in (o ++ given name value ∷ []) name ≡ t → is_some t ≡ true → (text : Word) × (value_in (o ++ given name value ∷ []) name ≡ Some text)
@@ -261,7 +271,8 @@ serve_quiet words w none = by_link (value_in w.walk.options (codes "--link")) re
         let g = given (codes "--link") (codes "unix:s") in
         let behind = at Serve (o ++ g ∷ []) a in
         let room = has_room Serve o (codes "--link") (codes "unix:s") true w.proper.once w.proper.known refl free in
-        let stepped : step (at Serve o a) link_word ≡ Some behind = joined_step Serve o a (codes "--link") (codes "unix:s") refl (omega arith) ∙ put_fresh Serve o a (codes "--link") (codes "unix:s") free room in
+        let stepped : step (at Serve o a) link_word ≡ Some behind = joined_step Serve o a (codes "--link") (codes "unix:s") refl (omega arith) ∙ put_fresh Serve o a
+        (codes "--link") (codes "unix:s") free room in
         let more = one_more Serve words w link_word behind (subst (λ (x : Walk). step x link_word ≡ Some behind) is stepped) (subst (λ (x : Walk). Fits x link_word) is (link_fits o a w.good.one)) in
         let there : is_some (value_in (o ++ g ∷ []) (codes "--link")) ≡ true = more_given o g (codes "--link") ∙ ap (λ (b : Bool). b || bytes_eq (codes "--link") (codes "--link")) free in
         let told = value_last o (codes "--link") (codes "unix:s") there free in

@@ -57,11 +57,13 @@ pub drives_at_end : {X : Type 0} (f : X → Word) (words : List X) → length wo
 drives_at_end f [] none = (begins_none, drives_none)
 drives_at_end f (x ∷ xs) none = absurd (omega (arith, none))
 
-pub drives_behind_one : {X : Type 0} (f : X → Word) (words : List Word) (number : Word) (n : ℕ) (behind : List X) → IsNumber 64 number n → words ≡ number ∷ map f behind → length behind ≡ 0 → BeginsOne DriveMeant words × ¬ DriveMeant words
+pub drives_behind_one : {X : Type 0} (f : X → Word) (words : List Word) (number : Word) (n : ℕ) (behind : List X) → IsNumber 64 number n → words ≡ number ∷ map f behind →
+    length behind ≡ 0 → BeginsOne DriveMeant words × ¬ DriveMeant words
 drives_behind_one f words number n [] is same none = subst (λ (w : List Word). BeginsOne DriveMeant w × ¬ DriveMeant w) (sym same) (begins_one number n is, drives_one number)
 drives_behind_one f words number n (x ∷ xs) is same none = absurd (omega (arith, none))
 
 -- a third word
-pub drives_more : {X : Type 0} (f : X → Word) (words : List Word) (a b : Word) (n o : ℕ) → IsNumber 64 a n → IsNumber 64 b o → (rest : List X) → words ≡ a ∷ b ∷ map f rest → (length rest == 0) ≡ false → StopsBehind DriveMeant words (AtWord 3)
+pub drives_more : {X : Type 0} (f : X → Word) (words : List Word) (a b : Word) (n o : ℕ) → IsNumber 64 a n → IsNumber 64 b o → (rest : List X) → words ≡ a ∷ b ∷ map f rest →
+    (length rest == 0) ≡ false → StopsBehind DriveMeant words (AtWord 3)
 drives_more f words a b n o number octets [] is none = absurd (cc none)
 drives_more f words a b n o number octets (x ∷ xs) is none = (a ∷ b ∷ [], f x, map f xs, is, refl, begins_two a b n o number octets, (λ begins. drives_three a b (f x) begins.0 begins.1))

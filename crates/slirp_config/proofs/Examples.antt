@@ -17,7 +17,8 @@ use Rattle.world_face.specs.Journal.{AtPath}
 -- no option is given but for the network, its addresses, who is asked for names, and from where datagrams go out
 abbrev IsPlain : (given : Word → Option Word) → Type 0
 IsPlain given =
-    (given (codes "--restrict") ≡ None) × (given (codes "--no-loopback") ≡ None) × (given (codes "--hostname") ≡ None) × (given (codes "--domainname") ≡ None) × (given (codes "--tftp-server-name") ≡ None)
+    (given (codes "--restrict") ≡ None) × (given (codes "--no-loopback") ≡ None) × (given (codes "--hostname") ≡ None) × (given (codes "--domainname") ≡ None) ×
+    (given (codes "--tftp-server-name") ≡ None)
     × (given (codes "--bootfile") ≡ None) × (given (codes "--tftp") ≡ None) × (given (codes "--mtu") ≡ None) × (given (codes "--mru") ≡ None) × (given (codes "--flows") ≡ None)
     × (given (codes "--ring") ≡ None) × (given (codes "--turns") ≡ None) × (given (codes "--no-dns") ≡ None) × (given (codes "--no-dhcp") ≡ None) × (given (codes "--congestion") ≡ None)
 
@@ -30,7 +31,17 @@ plain : (given : Word → Option Word) (network mask vhost vnameserver dhcp_star
     → MatchOption (given (codes "--resolver")) (resolver ≡ None) (λ text. (at : Endpoint) × (resolver ≡ Some at) × IsEndpointText text at)
     → MatchOption (given (codes "--outbound")) (outbound ≡ None) (λ text. (a : ℕ) × (outbound ≡ Some a) × IsAddress text a)
     → version ≡ version_of given
-    → AreSettings given (record usual { network = network; mask = mask; vhost = vhost; vnameserver = vnameserver; dhcp_start = dhcp_start; resolver = resolver; outbound = outbound; version = version; forwards = forwards })
+    → AreSettings given (record usual {
+      network = network;
+      mask = mask;
+      vhost = vhost;
+      vnameserver = vnameserver;
+      dhcp_start = dhcp_start;
+      resolver = resolver;
+      outbound = outbound;
+      version = version;
+      forwards = forwards;
+    })
 plain given network mask vhost vnameserver dhcp_start resolver outbound version forwards none net host dns start asked out of = record {
   net = net;
   host = host;

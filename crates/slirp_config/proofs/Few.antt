@@ -45,8 +45,10 @@ pub once_more : (o : List Given) (g : Given) → none_twice same_name o ≡ true
 once_more [] g once free = refl
 once_more (x ∷ xs) g once free =
     let parts = both (not (list_any (same_name x) xs)) (none_twice same_name xs) once in
-    let by_test : (t : Bool) → bytes_eq x.name g.name ≡ t → is_some (option_map (λ (given : Given). given.value) (cond t (Some x) (find (λ given. bytes_eq given.name g.name) xs))) ≡ false → none_twice same_name (x ∷ xs ++ g ∷ []) ≡ true = λ t.
-    (elim t as (λ b. bytes_eq x.name g.name ≡ b → is_some (option_map (λ (given : Given). given.value) (cond b (Some x) (find (λ given. bytes_eq given.name g.name) xs))) ≡ false → none_twice same_name (x ∷ xs ++ g ∷ []) ≡ true) [
+    let by_test : (t : Bool) → bytes_eq x.name g.name ≡ t → is_some (option_map (λ (given : Given). given.value) (cond t (Some x) (find (λ given. bytes_eq given.name g.name) xs)))
+    ≡ false → none_twice same_name (x ∷ xs ++ g ∷ []) ≡ true = λ t.
+    (elim t as (λ b. bytes_eq x.name g.name ≡ b → is_some (option_map (λ (given : Given). given.value) (cond b (Some x) (find (λ given. bytes_eq given.name g.name) xs))) ≡ false →
+    none_twice same_name (x ∷ xs ++ g ∷ []) ≡ true) [
       | true ↦ λ yes h. absurd (cc h)
       | false ↦ λ no h.
           pair (not (list_any (same_name x) (xs ++ g ∷ []))) (none_twice same_name (xs ++ g ∷ []))
@@ -75,7 +77,8 @@ shorter n (g ∷ gs) once =
     let by_test : (t : Bool) → bytes_eq n g.name ≡ t → suc (length gs) ≤ suc (length (cond t (without n gs) (g ∷ without n gs))) = λ t.
     (elim t as (λ b. bytes_eq n g.name ≡ b → suc (length gs) ≤ suc (length (cond b (without n gs) (g ∷ without n gs)))) [
       | true ↦ λ yes.
-          let absent : list_any (λ (h : Given). bytes_eq n h.name) gs ≡ false = subst (λ (w : Word). list_any (λ (h : Given). bytes_eq w h.name) gs ≡ false) (sym (same_text n g.name yes)) (refuted (list_any (same_name g) gs) parts.0) in
+          let absent : list_any (λ (h : Given). bytes_eq n h.name) gs ≡ false = subst (λ (w : Word). list_any (λ (h : Given). bytes_eq w h.name) gs ≡ false)
+          (sym (same_text n g.name yes)) (refuted (list_any (same_name g) gs) parts.0) in
           rw (unnamed n gs absent) (omega arith)
       | false ↦ λ no. let rest = shorter n gs parts.1 in omega (arith, rest)
     ]) in

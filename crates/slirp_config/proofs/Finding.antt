@@ -13,7 +13,8 @@ module _ {X Y Z : Type 0} where
     | false ↦ first_mapped f g p xs
   ]
 
-pub value_is : (items : List GivenHere) (name : Word) (found : Option GivenHere) → found ≡ find (λ given. bytes_eq given.name.now name) items → option_map (λ (given : GivenHere). given.value.now) found ≡ value_in (map given_of items) name
+pub value_is : (items : List GivenHere) (name : Word) (found : Option GivenHere) → found ≡ find (λ given. bytes_eq given.name.now name) items → option_map
+    (λ (given : GivenHere). given.value.now) found ≡ value_in (map given_of items) name
 value_is items name found is = ap (option_map (λ (given : GivenHere). given.value.now)) is ∙ sym (first_mapped given_of (λ given. given.value) (λ given. bytes_eq given.name name) items)
 
 module _ {X : Type 0} where

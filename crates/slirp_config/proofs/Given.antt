@@ -22,6 +22,7 @@ pub value_there : (front : List Given) (g : Given) (rest : List Given) → is_so
 value_there [] g rest free = rw (own_text g.name) refl
 value_there (x ∷ xs) g rest free = by_test (value_there xs g rest) (bytes_eq x.name g.name) refl free
   where
-    by_test : (is_some (value_in xs g.name) ≡ false → value_in (xs ++ g ∷ rest) g.name ≡ Some g.value) → (t : Bool) → bytes_eq x.name g.name ≡ t → is_some (option_map (λ (given : Given). given.value) (cond t (Some x) (find (λ given. bytes_eq given.name g.name) xs))) ≡ false → value_in (x ∷ xs ++ g ∷ rest) g.name ≡ Some g.value
+    by_test : (is_some (value_in xs g.name) ≡ false → value_in (xs ++ g ∷ rest) g.name ≡ Some g.value) → (t : Bool) → bytes_eq x.name g.name ≡ t → is_some
+        (option_map (λ (given : Given). given.value) (cond t (Some x) (find (λ given. bytes_eq given.name g.name) xs))) ≡ false → value_in (x ∷ xs ++ g ∷ rest) g.name ≡ Some g.value
     by_test behind true e h = absurd (cc h)
     by_test behind false e h = rw e (behind h)

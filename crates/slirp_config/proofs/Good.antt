@@ -69,7 +69,8 @@ module _ (walk next : Walk) (word : Word) (is : step walk word ≡ Some next) wh
     wanted = still_wanted walk next word is good.wanted fits.0;
     given = subst (λ (v : Verb). AreGiven v next.options) (sym after.verb) (subst (AreGiven walk.verb) (sym after.options) (given_by (completed walk word) fits.1));
     one = ap is_both after.options ∙ one_by (completed walk word) fits.1;
-    linked = λ ended. ap (λ (v : Verb). has_link v next.options) after.verb ∙ ap (has_link walk.verb) after.options ∙ link_more walk.verb walk.options (completed walk word) (linked_by walk.ended (ends walk word) refl refl (sym after.ended ∙ ended));
+    linked = λ ended. ap (λ (v : Verb). has_link v next.options) after.verb ∙ ap (has_link walk.verb) after.options ∙ link_more walk.verb walk.options (completed walk word)
+        (linked_by walk.ended (ends walk word) refl refl (sym after.ended ∙ ended));
   }
     where
       given_by : (t : Option Given) → MatchOption t (Unit {0}) (λ given. IsGiven walk.verb given × (is_both (walk.options ++ given ∷ []) ≡ false)) → AreGiven walk.verb (walk.options ++ listed t)

@@ -1,12 +1,14 @@
 -- A line keeps the first words that stand by themselves, and takes the steps of the walk that keeps all.
-use Rattle.std.proofs.Common.{◌≡◌, ◌<◌, ◌≤◌, Bool, true, false, cond, not, ◌&&◌, ltb, List, [], ◌∷◌, ◌++◌, length, map, bytes_eq, codes, Option, Some, None, is_some, MatchBool, inl, inr, refl, sym, ◌∙◌, ap, subst, arith, length-append}
+use Rattle.std.proofs.Common.{◌≡◌, ◌<◌, ◌≤◌, Bool, true, false, cond, not, ◌&&◌, ltb, List, [], ◌∷◌, ◌++◌, length, map, bytes_eq, codes, Option, Some, None, is_some, MatchBool, inl, inr}
+use Rattle.std.proofs.Common.{refl, sym, ◌∙◌, ap, subst, arith, length-append}
 use denote.Ref.{Bor}
 use Rattle.std.specs.List.{position_or_len, before_first, after_first}
 use Rattle.std.specs.Option.{option_map}
 use Rattle.std.proofs.lemmas.Bool.{cases_lt}
 use Rattle.std.proofs.lemmas.List.{length-map, length-take, map-append, take_all, take-append-le}
 use Rattle.slirp_config.specs.Options.{Word, Given, takes_value, is_dashed, value_in}
-use Rattle.slirp_config.specs.Walking.{Walk, Fits, IsWanted, has_none, wants_file, stands_alone, is_replay, is_sign, kept, kept_of, put_option, put_alone, put_apart, put_joined, put_name, put_dashed, begin, step_with, step}
+use Rattle.slirp_config.specs.Walking.{Walk, Fits, IsWanted, has_none, wants_file, stands_alone, is_replay, is_sign, kept, kept_of, put_option, put_alone, put_apart, put_joined, put_name}
+use Rattle.slirp_config.specs.Walking.{put_dashed, begin, step_with, step}
 
 pub kept_again : (a : List Word) (word : Word) → kept (kept a ++ word ∷ []) ≡ kept (a ++ word ∷ [])
 kept_again a word = elim (cases_lt (length a) 34) [
@@ -34,7 +36,8 @@ module _ (walk : Walk) where
   kept_option : (name value : Word) → put_option (kept_of walk) name value ≡ option_map kept_of (put_option walk name value)
   kept_option name value =
       let put : List Given = walk.options ++ record { name = name; value = value } ∷ [] in
-      elim (not (is_some (value_in walk.options name)) && ltb (length walk.options) 24) as (λ b. cond b (Some (record (kept_of walk) { options = put })) None ≡ option_map kept_of (cond b (Some (record walk { options = put })) None)) [
+      elim (not (is_some (value_in walk.options name)) && ltb (length walk.options) 24) as (λ b. cond b (Some (record (kept_of walk) { options = put })) None ≡ option_map kept_of
+      (cond b (Some (record walk { options = put })) None)) [
         | true ↦ refl
         | false ↦ refl
       ]
@@ -64,10 +67,11 @@ module _ (walk : Walk) where
       elim t [ None ↦ None | Some takes ↦ cond takes (cond free (Some (record (kept_of walk) { waits = Some name })) None) (put_option (kept_of walk) name []) ]
       ≡ option_map kept_of (elim t [ None ↦ None | Some takes ↦ cond takes (cond free (Some (record walk { waits = Some name })) None) (put_option walk name []) ])) [
         | None ↦ refl
-        | Some takes ↦ elim takes as (λ b. cond b (cond free (Some (record (kept_of walk) { waits = Some name })) None) (put_option (kept_of walk) name []) ≡ option_map kept_of (cond b (cond free (Some (record walk { waits = Some name })) None) (put_option walk name []))) [
-          | true ↦ kept_waits name free
-          | false ↦ kept_option name []
-        ]
+        | Some takes ↦ elim takes as (λ b. cond b (cond free (Some (record (kept_of walk) { waits = Some name })) None) (put_option (kept_of walk) name []) ≡ option_map kept_of
+            (cond b (cond free (Some (record walk { waits = Some name })) None) (put_option walk name []))) [
+              | true ↦ kept_waits name free
+              | false ↦ kept_option name []
+            ]
       ]
 
   kept_dashed : (word : Word) → put_dashed (kept_of walk) word ≡ option_map kept_of (put_dashed walk word)

@@ -22,7 +22,8 @@ names_good : list_all (λ row. is_name row.name) rows ≡ true
 names_good = refl
 
 module _ (verb : Verb) (name : Word) where
-  found : (rs : List Row) (b : Bool) → list_all (λ row. is_name row.name) rs ≡ true → option_map has_value (option_map (λ row. row.kind) (find (is_row verb name) rs)) ≡ Some b → (is_name name ≡ true) × (list_any (λ row. bytes_eq row.name name) rs ≡ true)
+  found : (rs : List Row) (b : Bool) → list_all (λ row. is_name row.name) rs ≡ true → option_map has_value (option_map (λ row. row.kind) (find (is_row verb name) rs)) ≡ Some b →
+      (is_name name ≡ true) × (list_any (λ row. bytes_eq row.name name) rs ≡ true)
   found [] b good is = absurd (cc is)
   found (r ∷ rs) b good is =
       let parts = both (is_name r.name) (list_all (λ row. is_name row.name) rs) good in

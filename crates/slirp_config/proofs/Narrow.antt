@@ -7,7 +7,9 @@ use Rattle.host_policy.specs.Addresses.{Config}
 use Rattle.host_policy.specs.Ranges.{is_between, are_forwards, in_range, fields, first_broken, IsSound}
 use Rattle.host_policy.specs.declared.Forward.{Forward}
 use Rattle.host_policy.specs.declared.config.Field.{Field}
-use Rattle.host_policy.specs.declared.config.Field.TheVariants.{Version, InEnabled, Vnetmask, Vnetwork, Vhost, Vnameserver, VdhcpStart, Vhostname, Vdomainname, TftpServerName, Bootfile, TftpPath, IfMtu, IfMru, Flows, Ring, Resolver, Turns, Forwards, Outbound, DisableDns, DisableDhcp, Guestfwds, Control, Octets}
+use Rattle.host_policy.specs.declared.config.Field.TheVariants.{Version, InEnabled, Vnetmask, Vnetwork, Vhost, Vnameserver, VdhcpStart, Vhostname, Vdomainname, TftpServerName, Bootfile}
+use Rattle.host_policy.specs.declared.config.Field.TheVariants.{TftpPath, IfMtu, IfMru, Flows, Ring, Resolver, Turns, Forwards, Outbound, DisableDns, DisableDhcp, Guestfwds, Control}
+use Rattle.host_policy.specs.declared.config.Field.TheVariants.{Octets}
 use Rattle.slirp_config.specs.Narrowing.{narrowed, portless, held_forwards, narrowed_settings}
 
 over : (x y : Bool) → y ≡ false → x && y ≡ false
@@ -55,7 +57,8 @@ abbrev Agree : (p q : Field → Bool) → List Field → Type 0
 Agree p q [] = Unit {0}
 Agree p q (x ∷ xs) = (p x ≡ q x) × Agree p q xs
 
-same_until : (p q : Field → Bool) (front : List Field) (field : Field) (back : List Field) → Agree p q front → p field ≡ false → q field ≡ false → find (λ x. not (p x)) (front ++ field ∷ back) ≡ find (λ x. not (q x)) (front ++ field ∷ back)
+same_until : (p q : Field → Bool) (front : List Field) (field : Field) (back : List Field) → Agree p q front → p field ≡ false → q field ≡ false → find (λ x. not (p x))
+    (front ++ field ∷ back) ≡ find (λ x. not (q x)) (front ++ field ∷ back)
 same_until p q [] field back agree hp hq = rw (hp, hq) refl
 same_until p q (x ∷ xs) field back agree hp hq =
     ap (λ (b : Bool). cond (not b) (Some x) (find (λ x. not (p x)) (xs ++ field ∷ back))) agree.0
@@ -106,8 +109,34 @@ abbrev behind : List Field
 behind = Outbound ∷ DisableDns ∷ DisableDhcp ∷ Guestfwds ∷ Control ∷ []
 
 agree : (config : Config) (forwards : List Forward) → Agree (in_range (record (narrowed_numbers config) { forwards = forwards })) (in_range config) before
-agree config forwards =
-    (refl, (refl, (refl, (refl, (refl, (refl, (refl, (refl, (refl, (refl, (refl, (refl, (refl, (refl, (same_between 1 4096 config.flows (omega arith), (same_ring config.flows config.ring, (refl, (refl, tt))))))))))))))))))
+agree config forwards = (
+  refl,
+  (
+    refl,
+    (
+      refl,
+      (
+        refl,
+        (
+          refl,
+          (
+            refl,
+            (
+              refl,
+              (
+                refl,
+                (
+                  refl,
+                  (refl, (refl, (refl, (refl, (refl, (same_between 1 4096 config.flows (omega arith), (same_ring config.flows config.ring, (refl, (refl, tt))))))))),
+                ),
+              ),
+            ),
+          ),
+        ),
+      ),
+    ),
+  ),
+)
 
 crowd : (config : Config) (forwards : List Forward) → leb (length forwards) 32 ≡ false → are_forwards config forwards ≡ false
 crowd config forwards many = rw many refl
@@ -119,10 +148,12 @@ kept forwards false is = inr (rw is refl, is)
 -- the same field is the first that breaks its range
 pub same_broken : (config : Config) → first_broken (narrowed_settings config) ≡ first_broken config
 same_broken config = elim (kept config.forwards (leb (length config.forwards) 32) refl) [
-  | inl few ↦ ap (λ (f : List Forward). first_broken (record (narrowed_numbers config) { forwards = f })) few ∙ same_find (in_range (narrowed_numbers config)) (in_range config) (same_range config) fields
+  | inl few ↦ ap (λ (f : List Forward). first_broken (record (narrowed_numbers config) { forwards = f })) few ∙ same_find (in_range (narrowed_numbers config)) (in_range config)
+      (same_range config) fields
   | inr many ↦
       ap (λ (f : List Forward). first_broken (record (narrowed_numbers config) { forwards = f })) many.0
-      ∙ same_until (in_range (record (narrowed_numbers config) { forwards = portless ∷ [] })) (in_range config) before Forwards behind (agree config (portless ∷ [])) refl (crowd config config.forwards many.1)
+      ∙ same_until (in_range (record (narrowed_numbers config) { forwards = portless ∷ [] })) (in_range config) before Forwards behind (agree config (portless ∷ [])) refl
+      (crowd config config.forwards many.1)
 ]
 
 held : (least most n : ℕ) → most < 4294967295 → is_between least (narrowed n) most ≡ true → narrowed n ≡ n
@@ -145,7 +176,8 @@ all_held config forwards are = elim (kept forwards (leb (length forwards) 32) re
 pub same_settings : (config : Config) → IsSound (narrowed_settings config) → narrowed_settings config ≡ config
 same_settings config sound =
     let flows : narrowed config.flows ≡ config.flows = held 1 4096 config.flows (omega arith) (sound.each Flows) in
-    let ring : narrowed config.ring ≡ config.ring = held 65535 1048576 config.ring (omega arith) (front (is_between 65535 (narrowed config.ring) 1048576) (leb (narrowed config.flows * narrowed config.ring) 268435456) (sound.each Ring)) in
+    let ring : narrowed config.ring ≡ config.ring = held 65535 1048576 config.ring (omega arith) (front (is_between 65535 (narrowed config.ring) 1048576)
+    (leb (narrowed config.flows * narrowed config.ring) 268435456) (sound.each Ring)) in
     let forwards : held_forwards config.forwards ≡ config.forwards = all_held (narrowed_settings config) config.forwards (sound.each Forwards) in
     ap (λ (n : ℕ). record config { flows = n; ring = narrowed config.ring; forwards = held_forwards config.forwards }) flows
     ∙ ap (λ (n : ℕ). record config { ring = n; forwards = held_forwards config.forwards }) ring

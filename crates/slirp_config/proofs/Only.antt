@@ -24,7 +24,8 @@ use Rattle.slirp_config.proofs.Ruled.{same_forwards}
 use Rattle.slirp_config.proofs.Settled.{made}
 
 -- one value, or one default
-one_of : (o : Option Word) (u v : ℕ) (P : Word → ℕ → Type 0) → u ≡ v → ((text : Word) (n m : ℕ) → P text n → P text m → n ≡ m) → (n m : ℕ) → MatchOption o (n ≡ u) (λ text. P text n) → MatchOption o (m ≡ v) (λ text. P text m) → n ≡ m
+one_of : (o : Option Word) (u v : ℕ) (P : Word → ℕ → Type 0) → u ≡ v → ((text : Word) (n m : ℕ) → P text n → P text m → n ≡ m) → (n m : ℕ) → MatchOption o (n ≡ u)
+    (λ text. P text n) → MatchOption o (m ≡ v) (λ text. P text m) → n ≡ m
 one_of None u v P e same n m hn hm = hn ∙ e ∙ sym hm
 one_of (Some text) u v P e same n m hn hm = same text n m hn hm
 
@@ -48,7 +49,8 @@ one_if_any (Some text) P same a b ha hb = ha.1 ∙ ap Some (same text ha.0 hb.0 
 
 same_network : (text : Word) (n m k l : ℕ) → IsNetwork text n m → IsNetwork text k l → (n ≡ k) × (m ≡ l)
 same_network text n m k l h g =
-    let p = parts_once 47 (is_other 47) refl (address n) (address k) (decimal h.0) (decimal g.0) (address_fits (is_other 47) digit_is_no_slash refl n h.2) (address_fits (is_other 47) digit_is_no_slash refl k g.2) (sym (network_form n h.0) ∙ sym h.1 ∙ g.1 ∙ network_form k g.0) in
+    let p = parts_once 47 (is_other 47) refl (address n) (address k) (decimal h.0) (decimal g.0) (address_fits (is_other 47) digit_is_no_slash refl n h.2)
+    (address_fits (is_other 47) digit_is_no_slash refl k g.2) (sym (network_form n h.0) ∙ sym h.1 ∙ g.1 ∙ network_form k g.0) in
     let ones : h.0 ≡ g.0 = decimal_injective h.0 g.0 (omega (arith, h.3)) (omega (arith, g.3)) p.1 in
     (same_address n k h.2 g.2 (address_form n ∙ p.0 ∙ sym (address_form k)), h.4 ∙ ap mask_of ones ∙ sym g.4)
 
@@ -59,7 +61,8 @@ one_network (Some text) u v n m k l h g = same_network text n m k l h g
 pub one_start : (given : Word → Option Word) (c d : Config) → AreSettings given c → AreSettings given d → c.dhcp_start ≡ d.dhcp_start
 one_start given c d h g =
     let net = one_network (given (codes "--net")) usual.network usual.mask c.network c.mask d.network d.mask h.net g.net in
-    one_of (given (codes "--dhcpstart")) ((c.network + 15) % 2 ^ 32) ((d.network + 15) % 2 ^ 32) IsAddress (ap (λ (n : ℕ). (n + 15) % 2 ^ 32) net.0) same_at c.dhcp_start d.dhcp_start h.dhcp_start g.dhcp_start
+    one_of (given (codes "--dhcpstart")) ((c.network + 15) % 2 ^ 32) ((d.network + 15) % 2 ^ 32) IsAddress
+    (ap (λ (n : ℕ). (n + 15) % 2 ^ 32) net.0) same_at c.dhcp_start d.dhcp_start h.dhcp_start g.dhcp_start
 
 pub one_settings : (given : Word → Option Word) (rules : List Word) (c d : Config) → AreSettings given c → AreSettings given d
     → AreRules rules c.dhcp_start c.forwards → AreRules rules d.dhcp_start d.forwards → c ≡ d
@@ -67,8 +70,10 @@ one_settings given rules c d h g hf gf =
     let net = one_network (given (codes "--net")) usual.network usual.mask c.network c.mask d.network d.mask h.net g.net in
     let network : c.network ≡ d.network = net.0 in
     let mask : c.mask ≡ d.mask = net.1 in
-    let vhost : c.vhost ≡ d.vhost = one_of (given (codes "--host")) ((c.network + 2) % 2 ^ 32) ((d.network + 2) % 2 ^ 32) IsAddress (ap (λ (n : ℕ). (n + 2) % 2 ^ 32) net.0) same_at c.vhost d.vhost h.host g.host in
-    let vnameserver : c.vnameserver ≡ d.vnameserver = one_of (given (codes "--dns")) ((c.network + 3) % 2 ^ 32) ((d.network + 3) % 2 ^ 32) IsAddress (ap (λ (n : ℕ). (n + 3) % 2 ^ 32) net.0) same_at c.vnameserver d.vnameserver h.dns g.dns in
+    let vhost : c.vhost ≡ d.vhost = one_of (given (codes "--host")) ((c.network + 2) % 2 ^ 32) ((d.network + 2) % 2 ^ 32) IsAddress
+    (ap (λ (n : ℕ). (n + 2) % 2 ^ 32) net.0) same_at c.vhost d.vhost h.host g.host in
+    let vnameserver : c.vnameserver ≡ d.vnameserver = one_of (given (codes "--dns")) ((c.network + 3) % 2 ^ 32) ((d.network + 3) % 2 ^ 32) IsAddress
+    (ap (λ (n : ℕ). (n + 3) % 2 ^ 32) net.0) same_at c.vnameserver d.vnameserver h.dns g.dns in
     let dhcp_start : c.dhcp_start ≡ d.dhcp_start = one_start given c d h g in
     let restricted : c.restricted ≡ d.restricted = h.restricted ∙ sym g.restricted in
     let no_loopback : c.no_loopback ≡ d.no_loopback = h.no_loopback ∙ sym g.no_loopback in
@@ -90,30 +95,54 @@ one_settings given rules c d h g hf gf =
     let version : c.version ≡ d.version = h.version ∙ sym g.version in
     let forwards : c.forwards ≡ d.forwards = same_forwards rules d.dhcp_start c.forwards d.forwards (subst (λ (n : ℕ). AreRules rules n c.forwards) dhcp_start hf) gf in
     h.rest
-    ∙ ap (λ (x : ℕ). made usual x c.mask c.vhost c.vnameserver c.dhcp_start c.restricted c.no_loopback c.hostname c.domainname c.tftp_server_name c.bootfile c.tftp_path c.mtu c.mru c.flows c.ring c.resolver c.turns c.outbound c.no_dns c.no_dhcp c.congestion c.version c.forwards) network
-    ∙ ap (λ (x : ℕ). made usual d.network x c.vhost c.vnameserver c.dhcp_start c.restricted c.no_loopback c.hostname c.domainname c.tftp_server_name c.bootfile c.tftp_path c.mtu c.mru c.flows c.ring c.resolver c.turns c.outbound c.no_dns c.no_dhcp c.congestion c.version c.forwards) mask
-    ∙ ap (λ (x : ℕ). made usual d.network d.mask x c.vnameserver c.dhcp_start c.restricted c.no_loopback c.hostname c.domainname c.tftp_server_name c.bootfile c.tftp_path c.mtu c.mru c.flows c.ring c.resolver c.turns c.outbound c.no_dns c.no_dhcp c.congestion c.version c.forwards) vhost
-    ∙ ap (λ (x : ℕ). made usual d.network d.mask d.vhost x c.dhcp_start c.restricted c.no_loopback c.hostname c.domainname c.tftp_server_name c.bootfile c.tftp_path c.mtu c.mru c.flows c.ring c.resolver c.turns c.outbound c.no_dns c.no_dhcp c.congestion c.version c.forwards) vnameserver
-    ∙ ap (λ (x : ℕ). made usual d.network d.mask d.vhost d.vnameserver x c.restricted c.no_loopback c.hostname c.domainname c.tftp_server_name c.bootfile c.tftp_path c.mtu c.mru c.flows c.ring c.resolver c.turns c.outbound c.no_dns c.no_dhcp c.congestion c.version c.forwards) dhcp_start
-    ∙ ap (λ (x : Bool). made usual d.network d.mask d.vhost d.vnameserver d.dhcp_start x c.no_loopback c.hostname c.domainname c.tftp_server_name c.bootfile c.tftp_path c.mtu c.mru c.flows c.ring c.resolver c.turns c.outbound c.no_dns c.no_dhcp c.congestion c.version c.forwards) restricted
-    ∙ ap (λ (x : Bool). made usual d.network d.mask d.vhost d.vnameserver d.dhcp_start d.restricted x c.hostname c.domainname c.tftp_server_name c.bootfile c.tftp_path c.mtu c.mru c.flows c.ring c.resolver c.turns c.outbound c.no_dns c.no_dhcp c.congestion c.version c.forwards) no_loopback
-    ∙ ap (λ (x : List ℕ). made usual d.network d.mask d.vhost d.vnameserver d.dhcp_start d.restricted d.no_loopback x c.domainname c.tftp_server_name c.bootfile c.tftp_path c.mtu c.mru c.flows c.ring c.resolver c.turns c.outbound c.no_dns c.no_dhcp c.congestion c.version c.forwards) hostname
-    ∙ ap (λ (x : List ℕ). made usual d.network d.mask d.vhost d.vnameserver d.dhcp_start d.restricted d.no_loopback d.hostname x c.tftp_server_name c.bootfile c.tftp_path c.mtu c.mru c.flows c.ring c.resolver c.turns c.outbound c.no_dns c.no_dhcp c.congestion c.version c.forwards) domainname
-    ∙ ap (λ (x : List ℕ). made usual d.network d.mask d.vhost d.vnameserver d.dhcp_start d.restricted d.no_loopback d.hostname d.domainname x c.bootfile c.tftp_path c.mtu c.mru c.flows c.ring c.resolver c.turns c.outbound c.no_dns c.no_dhcp c.congestion c.version c.forwards) tftp_server_name
-    ∙ ap (λ (x : List ℕ). made usual d.network d.mask d.vhost d.vnameserver d.dhcp_start d.restricted d.no_loopback d.hostname d.domainname d.tftp_server_name x c.tftp_path c.mtu c.mru c.flows c.ring c.resolver c.turns c.outbound c.no_dns c.no_dhcp c.congestion c.version c.forwards) bootfile
-    ∙ ap (λ (x : Option (List ℕ)). made usual d.network d.mask d.vhost d.vnameserver d.dhcp_start d.restricted d.no_loopback d.hostname d.domainname d.tftp_server_name d.bootfile x c.mtu c.mru c.flows c.ring c.resolver c.turns c.outbound c.no_dns c.no_dhcp c.congestion c.version c.forwards) tftp_path
-    ∙ ap (λ (x : ℕ). made usual d.network d.mask d.vhost d.vnameserver d.dhcp_start d.restricted d.no_loopback d.hostname d.domainname d.tftp_server_name d.bootfile d.tftp_path x c.mru c.flows c.ring c.resolver c.turns c.outbound c.no_dns c.no_dhcp c.congestion c.version c.forwards) mtu
-    ∙ ap (λ (x : ℕ). made usual d.network d.mask d.vhost d.vnameserver d.dhcp_start d.restricted d.no_loopback d.hostname d.domainname d.tftp_server_name d.bootfile d.tftp_path d.mtu x c.flows c.ring c.resolver c.turns c.outbound c.no_dns c.no_dhcp c.congestion c.version c.forwards) mru
-    ∙ ap (λ (x : ℕ). made usual d.network d.mask d.vhost d.vnameserver d.dhcp_start d.restricted d.no_loopback d.hostname d.domainname d.tftp_server_name d.bootfile d.tftp_path d.mtu d.mru x c.ring c.resolver c.turns c.outbound c.no_dns c.no_dhcp c.congestion c.version c.forwards) flows
-    ∙ ap (λ (x : ℕ). made usual d.network d.mask d.vhost d.vnameserver d.dhcp_start d.restricted d.no_loopback d.hostname d.domainname d.tftp_server_name d.bootfile d.tftp_path d.mtu d.mru d.flows x c.resolver c.turns c.outbound c.no_dns c.no_dhcp c.congestion c.version c.forwards) ring
-    ∙ ap (λ (x : Option Endpoint). made usual d.network d.mask d.vhost d.vnameserver d.dhcp_start d.restricted d.no_loopback d.hostname d.domainname d.tftp_server_name d.bootfile d.tftp_path d.mtu d.mru d.flows d.ring x c.turns c.outbound c.no_dns c.no_dhcp c.congestion c.version c.forwards) resolver
-    ∙ ap (λ (x : ℕ). made usual d.network d.mask d.vhost d.vnameserver d.dhcp_start d.restricted d.no_loopback d.hostname d.domainname d.tftp_server_name d.bootfile d.tftp_path d.mtu d.mru d.flows d.ring d.resolver x c.outbound c.no_dns c.no_dhcp c.congestion c.version c.forwards) turns
-    ∙ ap (λ (x : Option ℕ). made usual d.network d.mask d.vhost d.vnameserver d.dhcp_start d.restricted d.no_loopback d.hostname d.domainname d.tftp_server_name d.bootfile d.tftp_path d.mtu d.mru d.flows d.ring d.resolver d.turns x c.no_dns c.no_dhcp c.congestion c.version c.forwards) outbound
-    ∙ ap (λ (x : Bool). made usual d.network d.mask d.vhost d.vnameserver d.dhcp_start d.restricted d.no_loopback d.hostname d.domainname d.tftp_server_name d.bootfile d.tftp_path d.mtu d.mru d.flows d.ring d.resolver d.turns d.outbound x c.no_dhcp c.congestion c.version c.forwards) no_dns
-    ∙ ap (λ (x : Bool). made usual d.network d.mask d.vhost d.vnameserver d.dhcp_start d.restricted d.no_loopback d.hostname d.domainname d.tftp_server_name d.bootfile d.tftp_path d.mtu d.mru d.flows d.ring d.resolver d.turns d.outbound d.no_dns x c.congestion c.version c.forwards) no_dhcp
-    ∙ ap (λ (x : Bool). made usual d.network d.mask d.vhost d.vnameserver d.dhcp_start d.restricted d.no_loopback d.hostname d.domainname d.tftp_server_name d.bootfile d.tftp_path d.mtu d.mru d.flows d.ring d.resolver d.turns d.outbound d.no_dns d.no_dhcp x c.version c.forwards) congestion
-    ∙ ap (λ (x : ℕ). made usual d.network d.mask d.vhost d.vnameserver d.dhcp_start d.restricted d.no_loopback d.hostname d.domainname d.tftp_server_name d.bootfile d.tftp_path d.mtu d.mru d.flows d.ring d.resolver d.turns d.outbound d.no_dns d.no_dhcp d.congestion x c.forwards) version
-    ∙ ap (λ (x : List Forward). made usual d.network d.mask d.vhost d.vnameserver d.dhcp_start d.restricted d.no_loopback d.hostname d.domainname d.tftp_server_name d.bootfile d.tftp_path d.mtu d.mru d.flows d.ring d.resolver d.turns d.outbound d.no_dns d.no_dhcp d.congestion d.version x) forwards
+    ∙ ap (λ (x : ℕ). made usual x c.mask c.vhost c.vnameserver c.dhcp_start c.restricted c.no_loopback c.hostname c.domainname c.tftp_server_name c.bootfile c.tftp_path c.mtu c.mru
+    c.flows c.ring c.resolver c.turns c.outbound c.no_dns c.no_dhcp c.congestion c.version c.forwards) network
+    ∙ ap (λ (x : ℕ). made usual d.network x c.vhost c.vnameserver c.dhcp_start c.restricted c.no_loopback c.hostname c.domainname c.tftp_server_name c.bootfile c.tftp_path c.mtu
+    c.mru c.flows c.ring c.resolver c.turns c.outbound c.no_dns c.no_dhcp c.congestion c.version c.forwards) mask
+    ∙ ap (λ (x : ℕ). made usual d.network d.mask x c.vnameserver c.dhcp_start c.restricted c.no_loopback c.hostname c.domainname c.tftp_server_name c.bootfile c.tftp_path c.mtu
+    c.mru c.flows c.ring c.resolver c.turns c.outbound c.no_dns c.no_dhcp c.congestion c.version c.forwards) vhost
+    ∙ ap (λ (x : ℕ). made usual d.network d.mask d.vhost x c.dhcp_start c.restricted c.no_loopback c.hostname c.domainname c.tftp_server_name c.bootfile c.tftp_path c.mtu c.mru
+    c.flows c.ring c.resolver c.turns c.outbound c.no_dns c.no_dhcp c.congestion c.version c.forwards) vnameserver
+    ∙ ap (λ (x : ℕ). made usual d.network d.mask d.vhost d.vnameserver x c.restricted c.no_loopback c.hostname c.domainname c.tftp_server_name c.bootfile c.tftp_path c.mtu c.mru
+    c.flows c.ring c.resolver c.turns c.outbound c.no_dns c.no_dhcp c.congestion c.version c.forwards) dhcp_start
+    ∙ ap (λ (x : Bool). made usual d.network d.mask d.vhost d.vnameserver d.dhcp_start x c.no_loopback c.hostname c.domainname c.tftp_server_name c.bootfile c.tftp_path c.mtu c.mru
+    c.flows c.ring c.resolver c.turns c.outbound c.no_dns c.no_dhcp c.congestion c.version c.forwards) restricted
+    ∙ ap (λ (x : Bool). made usual d.network d.mask d.vhost d.vnameserver d.dhcp_start d.restricted x c.hostname c.domainname c.tftp_server_name c.bootfile c.tftp_path c.mtu c.mru
+    c.flows c.ring c.resolver c.turns c.outbound c.no_dns c.no_dhcp c.congestion c.version c.forwards) no_loopback
+    ∙ ap (λ (x : List ℕ). made usual d.network d.mask d.vhost d.vnameserver d.dhcp_start d.restricted d.no_loopback x c.domainname c.tftp_server_name c.bootfile c.tftp_path c.mtu
+    c.mru c.flows c.ring c.resolver c.turns c.outbound c.no_dns c.no_dhcp c.congestion c.version c.forwards) hostname
+    ∙ ap (λ (x : List ℕ). made usual d.network d.mask d.vhost d.vnameserver d.dhcp_start d.restricted d.no_loopback d.hostname x c.tftp_server_name c.bootfile c.tftp_path c.mtu
+    c.mru c.flows c.ring c.resolver c.turns c.outbound c.no_dns c.no_dhcp c.congestion c.version c.forwards) domainname
+    ∙ ap (λ (x : List ℕ). made usual d.network d.mask d.vhost d.vnameserver d.dhcp_start d.restricted d.no_loopback d.hostname d.domainname x c.bootfile c.tftp_path c.mtu c.mru
+    c.flows c.ring c.resolver c.turns c.outbound c.no_dns c.no_dhcp c.congestion c.version c.forwards) tftp_server_name
+    ∙ ap (λ (x : List ℕ). made usual d.network d.mask d.vhost d.vnameserver d.dhcp_start d.restricted d.no_loopback d.hostname d.domainname d.tftp_server_name x c.tftp_path c.mtu
+    c.mru c.flows c.ring c.resolver c.turns c.outbound c.no_dns c.no_dhcp c.congestion c.version c.forwards) bootfile
+    ∙ ap (λ (x : Option (List ℕ)). made usual d.network d.mask d.vhost d.vnameserver d.dhcp_start d.restricted d.no_loopback d.hostname d.domainname d.tftp_server_name d.bootfile x
+    c.mtu c.mru c.flows c.ring c.resolver c.turns c.outbound c.no_dns c.no_dhcp c.congestion c.version c.forwards) tftp_path
+    ∙ ap (λ (x : ℕ). made usual d.network d.mask d.vhost d.vnameserver d.dhcp_start d.restricted d.no_loopback d.hostname d.domainname d.tftp_server_name d.bootfile d.tftp_path x
+    c.mru c.flows c.ring c.resolver c.turns c.outbound c.no_dns c.no_dhcp c.congestion c.version c.forwards) mtu
+    ∙ ap (λ (x : ℕ). made usual d.network d.mask d.vhost d.vnameserver d.dhcp_start d.restricted d.no_loopback d.hostname d.domainname d.tftp_server_name d.bootfile d.tftp_path
+    d.mtu x c.flows c.ring c.resolver c.turns c.outbound c.no_dns c.no_dhcp c.congestion c.version c.forwards) mru
+    ∙ ap (λ (x : ℕ). made usual d.network d.mask d.vhost d.vnameserver d.dhcp_start d.restricted d.no_loopback d.hostname d.domainname d.tftp_server_name d.bootfile d.tftp_path
+    d.mtu d.mru x c.ring c.resolver c.turns c.outbound c.no_dns c.no_dhcp c.congestion c.version c.forwards) flows
+    ∙ ap (λ (x : ℕ). made usual d.network d.mask d.vhost d.vnameserver d.dhcp_start d.restricted d.no_loopback d.hostname d.domainname d.tftp_server_name d.bootfile d.tftp_path
+    d.mtu d.mru d.flows x c.resolver c.turns c.outbound c.no_dns c.no_dhcp c.congestion c.version c.forwards) ring
+    ∙ ap (λ (x : Option Endpoint). made usual d.network d.mask d.vhost d.vnameserver d.dhcp_start d.restricted d.no_loopback d.hostname d.domainname d.tftp_server_name d.bootfile
+    d.tftp_path d.mtu d.mru d.flows d.ring x c.turns c.outbound c.no_dns c.no_dhcp c.congestion c.version c.forwards) resolver
+    ∙ ap (λ (x : ℕ). made usual d.network d.mask d.vhost d.vnameserver d.dhcp_start d.restricted d.no_loopback d.hostname d.domainname d.tftp_server_name d.bootfile d.tftp_path
+    d.mtu d.mru d.flows d.ring d.resolver x c.outbound c.no_dns c.no_dhcp c.congestion c.version c.forwards) turns
+    ∙ ap (λ (x : Option ℕ). made usual d.network d.mask d.vhost d.vnameserver d.dhcp_start d.restricted d.no_loopback d.hostname d.domainname d.tftp_server_name d.bootfile
+    d.tftp_path d.mtu d.mru d.flows d.ring d.resolver d.turns x c.no_dns c.no_dhcp c.congestion c.version c.forwards) outbound
+    ∙ ap (λ (x : Bool). made usual d.network d.mask d.vhost d.vnameserver d.dhcp_start d.restricted d.no_loopback d.hostname d.domainname d.tftp_server_name d.bootfile d.tftp_path
+    d.mtu d.mru d.flows d.ring d.resolver d.turns d.outbound x c.no_dhcp c.congestion c.version c.forwards) no_dns
+    ∙ ap (λ (x : Bool). made usual d.network d.mask d.vhost d.vnameserver d.dhcp_start d.restricted d.no_loopback d.hostname d.domainname d.tftp_server_name d.bootfile d.tftp_path
+    d.mtu d.mru d.flows d.ring d.resolver d.turns d.outbound d.no_dns x c.congestion c.version c.forwards) no_dhcp
+    ∙ ap (λ (x : Bool). made usual d.network d.mask d.vhost d.vnameserver d.dhcp_start d.restricted d.no_loopback d.hostname d.domainname d.tftp_server_name d.bootfile d.tftp_path
+    d.mtu d.mru d.flows d.ring d.resolver d.turns d.outbound d.no_dns d.no_dhcp x c.version c.forwards) congestion
+    ∙ ap (λ (x : ℕ). made usual d.network d.mask d.vhost d.vnameserver d.dhcp_start d.restricted d.no_loopback d.hostname d.domainname d.tftp_server_name d.bootfile d.tftp_path
+    d.mtu d.mru d.flows d.ring d.resolver d.turns d.outbound d.no_dns d.no_dhcp d.congestion x c.forwards) version
+    ∙ ap (λ (x : List Forward). made usual d.network d.mask d.vhost d.vnameserver d.dhcp_start d.restricted d.no_loopback d.hostname d.domainname d.tftp_server_name d.bootfile
+    d.tftp_path d.mtu d.mru d.flows d.ring d.resolver d.turns d.outbound d.no_dns d.no_dhcp d.congestion d.version x) forwards
     ∙ sym g.rest
 
 -- the link is at one place

@@ -24,7 +24,8 @@ pub fresh_proper : (verb : Verb) → IsProper (fresh verb)
 fresh_proper verb = record { once = refl; known = refl; waiting = tt; quiet = λ ended. absurd (cc ended) }
 
 -- there is room for one that wasn't given
-pub has_room : (verb : Verb) (o : List Given) (name value : Word) (b : Bool) → none_twice same_name o ≡ true → list_all is_known o ≡ true → takes_value verb name ≡ Some b → is_some (value_in o name) ≡ false → length o < 24
+pub has_room : (verb : Verb) (o : List Given) (name value : Word) (b : Bool) → none_twice same_name o ≡ true → list_all is_known o ≡ true → takes_value verb name ≡ Some b → is_some
+    (value_in o name) ≡ false → length o < 24
 has_room verb o name value b once known takes free =
     let g = given name value in
     let more : length (o ++ g ∷ []) ≤ 24 = few option_names (o ++ g ∷ []) (once_more o g once free) (known_more o g known (name_known verb name b takes)) in

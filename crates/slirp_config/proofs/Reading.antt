@@ -1,5 +1,6 @@
 -- The values of options: those of settings can be had, and those that can be had give settings.
-use Rattle.std.proofs.Common.{◌≡◌, ℕ, ◌+◌, ◌%◌, ◌^◌, Bool, true, false, cond, List, [], ◌∷◌, ◌++◌, bytes_eq, codes, Option, Some, None, MatchOption, is_some, find, refl, sym, ◌∙◌, ap, subst, append_assoc}
+use Rattle.std.proofs.Common.{◌≡◌, ℕ, ◌+◌, ◌%◌, ◌^◌, Bool, true, false, cond, List, [], ◌∷◌, ◌++◌, bytes_eq, codes, Option, Some, None, MatchOption, is_some, find, refl, sym, ◌∙◌, ap}
+use Rattle.std.proofs.Common.{subst, append_assoc}
 use Rattle.std.specs.Option.{option_map, option_map_or}
 use Rattle.net_octets.specs.declared.Endpoint.{Endpoint}
 use Rattle.host_policy.specs.Addresses.{Config}
@@ -36,17 +37,21 @@ module _ (verb : Verb) (given : Word → Option Word) where
   CanRead [] = Unit {0}
   CanRead (row ∷ rs) = (has_row verb row ≡ true → MatchOption (given row.name) (Unit {0}) (CanHave row.kind)) × CanRead rs
 
-  find_read : (rs : List Row) (name : Word) → CanRead rs → MatchOption (option_map (λ row. row.kind) (find (is_row verb name) rs)) (Unit {0}) (λ kind. MatchOption (given name) (Unit {0}) (CanHave kind))
+  find_read : (rs : List Row) (name : Word) → CanRead rs → MatchOption (option_map (λ row. row.kind) (find (is_row verb name) rs)) (Unit {0})
+      (λ kind. MatchOption (given name) (Unit {0}) (CanHave kind))
   find_read [] name reads = tt
   find_read (row ∷ rs) name reads = by_test (find_read rs name reads.1) (is_row verb name row) refl
     where
-      by_test : MatchOption (option_map (λ (row : Row). row.kind) (find (is_row verb name) rs)) (Unit {0}) (λ kind. MatchOption (given name) (Unit {0}) (CanHave kind)) → (t : Bool) → is_row verb name row ≡ t → MatchOption (option_map (λ (row : Row). row.kind) (cond t (Some row) (find (is_row verb name) rs))) (Unit {0}) (λ kind. MatchOption (given name) (Unit {0}) (CanHave kind))
+      by_test : MatchOption (option_map (λ (row : Row). row.kind) (find (is_row verb name) rs)) (Unit {0}) (λ kind. MatchOption (given name) (Unit {0}) (CanHave kind)) →
+          (t : Bool) → is_row verb name row ≡ t → MatchOption (option_map (λ (row : Row). row.kind) (cond t (Some row) (find (is_row verb name) rs))) (Unit {0})
+          (λ kind. MatchOption (given name) (Unit {0}) (CanHave kind))
       by_test rest true e =
           let parts = both (bytes_eq row.name name) (has_row verb row) e in
           subst (λ (n : Word). MatchOption (given n) (Unit {0}) (CanHave row.kind)) (same_text row.name name parts.0) (reads.0 parts.1)
       by_test rest false e = rest
 
-  pub settings_read : (config : Config) → AreSettings given config → (has_row verb (record { name = codes "--link"; kind = Link; serve_alone = true }) ≡ true → MatchOption (given (codes "--link")) (Unit {0}) (CanHave Link)) → CanRead rows
+  pub settings_read : (config : Config) → AreSettings given config → (has_row verb (record { name = codes "--link"; kind = Link; serve_alone = true }) ≡ true → MatchOption
+      (given (codes "--link")) (Unit {0}) (CanHave Link)) → CanRead rows
   settings_read config are link = (
     link,
     (
@@ -88,11 +93,13 @@ module _ (verb : Verb) (given : Word → Option Word) where
                                         (
                                           (λ _. free (given (codes "--no-dhcp"))),
                                           (
-                                            (λ _. weaken (given (codes "--resolver")) _ (λ text. (at : Endpoint) × (config.resolver ≡ Some at) × IsEndpointText text at) (CanHave AddressPort) (λ t h. (h.0, h.2)) are.resolver),
+                                            (λ _. weaken (given (codes "--resolver")) _ (λ text. (at : Endpoint) × (config.resolver ≡ Some at) × IsEndpointText text at)
+                                                (CanHave AddressPort) (λ t h. (h.0, h.2)) are.resolver),
                                             (
                                               (λ _. free (given (codes "--no-dns"))),
                                               (
-                                                (λ _. weaken (given (codes "--outbound")) _ (λ text. (a : ℕ) × (config.outbound ≡ Some a) × IsAddress text a) (CanHave Address) (λ t h. (h.0, h.2)) are.outbound),
+                                                (λ _. weaken (given (codes "--outbound")) _ (λ text. (a : ℕ) × (config.outbound ≡ Some a) × IsAddress text a) (CanHave Address)
+                                                    (λ t h. (h.0, h.2)) are.outbound),
                                                 (
                                                   (λ _. free (given (codes "--tftp"))),
                                                   tt,
@@ -133,7 +140,8 @@ given_read verb front (g ∷ rest) once reads =
           (subst (λ (l : List Given). CanRead verb (value_in l) rows) (sym moved) reads),
     )
   where
-    by_kind : value_in (front ++ g ∷ rest) g.name ≡ Some g.value → (k : Option Kind) → MatchOption k (Unit {0}) (λ kind. MatchOption (value_in (front ++ g ∷ rest) g.name) (Unit {0}) (CanHave kind)) → MatchOption k (Unit {0}) (λ kind. CanHave kind g.value)
+    by_kind : value_in (front ++ g ∷ rest) g.name ≡ Some g.value → (k : Option Kind) → MatchOption k (Unit {0}) (λ kind. MatchOption (value_in (front ++ g ∷ rest) g.name)
+        (Unit {0}) (CanHave kind)) → MatchOption k (Unit {0}) (λ kind. CanHave kind g.value)
     by_kind there None h = tt
     by_kind there (Some kind) h = match_some (value_in (front ++ g ∷ rest) g.name) g.value (Unit {0}) (CanHave kind) there h
 
@@ -145,11 +153,13 @@ pick : {X : Type 0} (o : Option Word) (d : X) (P : Word → X → Type 0) → ((
 pick None d P f = (d, refl)
 pick (Some value) d P f = f value refl
 
-pick_two : (o : Option Word) (d e : ℕ) (P : Word → ℕ → ℕ → Type 0) → ((value : Word) → o ≡ Some value → (n : ℕ) × (m : ℕ) × P value n m) → (n : ℕ) × (m : ℕ) × MatchOption o ((n ≡ d) × (m ≡ e)) (λ value. P value n m)
+pick_two : (o : Option Word) (d e : ℕ) (P : Word → ℕ → ℕ → Type 0) → ((value : Word) → o ≡ Some value → (n : ℕ) × (m : ℕ) × P value n m) → (n : ℕ) × (m : ℕ) × MatchOption o
+    ((n ≡ d) × (m ≡ e)) (λ value. P value n m)
 pick_two None d e P f = (d, e, (refl, refl))
 pick_two (Some value) d e P f = f value refl
 
-pick_any : {X : Type 0} (o : Option Word) (P : Word → X → Type 0) → ((value : Word) → o ≡ Some value → (x : X) × P value x) → (r : Option X) × MatchOption o (r ≡ None) (λ value. (x : X) × (r ≡ Some x) × P value x)
+pick_any : {X : Type 0} (o : Option Word) (P : Word → X → Type 0) → ((value : Word) → o ≡ Some value → (x : X) × P value x) → (r : Option X) × MatchOption o (r ≡ None)
+    (λ value. (x : X) × (r ≡ Some x) × P value x)
 pick_any None P f = (None, refl)
 pick_any (Some value) P f = let x = f value refl in (Some x.0, (x.0, refl, x.1))
 
@@ -173,20 +183,33 @@ module _ (verb : Verb) where
   pub settings_of : (o : List Given) → AreGiven verb o → (config : Config) × AreSettings (value_in o) config
   settings_of o are =
       let given = value_in o in
-      let net = pick_two (given (codes "--net")) usual.network usual.mask (λ text n m. IsNetwork text n m) (λ v e. value_read o are (codes "--net") v e Network (of_both (λ b. kind_of b (codes "--net") ≡ Some Network) refl refl)) in
-      let host = pick (given (codes "--host")) ((net.0 + 2) % 2 ^ 32) (λ text a. IsAddress text a) (λ v e. value_read o are (codes "--host") v e Address (of_both (λ b. kind_of b (codes "--host") ≡ Some Address) refl refl)) in
-      let dns = pick (given (codes "--dns")) ((net.0 + 3) % 2 ^ 32) (λ text a. IsAddress text a) (λ v e. value_read o are (codes "--dns") v e Address (of_both (λ b. kind_of b (codes "--dns") ≡ Some Address) refl refl)) in
-      let start = pick (given (codes "--dhcpstart")) ((net.0 + 15) % 2 ^ 32) (λ text a. IsAddress text a) (λ v e. value_read o are (codes "--dhcpstart") v e Address (of_both (λ b. kind_of b (codes "--dhcpstart") ≡ Some Address) refl refl)) in
-      let mtu = pick (given (codes "--mtu")) usual.mtu (λ text n. IsNumber 16 text n) (λ v e. value_read o are (codes "--mtu") v e Short (of_both (λ b. kind_of b (codes "--mtu") ≡ Some Short) refl refl)) in
-      let mru = pick (given (codes "--mru")) usual.mru (λ text n. IsNumber 16 text n) (λ v e. value_read o are (codes "--mru") v e Short (of_both (λ b. kind_of b (codes "--mru") ≡ Some Short) refl refl)) in
-      let flows = pick (given (codes "--flows")) usual.flows (λ text n. IsNumber 64 text n) (λ v e. value_read o are (codes "--flows") v e Number (of_both (λ b. kind_of b (codes "--flows") ≡ Some Number) refl refl)) in
-      let ring = pick (given (codes "--ring")) usual.ring (λ text n. IsNumber 64 text n) (λ v e. value_read o are (codes "--ring") v e Number (of_both (λ b. kind_of b (codes "--ring") ≡ Some Number) refl refl)) in
-      let turns = pick (given (codes "--turns")) usual.turns (λ text n. IsNumber 64 text n) (λ v e. value_read o are (codes "--turns") v e Number (of_both (λ b. kind_of b (codes "--turns") ≡ Some Number) refl refl)) in
-      let resolver = pick_any (given (codes "--resolver")) (λ text at. IsEndpointText text at) (λ v e. value_read o are (codes "--resolver") v e AddressPort (of_both (λ b. kind_of b (codes "--resolver") ≡ Some AddressPort) refl refl)) in
-      let outbound = pick_any (given (codes "--outbound")) (λ text a. IsAddress text a) (λ v e. value_read o are (codes "--outbound") v e Address (of_both (λ b. kind_of b (codes "--outbound") ≡ Some Address) refl refl)) in (
+      let net = pick_two (given (codes "--net")) usual.network usual.mask (λ text n m. IsNetwork text n m) (λ v e. value_read o are (codes "--net") v e Network
+      (of_both (λ b. kind_of b (codes "--net") ≡ Some Network) refl refl)) in
+      let host = pick (given (codes "--host")) ((net.0 + 2) % 2 ^ 32) (λ text a. IsAddress text a) (λ v e. value_read o are (codes "--host") v e Address
+      (of_both (λ b. kind_of b (codes "--host") ≡ Some Address) refl refl)) in
+      let dns = pick (given (codes "--dns")) ((net.0 + 3) % 2 ^ 32) (λ text a. IsAddress text a) (λ v e. value_read o are (codes "--dns") v e Address
+      (of_both (λ b. kind_of b (codes "--dns") ≡ Some Address) refl refl)) in
+      let start = pick (given (codes "--dhcpstart")) ((net.0 + 15) % 2 ^ 32) (λ text a. IsAddress text a) (λ v e. value_read o are (codes "--dhcpstart") v e Address
+      (of_both (λ b. kind_of b (codes "--dhcpstart") ≡ Some Address) refl refl)) in
+      let mtu = pick (given (codes "--mtu")) usual.mtu (λ text n. IsNumber 16 text n) (λ v e. value_read o are (codes "--mtu") v e Short
+      (of_both (λ b. kind_of b (codes "--mtu") ≡ Some Short) refl refl)) in
+      let mru = pick (given (codes "--mru")) usual.mru (λ text n. IsNumber 16 text n) (λ v e. value_read o are (codes "--mru") v e Short
+      (of_both (λ b. kind_of b (codes "--mru") ≡ Some Short) refl refl)) in
+      let flows = pick (given (codes "--flows")) usual.flows (λ text n. IsNumber 64 text n) (λ v e. value_read o are (codes "--flows") v e Number
+      (of_both (λ b. kind_of b (codes "--flows") ≡ Some Number) refl refl)) in
+      let ring = pick (given (codes "--ring")) usual.ring (λ text n. IsNumber 64 text n) (λ v e. value_read o are (codes "--ring") v e Number
+      (of_both (λ b. kind_of b (codes "--ring") ≡ Some Number) refl refl)) in
+      let turns = pick (given (codes "--turns")) usual.turns (λ text n. IsNumber 64 text n) (λ v e. value_read o are (codes "--turns") v e Number
+      (of_both (λ b. kind_of b (codes "--turns") ≡ Some Number) refl refl)) in
+      let resolver = pick_any (given (codes "--resolver")) (λ text at. IsEndpointText text at) (λ v e. value_read o are (codes "--resolver") v e AddressPort
+      (of_both (λ b. kind_of b (codes "--resolver") ≡ Some AddressPort) refl refl)) in
+      let outbound = pick_any (given (codes "--outbound")) (λ text a. IsAddress text a) (λ v e. value_read o are (codes "--outbound") v e Address
+      (of_both (λ b. kind_of b (codes "--outbound") ≡ Some Address) refl refl)) in (
         made usual net.0 net.1 host.0 dns.0 start.0 (is_some (given (codes "--restrict"))) (is_some (given (codes "--no-loopback")))
-            (option_map_or held_text (given (codes "--hostname")) []) (option_map_or held_text (given (codes "--domainname")) []) (option_map_or held_text (given (codes "--tftp-server-name")) []) (option_map_or held_text (given (codes "--bootfile")) [])
-            (option_map held_folder (given (codes "--tftp"))) mtu.0 mru.0 flows.0 ring.0 resolver.0 turns.0 outbound.0 (is_some (given (codes "--no-dns"))) (is_some (given (codes "--no-dhcp"))) (is_some (given (codes "--congestion"))) (version_of given) [],
+            (option_map_or held_text (given (codes "--hostname")) []) (option_map_or held_text (given (codes "--domainname")) [])
+            (option_map_or held_text (given (codes "--tftp-server-name")) []) (option_map_or held_text (given (codes "--bootfile")) [])
+            (option_map held_folder (given (codes "--tftp"))) mtu.0 mru.0 flows.0 ring.0 resolver.0 turns.0 outbound.0 (is_some (given (codes "--no-dns")))
+            (is_some (given (codes "--no-dhcp"))) (is_some (given (codes "--congestion"))) (version_of given) [],
         record {
           net = net.2;
           host = host.1;

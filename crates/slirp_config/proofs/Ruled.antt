@@ -1,5 +1,6 @@
 -- RULEs: what the parts of their texts are, and that each means one forward.
-use Rattle.std.proofs.Common.{◌≡◌, ◌≢◌, inl, inr, ℕ, suc, ◌+◌, ◌<◌, ◌≤◌, Bool, true, false, leb, List, [], ◌∷◌, ◌++◌, length, map, take, drop, get_or, codes, decimal, refl, sym, ◌∙◌, ap, subst, arith, append_assoc, append-nil, drop-cons, add-one}
+use Rattle.std.proofs.Common.{◌≡◌, ◌≢◌, inl, inr, ℕ, suc, ◌+◌, ◌<◌, ◌≤◌, Bool, true, false, leb, List, [], ◌∷◌, ◌++◌, length, map, take, drop, get_or, codes, decimal, refl, sym, ◌∙◌, ap}
+use Rattle.std.proofs.Common.{subst, arith, append_assoc, append-nil, drop-cons, add-one}
 use denote.Ref.{Bor}
 use Rattle.std.specs.List.{list_all}
 use Rattle.std.proofs.lemmas.Bool.Decides.{nat_tests}
@@ -85,10 +86,12 @@ module _ (text : List ℕ) (dhcp_start : ℕ) where
   pub forward_form : (f : Forward) (r : IsForward text dhcp_start f) → text ≡ r.kind ++ 58 ∷ (r.outside ++ 45 ∷ r.inside)
   forward_form f r = r.spelt ∙ form r.kind r.outside r.inside
 
-  pub forward_parts : (kind rest : List ℕ) → text ≡ kind ++ 58 ∷ rest → list_all (is_other 58) kind ≡ true → (f : Forward) (r : IsForward text dhcp_start f) → (kind ≡ r.kind) × (rest ≡ r.outside ++ 45 ∷ r.inside)
+  pub forward_parts : (kind rest : List ℕ) → text ≡ kind ++ 58 ∷ rest → list_all (is_other 58) kind ≡ true → (f : Forward) (r : IsForward text dhcp_start f) → (kind ≡ r.kind) ×
+      (rest ≡ r.outside ++ 45 ∷ r.inside)
   forward_parts kind rest split lacks f r = parts_once 58 (is_other 58) refl kind r.kind rest (r.outside ++ 45 ∷ r.inside) lacks (type_fits r.kind f.proto r.type) (sym split ∙ forward_form f r)
 
-  pub side_parts : (rest outside inside : List ℕ) → rest ≡ outside ++ 45 ∷ inside → list_all (is_other 45) outside ≡ true → (f : Forward) (r : IsForward text dhcp_start f) → rest ≡ r.outside ++ 45 ∷ r.inside → (outside ≡ r.outside) × (inside ≡ r.inside)
+  pub side_parts : (rest outside inside : List ℕ) → rest ≡ outside ++ 45 ∷ inside → list_all (is_other 45) outside ≡ true → (f : Forward) (r : IsForward text dhcp_start f) →
+      rest ≡ r.outside ++ 45 ∷ r.inside → (outside ≡ r.outside) × (inside ≡ r.inside)
   side_parts rest outside inside split lacks f r is = parts_once 45 (is_other 45) refl outside r.outside inside r.inside lacks (no_dash 0 r.outside f.host r.host) (sym split ∙ is)
 
   same_forward : (f g : Forward) → IsForward text dhcp_start f → IsForward text dhcp_start g → f ≡ g
@@ -124,7 +127,8 @@ pub behind_refused : (text behind : List ℕ) (dhcp_start : ℕ) → text ≡ co
 behind_refused text behind dhcp_start is none f (inl r) = not_bare text behind dhcp_start f is r
 behind_refused text behind dhcp_start is none f (inr r) = none f (subst (λ (t : List ℕ). IsForward t dhcp_start f) (same_behind r.0 behind (sym r.1 ∙ is)) r.2)
 
-pub bare_refused : (text : List ℕ) (dhcp_start : ℕ) → ((behind : List ℕ) → text ≢ codes "hostfwd=" ++ behind) → ((f : Forward) → ¬ IsForward text dhcp_start f) → (f : Forward) → ¬ IsRule text dhcp_start f
+pub bare_refused : (text : List ℕ) (dhcp_start : ℕ) → ((behind : List ℕ) → text ≢ codes "hostfwd=" ++ behind) → ((f : Forward) → ¬ IsForward text dhcp_start f) → (f : Forward) →
+    ¬ IsRule text dhcp_start f
 bare_refused text dhcp_start other none f (inl r) = none f r
 bare_refused text dhcp_start other none f (inr r) = other r.0 r.1
 

@@ -1,9 +1,11 @@
 -- The walk over words reads exactly the lines that they are.
-use Rattle.std.proofs.Common.{◌≡◌, ◌<◌, ◌≤◌, Bool, true, false, cond, List, [], ◌∷◌, ◌++◌, length, map, bytes_eq, codes, Option, Some, None, is_some, refl, sym, ◌∙◌, ap, subst, arith, append_assoc, append-nil, length-append}
+use Rattle.std.proofs.Common.{◌≡◌, ◌<◌, ◌≤◌, Bool, true, false, cond, List, [], ◌∷◌, ◌++◌, length, map, bytes_eq, codes, Option, Some, None, is_some, refl, sym, ◌∙◌, ap, subst, arith}
+use Rattle.std.proofs.Common.{append_assoc, append-nil, length-append}
 use Rattle.std.specs.List.{list_any, list_all}
 use Rattle.host_policy.specs.Ranges.{none_twice}
 use Rattle.slirp_config.specs.declared.options.Verb.{Verb}
-use Rattle.slirp_config.specs.Options.{Word, Row, Given, Piece, Apart, Joined, Flag, Plain, Line, ArePieces, IsLine, pieces_words, words_behind, line_words, options_of, plain_words, alone_behind, words_alone, same_name, rows, takes_value}
+use Rattle.slirp_config.specs.Options.{Word, Row, Given, Piece, Apart, Joined, Flag, Plain, Line, ArePieces, IsLine, pieces_words, words_behind, line_words, options_of, plain_words}
+use Rattle.slirp_config.specs.Options.{alone_behind, words_alone, same_name, rows, takes_value}
 use Rattle.slirp_config.specs.Walking.{Walk, step, next, walk_on, finished, fresh, walked}
 use Rattle.slirp_config.proofs.Back.{same_walk, stepped, Stepped, Ends, Alone, Joins, Waits, Flags, value_back}
 use Rattle.slirp_config.proofs.Few.{few, fresh_there, once_more}
@@ -117,7 +119,8 @@ SplitsBehind verb (value ∷ words) w = Splits verb words w
 
 module _ (verb : Verb) (w : Walk) (done : w.waits ≡ None) where
   -- behind the name of an option
-  with_value : (name : Word) (words : List Word) (o : List Given) (a : List Word) → SplitsBehind verb words w → none_twice same_name o ≡ true → takes_value verb name ≡ Some true → walk_on words (waiting verb o a name) ≡ Some w → Split verb (name ∷ words) o a w
+  with_value : (name : Word) (words : List Word) (o : List Given) (a : List Word) → SplitsBehind verb words w → none_twice same_name o ≡ true → takes_value verb name ≡ Some true →
+      walk_on words (waiting verb o a name) ≡ Some w → Split verb (name ∷ words) o a w
   with_value name [] o a later once takes is =
       let e = same_walk (waiting verb o a name) w is in
       let waits : ◌≡◌ {A = Option Word} (Some name) None = ap (λ (x : Walk). x.waits) e ∙ done in
@@ -137,7 +140,8 @@ module _ (verb : Verb) (w : Walk) (done : w.waits ≡ None) where
         alone = r.alone;
       }
 
-  one : (word : Word) (words : List Word) → Splits verb words w → SplitsBehind verb words w → (o : List Given) (a : List Word) → none_twice same_name o ≡ true → (s : Walk) → Stepped verb o a word s → walk_on words s ≡ Some w → Split verb (word ∷ words) o a w
+  one : (word : Word) (words : List Word) → Splits verb words w → SplitsBehind verb words w → (o : List Given) (a : List Word) → none_twice same_name o ≡ true → (s : Walk) →
+      Stepped verb o a word s → walk_on words s ≡ Some w → Split verb (word ∷ words) o a w
   one word words rest later o a once s (Ends is after) on =
       let e = end_split verb o words a w (subst (λ (x : Walk). walk_on words x ≡ Some w) after on) in
       record {

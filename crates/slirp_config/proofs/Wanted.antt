@@ -1,11 +1,13 @@
 -- What a step changes; the words that stand by themselves, of which each is what its place wants.
-use Rattle.std.proofs.Common.{◌≡◌, Bool, true, false, cond, not, ◌&&◌, ◌||◌, ltb, List, [], ◌∷◌, ◌++◌, length, bytes_eq, codes, Option, Some, None, is_some, MatchBool, refl, sym, ◌∙◌, ap, subst, append-nil}
+use Rattle.std.proofs.Common.{◌≡◌, Bool, true, false, cond, not, ◌&&◌, ◌||◌, ltb, List, [], ◌∷◌, ◌++◌, length, bytes_eq, codes, Option, Some, None, is_some, MatchBool, refl, sym, ◌∙◌, ap}
+use Rattle.std.proofs.Common.{subst, append-nil}
 use Rattle.std.specs.List.{position_or_len, before_first, after_first}
 use Rattle.slirp_config.specs.declared.options.Verb.{Verb}
 use Rattle.slirp_config.specs.declared.options.Verb.TheVariants.{Replay, Serve}
 use Rattle.slirp_config.specs.Options.{Word, Given, takes_value, is_dashed, value_in}
 use Rattle.slirp_config.specs.Rules.{AreRuleWords, IsRuleWord}
-use Rattle.slirp_config.specs.Walking.{Walk, AreWanted, FitsAlone, IsWanted, completed, ends, flag_of, has_none, is_replay, is_sign, named, put_dashed, put_joined, put_name, put_option, stands_alone, step, wants_file}
+use Rattle.slirp_config.specs.Walking.{Walk, AreWanted, FitsAlone, IsWanted, completed, ends, flag_of, has_none, is_replay, is_sign, named, put_dashed, put_joined, put_name, put_option}
+use Rattle.slirp_config.specs.Walking.{stands_alone, step, wants_file}
 use Rattle.slirp_config.proofs.Back.{chosen, put_back, same_walk, stepped, Stepped, Ends, Alone, Joins, Waits, Flags, value_back}
 use Rattle.slirp_config.proofs.Names.{dashed_name, same_text}
 use Rattle.slirp_config.proofs.Steps.{at, behind_end, dashed_joined, given, waiting}
@@ -51,7 +53,8 @@ module _ (verb : Verb) (o : List Given) (a : List Word) where
   by_option : (name value : Word) (v : Walk) → put_option (at verb o a) name value ≡ Some v → Puts v (given name value ∷ [])
   by_option name value v h = let same = (put_back verb o a name value v h).1 in (ap (λ (w : Walk). w.options) same, ap (λ (w : Walk). w.ended) same)
 
-  by_joined : (name value : Word) (t : Option Bool) (v : Walk) → (elim t [ None ↦ None | Some takes ↦ cond (takes && ltb 0 (length value)) (put_option (at verb o a) name value) None ]) ≡ Some v → Puts v (given name value ∷ [])
+  by_joined : (name value : Word) (t : Option Bool) (v : Walk) →
+      (elim t [ None ↦ None | Some takes ↦ cond (takes && ltb 0 (length value)) (put_option (at verb o a) name value) None ]) ≡ Some v → Puts v (given name value ∷ [])
   by_joined name value None v h = absurd (cc h)
   by_joined name value (Some takes) v h = let c = chosen (takes && ltb 0 (length value)) (put_option (at verb o a) name value) v h in by_option name value v c.1
 
@@ -148,7 +151,8 @@ module _ (walk next : Walk) (word : Word) (is : step walk word ≡ Some next) wh
   pub was_wanted : AreWanted next.verb next.alone → AreWanted walk.verb walk.alone × FitsAlone walk word
   was_wanted are =
       let after = after_step walk next word is in
-      let kept : AreWanted walk.verb (alone_after (stands_alone walk word) walk word) = subst (λ (a : List Word). AreWanted walk.verb a) after.alone (subst (λ (v : Verb). AreWanted v next.alone) after.verb are) in
+      let kept : AreWanted walk.verb (alone_after (stands_alone walk word) walk word) = subst (λ (a : List Word). AreWanted walk.verb a) after.alone
+      (subst (λ (v : Verb). AreWanted v next.alone) after.verb are) in
       let by_test : (t : Bool) → AreWanted walk.verb (alone_after t walk word) → AreWanted walk.verb walk.alone × MatchBool t (IsWanted (wants_file walk) word) (Unit {0}) = λ t.
       (elim t as (λ b. AreWanted walk.verb (alone_after b walk word) → AreWanted walk.verb walk.alone × MatchBool b (IsWanted (wants_file walk) word) (Unit {0})) [
         | true ↦ λ h. wanted_before walk.verb walk.alone word h

@@ -1,5 +1,6 @@
 -- What the words of a command line mean.
-use Rattle.std.specs.Prelude.{◌≡◌, ◌⊎◌, ℕ, ◌+◌, ◌%◌, ◌^◌, ◌<◌, ◌≤◌, ◌||◌, nat_lt, Bool, true, false, List, [], ◌∷◌, length, codes, Option, Some, None, is_some, Result, Ok, Err, MatchOption, if◌then◌else◌}
+use Rattle.std.specs.Prelude.{◌≡◌, ◌⊎◌, ℕ, ◌+◌, ◌%◌, ◌^◌, ◌<◌, ◌≤◌, ◌||◌, nat_lt, Bool, true, false, List, [], ◌∷◌, length, codes, Option, Some, None, is_some, Result, Ok, Err}
+use Rattle.std.specs.Prelude.{MatchOption, if◌then◌else◌}
 use Rattle.std.specs.Option.{option_map, option_map_or}
 use Rattle.net_octets.specs.declared.Endpoint.{Endpoint}
 use Rattle.host_policy.specs.Addresses.{Config}
@@ -20,7 +21,8 @@ use Rattle.slirp_config.specs.Rules.{AreRules}
 use Rattle.address_text.specs.Texts.{IsNumber, IsAddress, IsEndpointText}
 use Rattle.slirp_config.specs.Texts.{IsNetwork, IsLink, held_folder, held_text}
 
--- A schedule in a file is replayed, or the link at a place is served, with these settings, and perhaps what is called is recorded or the link's frames are captured; or a drill of so many octets is run, on a World that is made from a number; or how the words are written is told, or the version.
+-- A schedule in a file is replayed, or the link at a place is served, with these settings, and perhaps what is called is recorded or the link's frames are
+-- captured; or a drill of so many octets is run, on a World that is made from a number; or how the words are written is told, or the version.
 pub data Meaning : Type 0 where
   Replays : (file : Word) (config : Config) → Meaning
   Serves : (config : Config) (at : Place) (tap : Tap) → Meaning

@@ -9,7 +9,8 @@ use Rattle.slirp_config.specs.Options.{Word}
 abbrev pub BeginsOne : (Read : List Word → Type 0) → List Word → Type 0
 BeginsOne Read words = (more : List Word) × Read (words ++ more)
 
--- Reading stops at the first word by which none can go on: the words before it begin a reading, those up to it none. Or a word is missing: all of them begin one, and aren't read. So many words stand in front of these.
+-- Reading stops at the first word by which none can go on: the words before it begin a reading, those up to it none. Or a word is missing: all of them begin
+-- one, and aren't read. So many words stand in front of these.
 abbrev pub StopsBy : (Read : List Word → Type 0) (in_front : ℕ) → List Word → Stop → Type 0
 StopsBy Read in_front words (AtWord place) =
     (before : List Word) × (word : Word) × (behind : List Word) × (words ≡ before ++ word ∷ behind) × (place ≡ length before + in_front)

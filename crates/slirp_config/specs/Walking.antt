@@ -1,5 +1,6 @@
 -- The walk over the words behind a command: what is kept of those that were read, and what the next one adds.
-use Rattle.std.specs.Prelude.{◌≡◌, ℕ, ◌+◌, ◌==◌, ◌&&◌, ◌||◌, not, nat_lt, Bool, true, false, List, [], ◌∷◌, ◌++◌, length, take, bytes_eq, codes, map, MatchBool, MatchOption, Option, Some, None, is_some, option_copied, if◌then◌else◌}
+use Rattle.std.specs.Prelude.{◌≡◌, ℕ, ◌+◌, ◌==◌, ◌&&◌, ◌||◌, not, nat_lt, Bool, true, false, List, [], ◌∷◌, ◌++◌, length, take, bytes_eq, codes, map, MatchBool, MatchOption, Option, Some}
+use Rattle.std.specs.Prelude.{None, is_some, option_copied, if◌then◌else◌}
 use Rattle.std.specs.List.{before_first, after_first, list_all, list_any, position_or_len}
 use Rattle.host_policy.specs.Ranges.{none_twice}
 use Rattle.slirp_config.specs.declared.options.Verb.{Verb}

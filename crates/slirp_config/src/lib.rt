@@ -25,7 +25,8 @@
 //!
 //! `drive` has neither options nor RULEs: NUMBER and OCTETS are numbers up to 2^64 - 1, and its settings are the usual ones. OCTETS over 10,000,000 is out of its range.
 //!
-//! A setting out of its range is named, the first in the order of `host_policy`: a text of over 127 octets too, a folder of over 1,024, and more than 32 RULEs. With `--no-dhcp`, `--no-dns` or `--outbound` the settings are of version 2.
+//! A setting out of its range is named, the first in the order of `host_policy`: a text of over 127 octets too, a folder of over 1,024, and more than 32 RULEs.
+//! With `--no-dhcp`, `--no-dns` or `--outbound` the settings are of version 2.
 #![tactic(auto)]
 
 mod line;
@@ -43,7 +44,8 @@ ghost use Rattle.host_policy.specs.Settings.{usual};
 ghost use Rattle.host_policy.specs.declared.config.Field.{Field as AField};
 ghost use Rattle.host_policy.specs.declared.config.Field.TheVariants.{Octets};
 ghost use Rattle.world_face.specs.Journal.{Place};
-ghost use Rattle.slirp_config.specs.Meaning.{AnswersBy, Drives, HasPlace, IsHelp, Meaning, Means, MeansDrive, MeansReplay, MeansServe, Replays, Serves, broken_in, config_of, is_capture, is_record, said};
+ghost use Rattle.slirp_config.specs.Meaning.{AnswersBy, Drives, HasPlace, IsHelp, Meaning, Means, MeansDrive, MeansReplay, MeansServe, Replays, Serves, broken_in, config_of, is_capture};
+ghost use Rattle.slirp_config.specs.Meaning.{is_record, said};
 ghost use Rattle.slirp_config.specs.Narrowing.{narrowed_meaning, narrowed_settings};
 ghost use Rattle.slirp_config.specs.Options.{Word};
 ghost use Rattle.slirp_config.specs.Stops.{StopsAt, StopsBehind};

@@ -1,8 +1,10 @@
 //! The walk over the words behind a command.
-ghost use Rattle.std.specs.Prelude.{◌≡◌, ◌⊎◌, ◌++◌, ◌∷◌, [], bytes_eq, ◌≤◌, ◌&&◌, ◌<◌, nat_lt, not, false, length, map, MatchBool, None, Some, OnOk, OnErr, IfErr, IfOk, is_some, option_copied, option_map, find};
+ghost use Rattle.std.specs.Prelude.{◌≡◌, ◌⊎◌, ◌++◌, ◌∷◌, [], bytes_eq, ◌≤◌, ◌&&◌, ◌<◌, nat_lt, not, false, length, map, MatchBool, None, Some, OnOk, OnErr, IfErr, IfOk, is_some};
+ghost use Rattle.std.specs.Prelude.{option_copied, option_map, find};
 ghost use Rattle.std.specs.String.{string_bytes};
 ghost use Rattle.slirp_config.specs.Options.{is_dashed, value_in};
-ghost use Rattle.slirp_config.specs.Walking.{Fits, FitsAlone, FitsOption, HasWalked, IsGiven, IsWanted, WalkStops, begin, can_end, completed, ends, flag_of, given_of, has_link, is_both, kept, named, put_alone, put_apart, put_dashed, put_joined, put_name, put_option, stands_alone, step_with, walk_of, wants_file};
+ghost use Rattle.slirp_config.specs.Walking.{Fits, FitsAlone, FitsOption, HasWalked, IsGiven, IsWanted, WalkStops, begin, can_end, completed, ends, flag_of, given_of, has_link, is_both};
+ghost use Rattle.slirp_config.specs.Walking.{kept, named, put_alone, put_apart, put_dashed, put_joined, put_name, put_option, stands_alone, step_with, walk_of, wants_file};
 
 use crate::Stop;
 use crate::options::{COUNT, Verb, kind_of, takes_value};

@@ -38,7 +38,8 @@ use Rattle.slirp_core.specs.State.{SlirpState}
 
 -- ---- its first frame goes out
 
-module _ (config : Config) (past : List Entry) (said : Said) (frame : List ℕ) (rest : List (List ℕ)) (room : 28 ≤ config.mtu) (m : MayGoAgain config past said frame rest) (octets : List ℕ) (begins : drop 4 octets ≡ frame) where
+module _ (config : Config) (past : List Entry) (said : Said) (frame : List ℕ) (rest : List (List ℕ)) (room : 28 ≤ config.mtu) (m : MayGoAgain config past said frame rest)
+    (octets : List ℕ) (begins : drop 4 octets ≡ frame) where
   its_segment : segment_in (drop 4 octets) ≡ None
   its_segment = ap segment_in begins ∙ (no_flows config past said frame rest room m).segment
 
@@ -50,7 +51,11 @@ module _ (config : Config) (past : List Entry) (said : Said) (frame : List ℕ) 
   may_write_again = by (tail past)
     where
       by : (t : List ℕ) → MayWrite (flow_settings config) (moment past) (book config past).flows t octets × MustWrite (flow_settings config) (moment past) (book config past).flows t octets
-      by [] = (subst (MaySendOn (flow_settings config) (moment past) (book config past).flows) (sym its_segment) tt, subst (MustSendOn (flow_settings config) (moment past) (book config past).flows) (sym its_segment) tt)
+      by [] = (
+        subst (MaySendOn (flow_settings config) (moment past) (book config past).flows) (sym its_segment) tt,
+        subst (MustSendOn (flow_settings config) (moment past)
+            (book config past).flows) (sym its_segment) tt,
+      )
       by (x ∷ t) = (tt, tt)
 
   pub nothing_to_flows : (answer : Io) → doing config past (LinkWrite octets answer) ≡ Nothing
@@ -74,7 +79,8 @@ module _ (config : Config) (past : List Entry) (said : Said) (frame : List ℕ) 
       by a (x ∷ t) = refl
 
 -- the others are left, and it isn't on its way any more
-module _ (config : Config) (past : List Entry) (said : Said) (frame : List ℕ) (rest : List (List ℕ)) (room : 28 ≤ config.mtu) (m : MayGoAgain config past said frame rest) (octets : List ℕ) (answer : Io)
+module _ (config : Config) (past : List Entry) (said : Said) (frame : List ℕ) (rest : List (List ℕ)) (room : 28 ≤ config.mtu) (m : MayGoAgain config past said frame rest)
+    (octets : List ℕ) (answer : Io)
     (lawful : Lawful config past) (out : goes_out (LinkWrite octets answer) past ≡ Some frame) where
   same_now : (serving config (LinkWrite octets answer ∷ past)).now ≡ (serving config past).now
   same_now = sym (now_is config past)
@@ -97,7 +103,8 @@ module _ (config : Config) (past : List Entry) (said : Said) (frame : List ℕ) 
       kept_is ∙ ap (λ o. ticked s.now (not (is_some o)) s.files.transfers) is ∙ sym (λ i. are_left (same_now i) (files_counted other is i).transfers)
 
   pub again_gone : (aged : Bool) (new : SlirpState) → new.pending ≡ rest → (aged ≡ false → (serving config past).again ≡ Some said)
-      → new.transfers ≡ kept_by aged (not (is_some (serving config past).again)) (serving config past).now (serving config past).files.transfers → OfLeft config aged new (LinkWrite octets answer ∷ past)
+      → new.transfers ≡ kept_by aged (not (is_some (serving config past).again)) (serving config past).now (serving config past).files.transfers → OfLeft config aged new
+      (LinkWrite octets answer ∷ past)
   again_gone aged new pending way kept_is = record {
     left = left_again config past said frame rest room m octets answer out ∙ sym pending;
     again = gone_again config past said frame rest room m octets answer out;
@@ -110,7 +117,8 @@ module _ (config : Config) (past : List Entry) (said : Said) (frame : List ℕ) 
 pub frames_some : (config : Config) (ident : ℕ) (said : Said) → length said.octets ≤ 1472 → 0 < length (frames_of config ident (told_of_files config (Some said)))
 frames_some config ident said few =
     subst (λ (l : List (List ℕ)). 0 < length l) (datagram_sent config ident (endpoint config.vhost 69) said.guest said.mac said.octets (omega (arith, few)))
-    (one_at_least (part_frame said.mac (our_mac config.vhost) ident udp_proto (address (endpoint config.vhost 69)) (address said.guest)) (uncut (udp_octets (address (endpoint config.vhost 69)) (address said.guest) (record { from_port = 69; to_port = said.guest.port; body = said.octets }))) config.mtu)
+    (one_at_least (part_frame said.mac (our_mac config.vhost) ident udp_proto (address (endpoint config.vhost 69)) (address said.guest))
+    (uncut (udp_octets (address (endpoint config.vhost 69)) (address said.guest) (record { from_port = 69; to_port = said.guest.port; body = said.octets }))) config.mtu)
   where
     one_at_least : (as_frame : Part → List ℕ) (whole : Part) (mtu : ℕ) → 0 < length (map as_frame (cuts mtu whole))
     one_at_least as_frame whole mtu = omega arith
@@ -129,7 +137,8 @@ said_fits vhost (ReplyDatagram count at to (Some mac)) octets said from is =
     octets_in None = []
     octets_in (Some s) = s.octets
 
-module _ (config : Config) (at : Standing) (slirp : SlirpState) (kept : Kept) (link : LinkState) (past : List Entry) (none : slirp.pending ≡ []) (holds : Holds config at slirp (flowing true kept) link past) where
+module _ (config : Config) (at : Standing) (slirp : SlirpState) (kept : Kept) (link : LinkState) (past : List Entry) (none : slirp.pending ≡ [])
+    (holds : Holds config at slirp (flowing true kept) link past) where
   abbrev now : ℕ
   now = (serving config past).now
 
@@ -177,7 +186,15 @@ module _ (config : Config) (at : Standing) (slirp : SlirpState) (kept : Kept) (l
     allowed = holds.allowed;
     keeps = holds.keeps;
     answers = record { sent = holds.answers.sent; owed = owes_it (next_again now all) refl fits };
-    guests = record { settings = holds.guests.settings; known = holds.guests.known; fragments = record { held = holds.guests.fragments.held; is_held = holds.guests.fragments.is_held; wait = holds.guests.fragments.wait } };
+    guests = record {
+      settings = holds.guests.settings;
+      known = holds.guests.known;
+      fragments = record {
+        held = holds.guests.fragments.held;
+        is_held = holds.guests.fragments.is_held;
+        wait = holds.guests.fragments.wait;
+      };
+    };
     relayed = record { list = holds.relayed.list; questions = holds.relayed.questions; asks = holds.relayed.asks; heard = holds.relayed.heard };
     services = record { leases = holds.services.leases; quest = holds.services.quest };
     forwards = holds.forwards;

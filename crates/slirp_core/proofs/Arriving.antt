@@ -18,7 +18,8 @@ use Rattle.slirp_core.specs.declared.fragments.Assembled.{Assembled}
 use Rattle.slirp_core.specs.declared.fragments.Brought.TheVariants.{Nothing}
 
 -- none is read
-pub none_arrives : (old : SlirpState) (held : List PartSet) (mac octets room : List ℕ) → read_ip octets ≡ None → old.pending ≡ [] → IsHeld old.fragments held → Arrives old held mac octets old Nothing room
+pub none_arrives : (old : SlirpState) (held : List PartSet) (mac octets room : List ℕ) → read_ip octets ≡ None → old.pending ≡ [] → IsHeld old.fragments held →
+    Arrives old held mac octets old Nothing room
 none_arrives old held mac octets room read none is = record {
   request = sym (ap (λ o. request_for_udp old.config (option_and_then (udp_of_arrived old.config old.moment (young old.moment held) mac octets) o)) read);
   segment = sym (ap (option_and_then (segment_of_arrived old.config old.moment (young old.moment held) mac octets)) read);
@@ -60,7 +61,8 @@ module _ (old : SlirpState) (held : List PartSet) (mac octets : List ℕ) (ip : 
   }
 
   -- a whole datagram is taken in
-  pub whole_arrives : (new : SlirpState) (o : Option Task) → is_unbroken ip ≡ true → option_and_then request_for o ≡ request_for_udp old.config (udp_of old.config mac ip) → option_and_then segment_for o ≡ segment_of_ip old.config mac ip
+  pub whole_arrives : (new : SlirpState) (o : Option Task) → is_unbroken ip ≡ true → option_and_then request_for o ≡ request_for_udp old.config (udp_of old.config mac ip) →
+      option_and_then segment_for o ≡ segment_of_ip old.config mac ip
       → new ≡ after_ip (record old { known = with_address old.config ip.from mac old.known }) mac ip → Arrives old held mac octets new (task_or_none o) room
   whole_arrives new o whole request segment same =
       let arrives : arrived old.config old.moment (young old.moment held) octets ip ≡ Some ip =
@@ -70,7 +72,8 @@ module _ (old : SlirpState) (held : List PartSet) (mac octets : List ℕ) (ip : 
       record {
         request =
             request_sent old.config o room ∙ request
-            ∙ sym (ap (λ o. request_for_udp old.config (option_and_then (udp_of_arrived old.config old.moment (young old.moment held) mac octets) o)) read ∙ ap (λ o. request_for_udp old.config (option_and_then (udp_of old.config mac) o)) arrives);
+            ∙ sym (ap (λ o. request_for_udp old.config (option_and_then (udp_of_arrived old.config old.moment (young old.moment held) mac octets) o)) read ∙ ap
+            (λ o. request_for_udp old.config (option_and_then (udp_of old.config mac) o)) arrives);
         segment =
             segment_sent old.config o room ∙ segment
             ∙ sym (ap (option_and_then (segment_of_arrived old.config old.moment (young old.moment held) mac octets)) read ∙ ap (option_and_then (segment_of_ip old.config mac)) arrives);
@@ -110,7 +113,8 @@ module _ (old : SlirpState) (held : List PartSet) (mac octets : List ℕ) (ip : 
   broken_arrives : is_unbroken ip ≡ false → joined_by old.moment (young old.moment held) (fragment_by old.config octets ip) ≡ arrived old.config old.moment (young old.moment held) octets ip
   broken_arrives broken = sym (ap (λ (b : Bool). if b then Some ip else joined_by old.moment (young old.moment held) (fragment_by old.config octets ip)) broken)
 
-  gathering : (b : Bool) (pairs : List (Ip4 × Mac)) (areas : List Gathered) (o : Option Assembled) → is_guest old.config ip.from ≡ b → is_unbroken ip ≡ false → GathersIf b (record old { known = pairs }) held mac ip (part_by octets ip) areas o room → Gathering areas o
+  gathering : (b : Bool) (pairs : List (Ip4 × Mac)) (areas : List Gathered) (o : Option Assembled) → is_guest old.config ip.from ≡ b → is_unbroken ip ≡ false → GathersIf b
+      (record old { known = pairs }) held mac ip (part_by octets ip) areas o room → Gathering areas o
   gathering true pairs areas o guest broken took =
       let fragment : fragment_by old.config octets ip ≡ Some (record { key = key_by ip; part = part_by octets ip }) =
       ap (λ (g : Bool). if g && not (is_unbroken ip) then Some (record { key = key_by ip; part = part_by octets ip }) else None) guest
@@ -125,14 +129,17 @@ module _ (old : SlirpState) (held : List PartSet) (mac octets : List ℕ) (ip : 
       record {
         came = subst (CameBy mac) (sym none) tt;
         arrives = ap whole_of none ∙ sym (ap (joined_by old.moment (young old.moment held)) fragment) ∙ broken_arrives broken;
-        held_by = subst (λ l. IsHeld l (with_fragment old.moment (fragment_by old.config octets ip) held)) (sym same) (subst (λ o. IsHeld old.fragments (with_fragment old.moment o held)) (sym fragment) is);
+        held_by = subst (λ l. IsHeld l (with_fragment old.moment (fragment_by old.config octets ip) held)) (sym same)
+            (subst (λ o. IsHeld old.fragments (with_fragment old.moment o held)) (sym fragment) is);
       }
 
-  pub part_arrives : (new : SlirpState) (p : Part) (o : Option Assembled) → is_unbroken ip ≡ false → p ≡ part_by octets ip → old.pending ≡ [] → Gathers (record old { known = with_address old.config ip.from mac old.known }) held mac ip p new.fragments o room
+  pub part_arrives : (new : SlirpState) (p : Part) (o : Option Assembled) → is_unbroken ip ≡ false → p ≡ part_by octets ip → old.pending ≡ [] → Gathers
+      (record old { known = with_address old.config ip.from mac old.known }) held mac ip p new.fragments o room
       → new ≡ record old { known = with_address old.config ip.from mac old.known; fragments = new.fragments } → Arrives old held mac octets new (whole_or_none o) room
   part_arrives new p o broken p_is none gathers same =
       let pairs = with_address old.config ip.from mac old.known in
-      let g = gathering (is_guest old.config ip.from) pairs new.fragments o refl broken (subst (λ (q : Part). Gathers (record old { known = pairs }) held mac ip q new.fragments o room) p_is gathers) in
+      let g = gathering (is_guest old.config ip.from) pairs new.fragments o refl broken
+      (subst (λ (q : Part). Gathers (record old { known = pairs }) held mac ip q new.fragments o room) p_is gathers) in
       let mid : SlirpState = record old { known = with_address old.config ip.from mac old.known; fragments = new.fragments } in
       record {
         request =

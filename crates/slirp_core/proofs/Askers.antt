@@ -56,7 +56,8 @@ asked_least n list among least = (is_any n list among, are_above n list least)
     are_above : (n : ℕ) (list : List Question) → ((m : ℕ) → is_among m (numbers list) ≡ true → n ≤ m) → All (λ (q : Question). true ≡ true → n ≤ q.number) list
     are_above n [] least = All-nil (λ (q : Question). true ≡ true → n ≤ q.number)
     are_above n (x ∷ list) least =
-        All-cons (λ (q : Question). true ≡ true → n ≤ q.number) x list (λ is. least x.number (ap (λ b. b || is_among x.number (numbers list)) (same x.number))) (are_above n list (λ m among. least m (or_second (m == x.number) (is_among m (numbers list)) among)))
+        All-cons (λ (q : Question). true ≡ true → n ≤ q.number) x list (λ is. least x.number (ap (λ b. b || is_among x.number (numbers list)) (same x.number)))
+        (are_above n list (λ m among. least m (or_second (m == x.number) (is_among m (numbers list)) among)))
 
 -- where none is the least, or has a number, there is none
 pub no_question : (list : List Question) → IsLeast (λ q. true) list None → list ≡ []

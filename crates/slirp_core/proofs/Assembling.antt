@@ -3,7 +3,8 @@ use Rattle.std.proofs.Common.{◌≡◌, ℕ, ◌%◌, ◌<◌, ◌==◌, ◌&&�
 use Rattle.std.proofs.lemmas.Bool.Decides.{nat_tests}
 use Rattle.std.specs.List.{remove}
 use Rattle.ipv4_head.specs.Ip.{Ip}
-use Rattle.ipv4_head.specs.Sets.{Carrying, IsJoined, Key, OfSets, Outcome, UnevenPart, LongPart, Clashes, Waits, Joined, Part, PartSet, is_uneven, is_whole, joined, left_by, outcome, set_for, sets_after, sets_left, whole_by}
+use Rattle.ipv4_head.specs.Sets.{Carrying, IsJoined, Key, OfSets, Outcome, UnevenPart, LongPart, Clashes, Waits, Joined, Part, PartSet, is_uneven, is_whole, joined, left_by, outcome}
+use Rattle.ipv4_head.specs.Sets.{set_for, sets_after, sets_left, whole_by}
 use Rattle.ipv4_head.proofs.Members.{of_after, of_left, of_there}
 use Rattle.ipv4_reasm.specs.Answers.{IsWholeAt}
 use Rattle.ipv4_reasm.specs.Areas.{Gathered, StandFor}
@@ -45,7 +46,8 @@ module _ (now : ℕ) (mac : List ℕ) (key : Key) (p : Part) (held : List PartSe
   none_by Clashes s other = refl
   none_by Waits s other = refl
 
-  pub took_none : (o : Outcome) (areas : List Gathered) (octets : List ℕ) → o ≡ outcome now key p held → IsOther o → StandFor areas (sets_after now key p held) → Took now mac key p held areas None octets
+  pub took_none : (o : Outcome) (areas : List Gathered) (octets : List ℕ) → o ≡ outcome now key p held → IsOther o → StandFor areas (sets_after now key p held) →
+      Took now mac key p held areas None octets
   took_none o areas octets is other stand =
       let this : IsOther (outcome now key p held) = subst IsOther is other in
       record {

@@ -1,5 +1,6 @@
 -- The calls that the associations make, step by step.
-use Rattle.std.proofs.Common.{◌≡◌, ℕ, ◌+◌, ◌<◌, ◌≤◌, ◌||◌, Bool, true, false, nat_le, List, [], ◌∷◌, ◌++◌, length, take, slice_get, is_some, unwrap_or, Option, Some, None, if◌then◌else◌, refl, sym, ◌∙◌, ap, subst, append_assoc, arith}
+use Rattle.std.proofs.Common.{◌≡◌, ℕ, ◌+◌, ◌<◌, ◌≤◌, ◌||◌, Bool, true, false, nat_le, List, [], ◌∷◌, ◌++◌, length, take, slice_get, is_some, unwrap_or, Option, Some, None, if◌then◌else◌}
+use Rattle.std.proofs.Common.{refl, sym, ◌∙◌, ap, subst, append_assoc, arith}
 use Rattle.poll_list.specs.declared.Want.{Want}
 use Rattle.poll_list.specs.declared.Who.TheVariants.{Udp}
 use Rattle.net_octets.specs.declared.Endpoint.{Endpoint}
@@ -13,7 +14,8 @@ use Rattle.world_face.specs.declared.Sent.TheVariants.{Done, NotYet, Failed}
 use Rattle.world_face.specs.declared.Got.{Got}
 use Rattle.world_face.specs.declared.Got.TheVariants.{From, NotYet as GotNotYet, Failed as GotFailed}
 use Rattle.udp_assoc.specs.Associations.{most_associations, numbers, numbered, without, moved_last, sent_from, heard_at}
-use Rattle.udp_assoc.specs.Relays.{Relays, ByForward, BySocket, ByNewSocket, OpensFor, Opens, OpensNone, Hears, OnForward, OnAssociation, OnNone, Ticks, calls_for_room, with_room, with_reply, opened, told, passed, ClosesLeast}
+use Rattle.udp_assoc.specs.Relays.{Relays, ByForward, BySocket, ByNewSocket, OpensFor, Opens, OpensNone, Hears, OnForward, OnAssociation, OnNone, Ticks, calls_for_room, with_room}
+use Rattle.udp_assoc.specs.Relays.{with_reply, opened, told, passed, ClosesLeast}
 use Rattle.udp_assoc.specs.declared.assocs.Association.{Association}
 use Rattle.dns_relay.specs.Questions.{asked_from, moved_last as question_moved, numbered as question_numbered, numbers as question_numbers}
 use Rattle.dns_relay.specs.declared.Question.{Question}
@@ -33,7 +35,8 @@ use Rattle.slirp_core.proofs.Given.{forward_of, guest_given}
 use Rattle.slirp_core.proofs.Names.{among_both, association_unmoved, none_moved, numbered_is}
 use Rattle.slirp_core.proofs.Parts.{skipped}
 use Rattle.slirp_core.proofs.Sockets.{among_numbered, last_among, no_association}
-use Rattle.slirp_core.proofs.Relaying.{after_open, asks_by_port, after_failure, after_forward, after_hearing, after_idling, after_no_hearing, after_not_sent, after_not_yet, after_refusal, after_sent, after_yielding, carried, forward_open, no_name, port_of_other, relays_association, relays_forward, relays_own}
+use Rattle.slirp_core.proofs.Relaying.{after_open, asks_by_port, after_failure, after_forward, after_hearing, after_idling, after_no_hearing, after_not_sent, after_not_yet, after_refusal}
+use Rattle.slirp_core.proofs.Relaying.{after_sent, after_yielding, carried, forward_open, no_name, port_of_other, relays_association, relays_forward, relays_own}
 use Rattle.slirp_core.specs.Hearing.{Receives as ReceivesOn, is_heard}
 use Rattle.tcp_flows.specs.Runs.{ClosesBelow, ClosesRising}
 use Rattle.udp_assoc.proofs.Below.{AreBelow, below_last, below_moved, below_up, below_without}
@@ -68,49 +71,71 @@ with_agenda config at after slirp f link past same holds last = record {
 pub passes_over : (config : Config) (count : ℕ) (wants : List Want) (item : Want) (items : List Want) (slirp : SlirpState) (f : Flowing) (link : LinkState) (past : List Entry)
     → Holds config (standing count wants (item ∷ items)) slirp f link past → Holds config (standing count wants items) slirp f link past
 passes_over config count wants item items slirp f link past holds =
-    with_agenda config (standing count wants (item ∷ items)) (standing count wants items) slirp f link past refl holds (skipped (wanted_of wants item) (all_wanted wants items) (agenda past) holds.agenda)
+    with_agenda config (standing count wants (item ∷ items)) (standing count wants items) slirp f link past refl holds (skipped (wanted_of wants item) (all_wanted wants items)
+    (agenda past) holds.agenda)
 
 -- a datagram was sent on a socket, and these are the lists then
-pub sent_on : (config : Config) (at : Standing) (f : Flowing) (link : LinkState) (slirp : SlirpState) (past : List Entry) (socket : ℕ) (errand : Errand) (list : List Association) (named : List Question) → relays past socket ≡ true
-    → moved_last (sent_from (record { 0 = errand.datagram.mac }) slirp.moment) socket slirp.associations ≡ list → question_moved (asked_from (record { 0 = errand.datagram.mac }) slirp.moment) socket slirp.questions ≡ named
+pub sent_on : (config : Config) (at : Standing) (f : Flowing) (link : LinkState) (slirp : SlirpState) (past : List Entry) (socket : ℕ) (errand : Errand) (list : List Association)
+    (named : List Question) → relays past socket ≡ true
+    → moved_last (sent_from (record { 0 = errand.datagram.mac }) slirp.moment) socket slirp.associations ≡ list → question_moved
+    (asked_from (record { 0 = errand.datagram.mac }) slirp.moment) socket slirp.questions ≡ named
     → HoldsAt config at (NeedsSending socket errand) slirp f link past → (answer : Sent) → Allowed (UdpSend socket errand.to errand.datagram.body answer)
-    → Holds config at (record slirp { associations = list; questions = named; pending = told_by slirp errand.datagram (told answer) }) f link (UdpSend socket errand.to errand.datagram.body answer ∷ past)
+    → Holds config at (record slirp { associations = list; questions = named; pending = told_by slirp errand.datagram (told answer) }) f link
+    (UdpSend socket errand.to errand.datagram.body answer ∷ past)
 sent_on config at f link slirp past socket errand list named on list_is named_is holds Done allowed = after_sent config at slirp f link past socket errand on list named list_is named_is holds allowed
-sent_on config at f link slirp past socket errand list named on list_is named_is holds NotYet allowed = after_not_sent config at slirp f link past socket errand on list named list_is named_is holds allowed
-sent_on config at f link slirp past socket errand list named on list_is named_is holds Failed allowed = after_failure config at slirp f link past socket errand on list named list_is named_is holds allowed
+sent_on config at f link slirp past socket errand list named on list_is named_is holds NotYet allowed = after_not_sent config at slirp f link past socket errand on list named
+    list_is named_is holds allowed
+sent_on config at f link slirp past socket errand list named on list_is named_is holds Failed allowed = after_failure config at slirp f link past socket errand on list named
+    list_is named_is holds allowed
 
 module _ (config : Config) (at : Standing) (f : Flowing) (link : LinkState) where
   -- on the socket of its port, which was open or was opened for it
-  sent_on_port : (slirp : SlirpState) (past : List Entry) (socket : ℕ) (errand : Errand) → is_among socket (numbers slirp.associations) ≡ true → HoldsAt config at (NeedsSending socket errand) slirp f link past
+  sent_on_port : (slirp : SlirpState) (past : List Entry) (socket : ℕ) (errand : Errand) → is_among socket (numbers slirp.associations) ≡ true → HoldsAt config at
+      (NeedsSending socket errand) slirp f link past
       → (answer : Sent) → Allowed (UdpSend socket errand.to errand.datagram.body answer)
-      → Holds config at (record slirp { associations = moved_last (sent_from (record { 0 = errand.datagram.mac }) slirp.moment) socket slirp.associations; pending = told_by slirp errand.datagram (told answer) }) f link
+      → Holds config at (record slirp {
+        associations = moved_last (sent_from (record { 0 = errand.datagram.mac }) slirp.moment) socket slirp.associations;
+        pending = told_by slirp errand.datagram (told answer);
+      }) f link
       (UdpSend socket errand.to errand.datagram.body answer ∷ past)
   sent_on_port slirp past socket errand among holds answer allowed =
       sent_on config at f link slirp past socket errand (moved_last (sent_from (record { 0 = errand.datagram.mac }) slirp.moment) socket slirp.associations) slirp.questions
       (relays_own past socket (carried config at slirp f link past (NeedsSending socket errand) None holds socket among)) refl
-      (none_moved (asked_from (record { 0 = errand.datagram.mac }) slirp.moment) socket slirp.questions (no_name config at slirp f link past (NeedsSending socket errand) None holds socket among)) holds answer allowed
+      (none_moved (asked_from (record { 0 = errand.datagram.mac }) slirp.moment) socket slirp.questions
+      (no_name config at slirp f link past (NeedsSending socket errand) None holds socket among)) holds answer allowed
 
   -- a socket was opened for it at the address of the settings, or wasn't
   opened_for : (slirp : SlirpState) (past : List Entry) (errand : Errand) → asks_a_name config errand ≡ false → (new : List Association) (reply : Reply) (calls : List Entry)
-      → OpensFor (unwrap_or config.outbound 0) (outbound_of errand) slirp.moment slirp.number slirp.associations new reply calls → AreAllowed calls → HoldsAt config at (NeedsSocket errand) slirp f link past
+      → OpensFor (unwrap_or config.outbound 0) (outbound_of errand) slirp.moment slirp.number slirp.associations new reply calls → AreAllowed calls → HoldsAt config at
+      (NeedsSocket errand) slirp f link past
       → Holds config at (record slirp { associations = new; pending = told_by slirp errand.datagram reply; number = slirp.number + 1 }) f link (calls ++ past)
   opened_for slirp past errand other new reply calls (Opens answer made is replies) allowed holds =
       let all = subst AreAllowed made allowed in
       let one = opened (outbound_of errand) slirp.number slirp.moment in
       let with_one : SlirpState = record slirp { number = slirp.number + 1; associations = slirp.associations ++ (one ∷ []) } in
       subst (λ (l : List Association). Holds config at (record slirp { associations = l; pending = told_by slirp errand.datagram reply; number = slirp.number + 1 }) f link (calls ++ past)) (sym is)
-      (subst (λ (r : Reply). Holds config at (record with_one { associations = moved_last (sent_from (record { 0 = errand.datagram.mac }) slirp.moment) slirp.number with_one.associations; pending = told_by slirp errand.datagram r }) f link (calls ++ past)) (sym replies)
-      (subst (λ (m : List Entry). Holds config at (record with_one { associations = moved_last (sent_from (record { 0 = errand.datagram.mac }) slirp.moment) slirp.number with_one.associations; pending = told_by slirp errand.datagram (told answer) }) f link (m ++ past)) (sym made)
+      (subst (λ (r : Reply). Holds config at (record with_one {
+        associations = moved_last
+            (sent_from (record { 0 = errand.datagram.mac }) slirp.moment) slirp.number with_one.associations;
+        pending = told_by slirp errand.datagram r;
+      }) f link (calls ++ past)) (sym replies)
+      (subst (λ (m : List Entry). Holds config at (record with_one {
+        associations = moved_last
+            (sent_from (record { 0 = errand.datagram.mac }) slirp.moment) slirp.number with_one.associations;
+        pending = told_by slirp errand.datagram (told answer);
+      }) f link (m ++ past)) (sym made)
       (sent_on_port with_one _ slirp.number errand (last_among slirp.associations one)
       (after_open config at slirp f link past errand holds other (endpoint (unwrap_or config.outbound 0) 0) (port_of_other config at slirp f link past errand holds other) all.1.0) answer all.0)))
   opened_for slirp past errand other new reply calls (OpensNone made is replies) allowed holds =
       subst (λ (l : List Association). Holds config at (record slirp { associations = l; pending = told_by slirp errand.datagram reply; number = slirp.number + 1 }) f link (calls ++ past)) (sym is)
       (subst (λ (r : Reply). Holds config at (record slirp { pending = told_by slirp errand.datagram r; number = slirp.number + 1 }) f link (calls ++ past)) (sym replies)
       (subst (λ (m : List Entry). Holds config at (record slirp { pending = told_by slirp errand.datagram (told Failed); number = slirp.number + 1 }) f link (m ++ past)) (sym made)
-      (after_refusal config at slirp f link past errand holds (endpoint (unwrap_or config.outbound 0) 0) (port_of_other config at slirp f link past errand holds other) (subst AreAllowed made allowed).0)))
+      (after_refusal config at slirp f link past errand holds (endpoint (unwrap_or config.outbound 0) 0) (port_of_other config at slirp f link past errand holds other)
+      (subst AreAllowed made allowed).0)))
 
   -- there is room for one more
-  roomed : (slirp : SlirpState) (past : List Entry) (errand : Errand) → asks_a_name config errand ≡ false → (list : List Association) → length (with_room list) < most_associations → AreAllowed (calls_for_room list)
+  roomed : (slirp : SlirpState) (past : List Entry) (errand : Errand) → asks_a_name config errand ≡ false → (list : List Association) → length
+      (with_room list) < most_associations → AreAllowed (calls_for_room list)
       → HoldsAt config at (without_socket list errand) (record slirp { associations = list }) f link past
       → HoldsAt config at (NeedsSocket errand) (record slirp { associations = with_room list }) f link (calls_for_room list ++ past)
   roomed slirp past errand other [] room allowed holds = holds
@@ -118,14 +143,17 @@ module _ (config : Config) (at : Standing) (f : Flowing) (link : LinkState) wher
     where
       by : (b : Bool) → length (if b then without oldest.number (oldest ∷ others) else oldest ∷ others) < most_associations → AreAllowed (if b then Close oldest.number ∷ [] else [])
           → HoldsAt config at (if b then NeedsRoom oldest.number errand else NeedsSocket errand) (record slirp { associations = oldest ∷ others }) f link past
-          → HoldsAt config at (NeedsSocket errand) (record slirp { associations = if b then without oldest.number (oldest ∷ others) else oldest ∷ others }) f link ((if b then Close oldest.number ∷ [] else []) ++ past)
+          → HoldsAt config at (NeedsSocket errand) (record slirp { associations = if b then without oldest.number (oldest ∷ others) else oldest ∷ others }) f link
+          ((if b then Close oldest.number ∷ [] else []) ++ past)
       by true room allowed holds = after_yielding config at (record slirp { associations = oldest ∷ others }) f link past oldest others errand other allowed.0 refl room holds
       by false room allowed holds = holds
 
   -- on the first port of the host that is given to its port, else by the list
-  by_port : (slirp : SlirpState) (past : List Entry) (errand : Errand) → asks_a_name config errand ≡ false → (o : Option ℕ) → port_for errand.datagram.from slirp.forwards ≡ o → HoldsAt config at (asked_by config slirp (Some errand)) slirp f link past
+  by_port : (slirp : SlirpState) (past : List Entry) (errand : Errand) → asks_a_name config errand ≡ false → (o : Option ℕ) → port_for errand.datagram.from slirp.forwards ≡ o →
+      HoldsAt config at (asked_by config slirp (Some errand)) slirp f link past
       → HoldsAt config at (with_forward o slirp.associations errand) slirp f link past
-  by_port slirp past errand other o is holds = subst (λ (s : Step). HoldsAt config at s slirp f link past) (asks_by_port config slirp errand other ∙ ap (λ p. with_forward p slirp.associations errand) is) holds
+  by_port slirp past errand other o is holds = subst (λ (s : Step). HoldsAt config at s slirp f link past)
+      (asks_by_port config slirp errand other ∙ ap (λ p. with_forward p slirp.associations errand) is) holds
 
   pub relayed : (slirp : SlirpState) (past : List Entry) (errand : Errand) → asks_a_name config errand ≡ false → (next : ℕ) (new : List Association) (reply : Reply) (made : List Entry)
       → Relays (unwrap_or config.outbound 0) (port_for errand.datagram.from slirp.forwards) (outbound_of errand) slirp.moment slirp.number next slirp.associations new reply made → AreAllowed made
@@ -145,8 +173,14 @@ module _ (config : Config) (at : Standing) (f : Flowing) (link : LinkState) wher
       let due = subst (λ (o : Option ℕ). HoldsAt config at (with_socket o slirp.associations errand) slirp f link past) found (by_port slirp past errand other None for holds) in
       subst (λ (n : ℕ). Holds config at (record slirp { associations = new; pending = told_by slirp errand.datagram reply; number = n }) f link (made ++ past)) (sym same)
       (subst (λ (l : List Association). Holds config at (record slirp { associations = l; pending = told_by slirp errand.datagram reply }) f link (made ++ past)) (sym is)
-      (subst (λ (r : Reply). Holds config at (record slirp { associations = moved_last (sent_from (record { 0 = errand.datagram.mac }) slirp.moment) socket slirp.associations; pending = told_by slirp errand.datagram r }) f link (made ++ past)) (sym sends.2)
-      (subst (λ (m : List Entry). Holds config at (record slirp { associations = moved_last (sent_from (record { 0 = errand.datagram.mac }) slirp.moment) socket slirp.associations; pending = told_by slirp errand.datagram (told sends.0) }) f link (m ++ past)) (sym sends.1)
+      (subst (λ (r : Reply). Holds config at (record slirp {
+        associations = moved_last (sent_from (record { 0 = errand.datagram.mac }) slirp.moment) socket slirp.associations;
+        pending = told_by slirp errand.datagram r;
+      }) f link (made ++ past)) (sym sends.2)
+      (subst (λ (m : List Entry). Holds config at (record slirp {
+        associations = moved_last (sent_from (record { 0 = errand.datagram.mac }) slirp.moment) socket slirp.associations;
+        pending = told_by slirp errand.datagram (told sends.0);
+      }) f link (m ++ past)) (sym sends.1)
       (sent_on_port slirp past socket errand (socket_among errand.datagram.from slirp.associations socket found) due sends.0 (subst AreAllowed sends.1 allowed).0))))
   relayed slirp past errand other next new reply made (ByNewSocket calls for found room opens is same) allowed holds =
       let all = parted calls (calls_for_room slirp.associations) (subst AreAllowed is allowed) in
@@ -154,11 +188,13 @@ module _ (config : Config) (at : Standing) (f : Flowing) (link : LinkState) wher
       let ready = roomed slirp past errand other slirp.associations room all.1 due in
       subst (λ (n : ℕ). Holds config at (record slirp { associations = new; pending = told_by slirp errand.datagram reply; number = n }) f link (made ++ past)) (sym same)
       (subst (λ (m : List Entry). Holds config at (record slirp { associations = new; pending = told_by slirp errand.datagram reply; number = slirp.number + 1 }) f link (m ++ past)) (sym is)
-      (subst (λ (h : List Entry). Holds config at (record slirp { associations = new; pending = told_by slirp errand.datagram reply; number = slirp.number + 1 }) f link h) (sym (append_assoc calls (calls_for_room slirp.associations) past))
+      (subst (λ (h : List Entry). Holds config at (record slirp { associations = new; pending = told_by slirp errand.datagram reply; number = slirp.number + 1 }) f link h)
+      (sym (append_assoc calls (calls_for_room slirp.associations) past))
       (opened_for (record slirp { associations = with_room slirp.associations }) (calls_for_room slirp.associations ++ past) errand other new reply calls opens all.0 ready)))
 
   -- those whose idle life was over were closed
-  pub ticked : (slirp : SlirpState) (past : List Entry) (new : List Association) (made : List Entry) → Ticks slirp.moment slirp.associations new made → AreAllowed made → Holds config at slirp f link past
+  pub ticked : (slirp : SlirpState) (past : List Entry) (new : List Association) (made : List Entry) → Ticks slirp.moment slirp.associations new made → AreAllowed made →
+      Holds config at slirp f link past
       → Holds config at (record slirp { associations = new }) f link (made ++ past)
   ticked slirp past new [] is allowed holds = subst (λ (l : List Association). Holds config at (record slirp { associations = l }) f link past) (sym is) holds
   ticked slirp past new (Close n ∷ made) ticks allowed holds =
@@ -169,7 +205,8 @@ module _ (config : Config) (at : Standing) (f : Flowing) (link : LinkState) wher
 module _ (config : Config) (count : ℕ) (wants : List Want) (item : Want) (items : List Want) (f : Flowing) (link : LinkState) where
   -- on the socket of a port of the host that is given to a guest, or of an association
   pub heard : (slirp : SlirpState) (past : List Entry) (socket room : ℕ) (into : List ℕ) (new : List Association) (reply : Reply) (made : List Entry)
-      → is_to_read (Udp socket) (wanted_of wants item) ≡ true → room ≡ 65507 → slirp.pending ≡ [] → link.tail ≡ [] → Hears (guest_on slirp.forwards socket) slirp.moment socket room into slirp.associations new reply made → AreAllowed made
+      → is_to_read (Udp socket) (wanted_of wants item) ≡ true → room ≡ 65507 → slirp.pending ≡ [] → link.tail ≡ [] → Hears
+      (guest_on slirp.forwards socket) slirp.moment socket room into slirp.associations new reply made → AreAllowed made
       → Holds config (standing count wants (item ∷ items)) slirp f link past
       → Holds config (standing count wants items) (record slirp { associations = new; pending = owed_by slirp into reply }) f link (made ++ past)
   heard slirp past socket room into new reply made reported whole none out (OnForward guest for receives is) allowed holds =
@@ -177,16 +214,21 @@ module _ (config : Config) (count : ℕ) (wants : List Want) (item : Want) (item
       subst (λ (l : List Association). Holds config (standing count wants items) (record slirp { associations = l; pending = owed_by slirp into reply }) f link (made ++ past)) (sym is)
       (subst (λ (r : Reply). Holds config (standing count wants items) (record slirp { pending = owed_by slirp into r }) f link (made ++ past)) (sym receives.2)
       (subst (λ (m : List Entry). Holds config (standing count wants items) (record slirp { pending = owed_by slirp into (passed receives.0 guest None) }) f link (m ++ past)) (sym receives.1)
-      (subst (λ (g : Endpoint). Holds config (standing count wants items) (record slirp { pending = owed_by slirp into (passed receives.0 g None) }) f link (UdpRecv socket room receives.0 (filled_got receives.0 into) ∷ past)) place.3
+      (subst (λ (g : Endpoint). Holds config (standing count wants items) (record slirp { pending = owed_by slirp into (passed receives.0 g None) }) f link
+      (UdpRecv socket room receives.0 (filled_got receives.0 into) ∷ past)) place.3
       (by place.0 place.1 place.2 receives.0 (subst AreAllowed receives.1 allowed).0))))
     where
       by : (forward : AForward) → slice_get config.forwards socket ≡ Some forward → forward.proto ≡ ByUdp → (answer : Got) → Allowed (UdpRecv socket room answer (filled_got answer into))
-          → Holds config (standing count wants items) (record slirp { pending = owed_by slirp into (passed answer forward.guest None) }) f link (UdpRecv socket room answer (filled_got answer into) ∷ past)
-      by forward at udp (From peer size) allowed = after_forward config count wants item items slirp f link past socket room reported whole none out holds forward at udp peer size (take size into) allowed
+          → Holds config (standing count wants items) (record slirp { pending = owed_by slirp into (passed answer forward.guest None) }) f link
+          (UdpRecv socket room answer (filled_got answer into) ∷ past)
+      by forward at udp (From peer size) allowed = after_forward config count wants item items slirp f link past socket room reported whole none out holds forward at udp peer size
+          (take size into) allowed
       by forward at udp GotNotYet allowed =
-          after_not_yet config count wants item items slirp f link past socket room reported whole none out holds (relays_forward config count wants item items slirp f link past socket room reported whole none out holds forward at udp) (filled_got GotNotYet into) allowed
+          after_not_yet config count wants item items slirp f link past socket room reported whole none out holds
+          (relays_forward config count wants item items slirp f link past socket room reported whole none out holds forward at udp) (filled_got GotNotYet into) allowed
       by forward at udp GotFailed allowed =
-          after_no_hearing config count wants item items slirp f link past socket room reported whole none out holds (relays_forward config count wants item items slirp f link past socket room reported whole none out holds forward at udp) (filled_got GotFailed into) allowed
+          after_no_hearing config count wants item items slirp f link past socket room reported whole none out holds
+          (relays_forward config count wants item items slirp f link past socket room reported whole none out holds forward at udp) (filled_got GotFailed into) allowed
   heard slirp past socket room into new reply made reported whole none out (OnNone for found no_call is replies) allowed holds =
       subst (λ (l : List Association). Holds config (standing count wants items) (record slirp { associations = l; pending = owed_by slirp into reply }) f link (made ++ past)) (sym is)
       (subst (λ (r : Reply). Holds config (standing count wants items) (record slirp { pending = owed_by slirp into r }) f link (made ++ past)) (sym replies)
@@ -194,17 +236,30 @@ module _ (config : Config) (count : ℕ) (wants : List Want) (item : Want) (item
       (passes_over config count wants item items slirp f link past holds)))
   heard slirp past socket room into new reply made reported whole none out (OnAssociation a for found receives is) allowed holds =
       subst (λ (l : List Association). Holds config (standing count wants items) (record slirp { associations = l; pending = owed_by slirp into reply }) f link (made ++ past)) (sym is)
-      (subst (λ (r : Reply). Holds config (standing count wants items) (record slirp { associations = with_reply r slirp.moment socket slirp.associations; pending = owed_by slirp into r }) f link (made ++ past)) (sym receives.2)
-      (subst (λ (m : List Entry). Holds config (standing count wants items) (record slirp { associations = with_reply (passed receives.0 a.guest (Some a.mac)) slirp.moment socket slirp.associations; pending = owed_by slirp into (passed receives.0 a.guest (Some a.mac)) }) f link (m ++ past)) (sym receives.1)
+      (subst (λ (r : Reply). Holds config (standing count wants items)
+      (record slirp { associations = with_reply r slirp.moment socket slirp.associations; pending = owed_by slirp into r }) f link (made ++ past)) (sym receives.2)
+      (subst (λ (m : List Entry). Holds config (standing count wants items)
+      (record slirp {
+        associations = with_reply (passed receives.0 a.guest (Some a.mac)) slirp.moment socket slirp.associations;
+        pending = owed_by slirp into
+            (passed receives.0 a.guest (Some a.mac));
+      }) f link (m ++ past)) (sym receives.1)
       (by receives.0 (subst AreAllowed receives.1 allowed).0)))
     where
-      by : (answer : Got) → Allowed (UdpRecv socket room answer (filled_got answer into)) → Holds config (standing count wants items) (record slirp { associations = with_reply (passed answer a.guest (Some a.mac)) slirp.moment socket slirp.associations; pending = owed_by slirp into (passed answer a.guest (Some a.mac)) }) f link
+      by : (answer : Got) → Allowed (UdpRecv socket room answer (filled_got answer into)) → Holds config (standing count wants items)
+          (record slirp {
+            associations = with_reply (passed answer a.guest (Some a.mac)) slirp.moment socket slirp.associations;
+            pending = owed_by slirp into
+                (passed answer a.guest (Some a.mac));
+          }) f link
           (UdpRecv socket room answer (filled_got answer into) ∷ past)
       by (From peer size) allowed = after_hearing config count wants item items slirp f link past socket room reported whole none out holds a found peer size (take size into) allowed
       by GotNotYet allowed =
-          after_not_yet config count wants item items slirp f link past socket room reported whole none out holds (relays_association config count wants item items slirp f link past socket room reported whole none out holds a found) (filled_got GotNotYet into) allowed
+          after_not_yet config count wants item items slirp f link past socket room reported whole none out holds
+          (relays_association config count wants item items slirp f link past socket room reported whole none out holds a found) (filled_got GotNotYet into) allowed
       by GotFailed allowed =
-          after_no_hearing config count wants item items slirp f link past socket room reported whole none out holds (relays_association config count wants item items slirp f link past socket room reported whole none out holds a found) (filled_got GotFailed into) allowed
+          after_no_hearing config count wants item items slirp f link past socket room reported whole none out holds
+          (relays_association config count wants item items slirp f link past socket room reported whole none out holds a found) (filled_got GotFailed into) allowed
 
 -- their numbers rise
 record Ticked (now : ℕ) (list : List Association) (made : List Entry) : Type 0 where
@@ -243,12 +298,15 @@ below_room bound (oldest ∷ list) below = by (nat_le most_associations (length 
     by true = below_without bound oldest.number (oldest ∷ list) below
     by false = below
 
-below_opened : (bind : ℕ) (d : Errand) (now number : ℕ) (old new : List Association) (reply : Reply) (calls : List Entry) → OpensFor bind (outbound_of d) now number old new reply calls → AreBelow number old → AreBelow (number + 1) new
+below_opened : (bind : ℕ) (d : Errand) (now number : ℕ) (old new : List Association) (reply : Reply) (calls : List Entry) → OpensFor bind
+    (outbound_of d) now number old new reply calls → AreBelow number old → AreBelow (number + 1) new
 below_opened bind d now number old new reply calls (Opens answer made is replies) below =
-    subst (AreBelow (number + 1)) (sym is) (below_moved (number + 1) number (sent_from (record { 0 = d.datagram.mac }) now) (λ a. refl) _ (below_last number old (opened (outbound_of d) number now) below refl))
+    subst (AreBelow (number + 1)) (sym is) (below_moved (number + 1) number (sent_from (record { 0 = d.datagram.mac }) now) (λ a. refl) _
+    (below_last number old (opened (outbound_of d) number now) below refl))
 below_opened bind d now number old new reply calls (OpensNone made is replies) below = subst (AreBelow (number + 1)) (sym is) (below_up number old below)
 
-pub below_relayed : (bind : ℕ) (forward : Option ℕ) (d : Errand) (now number next : ℕ) (old new : List Association) (reply : Reply) (made : List Entry) → Relays bind forward (outbound_of d) now number next old new reply made → AreBelow number old → AreBelow next new
+pub below_relayed : (bind : ℕ) (forward : Option ℕ) (d : Errand) (now number next : ℕ) (old new : List Association) (reply : Reply) (made : List Entry) → Relays bind forward
+    (outbound_of d) now number next old new reply made → AreBelow number old → AreBelow next new
 below_relayed bind forward d now number next old new reply made (ByForward socket for sends is same) below = subst (λ n. AreBelow n new) (sym same) (subst (AreBelow number) (sym is) below)
 below_relayed bind forward d now number next old new reply made (BySocket socket for found sends is same) below =
     subst (λ n. AreBelow n new) (sym same) (subst (AreBelow number) (sym is) (below_moved number socket (sent_from (record { 0 = d.datagram.mac }) now) (λ a. refl) old below))
@@ -256,13 +314,15 @@ below_relayed bind forward d now number next old new reply made (ByNewSocket cal
     subst (λ n. AreBelow n new) (sym same) (below_opened bind d now number (with_room old) new reply calls opens (below_room number old below))
 
 -- a number is used at most
-pub counts_up : (bind : ℕ) (forward : Option ℕ) (d : Errand) (now number next : ℕ) (old new : List Association) (reply : Reply) (made : List Entry) → Relays bind forward (outbound_of d) now number next old new reply made → next ≤ number + 1
+pub counts_up : (bind : ℕ) (forward : Option ℕ) (d : Errand) (now number next : ℕ) (old new : List Association) (reply : Reply) (made : List Entry) → Relays bind forward
+    (outbound_of d) now number next old new reply made → next ≤ number + 1
 counts_up bind forward d now number next old new reply made (ByForward socket for sends is same) = omega (arith, same)
 counts_up bind forward d now number next old new reply made (BySocket socket for found sends is same) = omega (arith, same)
 counts_up bind forward d now number next old new reply made (ByNewSocket calls for found room opens is same) = omega (arith, same)
 
 -- and none is given back
-pub draws_up : (bind : ℕ) (forward : Option ℕ) (d : Errand) (now number next : ℕ) (old new : List Association) (reply : Reply) (made : List Entry) → Relays bind forward (outbound_of d) now number next old new reply made → number ≤ next
+pub draws_up : (bind : ℕ) (forward : Option ℕ) (d : Errand) (now number next : ℕ) (old new : List Association) (reply : Reply) (made : List Entry) → Relays bind forward
+    (outbound_of d) now number next old new reply made → number ≤ next
 draws_up bind forward d now number next old new reply made (ByForward socket for sends is same) = omega (arith, same)
 draws_up bind forward d now number next old new reply made (BySocket socket for found sends is same) = omega (arith, same)
 draws_up bind forward d now number next old new reply made (ByNewSocket calls for found room opens is same) = omega (arith, same)
@@ -273,12 +333,14 @@ below_reply bound now socket list Reply.Nothing below = below
 below_reply bound now socket list (Reply.Datagram count from to mac) below = below_moved bound socket (heard_at now) (λ a. refl) list below
 below_reply bound now socket list (Reply.Unreachable code) below = below
 
-pub below_heard : (bound : ℕ) (forward : Option Endpoint) (now socket room : ℕ) (into : List ℕ) (old new : List Association) (reply : Reply) (made : List Entry) → Hears forward now socket room into old new reply made → AreBelow bound old → AreBelow bound new
+pub below_heard : (bound : ℕ) (forward : Option Endpoint) (now socket room : ℕ) (into : List ℕ) (old new : List Association) (reply : Reply) (made : List Entry) →
+    Hears forward now socket room into old new reply made → AreBelow bound old → AreBelow bound new
 below_heard bound forward now socket room into old new reply made (OnForward guest for receives is) below = subst (AreBelow bound) (sym is) below
 below_heard bound forward now socket room into old new reply made (OnAssociation a for found receives is) below = subst (AreBelow bound) (sym is) (below_reply bound now socket old reply below)
 below_heard bound forward now socket room into old new reply made (OnNone for found none is replies) below = subst (AreBelow bound) (sym is) below
 
-pub receives_on : (forward : Option Endpoint) (now socket room : ℕ) (into : List ℕ) (old new : List Association) (reply : Reply) (made : List Entry) → (is_some forward || is_among socket (numbers old)) ≡ true
+pub receives_on : (forward : Option Endpoint) (now socket room : ℕ) (into : List ℕ) (old new : List Association) (reply : Reply) (made : List Entry) →
+    (is_some forward || is_among socket (numbers old)) ≡ true
     → Hears forward now socket room into old new reply made → ReceivesOn socket made
 receives_on forward now socket room into old new reply made held (OnForward guest for receives is) = (room, receives.0, filled_got receives.0 into, false, receives.1)
 receives_on forward now socket room into old new reply made held (OnAssociation b for found receives is) = (room, receives.0, filled_got receives.0 into, false, receives.1)
@@ -298,9 +360,11 @@ below_first bound true old new made closes below = subst (AreBelow bound) (sym c
 below_first bound false old new made closes below = subst (AreBelow bound) (sym closes.2) below
 
 -- what isn't heard on the socket of a question is on that of a port of the host, or of an association
-pub heard_by_peer : (number : ℕ) (slirp : SlirpState) → is_some (question_numbered number slirp.questions) ≡ false → is_heard number slirp ≡ true → (is_some (guest_on slirp.forwards number) || is_among number (numbers slirp.associations)) ≡ true
+pub heard_by_peer : (number : ℕ) (slirp : SlirpState) → is_some (question_numbered number slirp.questions) ≡ false → is_heard number slirp ≡ true →
+    (is_some (guest_on slirp.forwards number) || is_among number (numbers slirp.associations)) ≡ true
 heard_by_peer number slirp unasked is =
-    by (is_some (guest_on slirp.forwards number)) (is_among number (numbers slirp.associations)) (is_among number (question_numbers slirp.questions)) (sym (numbered_is number slirp.questions) ∙ unasked)
+    by (is_some (guest_on slirp.forwards number)) (is_among number (numbers slirp.associations)) (is_among number (question_numbers slirp.questions))
+    (sym (numbered_is number slirp.questions) ∙ unasked)
     (ap (λ b. is_some (guest_on slirp.forwards number) || b) (sym (among_both number (numbers slirp.associations) (question_numbers slirp.questions))) ∙ is)
   where
     by : (a b c : Bool) → c ≡ false → (a || (b || c)) ≡ true → (a || b) ≡ true

@@ -1,5 +1,6 @@
 -- What the core waits for is all that can be taken, and where the link isn't blocked all that is owed is out.
-use Rattle.std.proofs.Common.{◌≡◌, ℕ, zero, suc, ◌+◌, ◌<◌, ◌≤◌, ◌==◌, ◌&&◌, ◌||◌, not, nat_lt, Bool, true, false, is_some, List, [], ◌∷◌, ◌++◌, All, filter, length, slice_get, IsPermutation, Option, None, Some, option_map, inl, inr, refl, sym, ap, ◌∙◌, subst, arith, if◌then◌else◌}
+use Rattle.std.proofs.Common.{◌≡◌, ℕ, zero, suc, ◌+◌, ◌<◌, ◌≤◌, ◌==◌, ◌&&◌, ◌||◌, not, nat_lt, Bool, true, false, is_some, List, [], ◌∷◌, ◌++◌, All, filter, length, slice_get}
+use Rattle.std.proofs.Common.{IsPermutation, Option, None, Some, option_map, inl, inr, refl, sym, ap, ◌∙◌, subst, arith, if◌then◌else◌}
 use Rattle.std.proofs.lemmas.Bool.Decides.{nat_tests}
 use Rattle.std.proofs.lemmas.List.Sorted.{list_any-IsPermutation}
 use Rattle.std.proofs.lemmas.Map.Keys.{IsDistinct-IsPermutation}
@@ -96,14 +97,16 @@ cut : (a b : Bool) → ((a && false) && b) ≡ (a && false)
 cut true b = refl
 cut false b = refl
 
-module _ (config : Config) (slirp : SlirpState) (link : LinkState) (past : List Entry) (at : (serving config past).now ≡ slirp.moment) (none_again : slirp.pending ≡ [] → next_again slirp.moment slirp.transfers ≡ None) where
+module _ (config : Config) (slirp : SlirpState) (link : LinkState) (past : List Entry) (at : (serving config past).now ≡ slirp.moment)
+    (none_again : slirp.pending ≡ [] → next_again slirp.moment slirp.transfers ≡ None) where
   abbrev more : Option Said
   more = may_go_again (serving config past)
 
   abbrev tail_is : Bool
   tail_is = length link.tail == 0
 
-  by_left : (frames : List (List ℕ)) → slirp.pending ≡ frames → OfLeft config true slirp past → (tail_is && is_out (left config past)) && not (is_some more) ≡ (tail_is && not (nat_lt 0 (length slirp.pending)))
+  by_left : (frames : List (List ℕ)) → slirp.pending ≡ frames → OfLeft config true slirp past → (tail_is && is_out (left config past)) && not (is_some more) ≡
+      (tail_is && not (nat_lt 0 (length slirp.pending)))
   by_left [] is l =
       let nothing : next_again (serving config past).now (serving config past).files.transfers ≡ None =
       sym (next_left (serving config past).now (serving config past).files.transfers) ∙ (λ i. next_again (at i) (sym l.files i)) ∙ none_again is in
@@ -111,7 +114,8 @@ module _ (config : Config) (slirp : SlirpState) (link : LinkState) (past : List 
       (λ i. (tail_is && is_out ((l.left ∙ is) i)) && not (is_some (none i))) ∙ all_and tail_is ∙ ap (λ (frames : List (List ℕ)). tail_is && not (nat_lt 0 (length frames))) (sym is)
   by_left (frame ∷ frames) is l =
       let some : not (nat_lt 0 (length (frame ∷ frames))) ≡ false = grind (arith, nat_tests) in
-      ap (λ (fs : List (List ℕ)). (tail_is && is_out fs) && not (is_some more)) (l.left ∙ is) ∙ cut tail_is (not (is_some more)) ∙ sym (ap (λ (fs : List (List ℕ)). tail_is && not (nat_lt 0 (length fs))) is ∙ ap (λ b. tail_is && b) some)
+      ap (λ (fs : List (List ℕ)). (tail_is && is_out fs) && not (is_some more)) (l.left ∙ is) ∙ cut tail_is (not (is_some more)) ∙ sym
+      (ap (λ (fs : List (List ℕ)). tail_is && not (nat_lt 0 (length fs))) is ∙ ap (λ b. tail_is && b) some)
 
   by_file : OfFile config true slirp past → (tail_is && is_out (left config past)) && not (is_some more) ≡ (tail_is && not (nat_lt 0 (length slirp.pending)))
   by_file f =
@@ -144,7 +148,8 @@ none_of : (n : ℕ) (ns : List ℕ) → is_among n ns ≡ false → AllByRecursi
 none_of n [] is = tt
 none_of n (m ∷ ns) is = by (n == m) refl is (none_of n ns)
   where
-    by : (b : Bool) → (n == m) ≡ b → (b || is_among n ns) ≡ false → (is_among n ns ≡ false → AllByRecursion (λ k. same_number n k ≡ false) ns) → (same_number n m ≡ false) × AllByRecursion (λ k. same_number n k ≡ false) ns
+    by : (b : Bool) → (n == m) ≡ b → (b || is_among n ns) ≡ false → (is_among n ns ≡ false → AllByRecursion (λ k. same_number n k ≡ false) ns) →
+        (same_number n m ≡ false) × AllByRecursion (λ k. same_number n k ≡ false) ns
     by true here one rest = cc
     by false other one rest = (other, rest one)
 
@@ -216,7 +221,8 @@ over_given : (p : Proto) (fs : List Forward) (n k : ℕ) → n < k → AreOver n
 over_given p [] n k less = tt
 over_given p (f ∷ fs) n k less = by (same_proto p f.proto) (over_given p fs n (k + 1) (omega (arith, less)))
   where
-    by : (b : Bool) → AreOver n (sockets_over p (with_numbers (k + 1) fs)) → AreOver n (forward_sockets (if b then (f, k) ∷ filter (is_over p) (with_numbers (k + 1) fs) else filter (is_over p) (with_numbers (k + 1) fs)))
+    by : (b : Bool) → AreOver n (sockets_over p (with_numbers (k + 1) fs)) → AreOver n
+        (forward_sockets (if b then (f, k) ∷ filter (is_over p) (with_numbers (k + 1) fs) else filter (is_over p) (with_numbers (k + 1) fs)))
     by true rest = (less, rest)
     by false rest = rest
 
@@ -224,7 +230,8 @@ rise_given : (p : Proto) (fs : List Forward) (k : ℕ) → DoRise (sockets_over 
 rise_given p [] k = tt
 rise_given p (f ∷ fs) k = by (same_proto p f.proto) (rise_given p fs (k + 1))
   where
-    by : (b : Bool) → DoRise (sockets_over p (with_numbers (k + 1) fs)) → DoRise (forward_sockets (if b then (f, k) ∷ filter (is_over p) (with_numbers (k + 1) fs) else filter (is_over p) (with_numbers (k + 1) fs)))
+    by : (b : Bool) → DoRise (sockets_over p (with_numbers (k + 1) fs)) → DoRise
+        (forward_sockets (if b then (f, k) ∷ filter (is_over p) (with_numbers (k + 1) fs) else filter (is_over p) (with_numbers (k + 1) fs)))
     by true rest = (over_given p fs k (k + 1) (omega arith), rest)
     by false rest = rest
 
@@ -256,7 +263,8 @@ among_over p (f ∷ fs) (suc n) k = by (same_proto p f.proto) ∙ subst (λ m. i
     next : (k + 1) + n ≡ k + suc n
     next = omega arith
 
-    by : (b : Bool) → is_among (k + suc n) (forward_sockets (if b then (f, k) ∷ filter (is_over p) (with_numbers (k + 1) fs) else filter (is_over p) (with_numbers (k + 1) fs))) ≡ is_among (k + suc n) (sockets_over p (with_numbers (k + 1) fs))
+    by : (b : Bool) → is_among (k + suc n) (forward_sockets (if b then (f, k) ∷ filter (is_over p) (with_numbers (k + 1) fs) else filter (is_over p) (with_numbers (k + 1) fs))) ≡
+        is_among (k + suc n) (sockets_over p (with_numbers (k + 1) fs))
     by true = let other : ((k + suc n) == k) ≡ false = grind (arith, nat_tests) in ap (λ b. b || is_among (k + suc n) (sockets_over p (with_numbers (k + 1) fs))) other
     by false = refl
 
@@ -268,12 +276,14 @@ among_all : (p : Proto) (os : List Opened) (n : ℕ) → is_among n (sockets_ove
 among_all p [] n is = cc
 among_all p ((f, k) ∷ os) n is = by (same_proto p f.proto) is (among_all p os n)
   where
-    by : (b : Bool) → is_among n (forward_sockets (if b then (f, k) ∷ filter (is_over p) os else filter (is_over p) os)) ≡ true → (is_among n (sockets_over p os) ≡ true → is_among n (forward_sockets os) ≡ true)
+    by : (b : Bool) → is_among n (forward_sockets (if b then (f, k) ∷ filter (is_over p) os else filter (is_over p) os)) ≡ true →
+        (is_among n (sockets_over p os) ≡ true → is_among n (forward_sockets os) ≡ true)
         → ((n == k) || is_among n (forward_sockets os)) ≡ true
     by false one rest = behind_it n k (forward_sockets os) (rest one)
     by true one rest = head (n == k) one rest
       where
-        head : (t : Bool) → (t || is_among n (sockets_over p os)) ≡ true → (is_among n (sockets_over p os) ≡ true → is_among n (forward_sockets os) ≡ true) → (t || is_among n (forward_sockets os)) ≡ true
+        head : (t : Bool) → (t || is_among n (sockets_over p os)) ≡ true → (is_among n (sockets_over p os) ≡ true → is_among n (forward_sockets os) ≡ true) →
+            (t || is_among n (forward_sockets os)) ≡ true
         head true two others = refl
         head false two others = others two
 
@@ -332,7 +342,8 @@ module _ (config : Config) (at : Standing) (slirp : SlirpState) (f : Flowing) (l
   has = given_in config at Settled None slirp f link past holds
 
   -- a port of the host with this protocol is open where the settings have it
-  module _ (p : Proto) (test : Option Kind → Bool) (tells : (q : Proto) → test (Some (given_kind q)) ≡ same_proto p q) (only : (k : Option Kind) → test k ≡ true → (is_listener k || is_forward k) ≡ true) where
+  module _ (p : Proto) (test : Option Kind → Bool) (tells : (q : Proto) → test (Some (given_kind q)) ≡ same_proto p q)
+      (only : (k : Option Kind) → test k ≡ true → (is_listener k || is_forward k) ≡ true) where
     at_place : (n : ℕ) (o : Option Forward) → slice_get config.forwards n ≡ o → (is_among n (open_sockets past) && test (kind_of n past)) ≡ is_at p o
     at_place n None none = by (is_among n (open_sockets past)) (test (kind_of n past)) refl refl
       where
@@ -395,13 +406,15 @@ module _ (config : Config) (at : Standing) (slirp : SlirpState) (f : Flowing) (l
       rise_both (sockets_over Udp slirp.forwards) sockets
       (subst (λ l. DoRise (sockets_over Udp l)) (sym holds.forwards) (rise_given Udp config.forwards 0))
       (rise_of sockets (climbs sockets rising) (IsDistinct-IsPermutation same_number flips (carriers (holders_of slirp)) sockets moved all_differ))
-      (λ n m one other. (are_open config at Settled None slirp f link past holds).first n m (among_all Udp slirp.forwards n one) (inl (among_moved m (carriers (holders_of slirp)) sockets moved ∙ other)))
+      (λ n m one other. (are_open config at Settled None slirp f link past holds).first n m (among_all Udp slirp.forwards n one)
+      (inl (among_moved m (carriers (holders_of slirp)) sockets moved ∙ other)))
     where
       all_differ : IsDistinct same_number (carriers (holders_of slirp))
       all_differ =
           subst (λ l. IsDistinct same_number (l ++ question_numbers slirp.questions)) (ap numbers holds.relayed.list)
           (subst (λ l. IsDistinct same_number (numbers (associations config past) ++ question_numbers l)) holds.relayed.questions
-          (differ_both (numbers (associations config past)) (question_numbers (questions config past)) (used_differ past (numbers (associations config past)) (rising_use past (associations config past) (joined config past holds.lawful).order))
+          (differ_both (numbers (associations config past)) (question_numbers (questions config past)) (used_differ past (numbers (associations config past))
+          (rising_use past (associations config past) (joined config past holds.lawful).order))
           (used_differ past (question_numbers (questions config past)) (are_waiting config past holds.lawful).order) (two_apart config past holds.lawful)))
 
   rise_listeners : DoRise (listeners_of slirp)
@@ -422,7 +435,8 @@ closed_waits story now unused = record {
   connects = subst (λ (b : Bool). AreAhead now (moment_if b (opened_at story + 75000))) (sym (no_connecting (is_accepted story || has_connected story) (is_closed story) (not_in_use story unused))) tt;
 }
 
-each_waits : (config : Config) (at : Standing) (slirp : SlirpState) (link : LinkState) (past : List Entry) → Holds config at slirp (flowing true slirp.flows) link past → AreInTime slirp.moment slirp.flows.flows.slots → EachFlow config past (λ f. MayWait f.story (moment past))
+each_waits : (config : Config) (at : Standing) (slirp : SlirpState) (link : LinkState) (past : List Entry) → Holds config at slirp (flowing true slirp.flows) link past →
+    AreInTime slirp.moment slirp.flows.flows.slots → EachFlow config past (λ f. MayWait f.story (moment past))
 each_waits config at slirp link past holds early =
     each number_of (Following config slirp.moment) slirp.flows.flows.table slirp.flows.flows.slots (next_number past) (book config past).flows (rests_at true config past) holds.flows.holds.seats
     (λ story. MayWait story (moment past))
@@ -431,17 +445,27 @@ each_waits config at slirp link past holds early =
     (λ story unused. closed_waits story (moment past) unused)
 
 -- each flow is settled, where none owes a frame and none has a timer that is due
-each_settled : (config : Config) (at : Standing) (slirp : SlirpState) (link : LinkState) (past : List Entry) → Holds config at slirp (flowing true slirp.flows) link past → AreClear slirp.known slirp.flows.flows → ((n : ℕ) → IsInTime slirp.moment slirp.flows.flows.slots n) → EachFlow config past (IsSettledNow config past)
+each_settled : (config : Config) (at : Standing) (slirp : SlirpState) (link : LinkState) (past : List Entry) → Holds config at slirp (flowing true slirp.flows) link past →
+    AreClear slirp.known slirp.flows.flows → ((n : ℕ) → IsInTime slirp.moment slirp.flows.flows.slots n) → EachFlow config past (IsSettledNow config past)
 each_settled config at slirp link past holds are early n f found =
     let known = guest_is_known (scene config past) f in
     subst (λ (m : ℕ). IsSettled (flow_settings config) f.story known (rests_among (filter (is_young m) (book config past).rests) (Some f)) m) (sym holds.clock.moment)
-    (settled_in_time (IsInTime slirp.moment slirp.flows.flows.slots n) (flow_settings config) f.story known (rests_among (filter (is_young slirp.moment) (book config past).rests) (Some f)) slirp.moment
-    (are_settled config slirp.moment slirp.flows.flows past holds.clock.moment holds.flows.holds are.slots (subst (λ l. AreTold l slirp.flows.flows.slots) (sym holds.guests.known) are.told) are.clear n f found)
+    (settled_in_time (IsInTime slirp.moment slirp.flows.flows.slots n) (flow_settings config) f.story known (rests_among (filter (is_young slirp.moment) (book config past).rests)
+    (Some f)) slirp.moment
+    (are_settled config slirp.moment slirp.flows.flows past holds.clock.moment holds.flows.holds are.slots (subst (λ l. AreTold l slirp.flows.flows.slots)
+    (sym holds.guests.known) are.told) are.clear n f found)
     (early n))
 
--- A wait for what the core waits for, as long as it waits, is as it must be, where each report of the last wait is served, and unless the link is blocked all that is owed is out, no flow owes a frame and none has a timer that is due; no socket for datagrams is idle for long, no fragments are to be dropped, and the host of no flow had its time to connect.
-pub must_wait : (config : Config) (at : Standing) (slirp : SlirpState) (link : LinkState) (past : List Entry) (wants : List Want) (timeout : Option ℕ) → Holds config at slirp (flowing true slirp.flows) link past → (slirp.pending ≡ [] → next_again slirp.moment slirp.transfers ≡ None)
-    → (link.blocked ≡ false → is_settled slirp link ≡ true) → All (λ a. is_idle_association slirp.moment a ≡ false) slirp.associations → All (λ q. is_idle_question slirp.moment q ≡ false) slirp.questions → AreFresh slirp.moment slirp.fragments → AreInTime slirp.moment slirp.flows.flows.slots → (link.blocked ≡ false → AreClear slirp.known slirp.flows.flows × ((n : ℕ) → IsInTime slirp.moment slirp.flows.flows.slots n)) → ((held : List PartSet) → IsHeld slirp.fragments held → IsTimeout slirp link.blocked held timeout) → (of : WantsOf slirp link wants) → AreWaitedFor config past of.flows → AllServed config past → MustWait config past wants timeout
+-- A wait for what the core waits for, as long as it waits, is as it must be, where each report of the last wait is served, and unless the link is blocked all
+-- that is owed is out, no flow owes a frame and none has a timer that is due; no socket for datagrams is idle for long, no fragments are to be dropped, and the
+-- host of no flow had its time to connect.
+pub must_wait : (config : Config) (at : Standing) (slirp : SlirpState) (link : LinkState) (past : List Entry) (wants : List Want) (timeout : Option ℕ) → Holds config at slirp
+    (flowing true slirp.flows) link past → (slirp.pending ≡ [] → next_again slirp.moment slirp.transfers ≡ None)
+    → (link.blocked ≡ false → is_settled slirp link ≡ true) → All (λ a. is_idle_association slirp.moment a ≡ false) slirp.associations → All
+    (λ q. is_idle_question slirp.moment q ≡ false) slirp.questions → AreFresh slirp.moment slirp.fragments → AreInTime slirp.moment slirp.flows.flows.slots →
+    (link.blocked ≡ false → AreClear slirp.known slirp.flows.flows × ((n : ℕ) → IsInTime slirp.moment slirp.flows.flows.slots n)) →
+    ((held : List PartSet) → IsHeld slirp.fragments held → IsTimeout slirp link.blocked held timeout) → (of : WantsOf slirp link wants) → AreWaitedFor config past of.flows →
+    AllServed config past → MustWait config past wants timeout
 must_wait config at slirp link past wants timeout holds none_again quiet young recent fresh early calm times of are served = record {
   waits_for = subst (λ (ws : List Want). WaitsFor config past ws) (sym of.is)
       (all_waited_for config past (is_settled slirp link) link.blocked (listeners_of slirp) (sockets_over Udp slirp.forwards ++ of.sockets) of.flows holds.keeps.blocked sent_is quiet

@@ -1,5 +1,6 @@
 -- The core waits no longer than the record allows, and is woken for nothing else than what the record asks for.
-use Rattle.std.proofs.Common.{◌≡◌, ℕ, zero, suc, ◌+◌, ◌-◌, ◌<◌, ◌≤◌, ◌&&◌, ◌||◌, not, cond, min, nat_le, nat_lt, Bool, true, false, is_some, List, [], ◌∷◌, ◌++◌, All, Any, filter, map, slice_get, Option, Some, None, option_map, inl, inr, ◌⊎◌, refl, sym, ap, ◌∙◌, subst, arith}
+use Rattle.std.proofs.Common.{◌≡◌, ℕ, zero, suc, ◌+◌, ◌-◌, ◌<◌, ◌≤◌, ◌&&◌, ◌||◌, not, cond, min, nat_le, nat_lt, Bool, true, false, is_some, List, [], ◌∷◌, ◌++◌, All, Any, filter, map}
+use Rattle.std.proofs.Common.{slice_get, Option, Some, None, option_map, inl, inr, ◌⊎◌, refl, sym, ap, ◌∙◌, subst, arith}
 use Rattle.std.proofs.lemmas.Bool.Decides.{nat_tests}
 use Rattle.world_face.specs.Journal.{Entry}
 use Rattle.world_face.specs.Frames.{is_blocked}
@@ -115,10 +116,18 @@ by_next now (m ∷ ms) is = ((let low = is.0 in omega (arith, low)), by_next now
 
 -- ---- what flows are told the time for
 
-module _ (config : Config) (now : ℕ) (blocked : Bool) (parts : List (Option Splice)) (past : List Entry) (due time : Option ℕ) (left : time ≡ option_map (λ at. at - now) due) (for_some : IsForSome config past due) where
+module _ (config : Config) (now : ℕ) (blocked : Bool) (parts : List (Option Splice)) (past : List Entry) (due time : Option ℕ) (left : time ≡ option_map (λ at. at - now) due)
+    (for_some : IsForSome config past due) where
   -- what is due first suits them
   pub suits_due : IsInTimeFor config parts past due → (RestOnce config past → IsBy due (rest_ends config past)) → SuitsFlows config now blocked parts past time
-  suits_due in_time rests = record { due = due; left = left; connects = λ ahead. in_time.connects; resends = λ free clear. in_time.resends clear; rests = λ once ahead. rests once; for_some = for_some }
+  suits_due in_time rests = record {
+    due = due;
+    left = left;
+    connects = λ ahead. in_time.connects;
+    resends = λ free clear. in_time.resends clear;
+    rests = λ once ahead. rests once;
+    for_some = for_some;
+  }
 
   all_after : (ms : List ℕ) → AreAhead now ms → filter (nat_lt now) ms ≡ ms
   all_after [] ahead = refl
@@ -209,7 +218,8 @@ all_out [] is = refl
 all_out (f ∷ frames) is = absurd cc
 
 -- the transfers that are kept are those that a wait leaves
-waited_files : (config : Config) (slirp : SlirpState) (past : List Entry) → (serving config past).now ≡ slirp.moment → (slirp.pending ≡ [] → next_again slirp.moment slirp.transfers ≡ None) → IsOwed config true slirp past
+waited_files : (config : Config) (slirp : SlirpState) (past : List Entry) → (serving config past).now ≡ slirp.moment →
+    (slirp.pending ≡ [] → next_again slirp.moment slirp.transfers ≡ None) → IsOwed config true slirp past
     → slirp.transfers ≡ ticked (serving config past).now (is_free (ledger config past)) (serving config past).files.transfers
 waited_files config slirp past at none_again (inl l) = by (is_free (ledger config past)) refl
   where
@@ -266,7 +276,8 @@ module _ (config : Config) (at : Standing) (slirp : SlirpState) (link : LinkStat
   connects_ahead early =
       flows_ahead connect_deadline
       (λ k p story here follows. (waited_is (flow_settings config) p story now follows (λ open_yet connecting. early k p (record { here = here; open_yet = open_yet }) connecting)).connects)
-      (λ story unused. subst (λ (b : Bool). AreAhead now (moment_if b (opened_at story + 75000))) (sym (no_connecting (is_accepted story || has_connected story) (is_closed story) (not_in_use story unused))) tt)
+      (λ story unused. subst (λ (b : Bool). AreAhead now (moment_if b (opened_at story + 75000)))
+      (sym (no_connecting (is_accepted story || has_connected story) (is_closed story) (not_in_use story unused))) tt)
 
   -- and what is under way of a flow in time that owes no frame goes again within a minute
   resends_ahead : AllClear slirp.flows.flows.slots → ((n : ℕ) → IsInTime now slirp.flows.flows.slots n) → AreAhead now (of_flows resend_deadline flows)
@@ -289,7 +300,8 @@ module _ (config : Config) (at : Standing) (slirp : SlirpState) (link : LinkStat
     -- the longest unused was used before now
     socket_used : (o : Association) (rest : List Association) → associations config past ≡ o ∷ rest → o.used ≤ now
     socket_used o rest is =
-        let mine = (says_of config past o.number (associations config past) o (joined config past holds.lawful).kept (ap (numbered o.number) is ∙ ap (λ (b : Bool). cond b (Some o) (numbered o.number rest)) (same o.number))).used in
+        let mine = (says_of config past o.number (associations config past) o (joined config past holds.lawful).kept
+        (ap (numbered o.number) is ∙ ap (λ (b : Bool). cond b (Some o) (numbered o.number rest)) (same o.number))).used in
         let low = used_by_now o.number past in
         let at_now = holds.clock.moment in
         omega (arith, mine, low, at_now)
@@ -306,7 +318,8 @@ module _ (config : Config) (at : Standing) (slirp : SlirpState) (link : LinkStat
     associations_until = by slirp.associations holds.relayed.list
       where
         by : (list : List Association) → associations config past ≡ list → IsBy (wait_end now (time_left now list)) (association_lives config past)
-        by [] is = none_lives None (λ n. used_at n past + idle_life) (associations_open config past) (λ n. same_sockets config past (associations config past) (joined config past holds.lawful) n ∙ ap (λ l. is_among n (numbers l)) is)
+        by [] is = none_lives None (λ n. used_at n past + idle_life) (associations_open config past) (λ n. same_sockets config past (associations config past)
+            (joined config past holds.lawful) n ∙ ap (λ l. is_among n (numbers l)) is)
         by (o ∷ rest) is = lives_by config past holds.lawful now all_young o rest is (socket_used o rest is)
 
     associations_from : IsFrom (wait_end now (time_left now slirp.associations)) (association_lives config past)
@@ -320,7 +333,8 @@ module _ (config : Config) (at : Standing) (slirp : SlirpState) (link : LinkStat
     questions_until = by slirp.questions holds.relayed.questions
       where
         by : (list : List Question) → questions config past ≡ list → IsBy (wait_end now (question_left now list)) (question_lives config past)
-        by [] is = none_lives None (λ n. used_at n past + question_life) (questions_open config past) (λ n. same_waiting config past (questions config past) (are_waiting config past holds.lawful) n ∙ ap (λ l. is_among n (question_numbers l)) is)
+        by [] is = none_lives None (λ n. used_at n past + question_life) (questions_open config past) (λ n. same_waiting config past (questions config past)
+            (are_waiting config past holds.lawful) n ∙ ap (λ l. is_among n (question_numbers l)) is)
         by (o ∷ rest) is = questions_by config past holds.lawful now all_recent o rest is (question_used o rest is)
 
     from_questions : IsFrom (wait_end now (question_left now slirp.questions)) (question_lives config past)
@@ -332,7 +346,8 @@ module _ (config : Config) (at : Standing) (slirp : SlirpState) (link : LinkStat
 
     -- ---- until, and from
 
-    module _ (timeout : Option ℕ) (times : (held : List PartSet) → IsHeld slirp.fragments held → IsTimeout slirp link.blocked held timeout) (none_again : slirp.pending ≡ [] → next_again slirp.moment slirp.transfers ≡ None) where
+    module _ (timeout : Option ℕ) (times : (held : List PartSet) → IsHeld slirp.fragments held → IsTimeout slirp link.blocked held timeout)
+        (none_again : slirp.pending ≡ [] → next_again slirp.moment slirp.transfers ≡ None) where
       abbrev held : List PartSet
       held = holds.guests.fragments.held
 
@@ -367,7 +382,8 @@ module _ (config : Config) (at : Standing) (slirp : SlirpState) (link : LinkStat
         where
           same_sets : held ≡ waiting config past
           same_sets =
-              sym (fresh_stay (moment past) held (subst (λ (n : ℕ). All (λ (s : PartSet). n < s.since + 60000) held) (sym holds.clock.moment) (fresh held holds.guests.fragments.is_held))) ∙ holds.guests.fragments.wait
+              sym (fresh_stay (moment past) held (subst (λ (n : ℕ). All (λ (s : PartSet). n < s.since + 60000) held) (sym holds.clock.moment)
+              (fresh held holds.guests.fragments.is_held))) ∙ holds.guests.fragments.wait
 
           by : (o : Option ℕ) → IsPartTime now held o → IsFrom (wait_end now o) (drops config past)
           by None none = tt
@@ -423,12 +439,15 @@ module _ (config : Config) (at : Standing) (slirp : SlirpState) (link : LinkStat
               by true is more = (grind (arith, nat_tests, is), more)
               by false is more = more
 
-      until_all : AreInTime now slirp.flows.flows.slots → (link.blocked ≡ false → AllClear slirp.flows.flows.slots × ((n : ℕ) → IsInTime now slirp.flows.flows.slots n)) → IsBy (wait_end now all) (deadlines config past)
+      until_all : AreInTime now slirp.flows.flows.slots → (link.blocked ≡ false → AllClear slirp.flows.flows.slots × ((n : ℕ) → IsInTime now slirp.flows.flows.slots n)) → IsBy
+          (wait_end now all) (deadlines config past)
       until_all early calm =
-          by_both (wait_end now all) (of_flows connect_deadline flows ++ lives config past ++ rest_ends config past) (unless_blocked (is_blocked past) (of_flows resend_deadline flows ++ file_alarms config past))
+          by_both (wait_end now all) (of_flows connect_deadline flows ++ lives config past ++ rest_ends config past)
+          (unless_blocked (is_blocked past) (of_flows resend_deadline flows ++ file_alarms config past))
           (by_both (wait_end now all) (of_flows connect_deadline flows ++ lives config past) (rest_ends config past)
           (by_both (wait_end now all) (of_flows connect_deadline flows) (lives config past)
-          (until_flows (of_flows connect_deadline flows) (until_left now suits.due time.flows (of_flows connect_deadline flows) suits.left (connects_ahead early) (suits.connects (connects_ahead early))))
+          (until_flows (of_flows connect_deadline flows) (until_left now suits.due time.flows (of_flows connect_deadline flows) suits.left (connects_ahead early)
+          (suits.connects (connects_ahead early))))
           (by_both (wait_end now all) (association_lives config past) (question_lives config past)
           (until_datagrams (association_lives config past) (by_first now (time_left now slirp.associations) (question_left now slirp.questions) (association_lives config past) associations_until))
           (until_datagrams (question_lives config past) (by_second now (time_left now slirp.associations) (question_left now slirp.questions) (question_lives config past) questions_until))))
@@ -458,13 +477,15 @@ module _ (config : Config) (at : Standing) (slirp : SlirpState) (link : LinkStat
 
       from_sockets : (due : Option ℕ) → IsFrom due (lives config past) → IsFrom due (alarms config past)
       from_sockets due is =
-          from_first due of_rests (file_alarms config past) (from_first due of_fragments (rest_ends config past) (from_first due of_sockets (drops config past) (from_second due awake (lives config past) is)))
+          from_first due of_rests (file_alarms config past) (from_first due of_fragments (rest_ends config past)
+          (from_first due of_sockets (drops config past) (from_second due awake (lives config past) is)))
 
       from_flows : IsFrom (wait_end now time.flows) (alarms config past)
       from_flows =
           from_some (wait_end now time.flows) awake (rest_ends config past) (alarms config past) (from_left now suits.due time.flows (awake ++ rest_ends config past) suits.left suits.for_some)
           (λ is. from_first (wait_end now time.flows) of_rests (file_alarms config past)
-          (from_first (wait_end now time.flows) of_fragments (rest_ends config past) (from_first (wait_end now time.flows) of_sockets (drops config past) (from_first (wait_end now time.flows) awake (lives config past) is))))
+          (from_first (wait_end now time.flows) of_fragments (rest_ends config past) (from_first (wait_end now time.flows) of_sockets (drops config past)
+          (from_first (wait_end now time.flows) awake (lives config past) is))))
           (λ is. from_first (wait_end now time.flows) of_rests (file_alarms config past) (from_second (wait_end now time.flows) of_fragments (rest_ends config past) is))
 
       from_all : AreFresh now slirp.fragments → IsFrom (wait_end now all) (alarms config past)
@@ -473,8 +494,10 @@ module _ (config : Config) (at : Standing) (slirp : SlirpState) (link : LinkStat
           (from_each now some time.flows (alarms config past)
           (from_each now datagrams time.fragments (alarms config past)
           (from_each now (time_left now slirp.associations) (question_left now slirp.questions) (alarms config past)
-          (from_sockets (wait_end now (time_left now slirp.associations)) (from_first (wait_end now (time_left now slirp.associations)) (association_lives config past) (question_lives config past) associations_from))
-          (from_sockets (wait_end now (question_left now slirp.questions)) (from_second (wait_end now (question_left now slirp.questions)) (association_lives config past) (question_lives config past) from_questions)))
+          (from_sockets (wait_end now (time_left now slirp.associations)) (from_first (wait_end now (time_left now slirp.associations)) (association_lives config past)
+          (question_lives config past) associations_from))
+          (from_sockets (wait_end now (question_left now slirp.questions)) (from_second (wait_end now (question_left now slirp.questions)) (association_lives config past)
+          (question_lives config past) from_questions)))
           (from_first (wait_end now time.fragments) of_rests (file_alarms config past)
           (from_first (wait_end now time.fragments) of_fragments (rest_ends config past) (from_second (wait_end now time.fragments) of_sockets (drops config past) (drops_left fresh)))))
           from_flows)
@@ -484,7 +507,8 @@ module _ (config : Config) (at : Standing) (slirp : SlirpState) (link : LinkStat
 
 -- A wait lasts no longer than to what has a time: where no host had its time to connect, no socket for datagrams is idle for long, and the flows are clear and in time unless the link is blocked.
 pub until_is : (config : Config) (at : Standing) (slirp : SlirpState) (link : LinkState) (past : List Entry) → Holds config at slirp (flowing true slirp.flows) link past
-    → (timeout : Option ℕ) → ((held : List PartSet) → IsHeld slirp.fragments held → IsTimeout slirp link.blocked held timeout) → (slirp.pending ≡ [] → next_again slirp.moment slirp.transfers ≡ None) → AreInTime slirp.moment slirp.flows.flows.slots
+    → (timeout : Option ℕ) → ((held : List PartSet) → IsHeld slirp.fragments held → IsTimeout slirp link.blocked held timeout) →
+    (slirp.pending ≡ [] → next_again slirp.moment slirp.transfers ≡ None) → AreInTime slirp.moment slirp.flows.flows.slots
     → (link.blocked ≡ false → AllClear slirp.flows.flows.slots × ((n : ℕ) → IsInTime slirp.moment slirp.flows.flows.slots n))
     → All (λ a. is_idle_association slirp.moment a ≡ false) slirp.associations → All (λ q. is_idle_question slirp.moment q ≡ false) slirp.questions
     → IsBy (wait_end (moment past) timeout) (deadlines config past)
@@ -496,7 +520,8 @@ until_is config at slirp link past holds timeout times none_again early calm you
 
 -- And it is cut short for nothing else than what the record has a time for, where no fragments that wait are to be dropped yet.
 pub from_is : (config : Config) (at : Standing) (slirp : SlirpState) (link : LinkState) (past : List Entry) → Holds config at slirp (flowing true slirp.flows) link past
-    → (timeout : Option ℕ) → ((held : List PartSet) → IsHeld slirp.fragments held → IsTimeout slirp link.blocked held timeout) → (slirp.pending ≡ [] → next_again slirp.moment slirp.transfers ≡ None) → AreFresh slirp.moment slirp.fragments
+    → (timeout : Option ℕ) → ((held : List PartSet) → IsHeld slirp.fragments held → IsTimeout slirp link.blocked held timeout) →
+    (slirp.pending ≡ [] → next_again slirp.moment slirp.transfers ≡ None) → AreFresh slirp.moment slirp.fragments
     → All (λ a. is_idle_association slirp.moment a ≡ false) slirp.associations → All (λ q. is_idle_question slirp.moment q ≡ false) slirp.questions
     → IsFrom (wait_end (moment past) timeout) (alarms config past)
 unfolding time

@@ -16,13 +16,15 @@ use Rattle.udp_assoc.specs.Udp.{Udp, read_udp}
 use Rattle.tcp_segment.specs.Tcp.{Tcp, read_tcp}
 use Rattle.run_laws.specs.Guests.{with_pair}
 use Rattle.run_laws.specs.Fragments.{arrived}
-use Rattle.run_laws.specs.Packets.{Packet, Unheard, packet_of_ip, ArpPacket, Message, DatagramPacket, Segment, Datagram, datagram_in, datagram_of, may_come, packet_of, pair_by, pair_by_arp, pair_by_ip, pair_in, pair_of, packet_in, unless_unheard, whole_packet}
+use Rattle.run_laws.specs.Packets.{Packet, Unheard, packet_of_ip, ArpPacket, Message, DatagramPacket, Segment, Datagram, datagram_in, datagram_of, may_come, packet_of, pair_by}
+use Rattle.run_laws.specs.Packets.{pair_by_arp, pair_by_ip, pair_in, pair_of, packet_in, unless_unheard, whole_packet}
 use Rattle.slirp_laws.specs.Answers.{Answer, Serving, owed_for_arp, owed_for_icmp}
 use Rattle.dhcp_server.specs.declared.leases.Lease.{Lease}
 use Rattle.run_laws.specs.Happenings.{datagram_by}
 use Rattle.slirp_laws.specs.Leasing.{leases_by_packet}
 use Rattle.slirp_core.specs.Segments.{Coming, coming, coming_by, segment_in, segment_of_arrived, segment_of_ether, segment_of_ip}
-use Rattle.slirp_core.specs.Packets.{owed_at_once, owed_with, request_by_packet, request_for_udp, leases_with, udp_in, udp_of, udp_of_arrived, udp_of_ether, owed_for, owed_for_arrived, owed_for_ether, owed_for_frame, owed_for_ip, with_address, with_arp, with_ether, with_frame, with_ip}
+use Rattle.slirp_core.specs.Packets.{owed_at_once, owed_with, request_by_packet, request_for_udp, leases_with, udp_in, udp_of, udp_of_arrived, udp_of_ether, owed_for, owed_for_arrived}
+use Rattle.slirp_core.specs.Packets.{owed_for_ether, owed_for_frame, owed_for_ip, with_address, with_arp, with_ether, with_frame, with_ip}
 
 -- what a packet that may be none owes at once, and the datagram that it is
 abbrev owes : Config → Serving → Option Packet → List Answer
@@ -53,7 +55,8 @@ came config mac ip udp = if may_come config ip udp then Some (DatagramPacket (da
 abbrev comes : Config → List ℕ → Ip → Udp → Option Datagram
 comes config mac ip udp = if may_come config ip udp then Some (datagram_of mac ip udp) else None
 
-udp_owes : (config : Config) (s : Serving) (mac : List ℕ) (ip : Ip) (o : Option Udp) → owes config s (option_and_then (came config mac ip) o) ≡ owed_for (owed_at_once config s) (option_and_then (comes config mac ip) o)
+udp_owes : (config : Config) (s : Serving) (mac : List ℕ) (ip : Ip) (o : Option Udp) → owes config s (option_and_then (came config mac ip) o) ≡ owed_for (owed_at_once config s)
+    (option_and_then (comes config mac ip) o)
 udp_owes config s mac ip None = refl
 udp_owes config s mac ip (Some udp) = by (may_come config ip udp)
   where
@@ -206,11 +209,13 @@ ip_brings : (config : Config) (now : ℕ) (waiting : List PartSet) (mac octets :
 ip_brings config now waiting mac octets None = refl
 ip_brings config now waiting mac octets (Some ip) = arrived_brings config mac (arrived config now waiting octets ip)
 
-ether_owes : (config : Config) (s : Serving) (waiting : List PartSet) (o : Option Ether) → owes config s (option_and_then (packet_of config s.now waiting) o) ≡ owed_for (owed_for_ether config s waiting) o
+ether_owes : (config : Config) (s : Serving) (waiting : List PartSet) (o : Option Ether) → owes config s (option_and_then (packet_of config s.now waiting) o) ≡ owed_for
+    (owed_for_ether config s waiting) o
 ether_owes config s waiting None = refl
 ether_owes config s waiting (Some ether) = by (ether.kind == arp_kind) (ether.kind == ipv4_kind)
   where
-    by : (arp ip : Bool) → owes config s (if arp then option_map ArpPacket (read_arp ether.body) else (if ip then option_and_then (whole_packet config s.now waiting ether.from ether.body) (read_ip ether.body) else None))
+    by : (arp ip : Bool) → owes config s (if arp then option_map ArpPacket (read_arp ether.body) else
+        (if ip then option_and_then (whole_packet config s.now waiting ether.from ether.body) (read_ip ether.body) else None))
         ≡ (if arp then owed_for (owed_for_arp config) (read_arp ether.body) else (if ip then owed_for (owed_for_arrived config s waiting ether.from ether.body) (read_ip ether.body) else []))
     by true ip = arp_owes config s (read_arp ether.body)
     by false true = ip_owes config s waiting ether.from ether.body (read_ip ether.body)
@@ -219,7 +224,8 @@ ether_owes config s waiting (Some ether) = by (ether.kind == arp_kind) (ether.ki
 two_kinds : (kind : ℕ) → (kind == arp_kind) ≡ true → (kind == ipv4_kind) ≡ true → ⊥
 two_kinds kind a b = let first : kind ≡ 2054 = grind (arith, nat_tests, a) in let second : kind ≡ 2048 = grind (arith, nat_tests, b) in omega (arith, first, second)
 
-ether_carries : (config : Config) (now : ℕ) (waiting : List PartSet) (o : Option Ether) → carries (option_and_then (packet_of config now waiting) o) ≡ option_and_then (udp_of_ether config now waiting) o
+ether_carries : (config : Config) (now : ℕ) (waiting : List PartSet) (o : Option Ether) → carries (option_and_then (packet_of config now waiting) o) ≡ option_and_then
+    (udp_of_ether config now waiting) o
 ether_carries config now waiting None = refl
 ether_carries config now waiting (Some ether) = by (ether.kind == arp_kind) (ether.kind == ipv4_kind) refl refl
   where
@@ -231,7 +237,8 @@ ether_carries config now waiting (Some ether) = by (ether.kind == arp_kind) (eth
     by false true a i = ip_carries config now waiting ether.from ether.body (read_ip ether.body)
     by false false a i = refl
 
-ether_brings : (config : Config) (now : ℕ) (waiting : List PartSet) (o : Option Ether) → brings (option_and_then (packet_of config now waiting) o) ≡ option_and_then (segment_of_ether config now waiting) o
+ether_brings : (config : Config) (now : ℕ) (waiting : List PartSet) (o : Option Ether) → brings (option_and_then (packet_of config now waiting) o) ≡ option_and_then
+    (segment_of_ether config now waiting) o
 ether_brings config now waiting None = refl
 ether_brings config now waiting (Some ether) = by (ether.kind == arp_kind) (ether.kind == ipv4_kind) refl refl
   where
@@ -266,7 +273,8 @@ leases_by_udp config now (DatagramPacket d) leases = refl
 leases_by_udp config now (Segment mac ip tcp) leases = refl
 
 -- so what it asks for, and what it makes of the leases
-pub asks_same : (config : Config) (now : ℕ) (waiting : List PartSet) (frame : List ℕ) → request_by_packet config (packet_in config now waiting frame) ≡ request_for_udp config (udp_in config now waiting frame)
+pub asks_same : (config : Config) (now : ℕ) (waiting : List PartSet) (frame : List ℕ) → request_by_packet config (packet_in config now waiting frame) ≡ request_for_udp config
+    (udp_in config now waiting frame)
 asks_same config now waiting frame = request_by_udp config (packet_in config now waiting frame) ∙ ap (request_for_udp config) (udp_same config now waiting frame)
 
 pub lends_same : (config : Config) (now : ℕ) (waiting : List PartSet) (frame : List ℕ) (leases : List Lease)
@@ -295,7 +303,8 @@ ether_teaches : (config : Config) (o : Option Ether) (pairs : List (Ip4 × Mac))
 ether_teaches config None pairs = refl
 ether_teaches config (Some ether) pairs = by (ether.kind == arp_kind) (ether.kind == ipv4_kind)
   where
-    by : (arp ip : Bool) → with_pair (if arp then option_and_then (pair_by_arp config) (read_arp ether.body) else (if ip then option_and_then (pair_by_ip config ether.from) (read_ip ether.body) else None)) pairs
+    by : (arp ip : Bool) → with_pair (if arp then option_and_then (pair_by_arp config) (read_arp ether.body) else (if ip then option_and_then (pair_by_ip config ether.from)
+        (read_ip ether.body) else None)) pairs
         ≡ (if arp then with_arp config (read_arp ether.body) pairs else (if ip then with_ip config ether.from (read_ip ether.body) pairs else pairs))
     by true ip = arp_teaches config (read_arp ether.body) pairs
     by false true = ip_teaches config ether.from (read_ip ether.body) pairs

@@ -70,7 +70,8 @@ module _ (config : Config) (count : ℕ) (wants : List Want) (item : Want) (item
   sets_wait = ap (λ n. young n holds.guests.fragments.held) (sym holds.clock.moment) ∙ holds.guests.fragments.wait
 
   -- what a frame is said to bring, by the settings and the sets of the core, is what its packet brings
-  of_packet : {A : Type 0} (of : Config → ℕ → List PartSet → List ℕ → A) (frame : List ℕ) (what : A) → ((held : List PartSet) → IsHeld slirp.fragments held → what ≡ of slirp.config slirp.moment (young slirp.moment held) frame)
+  of_packet : {A : Type 0} (of : Config → ℕ → List PartSet → List ℕ → A) (frame : List ℕ) (what : A) → ((held : List PartSet) → IsHeld slirp.fragments held →
+      what ≡ of slirp.config slirp.moment (young slirp.moment held) frame)
       → what ≡ of config slirp.moment (waiting config past) frame
   of_packet of frame what is =
       is holds.guests.fragments.held holds.guests.fragments.is_held
@@ -107,20 +108,24 @@ module _ (config : Config) (count : ℕ) (wants : List Want) (item : Want) (item
         ∙ sym (ap (λ o. after_packet config slirp (packet_of config slirp.moment (waiting config past) o) o done.fragments) came)
 
     -- what it asks for
-    asks_for : (request : Option Request) → ((held : List PartSet) → IsHeld slirp.fragments held → request ≡ request_for_udp slirp.config (udp_in slirp.config slirp.moment (young slirp.moment held) frame))
+    asks_for : (request : Option Request) → ((held : List PartSet) → IsHeld slirp.fragments held → request ≡ request_for_udp slirp.config
+        (udp_in slirp.config slirp.moment (young slirp.moment held) frame))
         → request_by_packet config (packet_of config slirp.moment (waiting config past) (hands answer new)) ≡ request
     asks_for request asks =
         ap (request_by_packet config) packet_is ∙ asks_same config slirp.moment (waiting config past) frame ∙ sym (of_packet (λ k n w f. request_for_udp k (udp_in k n w f)) frame request asks)
 
     -- a datagram for the server of files, which is still to be served
-    file_came : (d : Datagram) → ((held : List PartSet) → IsHeld slirp.fragments held → Some (ToServe d) ≡ request_for_udp slirp.config (udp_in slirp.config slirp.moment (young slirp.moment held) frame))
+    file_came : (d : Datagram) → ((held : List PartSet) → IsHeld slirp.fragments held → Some (ToServe d) ≡ request_for_udp slirp.config
+        (udp_in slirp.config slirp.moment (young slirp.moment held) frame))
         → AsksFile config (standing count wants items) done done.flows new d (made ++ past)
     file_came d asks =
         subst (λ (k : Kept). AsksFile config (standing count wants items) done k new d (made ++ past)) same_flows
-        (read_file config count wants item items reads_it slirp slirp.flows old new answer no_packet out made past allowed read holds done d goes_on kept (ap file_in (asks_for (Some (ToServe d)) asks)) done_is)
+        (read_file config count wants item items reads_it slirp slirp.flows old new answer no_packet out made past allowed read holds done d goes_on kept
+        (ap file_in (asks_for (Some (ToServe d)) asks)) done_is)
 
     -- no segment, and nothing for the server of files: what it asks for is still to be done
-    taken_in : (request : Option Request) → file_in request ≡ None → ((held : List PartSet) → IsHeld slirp.fragments held → request ≡ request_for_udp slirp.config (udp_in slirp.config slirp.moment (young slirp.moment held) frame))
+    taken_in : (request : Option Request) → file_in request ≡ None → ((held : List PartSet) → IsHeld slirp.fragments held → request ≡ request_for_udp slirp.config
+        (udp_in slirp.config slirp.moment (young slirp.moment held) frame))
         → ((held : List PartSet) → IsHeld slirp.fragments held → None ≡ segment_in slirp.config slirp.moment (young slirp.moment held) frame)
         → HoldsAt config (standing count wants items) (asked_by config done (errand_in request)) done (flowing false done.flows) new (made ++ past)
     taken_in request no_file sends none =
@@ -128,7 +133,8 @@ module _ (config : Config) (count : ℕ) (wants : List Want) (item : Want) (item
         let strays : coming_by packet ≡ None =
         ap coming_by packet_is ∙ brings_same config slirp.moment (waiting config past) frame ∙ sym (of_packet segment_in frame None none) in
         let asks : errand_by_packet config packet ≡ errand_in request = errand_is_in config packet ∙ ap errand_in (asks_for request sends) in
-        let h = read_on config count wants item items reads_it slirp slirp.flows old new answer no_packet out made past allowed read holds done goes_on kept (no_segment packet strays) (ap file_in (asks_for request sends) ∙ no_file) done_is in
+        let h = read_on config count wants item items reads_it slirp slirp.flows old new answer no_packet out made past allowed read holds done goes_on kept
+        (no_segment packet strays) (ap file_in (asks_for request sends) ∙ no_file) done_is in
         subst (λ (k : Kept). HoldsAt config (standing count wants items) (asked_by config done (errand_in request)) done (flowing false k) new (made ++ past)) same_flows
         (subst (λ (t : Step). HoldsAt config (standing count wants items) t done (flowing false slirp.flows) new (made ++ past))
         (ap (asked_by config slirp) asks ∙ same_asks (errand_in request)) h)
@@ -141,7 +147,8 @@ module _ (config : Config) (count : ℕ) (wants : List Want) (item : Want) (item
         let seg = is_segment c packet (ap coming_by packet_is ∙ brings_same config slirp.moment (waiting config past) frame ∙ sym (of_packet segment_in frame (Some c) brings)) in
         let unowed = done_is ∙ ap (λ (p : Packet). after_packet config slirp p (hands answer new) done.fragments) seg.packet
         ∙ ap (λ (l : List (List ℕ)). record slirp { pending = l; known = with_frame config (hands answer new) slirp.known; fragments = done.fragments }) (sym no_packet) in
-        let h = read_segment config count wants item items reads_it slirp slirp.flows old new answer no_packet out made past allowed read holds done seg.mac seg.ip seg.tcp goes_on kept seg.packet unowed in
+        let h = read_segment config count wants item items reads_it slirp slirp.flows old new answer no_packet out made past allowed read holds done seg.mac seg.ip seg.tcp goes_on
+        kept seg.packet unowed in
         subst (λ (k : Kept). Comes config (standing count wants items) done k new c (made ++ past)) same_flows
         (subst (λ (other : Coming). Comes config (standing count wants items) done slirp.flows new other (made ++ past)) seg.is h)
 
@@ -149,7 +156,8 @@ module _ (config : Config) (count : ℕ) (wants : List Want) (item : Want) (item
 
 module _ (slirp mid new : SlirpState) (frame : List ℕ) (brought : Brought) (room : List ℕ) where
   pub asks_then : (request : Option Request) → mid.config ≡ slirp.config → request ≡ brought_request mid.config brought room
-      → ((held : List PartSet) → IsHeld slirp.fragments held → brought_request slirp.config brought room ≡ request_for_udp slirp.config (udp_in slirp.config slirp.moment (young slirp.moment held) frame))
+      → ((held : List PartSet) → IsHeld slirp.fragments held → brought_request slirp.config brought room ≡ request_for_udp slirp.config
+      (udp_in slirp.config slirp.moment (young slirp.moment held) frame))
       → (held : List PartSet) → IsHeld slirp.fragments held → request ≡ request_for_udp slirp.config (udp_in slirp.config slirp.moment (young slirp.moment held) frame)
   asks_then request settings is brings held h = is ∙ ap (λ (k : Config). brought_request k brought room) settings ∙ brings held h
 
@@ -174,7 +182,8 @@ module _ (config : Config) (count : ℕ) (wants : List Want) (item : Want) (item
     (is : (held : List PartSet) → IsHeld slirp.fragments held → done ≡ after_frame slirp.config slirp (young slirp.moment held) done.fragments frame)
     (keeps : (held : List PartSet) → IsHeld slirp.fragments held → IsHeld done.fragments (with_fragment slirp.moment (fragment_in slirp.config frame) held)) where
   -- what it asks for, where that is no segment and nothing of the server of files
-  pub errand_left : (request : Option Request) → file_in request ≡ None → ((held : List PartSet) → IsHeld slirp.fragments held → request ≡ request_for_udp slirp.config (udp_in slirp.config slirp.moment (young slirp.moment held) frame))
+  pub errand_left : (request : Option Request) → file_in request ≡ None → ((held : List PartSet) → IsHeld slirp.fragments held → request ≡ request_for_udp slirp.config
+      (udp_in slirp.config slirp.moment (young slirp.moment held) frame))
       → ((held : List PartSet) → IsHeld slirp.fragments held → None ≡ segment_in slirp.config slirp.moment (young slirp.moment held) frame)
       → (now : List Entry) → FrameCame config (standing count wants (item ∷ items)) slirp link frame now
       → HoldsAt config (standing count wants items) (asked_by config done (errand_in request)) done (flowing false done.flows) link now
@@ -183,7 +192,8 @@ module _ (config : Config) (count : ℕ) (wants : List Want) (item : Want) (item
       (taken_in config count wants item items reads_it slirp c.before link Frame no_packet c.out c.made c.past c.allowed c.reads c.holds done frame c.came refl is keeps request no_file asks none)
 
   -- a packet for the server of files
-  pub file_left : (d : Datagram) → ((held : List PartSet) → IsHeld slirp.fragments held → Some (ToServe d) ≡ request_for_udp slirp.config (udp_in slirp.config slirp.moment (young slirp.moment held) frame))
+  pub file_left : (d : Datagram) → ((held : List PartSet) → IsHeld slirp.fragments held → Some (ToServe d) ≡ request_for_udp slirp.config
+      (udp_in slirp.config slirp.moment (young slirp.moment held) frame))
       → (now : List Entry) → FrameCame config (standing count wants (item ∷ items)) slirp link frame now → AsksFile config (standing count wants items) done done.flows link d now
   file_left d asks now c =
       subst (λ past. AsksFile config (standing count wants items) done done.flows link d past) c.is

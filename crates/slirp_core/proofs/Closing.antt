@@ -1,5 +1,6 @@
 -- The sockets of a run that is over are closed by rising number, those of associations, of questions and of flows.
-use Rattle.std.proofs.Common.{append_assoc, ◌≡◌, ℕ, suc, length, find, if◌then◌else◌, ◌<◌, ◌≤◌, ◌+◌, ◌==◌, ◌&&◌, ◌||◌, ◌⊎◌, not, All, Bool, true, false, List, [], ◌∷◌, ◌++◌, filter, set, slice_get, Option, Some, None, option_map, inl, inr, refl, sym, ◌∙◌, ap, subst, arith}
+use Rattle.std.proofs.Common.{append_assoc, ◌≡◌, ℕ, suc, length, find, if◌then◌else◌, ◌<◌, ◌≤◌, ◌+◌, ◌==◌, ◌&&◌, ◌||◌, ◌⊎◌, not, All, Bool, true, false, List, [], ◌∷◌, ◌++◌, filter, set}
+use Rattle.std.proofs.Common.{slice_get, Option, Some, None, option_map, inl, inr, refl, sym, ◌∙◌, ap, subst, arith}
 use Rattle.std.proofs.lemmas.List.Elements.{All-head, All-tail}
 use Rattle.world_face.specs.Journal.{Entry, Call, Close, CallClose}
 use Rattle.host_policy.specs.Addresses.{Config}
@@ -36,7 +37,8 @@ use Rattle.slirp_laws.proofs.Longest.{same_port}
 use Rattle.slirp_laws.proofs.Joining.{numbers_without}
 use Rattle.slirp_core.specs.Forwards.{ClosesForward, forward_sockets}
 use Rattle.slirp_core.specs.Firsts.{IsLeastOf}
-use Rattle.slirp_core.specs.Holds.{AreOpen, AreOpenWith, AreTwo, Closing, ClosingBy, ClosingWith, ClosesAll, ClosesForwards, ClosesNext, ClosesOn, Holders, IsOf, Ran, carriers, Rests, OverFor, AllWaited}
+use Rattle.slirp_core.specs.Holds.{AreOpen, AreOpenWith, AreTwo, Closing, ClosingBy, ClosingWith, ClosesAll, ClosesForwards, ClosesNext, ClosesOn, Holders, IsOf, Ran, carriers, Rests}
+use Rattle.slirp_core.specs.Holds.{OverFor, AllWaited}
 use Rattle.slirp_core.proofs.Parts.{due_in_phase, due_is}
 use Rattle.slirp_core.proofs.Rising.{open_rise}
 
@@ -79,7 +81,8 @@ pub record IsFlows (n k : ℕ) (carriers : List ℕ) (parts : List (Option Splic
   pub next : IsNextOpen None n k parts
   pub below : (m : ℕ) → is_among m carriers ≡ true → n ≤ m
 
-module _ (Open : List Entry → Type 0) (o : Holders) (config : Config) (over : Phase) (past : List Entry) (closing : ClosingBy Open o config over past) (n : ℕ) (among : is_among n (open_sockets past) ≡ true)
+module _ (Open : List Entry → Type 0) (o : Holders) (config : Config) (over : Phase) (past : List Entry) (closing : ClosingBy Open o config over past) (n : ℕ)
+    (among : is_among n (open_sockets past) ≡ true)
     (least : (m : ℕ) → is_among m (open_sockets past) ≡ true → n ≤ m) where
   first_is : first (open_sockets past) ≡ Some n
   first_is = first_least (next_number past) n (open_sockets past) (open_rise config past closing.lawful) among least
@@ -180,7 +183,8 @@ module _ (config : Config) (over : Phase) (o : Holders) (past : List Entry) (clo
         })
 
   -- an association's, which is no question's
-  pub association_closed : (n : ℕ) → is_among n (numbers o.associations) ≡ true → IsCarrier n (carriers o) o.slots → Closing config over (record o { associations = without n o.associations }) (Close n ∷ past)
+  pub association_closed : (n : ℕ) → is_among n (numbers o.associations) ≡ true → IsCarrier n (carriers o) o.slots → Closing config over
+      (record o { associations = without n o.associations }) (Close n ∷ past)
   association_closed n among is = carrier_closed n is (without n o.associations) o.questions left two
     where
       both : (a e q : Bool) → (e ≡ true → q ≡ false) → ((not e && a) || q) ≡ (not e && (a || q))
@@ -190,14 +194,16 @@ module _ (config : Config) (over : Phase) (o : Holders) (past : List Entry) (clo
       left : (m : ℕ) → is_among m (numbers (without n o.associations) ++ question_numbers o.questions) ≡ (not (m == n) && is_among m (carriers o))
       left m =
           among_both m (numbers (without n o.associations)) (question_numbers o.questions) ∙ ap (λ b. b || is_among m (question_numbers o.questions)) (left_among m n o.associations)
-          ∙ both (is_among m (numbers o.associations)) (m == n) (is_among m (question_numbers o.questions)) (λ same_one. ap (λ x. is_among x (question_numbers o.questions)) (equal m n same_one) ∙ closing.two n among)
+          ∙ both (is_among m (numbers o.associations)) (m == n) (is_among m (question_numbers o.questions)) (λ same_one. ap (λ x. is_among x (question_numbers o.questions))
+          (equal m n same_one) ∙ closing.two n among)
           ∙ ap (λ b. not (m == n) && b) (sym (among_both m (numbers o.associations) (question_numbers o.questions)))
 
       two : AreTwo (record o { associations = without n o.associations })
       two m here = closing.two m (both_of (not (m == n)) (is_among m (numbers o.associations)) (sym (left_among m n o.associations) ∙ here)).1
 
   -- a question's, which is no association's
-  pub question_closed : (n : ℕ) → is_among n (question_numbers o.questions) ≡ true → IsCarrier n (carriers o) o.slots → Closing config over (record o { questions = without_question n o.questions }) (Close n ∷ past)
+  pub question_closed : (n : ℕ) → is_among n (question_numbers o.questions) ≡ true → IsCarrier n (carriers o) o.slots → Closing config over
+      (record o { questions = without_question n o.questions }) (Close n ∷ past)
   question_closed n among is = carrier_closed n is o.associations (without_question n o.questions) left two
     where
       both : (a e q : Bool) → (e ≡ true → a ≡ false) → (a || (not e && q)) ≡ (not e && (a || q))
@@ -213,7 +219,8 @@ module _ (config : Config) (over : Phase) (o : Holders) (past : List Entry) (clo
       left : (m : ℕ) → is_among m (numbers o.associations ++ question_numbers (without_question n o.questions)) ≡ (not (m == n) && is_among m (carriers o))
       left m =
           among_both m (numbers o.associations) (question_numbers (without_question n o.questions)) ∙ ap (λ b. is_among m (numbers o.associations) || b) (asked_without m n o.questions)
-          ∙ both (is_among m (numbers o.associations)) (m == n) (is_among m (question_numbers o.questions)) (λ same_one. ap (λ x. is_among x (numbers o.associations)) (equal m n same_one) ∙ no_other (is_among n (numbers o.associations)) refl)
+          ∙ both (is_among m (numbers o.associations)) (m == n) (is_among m (question_numbers o.questions)) (λ same_one. ap (λ x. is_among x (numbers o.associations))
+          (equal m n same_one) ∙ no_other (is_among n (numbers o.associations)) refl)
           ∙ ap (λ b. not (m == n) && b) (sym (among_both m (numbers o.associations) (question_numbers o.questions)))
 
       two : AreTwo (record o { questions = without_question n o.questions })
@@ -261,12 +268,13 @@ module _ (config : Config) (over : Phase) (o : Holders) (past : List Entry) (clo
     each_but m apart (inr (j, p, at, number, u)) = inr (j, p, stays_at j p at (λ is_n. apart_from m n apart (sym number ∙ is_n)), number, u)
 
     pub flow_closed : Closing config over (record o { slots = new_parts }) (Close n ∷ past)
-    flow_closed = closed (AreOpen (carriers o) o.slots) o config over past closing n here (λ m among. least_with m (now_open.each m among)) (AreOpen (carriers o) new_parts) (record o { slots = new_parts }) closing.two (record {
-      each = λ m among. let was = was_among m n past among in each_but m was.0 (now_open.each m was.1);
-      carry = λ m among. still_among m n past (now_open.carry m among) (λ same_one. true_false (sym among ∙ ap (λ x. is_among x (carriers o)) same_one ∙ unlisted));
-      flow = λ j p at. let was = was_at j p at in still_among (number_of p) n past (now_open.flow j p was.0) was.1;
-      apart = λ j p at. now_open.apart j p (was_at j p at).0;
-    })
+    flow_closed = closed (AreOpen (carriers o) o.slots) o config over past closing n here (λ m among. least_with m (now_open.each m among)) (AreOpen (carriers o) new_parts)
+        (record o { slots = new_parts }) closing.two (record {
+          each = λ m among. let was = was_among m n past among in each_but m was.0 (now_open.each m was.1);
+          carry = λ m among. still_among m n past (now_open.carry m among) (λ same_one. true_false (sym among ∙ ap (λ x. is_among x (carriers o)) same_one ∙ unlisted));
+          flow = λ j p at. let was = was_at j p at in still_among (number_of p) n past (now_open.flow j p was.0) was.1;
+          apart = λ j p at. now_open.apart j p (was_at j p at).0;
+        })
 
   -- ---- none is left
 
@@ -285,7 +293,8 @@ module _ (config : Config) (over : Phase) (o : Holders) (past : List Entry) (clo
     none_due : Rests config past → due config past ≡ None
     none_due (OverFor cause is) =
         due_in_phase config past (Over cause) is closing.served closing.idle
-        ∙ ap (λ (s : List ℕ). unless_due (option_map CallClose (first s)) (due_for config (step config past) (next_number past))) shut ∙ ap (λ s. due_for config s (next_number past)) (ap (step_of config past) closing.errand)
+        ∙ ap (λ (s : List ℕ). unless_due (option_map CallClose (first s)) (due_for config (step config past) (next_number past))) shut ∙ ap
+        (λ s. due_for config s (next_number past)) (ap (step_of config past) closing.errand)
     none_due (AllWaited working) = due_in_phase config past Working working closing.served closing.idle ∙ ap (λ s. due_for config s (next_number past)) (ap (step_of config past) closing.errand)
 
     pub all_closed : Ran config over past
@@ -317,15 +326,17 @@ module _ (config : Config) (over : Phase) (n : ℕ) (forwards : List ℕ) (o : H
   each_behind m apart (inr of) = inr of
 
   pub forward_closed : ClosingWith config over forwards o (Close n ∷ past)
-  forward_closed = closed (AreOpenWith (n ∷ forwards) (carriers o) o.slots) o config over past closing n (are_open_now.forward n (ap (λ b. b || is_among n forwards) (same n))) (λ m among. least_here m (are_open_now.each m among)) (AreOpenWith forwards (carriers o) o.slots) o closing.two (record {
-    each = λ m among. let was = was_among m n past among in each_behind m was.0 (are_open_now.each m was.1);
-    forward = λ m among. still_among m n past (are_open_now.forward m (or_second (m == n) (is_among m forwards) among)) (λ is. let above = above_all n m forwards are_open_now.rising.1.1 among in omega (arith, above, is));
-    carry = λ m among. still_among m n past (are_open_now.carry m among) (other_than m (inl among));
-    flow = λ k p at. still_among (number_of p) n past (are_open_now.flow k p at) (other_than (number_of p) (inr (k, p, at, refl, tt)));
-    apart = are_open_now.apart;
-    rising = (are_open_now.rising.0, are_open_now.rising.1.2);
-    first = λ m j among of. are_open_now.first m j (or_second (m == n) (is_among m forwards) among) of;
-  })
+  forward_closed = closed (AreOpenWith (n ∷ forwards) (carriers o) o.slots) o config over past closing n (are_open_now.forward n (ap (λ b. b || is_among n forwards) (same n)))
+      (λ m among. least_here m (are_open_now.each m among)) (AreOpenWith forwards (carriers o) o.slots) o closing.two (record {
+        each = λ m among. let was = was_among m n past among in each_behind m was.0 (are_open_now.each m was.1);
+        forward = λ m among. still_among m n past (are_open_now.forward m (or_second (m == n) (is_among m forwards) among))
+            (λ is. let above = above_all n m forwards are_open_now.rising.1.1 among in omega (arith, above, is));
+        carry = λ m among. still_among m n past (are_open_now.carry m among) (other_than m (inl among));
+        flow = λ k p at. still_among (number_of p) n past (are_open_now.flow k p at) (other_than (number_of p) (inr (k, p, at, refl, tt)));
+        apart = are_open_now.apart;
+        rising = (are_open_now.rising.0, are_open_now.rising.1.2);
+        first = λ m j among of. are_open_now.first m j (or_second (m == n) (is_among m forwards) among) of;
+      })
 
 -- once none is left the others are
 pub no_forwards : (config : Config) (over : Phase) (o : Holders) (past : List Entry) → ClosingWith config over [] o past → Closing config over o past
@@ -427,10 +438,12 @@ none_first_forward (x ∷ list) at = cc
 pub closes_first : (forwards : List Opened) (o : Holders) (made : List Entry) → ClosesForwards (forward_sockets forwards) [] o made → ClosesOn forwards o o made
 closes_first forwards o made closes config over past closing = no_forwards config over o (made ++ past) (closes config over past closing)
 
-pub closes_on : (forwards : List Opened) (first old new : Holders) (made more : List Entry) → ClosesOn forwards first old made → ClosesNext true old new more → ClosesOn forwards first new (more ++ made)
+pub closes_on : (forwards : List Opened) (first old new : Holders) (made more : List Entry) → ClosesOn forwards first old made → ClosesNext true old new more →
+    ClosesOn forwards first new (more ++ made)
 closes_on forwards first old new made more closes later config over past closing =
     subst (Closing config over new) (sym (append_assoc more made past)) (later config over (made ++ past) (closes config over past closing))
 
-pub closes_last : (forwards : List Opened) (first old new : Holders) (made more : List Entry) → ClosesOn forwards first old made → ClosesNext false old new more → ClosesAll forwards first (more ++ made)
+pub closes_last : (forwards : List Opened) (first old new : Holders) (made more : List Entry) → ClosesOn forwards first old made → ClosesNext false old new more →
+    ClosesAll forwards first (more ++ made)
 closes_last forwards first old new made more closes later config over past closing =
     subst (Ran config over) (sym (append_assoc more made past)) (later config over (made ++ past) (closes config over past closing))

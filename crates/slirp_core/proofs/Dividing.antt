@@ -1,5 +1,6 @@
 -- What is waited for, by kind: the three parts of the list.
-use Rattle.std.proofs.Common.{◌≡◌, ℕ, ◌-◌, Bool, true, false, List, [], ◌∷◌, ◌++◌, filter, map, length, take, drop, Option, if◌then◌else◌, refl, sym, ◌∙◌, ap, subst, append_assoc, arith, length-append}
+use Rattle.std.proofs.Common.{◌≡◌, ℕ, ◌-◌, Bool, true, false, List, [], ◌∷◌, ◌++◌, filter, map, length, take, drop, Option, if◌then◌else◌, refl, sym, ◌∙◌, ap, subst, append_assoc, arith}
+use Rattle.std.proofs.Common.{length-append}
 use Rattle.std.proofs.Math.Seq.{take-append_seam, drop-append_seam}
 use Rattle.std.proofs.lemmas.List.{append-nil}
 use Rattle.std.proofs.lemmas.List.Elements.{filter-append, Contains-append_left, Contains-append_right, Contains-push}
@@ -103,7 +104,8 @@ first_is front before wants p =
     ap (take front) (p.are ∙ append_assoc p.first p.middle p.last) ∙ ap (λ n. take n (p.first ++ (p.middle ++ p.last))) p.to_front ∙ take-append_seam p.first (p.middle ++ p.last) in
     let all : filter is_of_link_or_listener wants ≡ p.first =
     ap (filter is_of_link_or_listener) p.are
-    ∙ of_parts is_of_link_or_listener p.first p.middle p.last p.first [] [] (kept is_of_link_or_listener p.first p.all_first) (none_kept is_of_link_or_listener is_of_datagrams datagrams_not_first p.middle p.all_middle) (none_kept is_of_link_or_listener is_of_flow flow_not_first p.last p.all_last)
+    ∙ of_parts is_of_link_or_listener p.first p.middle p.last p.first [] [] (kept is_of_link_or_listener p.first p.all_first)
+    (none_kept is_of_link_or_listener is_of_datagrams datagrams_not_first p.middle p.all_middle) (none_kept is_of_link_or_listener is_of_flow flow_not_first p.last p.all_last)
     ∙ append-nil (p.first ++ []) ∙ append-nil p.first in
     there ∙ sym all
 
@@ -119,7 +121,8 @@ middle_is front before wants p =
     ap (take (before - front)) behind ∙ ap (λ n. take n (p.middle ++ p.last)) many ∙ take-append_seam p.middle p.last in
     let all : filter is_of_datagrams wants ≡ p.middle =
     ap (filter is_of_datagrams) p.are
-    ∙ of_parts is_of_datagrams p.first p.middle p.last [] p.middle [] (none_kept is_of_datagrams is_of_link_or_listener first_not_datagrams p.first p.all_first) (kept is_of_datagrams p.middle p.all_middle) (none_kept is_of_datagrams is_of_flow flow_not_datagrams p.last p.all_last)
+    ∙ of_parts is_of_datagrams p.first p.middle p.last [] p.middle [] (none_kept is_of_datagrams is_of_link_or_listener first_not_datagrams p.first p.all_first)
+    (kept is_of_datagrams p.middle p.all_middle) (none_kept is_of_datagrams is_of_flow flow_not_datagrams p.last p.all_last)
     ∙ append-nil p.middle in
     there ∙ sym all
 
@@ -129,7 +132,8 @@ last_is front before wants p =
     ap (drop before) p.are ∙ ap (λ n. drop n ((p.first ++ p.middle) ++ p.last)) p.to_before ∙ drop-append_seam (p.first ++ p.middle) p.last in
     let all : filter is_of_flow wants ≡ p.last =
     ap (filter is_of_flow) p.are
-    ∙ of_parts is_of_flow p.first p.middle p.last [] [] p.last (none_kept is_of_flow is_of_link_or_listener first_not_flow p.first p.all_first) (none_kept is_of_flow is_of_datagrams datagrams_not_flow p.middle p.all_middle) (kept is_of_flow p.last p.all_last) in
+    ∙ of_parts is_of_flow p.first p.middle p.last [] [] p.last (none_kept is_of_flow is_of_link_or_listener first_not_flow p.first p.all_first)
+    (none_kept is_of_flow is_of_datagrams datagrams_not_flow p.middle p.all_middle) (kept is_of_flow p.last p.all_last) in
     there ∙ sym all
 
 -- ---- how the list comes to be
@@ -170,7 +174,8 @@ begun_in_parts read write listeners sockets front before begun wants begins are 
 }
 
 -- what flows wait for, behind it
-pub more_in_parts : (front before : ℕ) (wants added more : List Want) (parts : List (Option Splice)) → InThreeParts front before wants → more ≡ wants ++ added → AreWantsOf parts added → InThreeParts front before more
+pub more_in_parts : (front before : ℕ) (wants added more : List Want) (parts : List (Option Splice)) → InThreeParts front before wants → more ≡ wants ++ added →
+    AreWantsOf parts added → InThreeParts front before more
 more_in_parts front before wants added more parts p is of_flows = record {
   first = p.first;
   middle = p.middle;

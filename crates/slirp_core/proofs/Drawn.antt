@@ -31,7 +31,8 @@ drawn_up next later kept up drawn = record {
 
 -- after a flow began with the next number
 pub drawn_begun : (next : ℕ) (old new : Kept) → length new.flows.slots ≡ length old.flows.slots → new.flows.opened ≡ old.flows.opened + 1
-    → ((k : ℕ) (p : Splice) → slice_get new.flows.slots k ≡ Some (Some p) → (number_of p ≡ next) ⊎ ((q : Splice) × (slice_get old.flows.slots k ≡ Some (Some q)) × (number_of p ≡ number_of q))) → AreDrawn next old → AreDrawn (next + 1) new
+    → ((k : ℕ) (p : Splice) → slice_get new.flows.slots k ≡ Some (Some p) → (number_of p ≡ next) ⊎ ((q : Splice) × (slice_get old.flows.slots k ≡ Some (Some q)) ×
+    (number_of p ≡ number_of q))) → AreDrawn next old → AreDrawn (next + 1) new
 drawn_begun next old new slots opened numbers drawn = record {
   below = λ k p at. by k p (numbers k p at);
   opened = let few = drawn.opened in omega (arith, opened, few);

@@ -1,5 +1,6 @@
 -- What is waited for.
-use Rattle.std.proofs.Common.{◌-◌, ◌+◌, drop, take, take-append-drop, ◌≡◌, ℕ, zero, suc, ◌^◌, ◌<◌, ◌≤◌, ◌==◌, ◌&&◌, ◌||◌, not, nat_lt, Bool, true, false, IsTrue, List, [], ◌∷◌, ◌++◌, map, length, slice_get, Option, Some, refl, sym, ◌∙◌, ap, subst, append_assoc, arith, length-append}
+use Rattle.std.proofs.Common.{◌-◌, ◌+◌, drop, take, take-append-drop, ◌≡◌, ℕ, zero, suc, ◌^◌, ◌<◌, ◌≤◌, ◌==◌, ◌&&◌, ◌||◌, not, nat_lt, Bool, true, false, IsTrue, List, [], ◌∷◌, ◌++◌, map}
+use Rattle.std.proofs.Common.{length, slice_get, Option, Some, refl, sym, ◌∙◌, ap, subst, append_assoc, arith, length-append}
 use Rattle.std.proofs.lemmas.Bool.Decides.{nat_tests}
 use Rattle.std.proofs.lemmas.List.{length-map}
 use Rattle.std.specs.Prelude.{Contains}
@@ -73,8 +74,10 @@ few_read wants listeners forwards some others is few one two =
     omega (arith, long, all, given, behind, both, before)
 
 -- the same listeners and sockets, all for reading
-pub same_rows : (listeners forwards some others their_listeners their_forwards their_some their_others : List ℕ) → listeners ≡ their_listeners → forwards ≡ their_forwards → some ≡ their_some → others ≡ their_others
-    → (link_want true false ++ map listener_want listeners) ++ map udp_want (forwards ++ merged some others) ≡ (link_want true false ++ map listener_want their_listeners) ++ map udp_want (their_forwards ++ merged their_some their_others)
+pub same_rows : (listeners forwards some others their_listeners their_forwards their_some their_others : List ℕ) → listeners ≡ their_listeners → forwards ≡ their_forwards →
+    some ≡ their_some → others ≡ their_others
+    → (link_want true false ++ map listener_want listeners) ++ map udp_want (forwards ++ merged some others) ≡ (link_want true false ++ map listener_want their_listeners)
+    ++ map udp_want (their_forwards ++ merged their_some their_others)
 same_rows listeners forwards some others their_listeners their_forwards their_some their_others one two three four =
     ap (λ l. (link_want true false ++ map listener_want l) ++ map udp_want (forwards ++ merged some others)) one
     ∙ ap (λ l. (link_want true false ++ map listener_want their_listeners) ++ map udp_want (l ++ merged some others)) two
@@ -190,10 +193,13 @@ listeners_once : (listeners : List ℕ) (wants : List Want) → TcpOnce wants �
 listeners_once [] wants once = once
 listeners_once (n ∷ listeners) wants once = (λ m of. cc, listeners_once listeners wants once)
 
-pub all_once : (read write : Bool) (listeners sockets : List ℕ) (flows : List Want) → AreRising flows → TcpOnce (((link_want read write ++ map listener_want listeners) ++ socket_wants read sockets) ++ flows)
+pub all_once : (read write : Bool) (listeners sockets : List ℕ) (flows : List Want) → AreRising flows → TcpOnce
+    (((link_want read write ++ map listener_want listeners) ++ socket_wants read sockets) ++ flows)
 all_once read write listeners sockets flows rising =
-    subst TcpOnce (sym (append_assoc (link_want read write ++ map listener_want listeners) (socket_wants read sockets) flows ∙ append_assoc (link_want read write) (map listener_want listeners) (socket_wants read sockets ++ flows)))
-    (link_once read write (map listener_want listeners ++ (socket_wants read sockets ++ flows)) (listeners_once listeners (socket_wants read sockets ++ flows) (wanted_once read sockets flows (rising_once flows rising))))
+    subst TcpOnce (sym (append_assoc (link_want read write ++ map listener_want listeners) (socket_wants read sockets) flows ∙ append_assoc (link_want read write)
+    (map listener_want listeners) (socket_wants read sockets ++ flows)))
+    (link_once read write (map listener_want listeners ++ (socket_wants read sockets ++ flows)) (listeners_once listeners (socket_wants read sockets ++ flows)
+    (wanted_once read sockets flows (rising_once flows rising))))
 
 -- ---- what stands once is what is waited for
 

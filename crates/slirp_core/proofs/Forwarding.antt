@@ -25,7 +25,8 @@ over_taken proto (x ∷ list) zero f n at = ap (λ (y : Opened). sockets_over pr
     by false = refl
 over_taken proto (x ∷ list) (suc k) f n at =
     let next : suc (k + 1) ≡ suc k + 1 = omega arith in
-    subst (λ j. sockets_over proto (take j (x ∷ list)) ≡ sockets_over proto (take (suc k) (x ∷ list)) ++ (if same_proto proto f.proto then n ∷ [] else [])) next (by (is_over proto x) (over_taken proto list k f n at))
+    subst (λ j. sockets_over proto (take j (x ∷ list)) ≡ sockets_over proto (take (suc k) (x ∷ list)) ++ (if same_proto proto f.proto then n ∷ [] else [])) next
+    (by (is_over proto x) (over_taken proto list k f n at))
   where
     by : (b : Bool) → sockets_over proto (take (k + 1) list) ≡ sockets_over proto (take k list) ++ (if same_proto proto f.proto then n ∷ [] else [])
         → forward_sockets (if b then x ∷ filter (is_over proto) (take (k + 1) list) else filter (is_over proto) (take (k + 1) list))
@@ -39,7 +40,8 @@ both_over [] = omega arith
 both_over (x ∷ list) = by x.0.proto (both_over list)
   where
     by : (p : Proto) → length (sockets_over Tcp list) + length (sockets_over Udp list) ≡ length list
-        → length (forward_sockets (if same_proto Tcp p then x ∷ filter (is_over Tcp) list else filter (is_over Tcp) list)) + length (forward_sockets (if same_proto Udp p then x ∷ filter (is_over Udp) list else filter (is_over Udp) list)) ≡ suc (length list)
+        → length (forward_sockets (if same_proto Tcp p then x ∷ filter (is_over Tcp) list else filter (is_over Tcp) list)) + length
+        (forward_sockets (if same_proto Udp p then x ∷ filter (is_over Udp) list else filter (is_over Udp) list)) ≡ suc (length list)
     by Tcp more = omega (arith, more)
     by Udp more = omega (arith, more)
 

@@ -1,5 +1,6 @@
 -- The ports of the host that are given to guests, in a lawful run: they are opened first, in order, and stay open until the closing.
-use Rattle.std.proofs.Common.{◌≡◌, ℕ, zero, suc, ◌+◌, ◌<◌, ◌≤◌, ◌==◌, ◌&&◌, ◌||◌, ◌⊎◌, not, nat_lt, Bool, true, false, List, [], ◌∷◌, ◌++◌, drop, filter, find, length, slice_get, Option, Some, None, MatchOption, option_map, if◌then◌else◌, inl, inr, refl, sym, ◌∙◌, ap, subst, arith}
+use Rattle.std.proofs.Common.{◌≡◌, ℕ, zero, suc, ◌+◌, ◌<◌, ◌≤◌, ◌==◌, ◌&&◌, ◌||◌, ◌⊎◌, not, nat_lt, Bool, true, false, List, [], ◌∷◌, ◌++◌, drop, filter, find, length, slice_get, Option}
+use Rattle.std.proofs.Common.{Some, None, MatchOption, option_map, if◌then◌else◌, inl, inr, refl, sym, ◌∙◌, ap, subst, arith}
 use Rattle.std.proofs.lemmas.Bool.Decides.{nat_tests}
 use Rattle.std.specs.Option.{option_and_then}
 use Rattle.net_octets.specs.declared.Endpoint.{Endpoint}
@@ -20,7 +21,8 @@ use Rattle.record_flows.specs.Book.{book}
 use Rattle.record_flows.specs.Lots.{due_for_flows}
 use Rattle.run_laws.specs.Moments.{waits}
 use Rattle.run_laws.specs.Shape.{Phase, Opening, Started, Woken, Working, Over, By, Refused, due_in, may_turn, opened, opening_of, phase, phase_after, phase_by}
-use Rattle.run_laws.specs.Sockets.{Kind, Association as OfAssociation, DnsSocket, Forward as OfForward, Listener, Flow as OfFlow, datagram_kind, is_among, is_forward, kind_of, next_number, open_sockets, with_made}
+use Rattle.run_laws.specs.Sockets.{Kind, Association as OfAssociation, DnsSocket, Forward as OfForward, Listener, Flow as OfFlow, datagram_kind, is_among, is_forward, kind_of, next_number}
+use Rattle.run_laws.specs.Sockets.{open_sockets, with_made}
 use Rattle.slirp_laws.specs.Laws.{Lawful, May, due, due_for_services, is_closing, may_part, parts, unless_due}
 use Rattle.slirp_laws.proofs.Bools.{among_last, among_without, and_both, equal, first_of, or_second, same, second_of, turned}
 use Rattle.slirp_laws.proofs.OpenSockets.{open_below, peer_next}
@@ -50,7 +52,8 @@ others_due config past = unless_due (due_for_services config past) (due_for_flow
 no_listen : (o : Option Call) (socket : ℕ) (at : Endpoint) → IsForOther o → o ≡ Some (CallListen socket at) → ⊥
 no_listen o socket at is call = subst IsForOther call is
 
-no_step_listens : (config : Config) (s : Step) (other : Option Call) (number socket : ℕ) (at : Endpoint) → IsForOther other → unless_due (due_for config s number) other ≡ Some (CallListen socket at) → ⊥
+no_step_listens : (config : Config) (s : Step) (other : Option Call) (number socket : ℕ) (at : Endpoint) → IsForOther other → unless_due (due_for config s number) other ≡ Some
+    (CallListen socket at) → ⊥
 no_step_listens config Settled other number socket at flow is = no_listen other socket at flow is
 no_step_listens config (NeedsRoom oldest errand) other number socket at flow is = cc
 no_step_listens config (NeedsSocket errand) other number socket at flow is = cc
@@ -61,7 +64,8 @@ abbrev pub is_opening : Phase → Bool
 is_opening (Opening count forwards) = true
 is_opening _ = false
 
-none_listens : (p : Phase) (past : List Entry) (other : Option Call) (socket : ℕ) (at : Endpoint) → is_opening p ≡ false → (other ≡ Some (CallListen socket at) → ⊥) → unless_due (due_in p past) other ≡ Some (CallListen socket at) → ⊥
+none_listens : (p : Phase) (past : List Entry) (other : Option Call) (socket : ℕ) (at : Endpoint) → is_opening p ≡ false → (other ≡ Some (CallListen socket at) → ⊥) → unless_due
+    (due_in p past) other ≡ Some (CallListen socket at) → ⊥
 none_listens (Opening count forwards) past other socket at later never is = cc
 none_listens Started past other socket at later never is = never is
 none_listens Woken past other socket at later never is = cc
@@ -185,7 +189,8 @@ module _ (config : Config) where
   goes_on (Connect socket to answer) past count later may lawful has = grows (Connect socket to answer) past count socket OfFlow answer may.socket refl has (λ n. refl) refl (omega arith) refl
   goes_on (Listen socket at answer) past count later may lawful has = absurd (listens_first config past socket at later may)
   goes_on (UdpOpen socket at answer) past count later may lawful has =
-      grows (UdpOpen socket at answer) past count socket (datagram_kind (nat_lt 0 (waits past))) answer may.socket (ap (λ (b : Bool). is_given (Some (datagram_kind b))) waited) has (λ n. refl) refl (omega arith) refl
+      grows (UdpOpen socket at answer) past count socket (datagram_kind (nat_lt 0 (waits past))) answer may.socket (ap (λ (b : Bool). is_given (Some (datagram_kind b))) waited) has
+      (λ n. refl) refl (omega arith) refl
     where
       waited : nat_lt 0 (waits past) ≡ true
       waited = elim (opens config past socket at may) [
@@ -227,7 +232,8 @@ module _ (config : Config) where
   all_dropped (suc k) (x ∷ fs) is fits = ap suc (all_dropped k fs is (omega (arith, fits)))
 
   -- the next port is open
-  pub opening_kind : (p : Proto) (count : ℕ) (at : Endpoint) (answer : Made) (past : List Entry) → waits past ≡ 0 → (n : ℕ) → kind_of n (port_opening p count at answer ∷ past) ≡ (if count == n then Some (given_kind p) else kind_of n past)
+  pub opening_kind : (p : Proto) (count : ℕ) (at : Endpoint) (answer : Made) (past : List Entry) → waits past ≡ 0 → (n : ℕ) → kind_of n (port_opening p count at answer ∷ past) ≡
+      (if count == n then Some (given_kind p) else kind_of n past)
   opening_kind Tcp count at answer past unwaited n = refl
   opening_kind Udp count at answer past unwaited n = ap (λ w. if count == n then Some (datagram_kind (nat_lt 0 w)) else kind_of n past) unwaited
 
@@ -251,7 +257,8 @@ module _ (config : Config) where
   is_kind Tcp = refl
   is_kind Udp = refl
 
-  module _ (f : Forward) (past : List Entry) (count : ℕ) (at : Endpoint) (here : slice_get config.forwards count ≡ Some f) (unwaited : waits past ≡ 0) (next : next_number past ≡ count) (has : HasGiven count past) where
+  module _ (f : Forward) (past : List Entry) (count : ℕ) (at : Endpoint) (here : slice_get config.forwards count ≡ Some f) (unwaited : waits past ≡ 0)
+      (next : next_number past ≡ count) (has : HasGiven count past) where
     abbrev opened_port : Made → Entry
     opened_port answer = port_opening f.proto count at answer
 
@@ -269,23 +276,28 @@ module _ (config : Config) where
       drawn = let grown = opening_next f.proto count at Done past in omega (arith, next, grown);
       given = λ n less. ap is_given (opening_kind f.proto count at Done past unwaited n) ∙ by n (same_or_not count n) less;
       kinds = λ n g less at_n. opening_kind f.proto count at Done past unwaited n ∙ by_kind n g (same_or_not count n) less at_n;
-      others = λ n among listens. others_by n (same_or_not n count) (sym (ap (is_among n) (opening_made f.proto count at Done past)) ∙ among) (sym (ap is_given (opening_kind f.proto count at Done past unwaited n)) ∙ listens);
-      stay = λ open_yet n less. ap (is_among n) (opening_made f.proto count at Done past) ∙ among_last n count (open_sockets past) ∙ stays n (same_or_not n count) (sym (opening_open f.proto count at Done past) ∙ open_yet) less;
+      others = λ n among listens. others_by n (same_or_not n count) (sym (ap (is_among n) (opening_made f.proto count at Done past)) ∙ among)
+          (sym (ap is_given (opening_kind f.proto count at Done past unwaited n)) ∙ listens);
+      stay = λ open_yet n less. ap (is_among n) (opening_made f.proto count at Done past) ∙ among_last n count (open_sockets past) ∙ stays n (same_or_not n count)
+          (sym (opening_open f.proto count at Done past) ∙ open_yet) less;
     }
       where
         by : (n : ℕ) → (count ≡ n) ⊎ ((count == n) ≡ false) → n < count + 1 → is_given (if count == n then Some (given_kind f.proto) else kind_of n past) ≡ true
         by n (inl is) less = ap (λ b. is_given (if b then Some (given_kind f.proto) else kind_of n past)) (ap (λ x. x == n) is ∙ same n) ∙ is_kind f.proto
         by n (inr other) less = ap (λ b. is_given (if b then Some (given_kind f.proto) else kind_of n past)) other ∙ has.given n (below n less other)
 
-        by_kind : (n : ℕ) (g : Forward) → (count ≡ n) ⊎ ((count == n) ≡ false) → n < count + 1 → slice_get config.forwards n ≡ Some g → (if count == n then Some (given_kind f.proto) else kind_of n past) ≡ Some (given_kind g.proto)
+        by_kind : (n : ℕ) (g : Forward) → (count ≡ n) ⊎ ((count == n) ≡ false) → n < count + 1 → slice_get config.forwards n ≡ Some g →
+            (if count == n then Some (given_kind f.proto) else kind_of n past) ≡ Some (given_kind g.proto)
         by_kind n g (inl is) less at_n = ap (λ b. if b then Some (given_kind f.proto) else kind_of n past) (ap (λ x. x == n) is ∙ same n) ∙ its_kind n g at_n is
         by_kind n g (inr other) less at_n = ap (λ b. if b then Some (given_kind f.proto) else kind_of n past) other ∙ has.kinds n g (below n less other) at_n
 
-        others_by : (n : ℕ) → (n ≡ count) ⊎ ((n == count) ≡ false) → is_among n (open_sockets past ++ (count ∷ [])) ≡ true → is_given (if count == n then Some (given_kind f.proto) else kind_of n past) ≡ true → n < count + 1
+        others_by : (n : ℕ) → (n ≡ count) ⊎ ((n == count) ≡ false) → is_among n (open_sockets past ++ (count ∷ [])) ≡ true → is_given
+            (if count == n then Some (given_kind f.proto) else kind_of n past) ≡ true → n < count + 1
         others_by n (inl is) among listens = omega (arith, is)
         others_by n (inr other) among listens =
             let apart_is : (count == n) ≡ false = turned n count false other in
-            let less = has.others n (or_of (is_among n (open_sockets past)) (n == count) (sym (among_last n count (open_sockets past)) ∙ among) other) (sym (ap (λ b. is_given (if b then Some (given_kind f.proto) else kind_of n past)) apart_is) ∙ listens) in
+            let less = has.others n (or_of (is_among n (open_sockets past)) (n == count) (sym (among_last n count (open_sockets past)) ∙ among) other)
+            (sym (ap (λ b. is_given (if b then Some (given_kind f.proto) else kind_of n past)) apart_is) ∙ listens) in
             omega (arith, less)
 
         stays : (n : ℕ) → (n ≡ count) ⊎ ((n == count) ≡ false) → is_closing config past ≡ false → n < count + 1 → (is_among n (open_sockets past) || (n == count)) ≡ true
@@ -296,9 +308,11 @@ module _ (config : Config) where
     none_more : Lawful config past → HasGiven count (opened_port Failed ∷ past)
     none_more lawful = record {
       drawn = let grown = opening_next f.proto count at Failed past in omega (arith, next, grown);
-      given = λ n less. ap is_given (opening_kind f.proto count at Failed past unwaited n) ∙ ap (λ b. is_given (if b then Some (given_kind f.proto) else kind_of n past)) (differs n less) ∙ has.given n less;
+      given = λ n less. ap is_given (opening_kind f.proto count at Failed past unwaited n) ∙ ap (λ b. is_given (if b then Some (given_kind f.proto) else kind_of n past))
+          (differs n less) ∙ has.given n less;
       kinds = λ n g less at_n. opening_kind f.proto count at Failed past unwaited n ∙ ap (λ b. if b then Some (given_kind f.proto) else kind_of n past) (differs n less) ∙ has.kinds n g less at_n;
-      others = λ n among listens. by n (same_or_not n count) (sym (ap (is_among n) (opening_made f.proto count at Failed past)) ∙ among) (sym (ap is_given (opening_kind f.proto count at Failed past unwaited n)) ∙ listens);
+      others = λ n among listens. by n (same_or_not n count) (sym (ap (is_among n) (opening_made f.proto count at Failed past)) ∙ among)
+          (sym (ap is_given (opening_kind f.proto count at Failed past unwaited n)) ∙ listens);
       stay = λ open_yet n less. ap (is_among n) (opening_made f.proto count at Failed past) ∙ has.stay (sym (opening_open f.proto count at Failed past) ∙ open_yet) n less;
     }
       where
@@ -310,7 +324,8 @@ module _ (config : Config) where
         by n (inr other) among listens = has.others n among (sym (ap (λ b. is_given (if b then Some (given_kind f.proto) else kind_of n past)) (turned n count false other)) ∙ listens)
 
   -- the call that is due is that which comes
-  due_opens : (past : List Entry) (count : ℕ) (f : Forward) (fs : List Forward) → phase config past ≡ Opening count (f ∷ fs) → (call : Call) → MatchOption (due config past) (Unit {0}) (λ d. call ≡ d) → call ≡ opening_of f.proto (next_number past) f
+  due_opens : (past : List Entry) (count : ℕ) (f : Forward) (fs : List Forward) → phase config past ≡ Opening count (f ∷ fs) → (call : Call) → MatchOption (due config past)
+      (Unit {0}) (λ d. call ≡ d) → call ≡ opening_of f.proto (next_number past) f
   due_opens past count f fs is call may = subst (λ o. MatchOption o (Unit {0}) (λ d. call ≡ d))
       (ap (λ p. unless_due (due_in p past) (unless_due (due_for config (step config past) (next_number past)) (others_due config past))) is) may
 
@@ -333,11 +348,13 @@ module _ (config : Config) where
   is_opened _ Tcp number f call = cc
   is_opened _ Udp number f call = cc
 
-  opened_phase : (p : Proto) (number : ℕ) (at : Endpoint) (answer : Made) (past : List Entry) (q : Phase) → phase_after (port_opening p number at answer) (ending (port_opening p number at answer) (partial past)) q ≡ opened answer q
+  opened_phase : (p : Proto) (number : ℕ) (at : Endpoint) (answer : Made) (past : List Entry) (q : Phase) → phase_after (port_opening p number at answer)
+      (ending (port_opening p number at answer) (partial past)) q ≡ opened answer q
   opened_phase Tcp number at answer past q = refl
   opened_phase Udp number at answer past q = refl
 
-  listened : (e : Entry) (past : List Entry) (count : ℕ) (f : Forward) (fs : List Forward) → Lawful config past → call_of e ≡ opening_of f.proto (next_number past) f → Stage (Opening count (f ∷ fs)) past
+  listened : (e : Entry) (past : List Entry) (count : ℕ) (f : Forward) (fs : List Forward) → Lawful config past → call_of e ≡ opening_of f.proto (next_number past) f → Stage
+      (Opening count (f ∷ fs)) past
       → Stage (phase_after e (ending e (partial past)) (Opening count (f ∷ fs))) (e ∷ past)
   listened e past count f fs lawful call (next, rest, fits, unwaited, has) =
       let more = first_dropped count config.forwards f fs rest in
@@ -346,7 +363,8 @@ module _ (config : Config) where
       subst (λ d. Stage (phase_after d (ending d (partial past)) (Opening count (f ∷ fs))) (d ∷ past)) (sym e_is)
       (subst (λ q. Stage q (port_opening f.proto count f.host it.0 ∷ past)) (sym (opened_phase f.proto count f.host it.0 past (Opening count (f ∷ fs)))) (by it.0 more))
     where
-      by : (answer : Made) → (slice_get config.forwards count ≡ Some f) × (drop (count + 1) config.forwards ≡ fs) × (count + 1 ≤ length config.forwards) → Stage (opened answer (Opening count (f ∷ fs))) (port_opening f.proto count f.host answer ∷ past)
+      by : (answer : Made) → (slice_get config.forwards count ≡ Some f) × (drop (count + 1) config.forwards ≡ fs) × (count + 1 ≤ length config.forwards) → Stage
+          (opened answer (Opening count (f ∷ fs))) (port_opening f.proto count f.host answer ∷ past)
       by Done more = (
         opening_next f.proto count f.host Done past ∙ ap (λ n. n + 1) next,
         more.1,
@@ -362,7 +380,8 @@ module _ (config : Config) where
   asked _ past count call stage = cc
 
   -- later the phase is one in which all ports are open yet, or one was refused
-  by_phase : (p : Phase) (e : Entry) (past : List Entry) → phase config past ≡ p → is_opening p ≡ false → May config past (call_of e) → Stage p past → ((count : ℕ) → HasGiven count past → HasGiven count (e ∷ past)) → (o : Option Ending)
+  by_phase : (p : Phase) (e : Entry) (past : List Entry) → phase config past ≡ p → is_opening p ≡ false → May config past (call_of e) → Stage p past →
+      ((count : ℕ) → HasGiven count past → HasGiven count (e ∷ past)) → (o : Option Ending)
       → Stage (phase_after e o p) (e ∷ past)
   by_phase (Opening count forwards) e past is later may stage more o = cc
   by_phase Started e past is later may stage more (Some why) = more (length config.forwards) stage
@@ -425,7 +444,19 @@ module _ (config : Config) where
       by_entry _ may has = has
 
   pub staged : (past : List Entry) → Lawful config past → Stage (phase config past) past
-  staged [] lawful = (refl, refl, omega arith, refl, record { drawn = omega arith; given = λ n less. absurd (omega (arith, less)); kinds = λ n f less. absurd (omega (arith, less)); others = λ n among. cc; stay = λ open_yet n less. absurd (omega (arith, less)) })
+  staged [] lawful = (
+    refl,
+    refl,
+    omega arith,
+    refl,
+    record {
+      drawn = omega arith;
+      given = λ n less. absurd (omega (arith, less));
+      kinds = λ n f less. absurd (omega (arith, less));
+      others = λ n among. cc;
+      stay = λ open_yet n less. absurd (omega (arith, less));
+    },
+  )
   staged (e ∷ past) lawful = by (phase config past) refl (staged past lawful.1)
     where
       by : (p : Phase) → phase config past ≡ p → Stage p past → Stage (phase_after e (ending e (partial past)) p) (e ∷ past)
@@ -461,7 +492,8 @@ pub among_given : (fs : List Forward) (n k : ℕ) → is_among n (forward_socket
 among_given [] n k is = cc
 among_given (f ∷ fs) n k is = by (n == k) refl is (λ more. among_given fs n (k + 1) more)
   where
-    by : (b : Bool) → (n == k) ≡ b → (b || is_among n (forward_sockets (with_numbers (k + 1) fs))) ≡ true → (is_among n (forward_sockets (with_numbers (k + 1) fs)) ≡ true → (k + 1 ≤ n) × (n < (k + 1) + length fs)) → (k ≤ n) × (n < k + suc (length fs))
+    by : (b : Bool) → (n == k) ≡ b → (b || is_among n (forward_sockets (with_numbers (k + 1) fs))) ≡ true → (is_among n (forward_sockets (with_numbers (k + 1) fs)) ≡ true →
+        (k + 1 ≤ n) × (n < (k + 1) + length fs)) → (k ≤ n) × (n < k + suc (length fs))
     by true here is more = let it = equal n k here in (omega (arith, it), omega (arith, it))
     by false other is more = let then_is = more is in let low = then_is.0 in let high = then_is.1 in (omega (arith, low), omega (arith, high))
 
@@ -469,7 +501,8 @@ pub given_among : (fs : List Forward) (n k : ℕ) → k ≤ n → n < k + length
 given_among [] n k low high = absurd (omega (arith, low, high))
 given_among (f ∷ fs) n k low high = by (same_or_not n k) (λ above below. given_among fs n (k + 1) above below)
   where
-    by : (n ≡ k) ⊎ ((n == k) ≡ false) → (k + 1 ≤ n → n < (k + 1) + length fs → is_among n (forward_sockets (with_numbers (k + 1) fs)) ≡ true) → ((n == k) || is_among n (forward_sockets (with_numbers (k + 1) fs))) ≡ true
+    by : (n ≡ k) ⊎ ((n == k) ≡ false) → (k + 1 ≤ n → n < (k + 1) + length fs → is_among n (forward_sockets (with_numbers (k + 1) fs)) ≡ true) →
+        ((n == k) || is_among n (forward_sockets (with_numbers (k + 1) fs))) ≡ true
     by (inl is) more = ap (λ b. b || is_among n (forward_sockets (with_numbers (k + 1) fs))) (ap (λ x. x == k) is ∙ same k)
     by (inr other) more = or_second (n == k) (is_among n (forward_sockets (with_numbers (k + 1) fs))) (more (grind (arith, nat_tests, low, other)) (omega (arith, high)))
 
@@ -498,7 +531,8 @@ stand_first [] k bound ns rising low all = (ns, refl, λ n among. let up = low n
 stand_first (f ∷ fs) k bound [] rising low all = let never : false ≡ true = all k (omega arith) (omega arith) in cc
 stand_first (f ∷ fs) k bound (x ∷ ns) rising low all =
     let first : x ≡ k = head_is in
-    let rest = stand_first fs (k + 1) bound ns rising.2 (λ n among. let up = above x n ns rising.1 among in omega (arith, up, first)) (λ n from to. behind n from (all n (omega (arith, from)) (omega (arith, to)))) in
+    let rest = stand_first fs (k + 1) bound ns rising.2 (λ n among. let up = above x n ns rising.1 among in omega (arith, up, first))
+    (λ n from to. behind n from (all n (omega (arith, from)) (omega (arith, to)))) in
     (rest.0, ap (λ y. y ∷ ns) first ∙ ap (λ l. k ∷ l) rest.1, λ n among. let up = rest.2 n among in omega (arith, up))
   where
     head_is : x ≡ k
@@ -552,7 +586,8 @@ finds_first guest p q (f ∷ fs) k agree =
         (ap q it ∙ says.0, λ udp. ap p it ∙ says.1 udp)
 
     by : (proto : Proto) → f.proto ≡ proto → find p (filter q (forward_sockets (with_numbers (k + 1) fs))) ≡ socket_for guest (with_numbers (k + 1) fs)
-        → find p (if same_proto f.proto Udp then k ∷ filter q (forward_sockets (with_numbers (k + 1) fs)) else filter q (forward_sockets (with_numbers (k + 1) fs))) ≡ option_map socket_of (if leads_to guest (f, k) then Some (f, k) else find (leads_to guest) (with_numbers (k + 1) fs))
+        → find p (if same_proto f.proto Udp then k ∷ filter q (forward_sockets (with_numbers (k + 1) fs)) else filter q (forward_sockets (with_numbers (k + 1) fs))) ≡ option_map
+        socket_of (if leads_to guest (f, k) then Some (f, k) else find (leads_to guest) (with_numbers (k + 1) fs))
     by Tcp is rest =
         ap (λ proto. find p (if same_proto proto Udp then k ∷ filter q (forward_sockets (with_numbers (k + 1) fs)) else filter q (forward_sockets (with_numbers (k + 1) fs)))) is ∙ rest
         ∙ sym (ap (λ proto. option_map socket_of (if same_proto proto Udp && same_endpoint f.guest guest then Some (f, k) else find (leads_to guest) (with_numbers (k + 1) fs))) is)
@@ -562,7 +597,8 @@ finds_first guest p q (f ∷ fs) k agree =
         ∙ found (same_endpoint f.guest guest)
         ∙ sym (ap (λ proto. option_map socket_of (if same_proto proto Udp && same_endpoint f.guest guest then Some (f, k) else find (leads_to guest) (with_numbers (k + 1) fs))) is)
       where
-        found : (b : Bool) → (if b then Some k else find p (filter q (forward_sockets (with_numbers (k + 1) fs)))) ≡ option_map socket_of (if b then Some (f, k) else find (leads_to guest) (with_numbers (k + 1) fs))
+        found : (b : Bool) → (if b then Some k else find p (filter q (forward_sockets (with_numbers (k + 1) fs)))) ≡ option_map socket_of
+            (if b then Some (f, k) else find (leads_to guest) (with_numbers (k + 1) fs))
         found true = refl
         found false = rest
 
@@ -639,7 +675,8 @@ guest_given config n = by config.forwards n 0
     by (f ∷ fs) (suc n) k = by fs n (k + 1)
 
 -- and such a forward is there
-pub forward_of : (fs : List Forward) (n : ℕ) (guest : Endpoint) → option_and_then (λ (f : Forward). given_by f.proto f.guest) (slice_get fs n) ≡ Some guest → (f : Forward) × (slice_get fs n ≡ Some f) × (f.proto ≡ Udp) × (f.guest ≡ guest)
+pub forward_of : (fs : List Forward) (n : ℕ) (guest : Endpoint) → option_and_then (λ (f : Forward). given_by f.proto f.guest) (slice_get fs n) ≡ Some guest → (f : Forward) ×
+    (slice_get fs n ≡ Some f) × (f.proto ≡ Udp) × (f.guest ≡ guest)
 forward_of fs n guest is = by (slice_get fs n) refl is
   where
     by_proto : (p : Proto) (g : Endpoint) → given_by p g ≡ Some guest → (p ≡ Udp) × (g ≡ guest)
@@ -649,6 +686,7 @@ forward_of fs n guest is = by (slice_get fs n) refl is
         the_same : Some g ≡ Some guest → g ≡ guest
         the_same same_one = cc
 
-    by : (o : Option Forward) → slice_get fs n ≡ o → option_and_then (λ (f : Forward). given_by f.proto f.guest) o ≡ Some guest → (f : Forward) × (slice_get fs n ≡ Some f) × (f.proto ≡ Udp) × (f.guest ≡ guest)
+    by : (o : Option Forward) → slice_get fs n ≡ o → option_and_then (λ (f : Forward). given_by f.proto f.guest) o ≡ Some guest → (f : Forward) × (slice_get fs n ≡ Some f) ×
+        (f.proto ≡ Udp) × (f.guest ≡ guest)
     by None at is = cc
     by (Some f) at is = let here = by_proto f.proto f.guest is in (f, at, here.0, here.1)

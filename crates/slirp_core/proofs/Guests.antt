@@ -26,7 +26,8 @@ guests_begin slirp told nothing none no_parts = record {
 }
 
 -- an entry by which no frame came
-pub guests_stay : (config : Config) (slirp new : SlirpState) (e : Entry) (past : List Entry) → (happens config past e).came ≡ None → of_guests new ≡ of_guests slirp → OfGuests config slirp past → OfGuests config new (e ∷ past)
+pub guests_stay : (config : Config) (slirp new : SlirpState) (e : Entry) (past : List Entry) → (happens config past e).came ≡ None → of_guests new ≡ of_guests slirp →
+    OfGuests config slirp past → OfGuests config new (e ∷ past)
 guests_stay config slirp new e past nothing same is = record {
   settings = ap (λ (p : Config × List (Ip4 × Mac) × List Gathered). p.0) same ∙ is.settings;
   known = ap (λ o. with_arrival o (known config past)) nothing ∙ is.known ∙ sym (ap (λ (p : Config × List (Ip4 × Mac) × List Gathered). p.1) same);
@@ -43,5 +44,6 @@ guests_learn config slirp new frame past settings learnt same_config same_known 
 }
 
 -- no entry, but that old fragments are given up
-pub guests_forget : (config : Config) (slirp new : SlirpState) (past : List Entry) → new.config ≡ slirp.config → new.known ≡ slirp.known → OfFragments config new past → OfGuests config slirp past → OfGuests config new past
+pub guests_forget : (config : Config) (slirp new : SlirpState) (past : List Entry) → new.config ≡ slirp.config → new.known ≡ slirp.known → OfFragments config new past →
+    OfGuests config slirp past → OfGuests config new past
 guests_forget config slirp new past same_config same_known fragments is = record { settings = same_config ∙ is.settings; known = is.known ∙ sym same_known; fragments = fragments }

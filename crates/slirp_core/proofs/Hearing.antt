@@ -124,7 +124,8 @@ module _ (config : Config) (at : Standing) (slirp : SlirpState) (kept : Kept) (l
   -- ---- its flow, or none, takes it
 
   -- all is as it was but the flows and what is owed
-  settles : (made : List Entry) (new : Kept) (pending : List (List ℕ)) → AreAllowed made → Between config slirp.moment false None new (made ++ past) → Leaves config past made → agenda (made ++ past) ≡ agenda past → left config past ≡ pending
+  settles : (made : List Entry) (new : Kept) (pending : List (List ℕ)) → AreAllowed made → Between config slirp.moment false None new (made ++ past) → Leaves config past made →
+      agenda (made ++ past) ≡ agenda past → left config past ≡ pending
       → Holds config at (record slirp { pending = pending }) (flowing false new) link (made ++ past)
   settles made new pending allowed then_is leaves reported owed =
       let others = leaves.others in
@@ -144,7 +145,13 @@ module _ (config : Config) (at : Standing) (slirp : SlirpState) (kept : Kept) (l
           owed = inl (record { left = leaves.left ∙ owed; again = others.again ∙ comes.again; files = comes.files ∙ sym (ap (λ (k : Files). k.transfers) others.files) });
         };
         guests = record { settings = guests.settings; known = guests.known; fragments = record { held = fragments.held; is_held = fragments.is_held; wait = fragments.wait } };
-        relayed = record { list = others.list ∙ comes.relayed.list; questions = others.questions ∙ comes.relayed.questions; asks = asks_nothing config slirp (errand_left config (made ++ past)) then_is.work.errand; heard = unheard config (made ++ past) then_is.work.services };
+        relayed = record {
+          list = others.list ∙ comes.relayed.list;
+          questions = others.questions ∙ comes.relayed.questions;
+          asks = asks_nothing config slirp
+              (errand_left config (made ++ past)) then_is.work.errand;
+          heard = unheard config (made ++ past) then_is.work.services;
+        };
         services = record { leases = others.leases ∙ comes.services.leases; quest = ap (λ (k : Files). k.quest) others.files ∙ comes.services.quest };
         forwards = comes.forwards;
         flows = record { holds = then_is.holds; asked = then_is.asked; settings = then_is.settings; unit = comes.unit };
@@ -234,7 +241,8 @@ module _ (config : Config) (at : Standing) (slirp : SlirpState) (kept : Kept) (l
 
         -- it connects: the flow begins
         pub connected : (begun : Kept) (mac : Mac) → mac.0 ≡ c.on.mac → Allowed (Connect slirp.number to MadeDone)
-            → BeginsFlow slirp.moment slirp.number new begun c.on.tuple mac c.tcp → Holds config at (record slirp { number = slirp.number + 1 }) (flowing false begun) link (Connect slirp.number to MadeDone ∷ past)
+            → BeginsFlow slirp.moment slirp.number new begun c.on.tuple mac c.tcp → Holds config at (record slirp { number = slirp.number + 1 }) (flowing false begun) link
+            (Connect slirp.number to MadeDone ∷ past)
         connected begun mac is_its fine begins =
             let then_is = begins config to past (record {
               between = subst (λ n. Between config slirp.moment false (Some (CallConnect n to)) new past) comes.sockets.number due_is;
@@ -248,16 +256,23 @@ module _ (config : Config) (at : Standing) (slirp : SlirpState) (kept : Kept) (l
             connects MadeDone begun slirp.pending fine then_is.lawful then_is (owed_none not_reset)
 
         -- it doesn't: the guest gets a reset
-        pub unconnected_then : Allowed (Connect slirp.number to MadeFailed) → Holds config at (record slirp { number = slirp.number + 1; pending = reset_frames }) (flowing false new) link (Connect slirp.number to MadeFailed ∷ past)
+        pub unconnected_then : Allowed (Connect slirp.number to MadeFailed) → Holds config at (record slirp { number = slirp.number + 1; pending = reset_frames })
+            (flowing false new) link (Connect slirp.number to MadeFailed ∷ past)
         unconnected_then fine =
             let e = Connect slirp.number to MadeFailed in
             connects MadeFailed new reset_frames fine (may, due_is.lawful)
             (record {
-              holds = holds_quiet number_of mac_of (Following config slirp.moment) (Following config slirp.moment) config new.flows past e false (Some (CallConnect (next_number past) to)) refl (omega arith) refl (λ p story follows. follows) due_is.holds;
+              holds = holds_quiet number_of mac_of (Following config slirp.moment) (Following config slirp.moment) config new.flows past e false
+                  (Some (CallConnect (next_number past) to)) refl (omega arith) refl (λ p story follows. follows) due_is.holds;
               asked = asked_then config past (e ∷ past) new.flows.slots new.flows.slots refl (λ guest. refl) (λ k q here. (q, k, here, refl, omega arith)) due_is.asked;
               settings = due_is.settings;
               lawful = (may, due_is.lawful);
-              work = record { working = due_is.work.working; errand = due_is.work.errand; services = none_due_for_services config (e ∷ past) refl comes.services.quest; open_yet = due_is.work.open_yet };
+              work = record {
+                working = due_is.work.working;
+                errand = due_is.work.errand;
+                services = none_due_for_services config (e ∷ past) refl comes.services.quest;
+                open_yet = due_is.work.open_yet;
+              };
               at = due_is.at;
             })
             (ap (λ o. unconnected config (identification past) o (left config past)) came_is

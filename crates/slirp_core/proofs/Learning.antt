@@ -12,7 +12,8 @@ use Rattle.ipv4_head.proofs.Members.{found_key, same_key}
 use Rattle.tcp_segment.specs.Tcp.{Tcp, read_tcp}
 use Rattle.udp_assoc.specs.Udp.{Udp, read_udp}
 use Rattle.run_laws.specs.Fragments.{arrived, joined_by, key_by, part_by}
-use Rattle.run_laws.specs.Packets.{Packet, ArpPacket, Message, DatagramPacket, Pair, Segment, datagram_in, datagram_of, may_come, packet_in, packet_of, packet_of_ip, pair_by, pair_in, unless_unheard, whole_packet}
+use Rattle.run_laws.specs.Packets.{Packet, ArpPacket, Message, DatagramPacket, Pair, Segment, datagram_in, datagram_of, may_come, packet_in, packet_of, packet_of_ip, pair_by, pair_in}
+use Rattle.run_laws.specs.Packets.{unless_unheard, whole_packet}
 
 none_some : {A : Type 0} {x : A} → None ≡ Some x → ⊥
 none_some is = cc
@@ -77,7 +78,8 @@ segment_of_guest config mac ip to of tcp is = by (ip.proto == udp_proto) (is_gue
 
     by : (udp guest icmp segment : Bool) → is_guest config ip.from ≡ guest
         → (if udp then datagram_in config mac ip
-        else (if guest then (if icmp then option_map (Message mac ip) (read_icmp ip.body) else (if segment then option_map (Segment mac ip) (read_tcp ip.from ip.to ip.body) else None)) else None)) ≡ Some (Segment to of tcp)
+        else (if guest then (if icmp then option_map (Message mac ip) (read_icmp ip.body) else
+        (if segment then option_map (Segment mac ip) (read_tcp ip.from ip.to ip.body) else None)) else None)) ≡ Some (Segment to of tcp)
         → IsOf config mac ip to of
     by true guest icmp segment of_guest is = absurd (no_datagram (read_udp ip.from ip.to ip.body) is)
     by false true true segment of_guest is = absurd (no_message (read_icmp ip.body) is)
@@ -118,9 +120,11 @@ module _ (config : Config) (now : ℕ) (waiting : List PartSet) (mac : List ℕ)
   by_ether None is = absurd (none_some is)
   by_ether (Some ether) is = by (ether.kind == arp_kind) (ether.kind == ipv4_kind) is
     where
-      by : (arp of_ip : Bool) → (if arp then option_map ArpPacket (read_arp ether.body) else (if of_ip then option_and_then (whole_packet config now waiting ether.from ether.body) (read_ip ether.body) else None)) ≡ Some (Segment mac ip tcp)
+      by : (arp of_ip : Bool) → (if arp then option_map ArpPacket (read_arp ether.body) else (if of_ip then option_and_then (whole_packet config now waiting ether.from ether.body)
+          (read_ip ether.body) else None)) ≡ Some (Segment mac ip tcp)
           → (if arp then option_and_then (λ (a : Arp). if is_guest config a.sender then Some (record { address = a.sender; mac = a.sender_mac }) else None) (read_arp ether.body)
-          else (if of_ip then option_and_then (λ (part : Ip). if is_guest config part.from then Some (record { address = part.from; mac = ether.from }) else None) (read_ip ether.body) else None)) ≡ taught_it
+          else (if of_ip then option_and_then (λ (part : Ip). if is_guest config part.from then Some (record { address = part.from; mac = ether.from }) else None)
+          (read_ip ether.body) else None)) ≡ taught_it
       by true of_ip is = absurd (no_arp (read_arp ether.body) is)
       by false true is = by_ip ether.from ether.body (read_ip ether.body) is
       by false false is = absurd (none_some is)

@@ -1,5 +1,6 @@
 -- Which open socket has the least number, and how many flows are open.
-use Rattle.std.proofs.Common.{◌≡◌, ℕ, zero, suc, ◌+◌, ◌<◌, ◌≤◌, ◌==◌, ◌||◌, Bool, true, false, List, [], ◌∷◌, ◌++◌, length, nat_lt, set, get_or, slice_get, Option, Some, None, IsPermutation, refl, sym, ◌∙◌, ap, subst, arith, if◌then◌else◌}
+use Rattle.std.proofs.Common.{◌≡◌, ℕ, zero, suc, ◌+◌, ◌<◌, ◌≤◌, ◌==◌, ◌||◌, Bool, true, false, List, [], ◌∷◌, ◌++◌, length, nat_lt, set, get_or, slice_get, Option, Some, None}
+use Rattle.std.proofs.Common.{IsPermutation, refl, sym, ◌∙◌, ap, subst, arith, if◌then◌else◌}
 use Rattle.std.specs.Prelude.{Contains}
 use Rattle.std.specs.List.Sorted.{IsNonDecreasing}
 use Rattle.std.proofs.lemmas.Bool.Decides.{nat_tests}
@@ -180,13 +181,15 @@ pub no_flow : (o : Holders) → NoneIsAbove None o.slots → NoFlowFirst (carrie
 no_flow o none = record { below = λ m least k p at. absurd (none k p at tt); none = λ empty. none }
 
 -- a question's number is less than those of all associations, or isn't
-pub question_is_under : (list : List Association) (asked : List Question) (rising : List ℕ) → IsPermutation (question_numbers asked) rising → IsNonDecreasing rising → (n : ℕ) → slice_get rising 0 ≡ Some n
+pub question_is_under : (list : List Association) (asked : List Question) (rising : List ℕ) → IsPermutation (question_numbers asked) rising → IsNonDecreasing rising → (n : ℕ) →
+    slice_get rising 0 ≡ Some n
     → ((m : ℕ) → is_among m (numbers list) ≡ true → n ≤ m) → IsQuestionFirst list asked
 question_is_under list asked rising all rise n is_first below =
     let least = first_is_least (question_numbers asked) rising all rise n is_first in
     (n, asked_least n asked least.0 least.1, below)
 
-pub question_isnt_under : (list : List Association) (asked : List Question) (rising : List ℕ) → IsPermutation (question_numbers asked) rising → IsNonDecreasing rising → (n : ℕ) → slice_get rising 0 ≡ Some n
+pub question_isnt_under : (list : List Association) (asked : List Question) (rising : List ℕ) → IsPermutation (question_numbers asked) rising → IsNonDecreasing rising → (n : ℕ) →
+    slice_get rising 0 ≡ Some n
     → (first : ℕ) → is_among first (numbers list) ≡ true → first ≤ n → NoQuestionFirst list asked
 question_isnt_under list asked rising all rise n is_first first among most = record {
   below = λ m least k is.
@@ -205,14 +208,16 @@ no_question_first list asked rising all none = record {
 -- ---- the socket with the least number is closed
 
 module _ (config : Config) (over : Phase) (made past : List Entry) where
-  pub flow_first : (b : Bool) (o : Holders) (new : List (Option Splice)) → IsFlowFirst (carriers o) o.slots → ClosesFirst b o.slots new made → Closing config over o past → AfterClosing b config over (record o { slots = new }) (made ++ past)
+  pub flow_first : (b : Bool) (o : Holders) (new : List (Option Splice)) → IsFlowFirst (carriers o) o.slots → ClosesFirst b o.slots new made → Closing config over o past →
+      AfterClosing b config over (record o { slots = new }) (made ++ past)
   flow_first true o new first closes closing =
       subst (λ (m : List Entry). Closing config over (record o { slots = new }) (m ++ past)) (sym closes.4)
       (subst (λ (l : List (Option Splice)). Closing config over (record o { slots = l }) (Close closes.0 ∷ past)) (sym closes.3)
       (flow_closed config over o past closing closes.0 closes.1 (next_flow first.0 o.slots first.1 closes.0 closes.1 (carriers o) closes.2 first.2)))
   flow_first false o new first closes closing = absurd (one_open first.0 o.slots first.1 closes.0)
 
-  pub question_first : (b : Bool) (o : Holders) (new : List Question) → NoFlowFirst (carriers o) o.slots → IsQuestionFirst o.associations o.questions → ClosesLeastAsked (λ q. true) b o.questions new made → Closing config over o past
+  pub question_first : (b : Bool) (o : Holders) (new : List Question) → NoFlowFirst (carriers o) o.slots → IsQuestionFirst o.associations o.questions → ClosesLeastAsked
+      (λ q. true) b o.questions new made → Closing config over o past
       → AfterClosing b config over (record o { questions = new }) (made ++ past)
   question_first true o new no_flow first closes closing =
       subst (λ (m : List Entry). Closing config over (record o { questions = new }) (m ++ past)) (sym closes.1)
@@ -230,9 +235,11 @@ module _ (config : Config) (over : Phase) (made past : List Entry) where
         among_second closes.0 (numbers o.associations) (question_numbers o.questions) listed,
         flow_is_under closes.0 o (λ m among. let above = first.2 m among in omega (arith, under, above)) (λ m among. asked_at_most closes.0 m o.questions closes.2.1 among),
       )
-  question_first false o new no_flow first closes closing = absurd (true_false (sym (least_asked first.0 o.questions first.1) ∙ ap (λ (l : List Question). is_among first.0 (question_numbers l)) (no_question o.questions closes.1)))
+  question_first false o new no_flow first closes closing = absurd
+      (true_false (sym (least_asked first.0 o.questions first.1) ∙ ap (λ (l : List Question). is_among first.0 (question_numbers l)) (no_question o.questions closes.1)))
 
-  pub association_first : (b : Bool) (o : Holders) (new : List Association) → NoFlowFirst (carriers o) o.slots → NoQuestionFirst o.associations o.questions → ClosesLeast (λ a. true) b o.associations new made → Closing config over o past
+  pub association_first : (b : Bool) (o : Holders) (new : List Association) → NoFlowFirst (carriers o) o.slots → NoQuestionFirst o.associations o.questions → ClosesLeast
+      (λ a. true) b o.associations new made → Closing config over o past
       → AfterClosing b config over (record o { associations = new }) (made ++ past)
   association_first true o new no_flow no_question closes closing =
       subst (λ (m : List Entry). Closing config over (record o { associations = new }) (m ++ past)) (sym closes.1)
@@ -264,8 +271,10 @@ some_flow false carriers old new made first closes is = one_open first.0 old fir
 
 pub some_question : (b : Bool) (list : List Association) (old new : List Question) (made : List Entry) → IsQuestionFirst list old → ClosesLeastAsked (λ q. true) b old new made → b ≡ false → ⊥
 some_question true list old new made first closes is = cc
-some_question false list old new made first closes is = true_false (sym (least_asked first.0 old first.1) ∙ ap (λ (l : List Question). is_among first.0 (question_numbers l)) (no_question old closes.1))
+some_question false list old new made first closes is = true_false (sym (least_asked first.0 old first.1) ∙ ap (λ (l : List Question). is_among first.0 (question_numbers l))
+    (no_question old closes.1))
 
-pub no_association_left : (b : Bool) (old new : List Association) (asked : List Question) (made : List Entry) → NoQuestionFirst old asked → ClosesLeast (λ a. true) b old new made → b ≡ false → asked ≡ []
+pub no_association_left : (b : Bool) (old new : List Association) (asked : List Question) (made : List Entry) → NoQuestionFirst old asked → ClosesLeast (λ a. true) b old new made →
+    b ≡ false → asked ≡ []
 no_association_left true old new asked made first closes is = cc
 no_association_left false old new asked made first closes is = first.none (no_association old closes.1)

@@ -1,5 +1,6 @@
 -- The ports of the host that the settings give to guests are opened one after another, in their order.
-use Rattle.std.proofs.Common.{◌≡◌, ◌≢◌, ℕ, zero, suc, ◌+◌, ◌<◌, ◌≤◌, ◌==◌, ◌&&◌, ◌||◌, not, nat_le, Bool, true, false, IsTrue, List, [], ◌∷◌, ◌++◌, length, drop, take, slice_get, slice_index_or, Some, None, refl, sym, ◌∙◌, ap, subst, arith}
+use Rattle.std.proofs.Common.{◌≡◌, ◌≢◌, ℕ, zero, suc, ◌+◌, ◌<◌, ◌≤◌, ◌==◌, ◌&&◌, ◌||◌, not, nat_le, Bool, true, false, IsTrue, List, [], ◌∷◌, ◌++◌, length, drop, take, slice_get}
+use Rattle.std.proofs.Common.{slice_index_or, Some, None, refl, sym, ◌∙◌, ap, subst, arith}
 use Rattle.std.proofs.lemmas.Bool.Decides.{nat_tests}
 use Rattle.std.proofs.lemmas.Option.{slice_get-get_or}
 use Rattle.std.specs.List.{list_all, list_any}
@@ -57,7 +58,8 @@ port_turned f g = λ i. proto_turned f.proto g.proto i && (eq_turned (address f.
 none_before : (done left : List Forward) (f : Forward) (n : ℕ) → none_twice same_host_port (done ++ f ∷ left) ≡ true → is_taken f.proto f.host (with_numbers n done) ≡ false
 none_before [] left f n once = refl
 none_before (g ∷ done) left f n once = neither (is_at f.proto f.host (g, n)) (is_taken f.proto f.host (with_numbers (n + 1) done))
-    (sym (port_turned g f) ∙ other g done left f (not_true (list_any (same_host_port g) (done ++ f ∷ left)) (first_of (not (list_any (same_host_port g) (done ++ f ∷ left))) (none_twice same_host_port (done ++ f ∷ left)) once)))
+    (sym (port_turned g f) ∙ other g done left f (not_true (list_any (same_host_port g) (done ++ f ∷ left)) (first_of (not (list_any (same_host_port g) (done ++ f ∷ left)))
+    (none_twice same_host_port (done ++ f ∷ left)) once)))
     (none_before done left f (n + 1) (second_of (not (list_any (same_host_port g) (done ++ f ∷ left))) (none_twice same_host_port (done ++ f ∷ left)) once))
   where
     neither : (a b : Bool) → a ≡ false → b ≡ false → (a || b) ≡ false
@@ -111,7 +113,8 @@ at_place (x ∷ fs) (suc k) f at =
     let next : suc (k + 1) ≡ suc k + 1 = omega arith in
     (ap (λ l. x ∷ l) more.0, ap suc more.1, subst (λ n. take n (x ∷ fs) ≡ x ∷ (take k fs ++ f ∷ [])) next (ap (λ l. x ∷ l) more.2))
 
-pub may_open : (config : Config) (place : ℕ) (f : Forward) (opened : List Opened) → IsSound config → slice_get config.forwards place ≡ Some f → opened ≡ with_numbers 0 (take place config.forwards) → MayOpen config place f opened
+pub may_open : (config : Config) (place : ℕ) (f : Forward) (opened : List Opened) → IsSound config → slice_get config.forwards place ≡ Some f → opened ≡ with_numbers 0
+    (take place config.forwards) → MayOpen config place f opened
 may_open config place f opened sound at are =
     let ranges = both (nat_le (length config.forwards) 32) (list_all (is_forward config) config.forwards) (none_twice same_host_port config.forwards) (sound.each Forwards) in
     let each = holds_at (is_forward config) config.forwards place f ranges.1 at in
@@ -119,7 +122,8 @@ may_open config place f opened sound at are =
     let ports = first_of (not (f.host.port == 0) && not (f.guest.port == 0)) (is_guest config (address f.guest)) grouped in
     let guest = second_of (not (f.host.port == 0) && not (f.guest.port == 0)) (is_guest config (address f.guest)) grouped in
     let here = at_place config.forwards place f at in
-    let long : length config.forwards ≡ length (take place config.forwards) + length (f ∷ drop (suc place) config.forwards) = ap length here.0 ∙ length_both (take place config.forwards) (f ∷ drop (suc place) config.forwards) in
+    let long : length config.forwards ≡ length (take place config.forwards) + length (f ∷ drop (suc place) config.forwards) = ap length here.0 ∙ length_both
+    (take place config.forwards) (f ∷ drop (suc place) config.forwards) in
     let many : length opened ≡ length (take place config.forwards) = ap length are ∙ length_numbers 0 (take place config.forwards) in
     let most = ranges.0 in
     let few : length opened < 32 = grind (arith, nat_tests, most, long, many) in
@@ -138,7 +142,8 @@ may_open config place f opened sound at are =
     regroup false b c is = cc
 
 -- the next of the settings may be opened, where those before it are open
-pub may_open_next : (fs : List Forward) (slirp now : SlirpState) (place : ℕ) (d : Forward) → fs ≡ slirp.config.forwards → IsSound slirp.config → place < length fs → now.forwards ≡ with_numbers 0 (take place slirp.config.forwards)
+pub may_open_next : (fs : List Forward) (slirp now : SlirpState) (place : ℕ) (d : Forward) → fs ≡ slirp.config.forwards → IsSound slirp.config → place < length fs →
+    now.forwards ≡ with_numbers 0 (take place slirp.config.forwards)
     → now ≡ record slirp { number = place; forwards = now.forwards } → MayOpen now.config place (slice_index_or fs place d) now.forwards
 may_open_next fs slirp now place d are sound less opened same_state =
     subst (λ (c : Config). MayOpen c place (slice_index_or fs place d) now.forwards) (sym (ap (λ (s : SlirpState). s.config) same_state))
@@ -150,15 +155,18 @@ few_forwards config sound =
     grind (arith, nat_tests, most)
 
 -- the list goes on
-pub one_more_open : (config : Config) (place : ℕ) (f : Forward) (opened new : List Opened) (number : ℕ) → slice_get config.forwards place ≡ Some f → opened ≡ with_numbers 0 (take place config.forwards) → number ≡ place → new ≡ opened ++ (f, number) ∷ []
+pub one_more_open : (config : Config) (place : ℕ) (f : Forward) (opened new : List Opened) (number : ℕ) → slice_get config.forwards place ≡ Some f → opened ≡ with_numbers 0
+    (take place config.forwards) → number ≡ place → new ≡ opened ++ (f, number) ∷ []
     → new ≡ with_numbers 0 (take (place + 1) config.forwards)
 one_more_open config place f opened new number at are is grown =
     let here = at_place config.forwards place f at in
-    grown ∙ ap (λ l. l ++ (f, number) ∷ []) are ∙ ap (λ n. with_numbers 0 (take place config.forwards) ++ (f, n) ∷ []) (is ∙ sym here.1) ∙ numbers_last (take place config.forwards) f ∙ ap (with_numbers 0) (sym here.2)
+    grown ∙ ap (λ l. l ++ (f, number) ∷ []) are ∙ ap (λ n. with_numbers 0 (take place config.forwards) ++ (f, n) ∷ []) (is ∙ sym here.1) ∙ numbers_last
+    (take place config.forwards) f ∙ ap (with_numbers 0) (sym here.2)
 
 -- ---- a port is opened, or the host refuses it
 
-pub listened : (config : Config) (place : ℕ) (f : Forward) (slirp new : SlirpState) (link : LinkState) (made past : List Entry) → slice_get config.forwards place ≡ Some f → Listens true f slirp.number slirp.forwards new.forwards made
+pub listened : (config : Config) (place : ℕ) (f : Forward) (slirp new : SlirpState) (link : LinkState) (made past : List Entry) → slice_get config.forwards place ≡ Some f →
+    Listens true f slirp.number slirp.forwards new.forwards made
     → new ≡ record slirp { number = slirp.number + 1; forwards = new.forwards } → AreAllowed made → Opens config place slirp link past → Opens config (place + 1) new link (made ++ past)
 listened config place f slirp new link made past at listens same allowed opens =
     let here : Opens config slirp.number slirp link past = subst (λ n. Opens config n slirp link past) (sym opens.number) opens in
@@ -166,9 +174,11 @@ listened config place f slirp new link made past at listens same allowed opens =
     let then_is = more_open config slirp link past here f next.0 next.1 (subst AreAllowed listens.1 allowed).0 in
     subst (λ es. Opens config (place + 1) new link (es ++ past)) (sym listens.1)
     (subst (λ n. Opens config (n + 1) new link (opening_of f.proto slirp.number f.host Done ∷ past)) opens.number
-    (subst (λ s. Opens config (slirp.number + 1) s link (opening_of f.proto slirp.number f.host Done ∷ past)) (sym (same ∙ ap (λ l. record slirp { number = slirp.number + 1; forwards = l }) listens.0)) then_is))
+    (subst (λ s. Opens config (slirp.number + 1) s link (opening_of f.proto slirp.number f.host Done ∷ past))
+    (sym (same ∙ ap (λ l. record slirp { number = slirp.number + 1; forwards = l }) listens.0)) then_is))
 
-pub listen_refused : (config : Config) (place : ℕ) (f : Forward) (slirp new : SlirpState) (link : LinkState) (made past : List Entry) → slice_get config.forwards place ≡ Some f → Listens false f slirp.number slirp.forwards new.forwards made
+pub listen_refused : (config : Config) (place : ℕ) (f : Forward) (slirp new : SlirpState) (link : LinkState) (made past : List Entry) → slice_get config.forwards place ≡ Some f →
+    Listens false f slirp.number slirp.forwards new.forwards made
     → new ≡ record slirp { number = slirp.number + 1; forwards = new.forwards } → AreAllowed made → Opens config place slirp link past
     → ClosingWith config (Over (Refused place)) (forward_sockets new.forwards) (holders_of new) (made ++ past)
 listen_refused config place f slirp new link made past at listens same allowed opens =
@@ -181,7 +191,8 @@ listen_refused config place f slirp new link made past at listens same allowed o
     (sym (same ∙ ap (λ l. record slirp { number = slirp.number + 1; forwards = l }) listens.0)) then_is))
 
 -- what the list says of a forward that was added
-pub listens_by : {T : Type 0} (forward : Forward) (number : ℕ) (old new : List Opened) (result : Result T FwdFault) (made : List Entry) → Adds None forward number old new (result_err result) made → Listens (is_ok result) forward number old new made
+pub listens_by : {T : Type 0} (forward : Forward) (number : ℕ) (old new : List Opened) (result : Result T FwdFault) (made : List Entry) → Adds None forward number old new
+    (result_err result) made → Listens (is_ok result) forward number old new made
 listens_by forward number old new (Ok u) made (Done, is, (none, grown)) = (grown, is)
 listens_by forward number old new (Ok u) made (Failed, is, (fault, same)) = cc
 listens_by forward number old new (Err e) made (Done, is, (none, grown)) = cc

@@ -14,7 +14,8 @@ marks_stay number old new served turn stays = record { served = served; turn = t
 
 -- a flow began with this number
 pub marks_begun : (number : ℕ) (old new : Kept) → new.served ≡ old.served → new.turn ≡ old.turn
-    → ((k : ℕ) (p : Splice) → slice_get new.flows.slots k ≡ Some (Some p) → (number_of p ≡ number) ⊎ ((q : Splice) × (slice_get old.flows.slots k ≡ Some (Some q)) × (number_of p ≡ number_of q))) → KeepsMarks number old new
+    → ((k : ℕ) (p : Splice) → slice_get new.flows.slots k ≡ Some (Some p) → (number_of p ≡ number) ⊎ ((q : Splice) × (slice_get old.flows.slots k ≡ Some (Some q)) ×
+    (number_of p ≡ number_of q))) → KeepsMarks number old new
 marks_begun number old new served turn numbers = record { served = served; turn = turn; numbers = λ k p at. by k p (numbers k p at) }
   where
     by : (k : ℕ) (p : Splice) → (number_of p ≡ number) ⊎ ((q : Splice) × (slice_get old.flows.slots k ≡ Some (Some q)) × (number_of p ≡ number_of q))

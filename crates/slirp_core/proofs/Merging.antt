@@ -1,5 +1,6 @@
 -- Two rows of numbers that rise, as one.
-use Rattle.std.proofs.Common.{◌≡◌, ℕ, zero, suc, ◌+◌, ◌<◌, ◌≤◌, ◌++◌, Bool, true, false, List, [], ◌∷◌, length, drop, take, get_or, nat_lt, if◌then◌else◌, IsPermutation, refl, sym, ◌∙◌, ap, subst, arith}
+use Rattle.std.proofs.Common.{◌≡◌, ℕ, zero, suc, ◌+◌, ◌<◌, ◌≤◌, ◌++◌, Bool, true, false, List, [], ◌∷◌, length, drop, take, get_or, nat_lt, if◌then◌else◌, IsPermutation, refl, sym, ◌∙◌}
+use Rattle.std.proofs.Common.{ap, subst, arith}
 use Rattle.std.specs.List.Sorted.{IsNonDecreasing}
 use Rattle.std.proofs.lemmas.Bool.Decides.{nat_tests}
 use Rattle.std.proofs.lemmas.List.Sorted.{IsPermutation-append, IsPermutation-cons, IsPermutation-middle, IsPermutation-refl, IsPermutation-trans, length_permutation}
@@ -13,7 +14,8 @@ into_all n rest ns all (m ∷ ms) = by (nat_lt n m) (into_all n rest ns all ms)
   where
     by : (b : Bool) → IsPermutation (n ∷ (ns ++ ms)) (into n rest ms) → IsPermutation (n ∷ (ns ++ m ∷ ms)) (if b then n ∷ rest (m ∷ ms) else m ∷ into n rest ms)
     by true later = IsPermutation-cons n (ns ++ m ∷ ms) (rest (m ∷ ms)) (all (m ∷ ms))
-    by false later = IsPermutation-trans (n ∷ (ns ++ m ∷ ms)) (m ∷ (n ∷ (ns ++ ms))) (m ∷ into n rest ms) (IsPermutation-middle (n ∷ ns) m ms) (IsPermutation-cons m (n ∷ (ns ++ ms)) (into n rest ms) later)
+    by false later = IsPermutation-trans (n ∷ (ns ++ m ∷ ms)) (m ∷ (n ∷ (ns ++ ms))) (m ∷ into n rest ms) (IsPermutation-middle (n ∷ ns) m ms)
+        (IsPermutation-cons m (n ∷ (ns ++ ms)) (into n rest ms) later)
 
 merged_both : (ns ms : List ℕ) → IsPermutation (ns ++ ms) (merged ns ms)
 merged_both [] ms = IsPermutation-refl ms

@@ -1,5 +1,6 @@
 -- The sockets of questions: which are open, and that they are no others'.
-use Rattle.std.proofs.Common.{◌≡◌, ℕ, ◌==◌, ◌&&◌, ◌||◌, ◌⊎◌, not, nat_lt, Bool, true, false, cond, List, [], ◌∷◌, ◌++◌, find, is_some, Option, Some, None, option_map, if◌then◌else◌, inl, inr, refl, sym, ◌∙◌, ap, subst}
+use Rattle.std.proofs.Common.{◌≡◌, ℕ, ◌==◌, ◌&&◌, ◌||◌, ◌⊎◌, not, nat_lt, Bool, true, false, cond, List, [], ◌∷◌, ◌++◌, find, is_some, Option, Some, None, option_map, if◌then◌else◌, inl}
+use Rattle.std.proofs.Common.{inr, refl, sym, ◌∙◌, ap, subst}
 use Rattle.net_octets.specs.declared.Endpoint.{Endpoint}
 use Rattle.world_face.specs.Journal.{Entry, Accept, Connect, Listen, UdpOpen}
 use Rattle.host_policy.specs.Addresses.{Config}
@@ -8,7 +9,8 @@ use Rattle.udp_assoc.specs.declared.assocs.Association.{Association}
 use Rattle.dns_relay.specs.Questions.{is_of, moved_last, numbered, numbers as question_numbers, socket_of, without}
 use Rattle.dns_relay.specs.declared.Question.{Question}
 use Rattle.run_laws.specs.Moments.{waits}
-use Rattle.run_laws.specs.Sockets.{Kind, Association as OfAssociation, DnsSocket, Flow as OfFlow, Forward as OfForward, Listener as OfListener, datagram_kind, is_among, is_association, kind_of, open_sockets}
+use Rattle.run_laws.specs.Sockets.{Kind, Association as OfAssociation, DnsSocket, Flow as OfFlow, Forward as OfForward, Listener as OfListener, datagram_kind, is_among, is_association}
+use Rattle.run_laws.specs.Sockets.{kind_of, open_sockets}
 use Rattle.slirp_laws.specs.Datagrams.{Errand, asks_a_name}
 use Rattle.slirp_laws.specs.Errands.{errand_left}
 use Rattle.slirp_laws.specs.Laws.{Lawful, carries}
@@ -36,7 +38,8 @@ among_both n (x ∷ xs) ys = ap (λ b. (n == x) || b) (among_both n xs ys) ∙ o
 -- one of no question: nothing is closed, none moves, and none has it
 pub none_without : (n : ℕ) (list : List Question) → is_among n (question_numbers list) ≡ false → without n list ≡ list
 none_without n [] none = refl
-none_without n (q ∷ list) none = by (q.number == n) (turned n q.number false (none_first (n == q.number) (is_among n (question_numbers list)) none)) (none_without n list (none_second (n == q.number) (is_among n (question_numbers list)) none))
+none_without n (q ∷ list) none = by (q.number == n) (turned n q.number false (none_first (n == q.number) (is_among n (question_numbers list)) none))
+    (none_without n list (none_second (n == q.number) (is_among n (question_numbers list)) none))
   where
     by : (b : Bool) → b ≡ false → without n list ≡ list → (if not b then q ∷ without n list else without n list) ≡ q ∷ list
     by true is rest = cc
@@ -44,7 +47,8 @@ none_without n (q ∷ list) none = by (q.number == n) (turned n q.number false (
 
 pub none_moved : (change : Question → Question) (n : ℕ) (list : List Question) → is_among n (question_numbers list) ≡ false → moved_last change n list ≡ list
 none_moved change n [] none = refl
-none_moved change n (q ∷ list) none = by (q.number == n) (turned n q.number false (none_first (n == q.number) (is_among n (question_numbers list)) none)) (none_moved change n list (none_second (n == q.number) (is_among n (question_numbers list)) none))
+none_moved change n (q ∷ list) none = by (q.number == n) (turned n q.number false (none_first (n == q.number) (is_among n (question_numbers list)) none))
+    (none_moved change n list (none_second (n == q.number) (is_among n (question_numbers list)) none))
   where
     by : (b : Bool) → b ≡ false → moved_last change n list ≡ list → (if b then list ++ (change q ∷ []) else q ∷ moved_last change n list) ≡ q ∷ list
     by true is rest = cc
@@ -52,7 +56,8 @@ none_moved change n (q ∷ list) none = by (q.number == n) (turned n q.number fa
 
 pub none_numbered : (n : ℕ) (list : List Question) → is_among n (question_numbers list) ≡ false → numbered n list ≡ None
 none_numbered n [] none = refl
-none_numbered n (q ∷ list) none = by (q.number == n) (turned n q.number false (none_first (n == q.number) (is_among n (question_numbers list)) none)) (none_numbered n list (none_second (n == q.number) (is_among n (question_numbers list)) none))
+none_numbered n (q ∷ list) none = by (q.number == n) (turned n q.number false (none_first (n == q.number) (is_among n (question_numbers list)) none))
+    (none_numbered n list (none_second (n == q.number) (is_among n (question_numbers list)) none))
   where
     by : (b : Bool) → b ≡ false → numbered n list ≡ None → (if b then Some q else numbered n list) ≡ None
     by true is rest = cc
@@ -71,7 +76,8 @@ pub numbered_is : (n : ℕ) (list : List Question) → is_some (numbered n list)
 numbered_is n [] = refl
 numbered_is n (x ∷ list) = by (x.number == n) refl (numbered_is n list)
   where
-    by : (b : Bool) → (x.number == n) ≡ b → is_some (numbered n list) ≡ is_among n (question_numbers list) → is_some (if b then Some x else numbered n list) ≡ ((n == x.number) || is_among n (question_numbers list))
+    by : (b : Bool) → (x.number == n) ≡ b → is_some (numbered n list) ≡ is_among n (question_numbers list) → is_some (if b then Some x else numbered n list) ≡
+        ((n == x.number) || is_among n (question_numbers list))
     by true this rest = sym (ap (λ b. b || is_among n (question_numbers list)) (turned x.number n true this))
     by false other rest = rest ∙ sym (ap (λ b. b || is_among n (question_numbers list)) (turned x.number n false other))
 
@@ -80,7 +86,8 @@ pub socket_among : (guest : Endpoint) (ident : ℕ) (list : List Question) (n : 
 socket_among guest ident [] n is = cc
 socket_among guest ident (x ∷ list) n is = by (is_of guest ident x) (λ more. socket_among guest ident list n more) is
   where
-    by : (t : Bool) → (socket_of guest ident list ≡ Some n → is_among n (question_numbers list) ≡ true) → option_map (λ (q : Question). q.number) (cond t (Some x) (find (is_of guest ident) list)) ≡ Some n
+    by : (t : Bool) → (socket_of guest ident list ≡ Some n → is_among n (question_numbers list) ≡ true) → option_map (λ (q : Question). q.number)
+        (cond t (Some x) (find (is_of guest ident) list)) ≡ Some n
         → ((n == x.number) || is_among n (question_numbers list)) ≡ true
     by true more is = let this : x.number ≡ n = cc in ap (λ b. b || is_among n (question_numbers list)) (subst (λ m. (n == m) ≡ true) (sym this) (same n))
     by false more is = or_second (n == x.number) (is_among n (question_numbers list)) (more is)
@@ -88,7 +95,8 @@ socket_among guest ident (x ∷ list) n is = by (is_of guest ident x) (λ more. 
 -- an association's: none moves
 pub association_unmoved : (change : Association → Association) (n : ℕ) (list : List Association) → is_among n (numbers list) ≡ false → association_moved change n list ≡ list
 association_unmoved change n [] none = refl
-association_unmoved change n (a ∷ list) none = by (a.number == n) (turned n a.number false (none_first (n == a.number) (is_among n (numbers list)) none)) (association_unmoved change n list (none_second (n == a.number) (is_among n (numbers list)) none))
+association_unmoved change n (a ∷ list) none = by (a.number == n) (turned n a.number false (none_first (n == a.number) (is_among n (numbers list)) none))
+    (association_unmoved change n list (none_second (n == a.number) (is_among n (numbers list)) none))
   where
     by : (b : Bool) → b ≡ false → association_moved change n list ≡ list → (if b then list ++ (change a ∷ []) else a ∷ association_moved change n list) ≡ a ∷ list
     by true is rest = cc
@@ -100,8 +108,10 @@ association_unmoved change n (a ∷ list) none = by (a.number == n) (turned n a.
 abbrev pub IsKnown : Config → ℕ → List Entry → Type 0
 IsKnown config n past = ((kind_for config n past ≡ kind_of n past) × (is_for_question (kind_of n past) ≡ false)) ⊎ ((kind_for config n past ≡ Some DnsSocket) × (kind_of n past ≡ Some OfAssociation))
 
-by_other : (b : Bool) (k : Kind) (before now : Option Kind) → is_for_question (Some k) ≡ false → ((before ≡ now) × (is_for_question now ≡ false)) ⊎ ((before ≡ Some DnsSocket) × (now ≡ Some OfAssociation))
-    → (((if b then Some k else before) ≡ (if b then Some k else now)) × (is_for_question (if b then Some k else now) ≡ false)) ⊎ (((if b then Some k else before) ≡ Some DnsSocket) × ((if b then Some k else now) ≡ Some OfAssociation))
+by_other : (b : Bool) (k : Kind) (before now : Option Kind) → is_for_question (Some k) ≡ false → ((before ≡ now) × (is_for_question now ≡ false)) ⊎
+    ((before ≡ Some DnsSocket) × (now ≡ Some OfAssociation))
+    → (((if b then Some k else before) ≡ (if b then Some k else now)) × (is_for_question (if b then Some k else now) ≡ false)) ⊎
+    (((if b then Some k else before) ≡ Some DnsSocket) × ((if b then Some k else now) ≡ Some OfAssociation))
 by_other true k before now none was = inl (refl, none)
 by_other false k before now none was = was
 
@@ -117,15 +127,20 @@ known_of config (Accept listener socket answer ∷ past) lawful n = by_other (so
 known_of config (UdpOpen socket at answer ∷ past) lawful n = by (errand_left config past) refl (known_of config past lawful.1 n)
   where
     asking : (b : Bool) (waited : nat_lt 0 (waits past) ≡ true) (hit : Bool) → IsKnown config n past
-        → (((if hit then Some (if b then DnsSocket else datagram_kind (nat_lt 0 (waits past))) else kind_for config n past) ≡ (if hit then Some (datagram_kind (nat_lt 0 (waits past))) else kind_of n past)) × (is_for_question (if hit then Some (datagram_kind (nat_lt 0 (waits past))) else kind_of n past) ≡ false))
-        ⊎ (((if hit then Some (if b then DnsSocket else datagram_kind (nat_lt 0 (waits past))) else kind_for config n past) ≡ Some DnsSocket) × ((if hit then Some (datagram_kind (nat_lt 0 (waits past))) else kind_of n past) ≡ Some OfAssociation))
+        → (((if hit then Some (if b then DnsSocket else datagram_kind (nat_lt 0 (waits past))) else kind_for config n past) ≡
+        (if hit then Some (datagram_kind (nat_lt 0 (waits past))) else kind_of n past)) × (is_for_question (if hit then Some (datagram_kind (nat_lt 0 (waits past))) else kind_of n past) ≡ false))
+        ⊎ (((if hit then Some (if b then DnsSocket else datagram_kind (nat_lt 0 (waits past))) else kind_for config n past) ≡ Some DnsSocket) ×
+        ((if hit then Some (datagram_kind (nat_lt 0 (waits past))) else kind_of n past) ≡ Some OfAssociation))
     asking true waited true was = inr (refl, ap (λ (v : Bool). Some (datagram_kind v)) waited)
     asking false waited true was = inl (refl, known_kind (nat_lt 0 (waits past)))
     asking b waited false was = was
 
     by : (o : Option Errand) → errand_left config past ≡ o → IsKnown config n past
-        → (((if socket == n then Some (datagram_kind_for config (nat_lt 0 (waits past)) o) else kind_for config n past) ≡ (if socket == n then Some (datagram_kind (nat_lt 0 (waits past))) else kind_of n past)) × (is_for_question (if socket == n then Some (datagram_kind (nat_lt 0 (waits past))) else kind_of n past) ≡ false))
-        ⊎ (((if socket == n then Some (datagram_kind_for config (nat_lt 0 (waits past)) o) else kind_for config n past) ≡ Some DnsSocket) × ((if socket == n then Some (datagram_kind (nat_lt 0 (waits past))) else kind_of n past) ≡ Some OfAssociation))
+        → (((if socket == n then Some (datagram_kind_for config (nat_lt 0 (waits past)) o) else kind_for config n past) ≡
+        (if socket == n then Some (datagram_kind (nat_lt 0 (waits past))) else kind_of n past)) ×
+        (is_for_question (if socket == n then Some (datagram_kind (nat_lt 0 (waits past))) else kind_of n past) ≡ false))
+        ⊎ (((if socket == n then Some (datagram_kind_for config (nat_lt 0 (waits past)) o) else kind_for config n past) ≡ Some DnsSocket) ×
+        ((if socket == n then Some (datagram_kind (nat_lt 0 (waits past))) else kind_of n past) ≡ Some OfAssociation))
     by None is was = by_other (socket == n) (datagram_kind (nat_lt 0 (waits past))) (kind_for config n past) (kind_of n past) (known_kind (nat_lt 0 (waits past))) was
     by (Some errand) is was = asking (asks_a_name config errand) (waited_for config past errand is lawful.1) (socket == n) was
 known_of config (_ ∷ past) lawful n = known_of config past lawful.1 n
@@ -146,7 +161,8 @@ carried config past lawful n =
     by true (inr (is, was)) = ap is_association was ∙ sym (ap (λ k. is_association k || is_for_question k) is)
 
 -- none is an association's and a question's
-pub two_apart : (config : Config) (past : List Entry) → Lawful config past → (n : ℕ) → is_among n (numbers (associations config past)) ≡ true → is_among n (question_numbers (questions config past)) ≡ false
+pub two_apart : (config : Config) (past : List Entry) → Lawful config past → (n : ℕ) → is_among n (numbers (associations config past)) ≡ true → is_among n
+    (question_numbers (questions config past)) ≡ false
 two_apart config past lawful n among =
     sym ((are_waiting config past lawful).those n) ∙ by (is_among n (open_sockets past)) (kind_for config n past) ((joined config past lawful).those n ∙ among)
   where
@@ -159,7 +175,8 @@ two_apart config past lawful n among =
     by true (Some OfFlow) is = refl
     by false k is = refl
 
-pub named_apart : (config : Config) (past : List Entry) → Lawful config past → (n : ℕ) → is_among n (question_numbers (questions config past)) ≡ true → is_among n (numbers (associations config past)) ≡ false
+pub named_apart : (config : Config) (past : List Entry) → Lawful config past → (n : ℕ) → is_among n (question_numbers (questions config past)) ≡ true → is_among n
+    (numbers (associations config past)) ≡ false
 named_apart config past lawful n among = by (is_among n (numbers (associations config past))) refl
   where
     by : (b : Bool) → is_among n (numbers (associations config past)) ≡ b → b ≡ false
@@ -168,7 +185,8 @@ named_apart config past lawful n among = by (is_among n (numbers (associations c
 
 -- the kind of an association's, and of a question's
 pub kind_carried : (config : Config) (past : List Entry) → Lawful config past → (n : ℕ) → is_among n (numbers (associations config past)) ≡ true → kind_for config n past ≡ Some OfAssociation
-kind_carried config past lawful n among = by (kind_for config n past) (second_of (is_among n (open_sockets past)) (is_association (kind_for config n past)) ((joined config past lawful).those n ∙ among))
+kind_carried config past lawful n among = by (kind_for config n past) (second_of (is_among n (open_sockets past)) (is_association (kind_for config n past))
+    ((joined config past lawful).those n ∙ among))
   where
     by : (k : Option Kind) → is_association k ≡ true → k ≡ Some OfAssociation
     by None is = cc
@@ -179,7 +197,8 @@ kind_carried config past lawful n among = by (kind_for config n past) (second_of
     by (Some OfFlow) is = cc
 
 pub kind_named : (config : Config) (past : List Entry) → Lawful config past → (n : ℕ) → is_among n (question_numbers (questions config past)) ≡ true → kind_for config n past ≡ Some DnsSocket
-kind_named config past lawful n among = by (kind_for config n past) (second_of (is_among n (open_sockets past)) (is_for_question (kind_for config n past)) ((are_waiting config past lawful).those n ∙ among))
+kind_named config past lawful n among = by (kind_for config n past) (second_of (is_among n (open_sockets past)) (is_for_question (kind_for config n past))
+    ((are_waiting config past lawful).those n ∙ among))
   where
     by : (k : Option Kind) → is_for_question k ≡ true → k ≡ Some DnsSocket
     by None is = cc
@@ -190,7 +209,11 @@ kind_named config past lawful n among = by (kind_for config n past) (second_of (
     by (Some OfFlow) is = cc
 
 -- one that isn't carried is of neither
-pub neither : (config : Config) (past : List Entry) → Lawful config past → (n : ℕ) → carries past n ≡ false → (is_among n (numbers (associations config past)) ≡ false) × (is_among n (question_numbers (questions config past)) ≡ false)
+pub neither : (config : Config) (past : List Entry) → Lawful config past → (n : ℕ) → carries past n ≡ false → (is_among n (numbers (associations config past)) ≡ false) ×
+    (is_among n (question_numbers (questions config past)) ≡ false)
 neither config past lawful n none =
-    let is = sym (among_both n (numbers (associations config past)) (question_numbers (questions config past))) ∙ sym (carried config past lawful n) ∙ none in
-    (none_first (is_among n (numbers (associations config past))) (is_among n (question_numbers (questions config past))) is, none_second (is_among n (numbers (associations config past))) (is_among n (question_numbers (questions config past))) is)
+    let is = sym (among_both n (numbers (associations config past)) (question_numbers (questions config past))) ∙ sym (carried config past lawful n) ∙ none in (
+      none_first (is_among n (numbers (associations config past))) (is_among n (question_numbers (questions config past))) is,
+      none_second
+          (is_among n (numbers (associations config past))) (is_among n (question_numbers (questions config past))) is,
+    )

@@ -28,8 +28,10 @@ use Rattle.slirp_core.proofs.Parts.{carried, given_in}
 none_doomed : (config : Config) (b : Book) (next : ℕ) (n : ℕ) → due_for_flows config b next ≡ None → b.doomed ≡ Some n → ⊥
 none_doomed config b next n asked is = cc (sym asked ∙ ap (λ d. due_by d (connects_to config b) next) is)
 
-module _ (config : Config) (slirp : SlirpState) (f : Flowing) (now : ℕ) (past : List Entry) (lawful : Lawful config past) (is_list : associations config past ≡ slirp.associations) (is_named : questions config past ≡ slirp.questions)
-    (holds : CoreHolds config now f.aged None f.kept.flows past) (kinds : (n : ℕ) → is_among n (open_sockets past) ≡ true → is_ours (kind_of n past) ≡ true) (has : HasGiven config (length config.forwards) past) (open_yet : is_closing config past ≡ false) where
+module _ (config : Config) (slirp : SlirpState) (f : Flowing) (now : ℕ) (past : List Entry) (lawful : Lawful config past) (is_list : associations config past ≡ slirp.associations)
+    (is_named : questions config past ≡ slirp.questions)
+    (holds : CoreHolds config now f.aged None f.kept.flows past) (kinds : (n : ℕ) → is_among n (open_sockets past) ≡ true → is_ours (kind_of n past) ≡ true)
+    (has : HasGiven config (length config.forwards) past) (open_yet : is_closing config past ≡ false) where
   abbrev all : List ℕ
   all = carriers (holders_with slirp f.kept)
 
@@ -80,21 +82,25 @@ module _ (config : Config) (slirp : SlirpState) (f : Flowing) (now : ℕ) (past 
   behind m (inl among) = later m (no_carrier (kind_of m past) (second_of (is_among m (open_sockets past)) (is_association (kind_of m past)) (carries_all m ∙ among)))
   behind m (inr (k, p, at_k, number, u)) =
       let joined = seat_open config now f.aged None f.kept.flows past holds lawful k p at_k.here at_k.open_yet in
-      subst (λ n. length config.forwards ≤ n) number (later (number_of p) (no_joined (kind_of (number_of p) past) (second_of (is_among (number_of p) (open_sockets past)) (is_flow (kind_of (number_of p) past)) joined)))
+      subst (λ n. length config.forwards ≤ n) number (later (number_of p) (no_joined (kind_of (number_of p) past) (second_of (is_among (number_of p) (open_sockets past))
+      (is_flow (kind_of (number_of p) past)) joined)))
 
   pub open_by : AreOpenWith (forward_sockets (given config)) all f.kept.flows.slots past
   open_by = record {
     each = λ n among. by_kind n among (is_association (kind_of n past)) (is_flow (kind_of n past)) (is_given (kind_of n past)) refl refl refl (kinds n among);
     forward = λ n among. has.stay open_yet n (let less = (among_given config.forwards n 0 among).1 in omega (arith, less));
     carry = λ n among. first_of (is_among n (open_sockets past)) (is_association (kind_of n past)) (carries_all n ∙ among);
-    flow = λ k p at_k. first_of (is_among (number_of p) (open_sockets past)) (is_flow (kind_of (number_of p) past)) (seat_open config now f.aged None f.kept.flows past holds lawful k p at_k.here at_k.open_yet);
+    flow = λ k p at_k. first_of (is_among (number_of p) (open_sockets past)) (is_flow (kind_of (number_of p) past))
+        (seat_open config now f.aged None f.kept.flows past holds lawful k p at_k.here at_k.open_yet);
     apart = λ k p at_k. sym (carries_all (number_of p)) ∙ joins_carries_none past (number_of p) (seat_open config now f.aged None f.kept.flows past holds lawful k p at_k.here at_k.open_yet);
     rising = (length config.forwards, given_rise config.forwards 0 (length config.forwards) (omega arith));
     first = λ n m among of. let low = (among_given config.forwards n 0 among).1 in let high = behind m of in omega (arith, low, high);
   }
 
-pub are_open : (config : Config) (at : Standing) (step : Step) (heard : Option ℕ) (slirp : SlirpState) (f : Flowing) (link : LinkState) (past : List Entry) → HoldsOn config at step heard slirp f link past
+pub are_open : (config : Config) (at : Standing) (step : Step) (heard : Option ℕ) (slirp : SlirpState) (f : Flowing) (link : LinkState) (past : List Entry) →
+    HoldsOn config at step heard slirp f link past
     → AreOpenWith (forward_sockets slirp.forwards) (carriers (holders_with slirp f.kept)) f.kept.flows.slots past
 are_open config at step heard slirp f link past holds =
     subst (λ l. AreOpenWith (forward_sockets l) (carriers (holders_with slirp f.kept)) f.kept.flows.slots past) (sym holds.forwards)
-    (open_by config slirp f slirp.moment past holds.lawful holds.relayed.list holds.relayed.questions holds.flows.holds holds.sockets.kinds (given_in config at step heard slirp f link past holds) holds.open_yet)
+    (open_by config slirp f slirp.moment past holds.lawful holds.relayed.list holds.relayed.questions holds.flows.holds holds.sockets.kinds
+    (given_in config at step heard slirp f link past holds) holds.open_yet)

@@ -9,7 +9,8 @@ use Rattle.host_policy.specs.Addresses.{Config}
 use Rattle.run_laws.specs.Moments.{moment}
 use Rattle.tftp_server.specs.Transfers.{Files, Said, Settled, Transfer, are_left, begun, next_again, said_again, ticked}
 use Rattle.tftp_server.proofs.Turning.{next_left, ticked_none}
-use Rattle.slirp_laws.specs.Answers.{Serving, again_frames, begins_again, begun_by, datagrams_out, files_begun, files_sent, frames_of, identification, is_free, is_out, ledger, left, or_begun, serving, starts, taken, told_of_files, unless_begun, with_datagrams}
+use Rattle.slirp_laws.specs.Answers.{Serving, again_frames, begins_again, begun_by, datagrams_out, files_begun, files_sent, frames_of, identification, is_free, is_out, ledger, left}
+use Rattle.slirp_laws.specs.Answers.{or_begun, serving, starts, taken, told_of_files, unless_begun, with_datagrams}
 use Rattle.slirp_laws.proofs.KeptFiles.{now_is}
 use Rattle.tcp_flows.specs.Runs.{LeavesOthers}
 use Rattle.slirp_laws.specs.Datagrams.{Step, Settled as SettledStep, NeedsRoom, NeedsSocket, NeedsSending}
@@ -52,7 +53,8 @@ owed_on config aged slirp past later same (inr f) = inr (record {
 })
 
 -- calls for flows, that leave what is left
-pub same_beside : (config : Config) (past made : List Entry) → left config (made ++ past) ≡ left config past → identification (made ++ past) ≡ identification past → moment (made ++ past) ≡ moment past → LeavesOthers config past made
+pub same_beside : (config : Config) (past made : List Entry) → left config (made ++ past) ≡ left config past → identification (made ++ past) ≡ identification past → moment
+    (made ++ past) ≡ moment past → LeavesOthers config past made
     → SameLedger config past (made ++ past)
 same_beside config past made same_left same_ident same others = record {
   left = same_left;
@@ -63,7 +65,8 @@ same_beside config past made same_left same_ident same others = record {
 }
 
 -- the same of another state of the core
-pub owed_as : (config : Config) (aged : Bool) (slirp new : SlirpState) (past : List Entry) → new.pending ≡ slirp.pending → new.transfers ≡ slirp.transfers → IsOwed config aged slirp past → IsOwed config aged new past
+pub owed_as : (config : Config) (aged : Bool) (slirp new : SlirpState) (past : List Entry) → new.pending ≡ slirp.pending → new.transfers ≡ slirp.transfers →
+    IsOwed config aged slirp past → IsOwed config aged new past
 owed_as config aged slirp new past pending transfers (inl l) = inl (record { left = l.left ∙ sym pending; again = l.again; files = transfers ∙ l.files })
 owed_as config aged slirp new past pending transfers (inr f) = inr (record {
   said = f.said;
@@ -76,7 +79,8 @@ owed_as config aged slirp new past pending transfers (inr f) = inr (record {
 })
 
 -- one entry that leaves it, and the state of the core after it
-module _ (config : Config) (aged : Bool) (slirp new : SlirpState) (e : Entry) (past : List Entry) (same_files : (serving config (e ∷ past)).files ≡ (serving config past).files) (same_again : (serving config (e ∷ past)).again ≡ (serving config past).again)
+module _ (config : Config) (aged : Bool) (slirp new : SlirpState) (e : Entry) (past : List Entry) (same_files : (serving config (e ∷ past)).files ≡ (serving config past).files)
+    (same_again : (serving config (e ∷ past)).again ≡ (serving config past).again)
     (same_moment : moment (e ∷ past) ≡ moment past) (same_transfers : new.transfers ≡ slirp.transfers) where
   same_now : (serving config (e ∷ past)).now ≡ (serving config past).now
   same_now = same_moment ∙ sym (now_is config past)
@@ -92,7 +96,8 @@ module _ (config : Config) (aged : Bool) (slirp new : SlirpState) (e : Entry) (p
   pub left_stays : left config (e ∷ past) ≡ left config past → new.pending ≡ slirp.pending → OfLeft config aged slirp past → OfLeft config aged new (e ∷ past)
   left_stays same_left same_pending l = left_then (same_left ∙ l.left ∙ sym same_pending) l
 
-  pub owed_stays : left config (e ∷ past) ≡ left config past → identification (e ∷ past) ≡ identification past → new.pending ≡ slirp.pending → IsOwed config aged slirp past → IsOwed config aged new (e ∷ past)
+  pub owed_stays : left config (e ∷ past) ≡ left config past → identification (e ∷ past) ≡ identification past → new.pending ≡ slirp.pending → IsOwed config aged slirp past →
+      IsOwed config aged new (e ∷ past)
   owed_stays same_left same_ident same_pending owed =
       owed_as config aged slirp new (e ∷ past) same_pending same_transfers
       (owed_on config aged slirp past (e ∷ past) (record { left = same_left; files = same_files; again = same_again; now = same_now; ident = same_ident }) owed)
@@ -131,7 +136,8 @@ module _ (config : Config) (slirp : SlirpState) (past : List Entry) (wants : Lis
   free_by : (o : Option Said) (frames : List (List ℕ)) → left config past ≡ frames → (serving config past).again ≡ o → is_free (ledger config past) ≡ is_out frames && not (is_some o)
   free_by o frames out again = λ i. is_out (out i) && not (is_some (again i))
 
-  waited_left : (frames : List (List ℕ)) → slirp.pending ≡ frames → moment past ≡ slirp.moment → (slirp.pending ≡ [] → next_again slirp.moment slirp.transfers ≡ None) → OfLeft config true slirp past → OfLeft config false slirp (Wait wants timeout answer ready ∷ past)
+  waited_left : (frames : List (List ℕ)) → slirp.pending ≡ frames → moment past ≡ slirp.moment → (slirp.pending ≡ [] → next_again slirp.moment slirp.transfers ≡ None) →
+      OfLeft config true slirp past → OfLeft config false slirp (Wait wants timeout answer ready ∷ past)
   waited_left [] is at none l =
       let free : is_free (ledger config past) ≡ true = free_by None [] (l.left ∙ is) l.again in
       let nothing : next_again (serving config past).now (serving config past).files.transfers ≡ None =
@@ -169,12 +175,14 @@ module _ (config : Config) (slirp : SlirpState) (past : List Entry) (wants : Lis
       by None = refl
       by (Some said) = refl
 
-  pub owed_waited : moment past ≡ slirp.moment → (slirp.pending ≡ [] → next_again slirp.moment slirp.transfers ≡ None) → IsOwed config true slirp past → IsOwed config false slirp (Wait wants timeout answer ready ∷ past)
+  pub owed_waited : moment past ≡ slirp.moment → (slirp.pending ≡ [] → next_again slirp.moment slirp.transfers ≡ None) → IsOwed config true slirp past → IsOwed config false slirp
+      (Wait wants timeout answer ready ∷ past)
   owed_waited at none (inl l) = inl (waited_left slirp.pending refl at none l)
   owed_waited at none (inr f) = inr (waited_file f)
 
 -- the moment after it
-pub owed_told : (config : Config) (slirp new : SlirpState) (past later : List Entry) → left config later ≡ left config past → (serving config later).files ≡ (serving config past).files → (serving config later).again ≡ (serving config past).again → identification later ≡ identification past
+pub owed_told : (config : Config) (slirp new : SlirpState) (past later : List Entry) → left config later ≡ left config past → (serving config later).files ≡
+    (serving config past).files → (serving config later).again ≡ (serving config past).again → identification later ≡ identification past
     → new.pending ≡ slirp.pending → new.transfers ≡ slirp.transfers → IsOwed config false slirp past → IsOwed config false new later
 owed_told config slirp new past later same_left same_files same_again same_ident pending transfers (inl l) = inl (record {
   left = same_left ∙ l.left ∙ sym pending;
@@ -233,5 +241,6 @@ sought_sent true s = by s.again
     by None = next (next_again s.now s.files.transfers)
     by (Some said) = refl
 
-pub quest_written : (config : Config) (octets : List ℕ) (answer : Io) (past : List Entry) → (serving config past).files.quest ≡ Settled → (serving config (LinkWrite octets answer ∷ past)).files.quest ≡ Settled
+pub quest_written : (config : Config) (octets : List ℕ) (answer : Io) (past : List Entry) → (serving config past).files.quest ≡ Settled →
+    (serving config (LinkWrite octets answer ∷ past)).files.quest ≡ Settled
 quest_written config octets answer past is = sought_sent (begins_again config (identification past) (ledger config past) (goes_out (LinkWrite octets answer) past)) (serving config past) ∙ is

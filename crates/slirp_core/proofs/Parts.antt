@@ -46,7 +46,8 @@ use Rattle.slirp_laws.proofs.Steps.{errand_in}
 pub due_in_phase : (config : Config) (past : List Entry) (p : Phase) → phase config past ≡ p → due_for_services config past ≡ None → due_for_flows config (book config past) (next_number past) ≡ None
     → due config past ≡ unless_due (due_in p past) (due_for config (step config past) (next_number past))
 due_in_phase config past p is serves asks =
-    ap (λ q. unless_due (due_in q past) (unless_due (due_for config (step config past) (next_number past)) (unless_due (due_for_services config past) (due_for_flows config (book config past) (next_number past))))) is
+    ap (λ q. unless_due (due_in q past) (unless_due (due_for config (step config past) (next_number past))
+    (unless_due (due_for_services config past) (due_for_flows config (book config past) (next_number past))))) is
     ∙ ap (λ o. unless_due (due_in p past) (unless_due (due_for config (step config past) (next_number past)) (unless_due o (due_for_flows config (book config past) (next_number past))))) serves
     ∙ ap (λ o. unless_due (due_in p past) (unless_due (due_for config (step config past) (next_number past)) o)) asks
     ∙ ap (unless_due (due_in p past)) (unless_none (due_for config (step config past) (next_number past)))
@@ -55,7 +56,8 @@ due_in_phase config past p is serves asks =
     unless_none None = refl
     unless_none (Some call) = refl
 
-pub due_is : (config : Config) (past : List Entry) (s : Step) → phase config past ≡ Working → due_for_services config past ≡ None → due_for_flows config (book config past) (next_number past) ≡ None → step config past ≡ s → due config past ≡ due_for config s (next_number past)
+pub due_is : (config : Config) (past : List Entry) (s : Step) → phase config past ≡ Working → due_for_services config past ≡ None → due_for_flows config (book config past)
+    (next_number past) ≡ None → step config past ≡ s → due config past ≡ due_for config s (next_number past)
 due_is config past s working serves asks is = due_in_phase config past Working working serves asks ∙ ap (λ t. due_for config t (next_number past)) is
 
 -- of which datagram
@@ -107,7 +109,8 @@ or_second true b is = refl
 or_second false b is = is
 
 -- all ports of the settings are open in a turn, and before the first
-pub given_in : (config : Config) (at : Standing) (step : Step) (heard : Option ℕ) (slirp : SlirpState) (f : Flowing) (link : LinkState) (past : List Entry) → HoldsOn config at step heard slirp f link past → HasGiven config (length config.forwards) past
+pub given_in : (config : Config) (at : Standing) (step : Step) (heard : Option ℕ) (slirp : SlirpState) (f : Flowing) (link : LinkState) (past : List Entry) →
+    HoldsOn config at step heard slirp f link past → HasGiven config (length config.forwards) past
 given_in config at step heard slirp f link past holds = by holds.stands
   where
     by : Stands config step slirp f.kept link past → HasGiven config (length config.forwards) past
@@ -115,37 +118,44 @@ given_in config at step heard slirp f link past holds = by holds.stands
     by (Begins unbegun free unrested) = all_given config past holds.lawful Started unbegun.started refl
 
 -- the first of them for datagrams to a port of a guest is that of the list
-pub forward_in : (config : Config) (at : Standing) (step : Step) (heard : Option ℕ) (slirp : SlirpState) (f : Flowing) (link : LinkState) (past : List Entry) → HoldsOn config at step heard slirp f link past
+pub forward_in : (config : Config) (at : Standing) (step : Step) (heard : Option ℕ) (slirp : SlirpState) (f : Flowing) (link : LinkState) (past : List Entry) →
+    HoldsOn config at step heard slirp f link past
     → (guest : Endpoint) → forward_for config guest past ≡ port_for guest slirp.forwards
 forward_in config at step heard slirp f link past holds guest =
     forward_is config past holds.lawful (given_in config at step heard slirp f link past holds) holds.open_yet guest ∙ sym (ap (port_for guest) holds.forwards)
 
 -- what the lists ask for is what the record says
-pub asked_for : (config : Config) (at : Standing) (s : Step) (heard : Option ℕ) (slirp : SlirpState) (f : Flowing) (link : LinkState) (past : List Entry) → HoldsOn config at s heard slirp f link past → step config past ≡ s
+pub asked_for : (config : Config) (at : Standing) (s : Step) (heard : Option ℕ) (slirp : SlirpState) (f : Flowing) (link : LinkState) (past : List Entry) →
+    HoldsOn config at s heard slirp f link past → step config past ≡ s
 asked_for config at s heard slirp f link past holds =
     joined_step config past holds.lawful
     ∙ (λ i. step_for config (holds.relayed.questions i) (λ guest. forward_in config at s heard slirp f link past holds guest i) (holds.relayed.list i) (errand_left config past))
     ∙ holds.relayed.asks
 
 -- the sockets that carry datagrams are those of the lists
-pub carried : (config : Config) (slirp : SlirpState) (past : List Entry) → Lawful config past → associations config past ≡ slirp.associations → questions config past ≡ slirp.questions → (n : ℕ) → carries past n ≡ is_among n (carriers (holders_of slirp))
+pub carried : (config : Config) (slirp : SlirpState) (past : List Entry) → Lawful config past → associations config past ≡ slirp.associations →
+    questions config past ≡ slirp.questions → (n : ℕ) → carries past n ≡ is_among n (carriers (holders_of slirp))
 carried config slirp past lawful list asked n = carried_names config past lawful n ∙ (λ i. is_among n (numbers (list i) ++ question_numbers (asked i)))
 
-pub carried_by : (config : Config) (at : Standing) (s : Step) (heard : Option ℕ) (slirp : SlirpState) (f : Flowing) (link : LinkState) (past : List Entry) → HoldsOn config at s heard slirp f link past → (n : ℕ) → carries past n ≡ is_among n (carriers (holders_of slirp))
+pub carried_by : (config : Config) (at : Standing) (s : Step) (heard : Option ℕ) (slirp : SlirpState) (f : Flowing) (link : LinkState) (past : List Entry) →
+    HoldsOn config at s heard slirp f link past → (n : ℕ) → carries past n ≡ is_among n (carriers (holders_of slirp))
 carried_by config at s heard slirp f link past holds n = carried config slirp past holds.lawful holds.relayed.list holds.relayed.questions n
 
 -- and none is an association's and a question's
-pub two_in : (config : Config) (slirp : SlirpState) (past : List Entry) → Lawful config past → associations config past ≡ slirp.associations → questions config past ≡ slirp.questions → AreTwo (holders_of slirp)
+pub two_in : (config : Config) (slirp : SlirpState) (past : List Entry) → Lawful config past → associations config past ≡ slirp.associations →
+    questions config past ≡ slirp.questions → AreTwo (holders_of slirp)
 two_in config slirp past lawful list asked n among = sym (ap (λ l. is_among n (question_numbers l)) asked) ∙ two_apart config past lawful n (ap (λ l. is_among n (numbers l)) list ∙ among)
 
 -- a turn has begun, where that is against what is so before
-pub in_turn : {config : Config} {step : Step} {slirp : SlirpState} {kept : Kept} {link : LinkState} {past : List Entry} → Stands config step slirp kept link past → (Unbegun config step slirp link past → ⊥) → InTurn config past
+pub in_turn : {config : Config} {step : Step} {slirp : SlirpState} {kept : Kept} {link : LinkState} {past : List Entry} → Stands config step slirp kept link past →
+    (Unbegun config step slirp link past → ⊥) → InTurn config past
 in_turn (Turns turn) not_before = turn
 in_turn (Begins unbegun free unrested) not_before = absurd (not_before unbegun)
 
 -- ---- parts that an entry leaves
 
-pub keeps_by : (link : LinkState) (e : Entry) (past : List Entry) → MayFrame past (call_of e) → partial (e ∷ past) ≡ partial past → tail (e ∷ past) ≡ tail past → is_blocked (e ∷ past) ≡ is_blocked past
+pub keeps_by : (link : LinkState) (e : Entry) (past : List Entry) → MayFrame past (call_of e) → partial (e ∷ past) ≡ partial past → tail (e ∷ past) ≡ tail past → is_blocked
+    (e ∷ past) ≡ is_blocked past
     → Keeps link past → Keeps link (e ∷ past)
 keeps_by link e past may partly rest blocked keeps = record { framed = (may, keeps.framed); partly = partly ∙ keeps.partly; rest = rest ∙ keeps.rest; blocked = blocked ∙ keeps.blocked }
 
@@ -190,7 +200,8 @@ seeks_none config (UdpSend socket to octets answer) past on = refl
 seeks_none config (UdpRecv socket asked answer octets) past on = refl
 seeks_none config _ past on = absurd on
 
-clock_stays : (at after : Standing) (slirp new : SlirpState) (e : Entry) (past : List Entry) → IsOnSocket e → new.moment ≡ slirp.moment → after.count ≡ at.count → OfClock at slirp past → OfClock after new (e ∷ past)
+clock_stays : (at after : Standing) (slirp new : SlirpState) (e : Entry) (past : List Entry) → IsOnSocket e → new.moment ≡ slirp.moment → after.count ≡ at.count →
+    OfClock at slirp past → OfClock after new (e ∷ past)
 clock_stays at after slirp new (Close socket) past on same count clock = record { moment = clock.moment ∙ sym same; counted = clock.counted ∙ sym count }
 clock_stays at after slirp new (UdpOpen socket to answer) past on same count clock = record { moment = clock.moment ∙ sym same; counted = clock.counted ∙ sym count }
 clock_stays at after slirp new (UdpSend socket to octets answer) past on same count clock = record { moment = clock.moment ∙ sym same; counted = clock.counted ∙ sym count }
@@ -202,8 +213,10 @@ abbrev pub ClosesOwn : Entry → List Entry → Type 0
 ClosesOwn (Close socket) past = carries past socket ≡ true
 ClosesOwn _ past = Unit {0}
 
-flows_on : (config : Config) (f : Flowing) (now : ℕ) (e : Entry) (past : List Entry) → IsOnSocket e → ClosesOwn e past → Lawful config past → OfFlows config f now past → OfFlows config f now (e ∷ past)
-flows_on config f now (Close socket) past on own lawful flows = flows_same config f now (Close socket) past (close_same config past socket (no_flow config past socket lawful own)) refl (omega arith) refl flows
+flows_on : (config : Config) (f : Flowing) (now : ℕ) (e : Entry) (past : List Entry) → IsOnSocket e → ClosesOwn e past → Lawful config past → OfFlows config f now past →
+    OfFlows config f now (e ∷ past)
+flows_on config f now (Close socket) past on own lawful flows = flows_same config f now (Close socket) past
+    (close_same config past socket (no_flow config past socket lawful own)) refl (omega arith) refl flows
 flows_on config f now (UdpOpen socket at answer) past on own lawful flows = flows_stay config f now (UdpOpen socket at answer) past refl refl (omega arith) refl flows
 flows_on config f now (UdpSend socket to octets answer) past on own lawful flows = flows_stay config f now (UdpSend socket to octets answer) past refl refl (omega arith) refl flows
 flows_on config f now (UdpRecv socket asked answer octets) past on own lawful flows = flows_stay config f now (UdpRecv socket asked answer octets) past refl refl (omega arith) refl flows
@@ -221,7 +234,8 @@ pub record Changes (config : Config) (aged : Bool) (after : Standing) (step : St
   pub open_yet : is_closing config (e ∷ past) ≡ false
 
 -- and the rest stays
-pub after_socket : (config : Config) (at after : Standing) (step new_step : Step) (heard new_heard : Option ℕ) (slirp new : SlirpState) (f : Flowing) (link : LinkState) (e : Entry) (past : List Entry) → IsOnSocket e
+pub after_socket : (config : Config) (at after : Standing) (step new_step : Step) (heard new_heard : Option ℕ) (slirp new : SlirpState) (f : Flowing) (link : LinkState) (e : Entry)
+    (past : List Entry) → IsOnSocket e
     → of_guests new ≡ of_guests slirp → new.moment ≡ slirp.moment → new.leases ≡ slirp.leases → new.forwards ≡ slirp.forwards → after.count ≡ at.count → InTurn config past
     → HoldsOn config at step heard slirp f link past → Changes config f.aged after new_step new_heard new e past → HoldsOn config after new_step new_heard new f link (e ∷ past)
 after_socket config at after step new_step heard new_heard slirp new f link e past on same_guests same_moment same_leases same_forwards same_count turn holds changes = record {

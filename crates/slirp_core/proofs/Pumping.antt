@@ -1,5 +1,6 @@
 -- Writes of a pump that sends what is owed for the frame or datagram that came last.
-use Rattle.std.proofs.Common.{◌≡◌, ℕ, ◌+◌, ◌%◌, ◌^◌, ◌<◌, ◌==◌, ◌&&◌, Bool, true, false, List, [], ◌∷◌, ◌++◌, drop, length, bytes_eq, Some, None, inl, inr, if◌then◌else◌, sym, ◌∙◌, ap, subst, arith, refl}
+use Rattle.std.proofs.Common.{◌≡◌, ℕ, ◌+◌, ◌%◌, ◌^◌, ◌<◌, ◌==◌, ◌&&◌, Bool, true, false, List, [], ◌∷◌, ◌++◌, drop, length, bytes_eq, Some, None, inl, inr, if◌then◌else◌, sym, ◌∙◌, ap}
+use Rattle.std.proofs.Common.{subst, arith, refl}
 use Rattle.std.proofs.lemmas.Bool.Decides.{nat_tests}
 use Rattle.world_face.specs.Journal.{Entry, Allowed, AreAllowed, LinkWrite}
 use Rattle.world_face.specs.declared.Io.{Io}
@@ -55,11 +56,14 @@ after_write config at slirp new_slirp f old new past octets answer blocked holds
   where
     lawful : (a : Io) → Keeps new (LinkWrite octets a ∷ past) → Lawful config (LinkWrite octets a ∷ past)
     lawful a k = (
-      writes config past octets k.framed.0 (due_is config past Settled turn.working (none_due_for_services config past holds.relayed.heard holds.services.quest) holds.flows.holds.asked (asked_for config at Settled None slirp f old past holds)) (flows_stay_open config f slirp.moment past holds.flows) (ap is_working turn.working) may holds.open_yet sent,
+      writes config past octets k.framed.0 (due_is config past Settled turn.working
+          (none_due_for_services config past holds.relayed.heard holds.services.quest) holds.flows.holds.asked (asked_for config at Settled None slirp f old past holds))
+          (flows_stay_open config f slirp.moment past holds.flows) (ap is_working turn.working) may holds.open_yet sent,
       holds.lawful,
     )
 
-    goes : (a : Io) → Keeps new (LinkWrite octets a ∷ past) → Allowed (LinkWrite octets a) → phase config (LinkWrite octets a ∷ past) ≡ phase config past → Left config f.aged past octets a new_slirp → Holds config at new_slirp f new (LinkWrite octets a ∷ past)
+    goes : (a : Io) → Keeps new (LinkWrite octets a ∷ past) → Allowed (LinkWrite octets a) → phase config (LinkWrite octets a ∷ past) ≡ phase config past →
+        Left config f.aged past octets a new_slirp → Holds config at new_slirp f new (LinkWrite octets a ∷ past)
     goes a k fine on l = record {
       lawful = lawful a k;
       allowed = (fine, holds.allowed);
@@ -85,7 +89,8 @@ after_write config at slirp new_slirp f old new past octets answer blocked holds
     now_open : AreOpenWith (forward_sockets slirp.forwards) (carriers (holders_with slirp f.kept)) f.kept.flows.slots past
     now_open = are_open config at Settled None slirp f old past holds
 
-    by_answer : (a : Io) (b : Bool) → Keeps new (LinkWrite octets a ∷ past) → Allowed (LinkWrite octets a) → Left config f.aged past octets a new_slirp → AfterPump (pumped_of (offered a) b) config at new_slirp f new (LinkWrite octets a ∷ past)
+    by_answer : (a : Io) (b : Bool) → Keeps new (LinkWrite octets a ∷ past) → Allowed (LinkWrite octets a) → Left config f.aged past octets a new_slirp → AfterPump
+        (pumped_of (offered a) b) config at new_slirp f new (LinkWrite octets a ∷ past)
     by_answer (Done n) true k fine l = goes (Done n) k fine refl l
     by_answer (Done n) false k fine l = goes (Done n) k fine refl l
     by_answer End true k fine l = goes End k fine refl l
@@ -100,12 +105,22 @@ after_write config at slirp new_slirp f old new past octets answer blocked holds
       served = none_due_for_services config (LinkWrite octets Failed ∷ past) refl (quest_written config octets Failed past holds.services.quest);
       idle = (flows Failed).holds.asked;
       stay = flows_stay_open config f slirp.moment (LinkWrite octets Failed ∷ past) (flows Failed);
-      sockets = subst (λ (s : SlirpState). AreOpenWith (forward_sockets s.forwards) (carriers (holders_with s f.kept)) f.kept.flows.slots (LinkWrite octets Failed ∷ past)) (sym same) (record { each = now_open.each; forward = now_open.forward; carry = now_open.carry; flow = now_open.flow; apart = now_open.apart; rising = now_open.rising; first = now_open.first });
+      sockets = subst (λ (s : SlirpState). AreOpenWith (forward_sockets s.forwards) (carriers (holders_with s f.kept)) f.kept.flows.slots (LinkWrite octets Failed ∷ past))
+          (sym same) (record {
+            each = now_open.each;
+            forward = now_open.forward;
+            carry = now_open.carry;
+            flow = now_open.flow;
+            apart = now_open.apart;
+            rising = now_open.rising;
+            first = now_open.first;
+          });
       two = subst (λ (s : SlirpState). AreTwo (holders_with s f.kept)) (sym same) (two_in config slirp past holds.lawful holds.relayed.list holds.relayed.questions);
     }
 
 -- a write of the rest of a frame
-pub after_flush : (config : Config) (at : Standing) (slirp : SlirpState) (f : Flowing) (old new : LinkState) (made past : List Entry) (result : Offered) (pumped : Pumped) → 0 < length old.tail → Writes result old.tail made
+pub after_flush : (config : Config) (at : Standing) (slirp : SlirpState) (f : Flowing) (old new : LinkState) (made past : List Entry) (result : Offered) (pumped : Pumped) →
+    0 < length old.tail → Writes result old.tail made
     → ((past : List Entry) → Keeps old past → Keeps new (made ++ past)) → pumped ≡ pumped_of result new.blocked
     → AreAllowed made → Holds config at slirp f old past → AfterPump pumped config at slirp f new (made ++ past)
 after_flush config at slirp f old new made past result pumped some (answer, is, was) keeps comes allowed holds =
@@ -163,10 +178,12 @@ record Offers (config : Config) (f : Flowing) (slirp : SlirpState) (past : List 
   explained : is_explained config past (drop 4 (spelling frame)) ≡ true
   goes : FlowsLetWrite config past (spelling frame)
   flows : (a : Io) → OfFlows config f slirp.moment (LinkWrite (spelling frame) a ∷ past)
-  owed : (a : Io) (next : SlirpState) → tail past ≡ [] → next.pending ≡ keep (offered a) (frame ∷ rest) → next.transfers ≡ slirp.transfers → IsOwed config f.aged next (LinkWrite (spelling frame) a ∷ past)
+  owed : (a : Io) (next : SlirpState) → tail past ≡ [] → next.pending ≡ keep (offered a) (frame ∷ rest) → next.transfers ≡ slirp.transfers → IsOwed config f.aged next
+      (LinkWrite (spelling frame) a ∷ past)
 
 -- a write of the frame that is next
-pub after_offer : (config : Config) (at : Standing) (slirp new_slirp : SlirpState) (f : Flowing) (old new : LinkState) (made past : List Entry) (frame : List ℕ) (rest : List (List ℕ)) (result : Offered) (pumped : Pumped)
+pub after_offer : (config : Config) (at : Standing) (slirp new_slirp : SlirpState) (f : Flowing) (old new : LinkState) (made past : List Entry) (frame : List ℕ)
+    (rest : List (List ℕ)) (result : Offered) (pumped : Pumped)
     → old.tail ≡ [] → slirp.pending ≡ frame ∷ rest → Writes result (spelling frame) made
     → ((past : List Entry) → Keeps old past → Keeps new (made ++ past)) → pumped ≡ pumped_of result new.blocked
     → new_slirp ≡ record slirp { pending = keep result slirp.pending; sent = sent_after result slirp.pending slirp.sent }
@@ -174,13 +191,15 @@ pub after_offer : (config : Config) (at : Standing) (slirp new_slirp : SlirpStat
 after_offer config at slirp new_slirp f old new made past frame rest result pumped none is_pending (answer, is, was) keeps comes changed allowed holds =
     let kept = ap (λ (s : SlirpState). s.pending) changed in
     let counted = ap (λ (s : SlirpState). s.sent) changed in
-    let same = changed ∙ ap (λ p. record slirp { pending = p; sent = sent_after result slirp.pending slirp.sent }) (sym kept) ∙ ap (λ n. record slirp { pending = new_slirp.pending; sent = n }) (sym counted) in
+    let same = changed ∙ ap (λ p. record slirp { pending = p; sent = sent_after result slirp.pending slirp.sent }) (sym kept) ∙ ap
+    (λ n. record slirp { pending = new_slirp.pending; sent = n }) (sym counted) in
     let Goal : List Entry → Type 0 = λ made. AfterPump pumped config at new_slirp f new (made ++ past) in
     let k = subst (λ m. Keeps new (m ++ past)) is (keeps past holds.keeps) in
     let tail_is : tail past ≡ [] = holds.keeps.rest ∙ none in
     let new_pending : new_slirp.pending ≡ keep (offered answer) (frame ∷ rest) = kept ∙ ap (λ r. keep r slirp.pending) was ∙ ap (keep (offered answer)) is_pending in
     let new_sent : new_slirp.sent ≡ sent_after (offered answer) (frame ∷ rest) (identification past) =
-    counted ∙ ap (λ r. sent_after r slirp.pending slirp.sent) was ∙ ap (λ p. sent_after (offered answer) p slirp.sent) is_pending ∙ ap (sent_after (offered answer) (frame ∷ rest)) (sym holds.answers.sent) in
+    counted ∙ ap (λ r. sent_after r slirp.pending slirp.sent) was ∙ ap (λ p. sent_after (offered answer) p slirp.sent) is_pending ∙ ap (sent_after (offered answer) (frame ∷ rest))
+    (sym holds.answers.sent) in
     subst Goal (sym is)
     (subst (λ p. AfterPump p config at new_slirp f new (LinkWrite (spelling frame) answer ∷ past)) (sym (comes ∙ ap (λ r. pumped_of r new.blocked) was))
     (after_write config at slirp new_slirp f old new past (spelling frame) answer new.blocked holds (in_turn holds.stands (λ u. cc (sym is_pending ∙ u.nothing))) k (subst AreAllowed is allowed).0
@@ -207,10 +226,12 @@ after_offer config at slirp new_slirp f old new made past frame rest result pump
     offers_left l =
         let only : left config past ≡ frame ∷ rest = l.left ∙ is_pending in
         record {
-          explained = or_first (is_first (drop 4 (spelling frame)) (left config past)) (is_out (left config past) && is_beside config past (drop 4 (spelling frame))) (ap (is_first (drop 4 (spelling frame))) only ∙ is_the_first frame rest);
+          explained = or_first (is_first (drop 4 (spelling frame)) (left config past)) (is_out (left config past) && is_beside config past (drop 4 (spelling frame)))
+              (ap (is_first (drop 4 (spelling frame))) only ∙ is_the_first frame rest);
           goes = answer_goes config f slirp.moment past holds.lawful holds.allowed holds.flows frame rest only (spelling frame) (spelt frame);
           flows = λ a. flows_answered config f slirp.moment past holds.lawful holds.allowed holds.flows holds.clock.moment frame rest only (spelling frame) a (spelt frame);
-          owed = λ a next tail_is pending transfers. inl (left_then config f.aged slirp next (LinkWrite (spelling frame) a) past (files_stay config (spelling frame) a past frame rest only) (again_stays config (spelling frame) a past frame rest only) refl transfers
+          owed = λ a next tail_is pending transfers. inl (left_then config f.aged slirp next (LinkWrite (spelling frame) a) past
+              (files_stay config (spelling frame) a past frame rest only) (again_stays config (spelling frame) a past frame rest only) refl transfers
               (ap (λ t. taken (opens (LinkWrite (spelling frame) a) t) (again_frames config (identification past) (serving config past)) (left config past)) tail_is
               ∙ left_by a (left config past) (again_frames config (identification past) (serving config past)) only ∙ sym pending) l);
         }
@@ -222,18 +243,22 @@ after_offer config at slirp new_slirp f old new made past frame rest result pump
         record {
           explained = ap (is_explained config past) (spelt frame) ∙ is_explained_again config past file.said frame rest holds.flows.unit m;
           goes = may_write_again config past file.said frame rest holds.flows.unit m (spelling frame) (spelt frame);
-          flows = λ a. flows_stay config f slirp.moment (LinkWrite (spelling frame) a) past (nothing_to_flows config past file.said frame rest holds.flows.unit m (spelling frame) (spelt frame) a) (asks_nobody config past file.said frame rest holds.flows.unit m (spelling frame) (spelt frame) a) (omega arith) refl holds.flows;
+          flows = λ a. flows_stay config f slirp.moment (LinkWrite (spelling frame) a) past (nothing_to_flows config past file.said frame rest holds.flows.unit m (spelling frame)
+              (spelt frame) a) (asks_nobody config past file.said frame rest holds.flows.unit m (spelling frame) (spelt frame) a) (omega arith) refl holds.flows;
           owed = λ a next tail_is pending transfers. by m a next tail_is pending transfers;
         }
       where
-        unless_out : (a : Io) (next : SlirpState) → goes_out (LinkWrite (spelling frame) a) past ≡ None → next.pending ≡ frame ∷ rest → next.transfers ≡ slirp.transfers → IsOwed config f.aged next (LinkWrite (spelling frame) a ∷ past)
+        unless_out : (a : Io) (next : SlirpState) → goes_out (LinkWrite (spelling frame) a) past ≡ None → next.pending ≡ frame ∷ rest → next.transfers ≡ slirp.transfers →
+            IsOwed config f.aged next (LinkWrite (spelling frame) a ∷ past)
         unless_out a next none pending transfers =
             owed_as config f.aged slirp next (LinkWrite (spelling frame) a ∷ past) (pending ∙ sym is_pending) transfers
             (owed_on config f.aged slirp past (LinkWrite (spelling frame) a ∷ past) (unbegun config (spelling frame) a past none) (inr file))
 
-        by : MayGoAgain config past file.said frame rest → (a : Io) (next : SlirpState) → tail past ≡ [] → next.pending ≡ keep (offered a) (frame ∷ rest) → next.transfers ≡ slirp.transfers → IsOwed config f.aged next (LinkWrite (spelling frame) a ∷ past)
+        by : MayGoAgain config past file.said frame rest → (a : Io) (next : SlirpState) → tail past ≡ [] → next.pending ≡ keep (offered a) (frame ∷ rest) →
+            next.transfers ≡ slirp.transfers → IsOwed config f.aged next (LinkWrite (spelling frame) a ∷ past)
         by m (Done n) next tail_is pending transfers =
-            inl (again_gone config past file.said frame rest holds.flows.unit m (spelling frame) (Done n) holds.lawful (ap (opens (LinkWrite (spelling frame) (Done n))) tail_is ∙ ap Some (spelt frame)) f.aged next pending file.on_its_way (transfers ∙ file.files))
+            inl (again_gone config past file.said frame rest holds.flows.unit m (spelling frame) (Done n) holds.lawful (ap (opens (LinkWrite (spelling frame) (Done n))) tail_is
+            ∙ ap Some (spelt frame)) f.aged next pending file.on_its_way (transfers ∙ file.files))
         by m End next tail_is pending transfers = unless_out End next (ap (opens (LinkWrite (spelling frame) End)) tail_is) pending transfers
         by m NotYet next tail_is pending transfers = unless_out NotYet next (ap (opens (LinkWrite (spelling frame) NotYet)) tail_is) pending transfers
         by m Failed next tail_is pending transfers = unless_out Failed next (ap (opens (LinkWrite (spelling frame) Failed)) tail_is) pending transfers
@@ -243,11 +268,18 @@ after_offer config at slirp new_slirp f old new made past frame rest result pump
     offers (inr file) = offers_file file
 
 pub leaves_rest : (new : LinkState) (result : Offered) → Settles result new → LeavesRest (pumped_of result new.blocked) new
-leaves_rest new Taken settles = elim new.blocked as (λ b. (b ≡ false → new.tail ≡ []) → new.blocked ≡ b → LeavesRest (pumped_of Taken b) new) [ true ↦ λ s is. is | false ↦ λ s is. (is, s refl) ] settles refl
+leaves_rest new Taken settles = elim new.blocked as (λ b. (b ≡ false → new.tail ≡ []) → new.blocked ≡ b → LeavesRest (pumped_of Taken b) new) [
+  | true ↦ λ s is. is
+  | false ↦ λ s is.
+      (is, s refl)
+] settles refl
 leaves_rest new OfferBlocked settles = elim new.blocked as (λ b. b ≡ true → new.blocked ≡ b → LeavesRest (pumped_of OfferBlocked b) new) [ true ↦ λ s is. is | false ↦ λ s is. cc ] settles refl
 leaves_rest new OfferFailed settles = tt
 
-pub leaves_behind : (slirp new_slirp : SlirpState) (new : LinkState) (result : Offered) → Settles result new → new_slirp.pending ≡ keep result slirp.pending → LeavesBehind (pumped_of result new.blocked) slirp new_slirp new
-leaves_behind slirp new_slirp new Taken settles kept = elim new.blocked as (λ b. (b ≡ false → new.tail ≡ []) → new.blocked ≡ b → LeavesBehind (pumped_of Taken b) slirp new_slirp new) [ true ↦ λ s is. is | false ↦ λ s is. (is, s refl, kept) ] settles refl
-leaves_behind slirp new_slirp new OfferBlocked settles kept = elim new.blocked as (λ b. b ≡ true → new.blocked ≡ b → LeavesBehind (pumped_of OfferBlocked b) slirp new_slirp new) [ true ↦ λ s is. is | false ↦ λ s is. cc ] settles refl
+pub leaves_behind : (slirp new_slirp : SlirpState) (new : LinkState) (result : Offered) → Settles result new → new_slirp.pending ≡ keep result slirp.pending → LeavesBehind
+    (pumped_of result new.blocked) slirp new_slirp new
+leaves_behind slirp new_slirp new Taken settles kept = elim new.blocked as (λ b. (b ≡ false → new.tail ≡ []) → new.blocked ≡ b → LeavesBehind
+    (pumped_of Taken b) slirp new_slirp new) [ true ↦ λ s is. is | false ↦ λ s is. (is, s refl, kept) ] settles refl
+leaves_behind slirp new_slirp new OfferBlocked settles kept = elim new.blocked as (λ b. b ≡ true → new.blocked ≡ b → LeavesBehind
+    (pumped_of OfferBlocked b) slirp new_slirp new) [ true ↦ λ s is. is | false ↦ λ s is. cc ] settles refl
 leaves_behind slirp new_slirp new OfferFailed settles kept = tt

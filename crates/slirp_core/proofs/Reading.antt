@@ -85,11 +85,13 @@ record Quiet (config : Config) (count : ℕ) (wants : List Want) (item : Want) (
   flows : OfFlows config (flowing false kept) slirp.moment past
   sockets : OfSockets slirp.number past
 
-module _ (config : Config) (count : ℕ) (wants : List Want) (item : Want) (items : List Want) (slirp : SlirpState) (kept : Kept) (wait : List PartSet) (reads_it : is_to_read TheLink (wanted_of wants item) ≡ true) where
+module _ (config : Config) (count : ℕ) (wants : List Want) (item : Want) (items : List Want) (slirp : SlirpState) (kept : Kept) (wait : List PartSet)
+    (reads_it : is_to_read TheLink (wanted_of wants item) ≡ true) where
   -- a read may come, that asks for what is missing
   may_read : (asked : ℕ) (past : List Entry) → MayFrame past (CallLinkRead asked) → Quiet config count wants item items slirp kept wait past → May config past (CallLinkRead asked)
   may_read asked past framed q =
-      reads_on config past asked framed (due_is config past Settled q.turn.working (none_due_for_services config past q.heard q.serves.quest) q.flows.holds.asked (ap (step_of config past) q.unasked)) (flows_stay_open config (flowing false kept) slirp.moment past q.flows) (ap is_working q.turn.working)
+      reads_on config past asked framed (due_is config past Settled q.turn.working (none_due_for_services config past q.heard q.serves.quest) q.flows.holds.asked
+      (ap (step_of config past) q.unasked)) (flows_stay_open config (flowing false kept) slirp.moment past q.flows) (ap is_working q.turn.working)
       (reads_of TheLink (wanted_of wants item) (all_wanted wants items) (agenda past) reads_it q.reported)
       (ap (λ t. is_nothing t && is_out (left config past)) q.out ∙ ap is_out q.none) q.open_yet
 
@@ -105,31 +107,36 @@ module _ (config : Config) (count : ℕ) (wants : List Want) (item : Want) (item
       let e = LinkRead asked (Done n) octets in
       let frame = pieces.1 in
       let unsought : (serving config (e ∷ made ++ past)).files ≡ (serving config (made ++ past)).files =
-      ap (λ o. files_after config (made ++ past) (happens config (made ++ past) e) (option_map (arrival_of config (moment (made ++ past)) (waiting config (made ++ past))) o) (ledger config (made ++ past))) frame in (
+      ap (λ o. files_after config (made ++ past) (happens config (made ++ past) e) (option_map (arrival_of config (moment (made ++ past)) (waiting config (made ++ past))) o)
+      (ledger config (made ++ past))) frame in (
         record {
           turn = record { working = ap (λ o. phase_after e o (phase config (made ++ past))) pieces.2 ∙ before.turn.working; waited = before.turn.waited };
           reported = subst (λ (b : Bool). IsLast (all_wanted wants (item ∷ items)) (if not b then from TheLink (agenda (made ++ past)) else behind TheLink (agenda (made ++ past))))
               (sym (not_whole (partial (made ++ past) ++ octets) frame)) (from_of TheLink (wanted_of wants item) (all_wanted wants items) (agenda (made ++ past)) reads_it before.reported);
           open_yet = before.open_yet;
           sent_is = before.sent_is;
-          none = ap (λ o. left_after config (made ++ past) (happens config (made ++ past) e) (option_map (arrival_of config (moment (made ++ past)) (waiting config (made ++ past))) o) (ledger config (made ++ past))) frame ∙ before.none;
+          none = ap (λ o. left_after config (made ++ past) (happens config (made ++ past) e)
+              (option_map (arrival_of config (moment (made ++ past)) (waiting config (made ++ past))) o) (ledger config (made ++ past))) frame ∙ before.none;
           out = before.out;
           known_is = ap (λ o. with_arrival (option_map (arrival_of config (moment (made ++ past)) (waiting config (made ++ past))) o) (known config (made ++ past))) frame ∙ before.known_is;
           counted = before.counted;
           list = before.list;
           named = before.named;
           heard = refl;
-          unasked = ap (λ o. errand_after config e (option_map (arrival_of config (moment (made ++ past)) (waiting config (made ++ past))) o) (errand_left config (made ++ past))) frame ∙ before.unasked;
+          unasked = ap (λ o. errand_after config e (option_map (arrival_of config (moment (made ++ past)) (waiting config (made ++ past))) o)
+              (errand_left config (made ++ past))) frame ∙ before.unasked;
           clock = before.clock;
           fragments = fragments_stay config slirp slirp e (made ++ past) frame refl before.fragments;
           serves = record {
-            leases = ap (λ o. leases_by config (moment (made ++ past)) (option_map (arrival_of config (moment (made ++ past)) (waiting config (made ++ past))) o) (leases config (made ++ past))) frame ∙ before.serves.leases;
+            leases = ap (λ o. leases_by config (moment (made ++ past)) (option_map (arrival_of config (moment (made ++ past)) (waiting config (made ++ past))) o)
+                (leases config (made ++ past))) frame ∙ before.serves.leases;
             quest = ap (λ (k : Files). k.quest) unsought ∙ before.serves.quest;
           };
           idle = before.idle;
           files = before.files ∙ sym (ap (λ (k : Files). k.transfers) unsought);
           waits = ap (λ o. young (moment (made ++ past)) (waits_with config (moment (made ++ past)) o (sets config (made ++ past)))) frame ∙ before.waits;
-          flows = flows_stay config (flowing false kept) slirp.moment e (made ++ past) (ap (λ o. doing_by (option_map (arrival_of config (moment (made ++ past)) (waiting config (made ++ past))) o) None e) frame) refl (omega arith) refl before.flows;
+          flows = flows_stay config (flowing false kept) slirp.moment e (made ++ past)
+              (ap (λ o. doing_by (option_map (arrival_of config (moment (made ++ past)) (waiting config (made ++ past))) o) None e) frame) refl (omega arith) refl before.flows;
           sockets = record { number = before.sockets.number; kinds = before.sockets.kinds };
         },
         (may_read asked (made ++ past) framed.0 before, so_far),
@@ -242,7 +249,8 @@ record Newest (config : Config) (count : ℕ) (wants : List Want) (item : Want) 
   reported : IsLast (all_wanted wants items) (agenda all)
   open_yet : is_closing config all ≡ false
   sent_is : identification all ≡ slirp.sent
-  left_is : left config all ≡ frames_of config slirp.sent (owed_for_packet config (serving_of slirp) (strays config (book config all) (packet_of config slirp.moment wait (arrived all))) (packet_of config slirp.moment wait (arrived all)))
+  left_is : left config all ≡ frames_of config slirp.sent (owed_for_packet config (serving_of slirp)
+      (strays config (book config all) (packet_of config slirp.moment wait (arrived all))) (packet_of config slirp.moment wait (arrived all)))
   files_is : (serving config all).files ≡ files_by_packet config (serving_of slirp) (packet_of config slirp.moment wait (arrived all))
   idle : (serving config all).again ≡ None
   lent : leases config all ≡ leases_by_packet config slirp.moment (packet_of config slirp.moment wait (arrived all)) slirp.leases
@@ -261,7 +269,8 @@ record Newest (config : Config) (count : ℕ) (wants : List Want) (item : Want) 
   taught_it : (mac : List ℕ) (ip : Ip) (tcp : Tcp) → packet_of config slirp.moment wait (arrived all) ≡ Segment mac ip tcp → Contains (taught config all) (record { 0 = ip.from }, record { 0 = mac })
 
 newest : (config : Config) (count : ℕ) (wants : List Want) (item : Want) (items : List Want) (slirp : SlirpState) (kept : Kept) (wait : List PartSet) → is_to_read TheLink (wanted_of wants item) ≡ true
-    → (made past : List Entry) → Reads made past → Follows MayFrame (made ++ past) → Quiet config count wants item items slirp kept wait past → Lawful config past → Newest config count wants item items slirp kept wait (made ++ past)
+    → (made past : List Entry) → Reads made past → Follows MayFrame (made ++ past) → Quiet config count wants item items slirp kept wait past → Lawful config past →
+    Newest config count wants item items slirp kept wait (made ++ past)
 newest config count wants item items slirp kept wait reads_it [] past reads framed q lawful = absurd reads
 newest config count wants item items slirp kept wait reads_it (LinkRead asked answer octets ∷ made) past reads framed q lawful =
     let (quiet_before, so_far) = quiet config count wants item items slirp kept wait reads_it made past reads.1 framed.1 q lawful in
@@ -272,58 +281,79 @@ newest config count wants item items slirp kept wait reads_it (LinkRead asked an
       quiet_is = quiet_before;
       lawful_before = so_far;
       lawful = (may_read config count wants item items slirp kept wait reads_it asked (made ++ past) framed.0 quiet_before, so_far);
-      phase_is = ap (phase_after (LinkRead asked answer octets) (ending (LinkRead asked answer octets) (partial (made ++ past)))) quiet_before.turn.working ∙ stands (ending (LinkRead asked answer octets) (partial (made ++ past)));
+      phase_is = ap (phase_after (LinkRead asked answer octets) (ending (LinkRead asked answer octets) (partial (made ++ past)))) quiet_before.turn.working ∙ stands
+          (ending (LinkRead asked answer octets) (partial (made ++ past)));
       waited = quiet_before.turn.waited;
       reported = passed (goes_on_reading answer (partial (made ++ past) ++ octets)) quiet_before.reported;
       open_yet = quiet_before.open_yet;
       sent_is = quiet_before.sent_is;
       left_is = owes (arrives (LinkRead asked answer octets) (made ++ past)) quiet_before.none
-          ∙ (λ i. frames_of config (quiet_before.sent_is i) (owed_for_packet config (serving_is config slirp (made ++ past) quiet_before.clock quiet_before.serves quiet_before.idle quiet_before.files i) (strays config (book config ((LinkRead asked answer octets) ∷ (made ++ past))) (packet_of config (quiet_before.clock i) (quiet_before.waits i) (arrives (LinkRead asked answer octets) (made ++ past))))
+          ∙ (λ i. frames_of config (quiet_before.sent_is i) (owed_for_packet config
+          (serving_is config slirp (made ++ past) quiet_before.clock quiet_before.serves quiet_before.idle quiet_before.files i)
+          (strays config (book config ((LinkRead asked answer octets) ∷ (made ++ past))) (packet_of config (quiet_before.clock i) (quiet_before.waits i)
+          (arrives (LinkRead asked answer octets) (made ++ past))))
           (packet_of config (quiet_before.clock i) (quiet_before.waits i) (arrives (LinkRead asked answer octets) (made ++ past)))));
       files_is = seeks (arrives (LinkRead asked answer octets) (made ++ past))
-          ∙ (λ i. files_by_packet config (serving_is config slirp (made ++ past) quiet_before.clock quiet_before.serves quiet_before.idle quiet_before.files i) (packet_of config (quiet_before.clock i) (quiet_before.waits i) (arrives (LinkRead asked answer octets) (made ++ past))));
+          ∙ (λ i. files_by_packet config (serving_is config slirp (made ++ past) quiet_before.clock quiet_before.serves quiet_before.idle quiet_before.files i)
+          (packet_of config (quiet_before.clock i) (quiet_before.waits i) (arrives (LinkRead asked answer octets) (made ++ past))));
       idle = quiet_before.idle;
       lent = lends (arrives (LinkRead asked answer octets) (made ++ past)) (leases config (made ++ past))
-          ∙ (λ i. leases_by_packet config (quiet_before.clock i) (packet_of config (quiet_before.clock i) (quiet_before.waits i) (arrives (LinkRead asked answer octets) (made ++ past))) (quiet_before.serves.leases i));
-      known_is = teaches (arrives (LinkRead asked answer octets) (made ++ past)) (known config (made ++ past)) ∙ ap (with_frame config (arrives (LinkRead asked answer octets) (made ++ past))) quiet_before.known_is;
+          ∙ (λ i. leases_by_packet config (quiet_before.clock i) (packet_of config (quiet_before.clock i) (quiet_before.waits i)
+          (arrives (LinkRead asked answer octets) (made ++ past))) (quiet_before.serves.leases i));
+      known_is = teaches (arrives (LinkRead asked answer octets) (made ++ past)) (known config (made ++ past)) ∙ ap
+          (with_frame config (arrives (LinkRead asked answer octets) (made ++ past))) quiet_before.known_is;
       counted = quiet_before.counted;
       list = quiet_before.list;
       named = quiet_before.named;
       heard = refl;
-      asks = sets_out (arrives (LinkRead asked answer octets) (made ++ past)) quiet_before.unasked ∙ (λ i. errand_by_packet config (packet_of config (quiet_before.clock i) (quiet_before.waits i) (arrives (LinkRead asked answer octets) (made ++ past))));
+      asks = sets_out (arrives (LinkRead asked answer octets) (made ++ past)) quiet_before.unasked ∙
+          (λ i. errand_by_packet config (packet_of config (quiet_before.clock i) (quiet_before.waits i) (arrives (LinkRead asked answer octets) (made ++ past))));
       clock = quiet_before.clock;
       fragments = λ new keeps. puts new (arrives (LinkRead asked answer octets) (made ++ past)) refl keeps quiet_before.clock quiet_before.fragments;
-      quiet_flows = λ none. flows_stay config (flowing false kept) slirp.moment (LinkRead asked answer octets) (made ++ past) (nothing (arrives (LinkRead asked answer octets) (made ++ past)) ((λ i. segment_by (packet_of config (quiet_before.clock i) (quiet_before.waits i) (arrives (LinkRead asked answer octets) (made ++ past)))) ∙ none)) refl (omega arith) refl quiet_before.flows;
-      comes = λ on came. something (arrives (LinkRead asked answer octets) (made ++ past)) on ((λ i. segment_by (packet_of config (quiet_before.clock i) (quiet_before.waits i) (arrives (LinkRead asked answer octets) (made ++ past)))) ∙ came);
+      quiet_flows = λ none. flows_stay config (flowing false kept) slirp.moment (LinkRead asked answer octets) (made ++ past)
+          (nothing (arrives (LinkRead asked answer octets) (made ++ past))
+          ((λ i. segment_by (packet_of config (quiet_before.clock i) (quiet_before.waits i)
+          (arrives (LinkRead asked answer octets) (made ++ past)))) ∙ none)) refl (omega arith) refl quiet_before.flows;
+      comes = λ on came. something (arrives (LinkRead asked answer octets) (made ++ past)) on
+          ((λ i. segment_by (packet_of config (quiet_before.clock i) (quiet_before.waits i) (arrives (LinkRead asked answer octets) (made ++ past)))) ∙ came);
       sockets = record { number = quiet_before.sockets.number; kinds = quiet_before.sockets.kinds };
       joins_same = λ n. refl;
-      taught_it = λ mac ip tcp is. teaches_all mac ip tcp (arrives (LinkRead asked answer octets) (made ++ past)) ((λ i. packet_of config (quiet_before.clock i) (quiet_before.waits i) (arrives (LinkRead asked answer octets) (made ++ past))) ∙ is);
+      taught_it = λ mac ip tcp is. teaches_all mac ip tcp (arrives (LinkRead asked answer octets) (made ++ past))
+          ((λ i. packet_of config (quiet_before.clock i) (quiet_before.waits i) (arrives (LinkRead asked answer octets) (made ++ past))) ∙ is);
     }
   where
-    passed : (on : Bool) → IsLast (all_wanted wants (item ∷ items)) (agenda (made ++ past)) → IsLast (all_wanted wants items) (if on then from TheLink (agenda (made ++ past)) else behind TheLink (agenda (made ++ past)))
-    passed true last = skipped (wanted_of wants item) (all_wanted wants items) (from TheLink (agenda (made ++ past))) (from_of TheLink (wanted_of wants item) (all_wanted wants items) (agenda (made ++ past)) reads_it last)
+    passed : (on : Bool) → IsLast (all_wanted wants (item ∷ items)) (agenda (made ++ past)) → IsLast (all_wanted wants items)
+        (if on then from TheLink (agenda (made ++ past)) else behind TheLink (agenda (made ++ past)))
+    passed true last = skipped (wanted_of wants item) (all_wanted wants items) (from TheLink (agenda (made ++ past)))
+        (from_of TheLink (wanted_of wants item) (all_wanted wants items) (agenda (made ++ past)) reads_it last)
     passed false last = behind_of TheLink (wanted_of wants item) (all_wanted wants items) (agenda (made ++ past)) reads_it last
 
     stands : (o : Option Ending) → phase_after (LinkRead asked answer octets) o Working ≡ over_by o
     stands None = refl
     stands (Some why) = refl
 
-    teaches : (o : Option (List ℕ)) (pairs : List (Ip4 × Mac)) → with_arrival (option_map (arrival_of config (moment (made ++ past)) (waiting config (made ++ past))) o) pairs ≡ with_frame config o pairs
+    teaches : (o : Option (List ℕ)) (pairs : List (Ip4 × Mac)) → with_arrival
+        (option_map (arrival_of config (moment (made ++ past)) (waiting config (made ++ past))) o) pairs ≡ with_frame config o pairs
     teaches None pairs = refl
     teaches (Some frame) pairs = teaches_same config frame pairs
 
     sets_out : (o : Option (List ℕ)) → errand_left config (made ++ past) ≡ None
-        → errand_after config (LinkRead asked answer octets) (option_map (arrival_of config (moment (made ++ past)) (waiting config (made ++ past))) o) (errand_left config (made ++ past)) ≡ errand_by_packet config (packet_of config (moment (made ++ past)) (waiting config (made ++ past)) o)
+        → errand_after config (LinkRead asked answer octets) (option_map (arrival_of config (moment (made ++ past)) (waiting config (made ++ past))) o)
+        (errand_left config (made ++ past)) ≡ errand_by_packet config (packet_of config (moment (made ++ past)) (waiting config (made ++ past)) o)
     sets_out None is = is
     sets_out (Some frame) is = refl
 
     owes : (o : Option (List ℕ)) → left config (made ++ past) ≡ []
-        → left_after config (made ++ past) (happens config (made ++ past) (LinkRead asked answer octets)) (option_map (arrival_of config (moment (made ++ past)) (waiting config (made ++ past))) o) (ledger config (made ++ past))
-        ≡ frames_of config (identification (made ++ past)) (owed_for_packet config (serving config (made ++ past)) (strays config (book config ((LinkRead asked answer octets) ∷ (made ++ past))) (packet_of config (moment (made ++ past)) (waiting config (made ++ past)) o)) (packet_of config (moment (made ++ past)) (waiting config (made ++ past)) o))
+        → left_after config (made ++ past) (happens config (made ++ past) (LinkRead asked answer octets))
+        (option_map (arrival_of config (moment (made ++ past)) (waiting config (made ++ past))) o) (ledger config (made ++ past))
+        ≡ frames_of config (identification (made ++ past)) (owed_for_packet config (serving config (made ++ past))
+        (strays config (book config ((LinkRead asked answer octets) ∷ (made ++ past))) (packet_of config (moment (made ++ past)) (waiting config (made ++ past)) o))
+        (packet_of config (moment (made ++ past)) (waiting config (made ++ past)) o))
     owes None is = is
     owes (Some frame) is = refl
 
-    seeks : (o : Option (List ℕ)) → files_after config (made ++ past) (happens config (made ++ past) (LinkRead asked answer octets)) (option_map (arrival_of config (moment (made ++ past)) (waiting config (made ++ past))) o) (ledger config (made ++ past))
+    seeks : (o : Option (List ℕ)) → files_after config (made ++ past) (happens config (made ++ past) (LinkRead asked answer octets))
+        (option_map (arrival_of config (moment (made ++ past)) (waiting config (made ++ past))) o) (ledger config (made ++ past))
         ≡ files_by_packet config (serving config (made ++ past)) (packet_of config (moment (made ++ past)) (waiting config (made ++ past)) o)
     seeks None = refl
     seeks (Some frame) = refl
@@ -333,11 +363,13 @@ newest config count wants item items slirp kept wait reads_it (LinkRead asked an
     lends None l = refl
     lends (Some frame) l = refl
 
-    nothing : (o : Option (List ℕ)) → segment_by (packet_of config (moment (made ++ past)) (waiting config (made ++ past)) o) ≡ None → doing_by (option_map (arrival_of config (moment (made ++ past)) (waiting config (made ++ past))) o) None (LinkRead asked answer octets) ≡ Nothing
+    nothing : (o : Option (List ℕ)) → segment_by (packet_of config (moment (made ++ past)) (waiting config (made ++ past)) o) ≡ None → doing_by
+        (option_map (arrival_of config (moment (made ++ past)) (waiting config (made ++ past))) o) None (LinkRead asked answer octets) ≡ Nothing
     nothing None none = refl
     nothing (Some frame) none = ap comes none
 
-    something : (o : Option (List ℕ)) (on : OnTuple) → segment_by (packet_of config (moment (made ++ past)) (waiting config (made ++ past)) o) ≡ Some on → doing_by (option_map (arrival_of config (moment (made ++ past)) (waiting config (made ++ past))) o) None (LinkRead asked answer octets) ≡ ComesOn on
+    something : (o : Option (List ℕ)) (on : OnTuple) → segment_by (packet_of config (moment (made ++ past)) (waiting config (made ++ past)) o) ≡ Some on → doing_by
+        (option_map (arrival_of config (moment (made ++ past)) (waiting config (made ++ past))) o) None (LinkRead asked answer octets) ≡ ComesOn on
     something None on came = cc
     something (Some frame) on came = ap comes came
 
@@ -345,9 +377,11 @@ newest config count wants item items slirp kept wait reads_it (LinkRead asked an
         → Contains (taught_by (option_map (arrival_of config (moment (made ++ past)) (waiting config (made ++ past))) o) (taught config (made ++ past))) (record { 0 = ip.from }, record { 0 = mac })
     teaches_all mac ip tcp None is = cc
     teaches_all mac ip tcp (Some frame) is =
-        subst (λ p. Contains (taught_pair p (taught config (made ++ past))) (record { 0 = ip.from }, record { 0 = mac })) (sym (teaches_sender config (moment (made ++ past)) (waiting config (made ++ past)) mac ip tcp frame is)) (0, omega arith, refl)
+        subst (λ p. Contains (taught_pair p (taught config (made ++ past))) (record { 0 = ip.from }, record { 0 = mac }))
+        (sym (teaches_sender config (moment (made ++ past)) (waiting config (made ++ past)) mac ip tcp frame is)) (0, omega arith, refl)
 
-    puts : (new : SlirpState) (o : Option (List ℕ)) → arrives (LinkRead asked answer octets) (made ++ past) ≡ o → KeepsParts config slirp new o → moment (made ++ past) ≡ slirp.moment → OfFragments config slirp (made ++ past) → OfFragments config new ((LinkRead asked answer octets) ∷ (made ++ past))
+    puts : (new : SlirpState) (o : Option (List ℕ)) → arrives (LinkRead asked answer octets) (made ++ past) ≡ o → KeepsParts config slirp new o → moment
+        (made ++ past) ≡ slirp.moment → OfFragments config slirp (made ++ past) → OfFragments config new ((LinkRead asked answer octets) ∷ (made ++ past))
     puts new None came keeps at was = fragments_stay config slirp new (LinkRead asked answer octets) (made ++ past) came keeps was
     puts new (Some frame) came keeps at was = fragments_take config slirp new (LinkRead asked answer octets) (made ++ past) frame came refl (sym at) was (keeps was.held was.is_held)
 newest config count wants item items slirp kept wait reads_it (_ ∷ made) past reads framed q lawful = absurd reads.0
@@ -407,7 +441,8 @@ module _ (config : Config) (count : ℕ) (wants : List Want) (item : Want) (item
       let r = read past holds.keeps in
       let then_is = after_packet config slirp packet (hands answer new) new_slirp.fragments in
       let was = all.quiet_flows (ap segment_by arrived_is ∙ none) in
-      let unsought : (serving config (made ++ past)).files ≡ settled slirp.transfers = all.files_is ∙ ap (files_by_packet config (serving_of slirp)) arrived_is ∙ seeks_nothing config (serving_of slirp) packet unserved in
+      let unsought : (serving config (made ++ past)).files ≡ settled slirp.transfers = all.files_is ∙ ap (files_by_packet config (serving_of slirp)) arrived_is
+      ∙ seeks_nothing config (serving_of slirp) packet unserved in
       subst (λ (s : SlirpState). HoldsAt config (standing count wants items) (asked_by config slirp (errand_by_packet config packet)) s (flowing false kept) new (made ++ past)) (sym is) (record {
         lawful = all.lawful;
         allowed = allowed_then made past allowed holds.allowed;
@@ -422,7 +457,8 @@ module _ (config : Config) (count : ℕ) (wants : List Want) (item : Want) (item
           });
         };
         guests = guests_learn config slirp then_is (hands answer new) (made ++ past) holds.guests.settings
-            (all.known_is ∙ ap (λ o. with_frame config o slirp.known) r.1.frame) refl refl (all.fragments then_is (subst (λ o. KeepsParts config slirp then_is o) (sym r.1.frame) (kept_as (hands answer new) new_slirp keeps)));
+            (all.known_is ∙ ap (λ o. with_frame config o slirp.known) r.1.frame) refl refl
+            (all.fragments then_is (subst (λ o. KeepsParts config slirp then_is o) (sym r.1.frame) (kept_as (hands answer new) new_slirp keeps)));
         relayed = record { list = all.list; questions = all.named; asks = ap (asked_by config slirp) (all.asks ∙ ap (errand_by_packet config) arrived_is); heard = all.heard };
         services = record { leases = all.lent ∙ ap (λ p. leases_by_packet config slirp.moment p slirp.leases) arrived_is; quest = ap (λ (k : Files). k.quest) unsought };
         forwards = holds.forwards;
@@ -462,7 +498,13 @@ module _ (config : Config) (count : ℕ) (wants : List Want) (item : Want) (item
           settings = q.flows.settings;
           lawful_before = all.lawful_before;
           lawful = lawful_then;
-          work = subst (InWork config) all.is (record { working = work; errand = unasked; services = none_due_for_services config (made ++ past) all.heard (ap (λ (k : Files). k.quest) unsought); open_yet = all.open_yet });
+          work = subst (InWork config) all.is (record {
+            working = work;
+            errand = unasked;
+            services = none_due_for_services config (made ++ past) all.heard
+                (ap (λ (k : Files). k.quest) unsought);
+            open_yet = all.open_yet;
+          });
           at_before = q.clock;
           at = subst (λ l. moment l ≡ slirp.moment) all.is all.clock;
           comes = all.comes on (ap segment_by (arrived_is ∙ seg));
@@ -479,7 +521,8 @@ module _ (config : Config) (count : ℕ) (wants : List Want) (item : Want) (item
         again = all.idle;
         files = sym (ap (λ (k : Files). k.transfers) unsought);
         guests = guests_learn config slirp then_is (hands answer new) (made ++ past) holds.guests.settings
-            (all.known_is ∙ ap (λ o. with_frame config o slirp.known) r.1.frame) refl refl (all.fragments then_is (subst (λ o. KeepsParts config slirp then_is o) (sym r.1.frame) (kept_as (hands answer new) new_slirp keeps)));
+            (all.known_is ∙ ap (λ o. with_frame config o slirp.known) r.1.frame) refl refl
+            (all.fragments then_is (subst (λ o. KeepsParts config slirp then_is o) (sym r.1.frame) (kept_as (hands answer new) new_slirp keeps)));
         relayed = record { list = all.list; questions = all.named; asks = ap (asked_by config slirp) unasked; heard = all.heard };
         services = record { leases = all.lent ∙ ap (λ p. leases_by_packet config slirp.moment p slirp.leases) (arrived_is ∙ seg); quest = ap (λ (k : Files). k.quest) unsought };
         forwards = holds.forwards;
@@ -514,10 +557,12 @@ module _ (config : Config) (count : ℕ) (wants : List Want) (item : Want) (item
         outcome = all.files_is ∙ ap (files_by_packet config (serving_of slirp)) (arrived_is ∙ its.packet) ∙ ap (files_by_fate config (serving_of slirp) d) its.fate;
         owed = all.left_is ∙ ap (λ p. frames_of config slirp.sent (owed_for_packet config (serving_of slirp) (strays config (book config (made ++ past)) p) p)) (arrived_is ∙ its.packet)
             ∙ ap (λ f. frames_of config slirp.sent (owed_for_fate config (serving_of slirp) d f)) its.fate;
-        none = ap (λ p. frames_of config slirp.sent (owed_with config (serving_of slirp) p)) its.packet ∙ ap (λ f. frames_of config slirp.sent (owed_at_once_by config (serving_of slirp) d f)) its.fate;
+        none = ap (λ p. frames_of config slirp.sent (owed_with config (serving_of slirp) p)) its.packet ∙ ap
+            (λ f. frames_of config slirp.sent (owed_at_once_by config (serving_of slirp) d f)) its.fate;
         again = all.idle;
         guests = guests_learn config slirp then_is (hands answer new) (made ++ past) holds.guests.settings
-            (all.known_is ∙ ap (λ o. with_frame config o slirp.known) r.1.frame) refl refl (all.fragments then_is (subst (λ o. KeepsParts config slirp then_is o) (sym r.1.frame) (kept_as (hands answer new) new_slirp keeps)));
+            (all.known_is ∙ ap (λ o. with_frame config o slirp.known) r.1.frame) refl refl
+            (all.fragments then_is (subst (λ o. KeepsParts config slirp then_is o) (sym r.1.frame) (kept_as (hands answer new) new_slirp keeps)));
         relayed = record { list = all.list; questions = all.named; asks = ap (asked_by config slirp) unasked; heard = all.heard };
         leases = all.lent ∙ ap (λ p. leases_by_packet config slirp.moment p slirp.leases) arrived_is;
         forwards = holds.forwards;

@@ -1,5 +1,6 @@
 -- Calls on the sockets of datagrams: those of associations, of questions, and of ports of the host that are given to guests.
-use Rattle.std.proofs.Common.{◌≡◌, ℕ, ◌+◌, ◌<◌, ◌==◌, ◌&&◌, ◌||◌, not, Bool, true, false, nat_le, nat_lt, zero, suc, List, [], ◌∷◌, ◌++◌, length, find, slice_get, Option, Some, None, option_map, unwrap_or, if◌then◌else◌, inl, refl, sym, ◌∙◌, ap, arith}
+use Rattle.std.proofs.Common.{◌≡◌, ℕ, ◌+◌, ◌<◌, ◌==◌, ◌&&◌, ◌||◌, not, Bool, true, false, nat_le, nat_lt, zero, suc, List, [], ◌∷◌, ◌++◌, length, find, slice_get, Option, Some, None}
+use Rattle.std.proofs.Common.{option_map, unwrap_or, if◌then◌else◌, inl, refl, sym, ◌∙◌, ap, arith}
 use Rattle.std.proofs.lemmas.Bool.Decides.{nat_tests}
 use Rattle.poll_list.specs.declared.Want.{Want}
 use Rattle.poll_list.specs.declared.Who.TheVariants.{Udp as UdpAt}
@@ -20,7 +21,8 @@ use Rattle.arp_table.specs.Table.{mac_of as learnt_for}
 use Rattle.udp_assoc.specs.Associations.{most_associations, numbers, numbered, is_idle, is_of, socket_of, without, moved_last, sent_from, heard_at}
 use Rattle.udp_assoc.specs.declared.assocs.Association.{Association}
 use Rattle.dns_relay.specs.Asking.{bind_for}
-use Rattle.dns_relay.specs.Questions.{asked_from, heard_at as heard_on, ident_in, is_answered, is_idle as is_over, is_of as is_asked, most_questions, moved_last as question_moved, numbered as question_numbered, numbers as question_numbers, socket_of as question_socket, without as question_without}
+use Rattle.dns_relay.specs.Questions.{asked_from, heard_at as heard_on, ident_in, is_answered, is_idle as is_over, is_of as is_asked, most_questions, moved_last as question_moved}
+use Rattle.dns_relay.specs.Questions.{numbered as question_numbered, numbers as question_numbers, socket_of as question_socket, without as question_without}
 use Rattle.dns_relay.specs.declared.Question.{Question}
 use Rattle.udp_assoc.proofs.Yielding.{still_none}
 use Rattle.port_forward.specs.Opened.{socket_for as port_for}
@@ -29,17 +31,20 @@ use Rattle.record_flows.specs.Book.{book}
 use Rattle.record_flows.specs.Flows.{is_it}
 use Rattle.record_flows.specs.Lots.{due_for_flows}
 use Rattle.run_laws.specs.Shape.{due_in, phase, is_ended, is_over as is_run_over, is_working}
-use Rattle.run_laws.specs.Sockets.{Association as OfAssociation, DnsSocket, Flow as OfFlow, Forward, Kind, Listener, datagram_kind, is_among, is_association, is_forward, kind_of, next_number, open_sockets, with_made}
+use Rattle.run_laws.specs.Sockets.{Association as OfAssociation, DnsSocket, Flow as OfFlow, Forward, Kind, Listener, datagram_kind, is_among, is_association, is_forward, kind_of}
+use Rattle.run_laws.specs.Sockets.{next_number, open_sockets, with_made}
 use Rattle.slirp_laws.specs.Agenda.{agenda, all_wanted, is_to_read, wanted_of}
 use Rattle.slirp_laws.specs.Answers.{frames_of, identification, is_out, left, name_answer, serving, told_about, no_network, unsent, unless_sent, reply_at, reply_for, reply_on}
 use Rattle.slirp_laws.specs.Asking.{step as asked}
 use Rattle.slirp_laws.specs.Errands.{errand_left}
-use Rattle.slirp_laws.specs.Names.{answered, answered_on, has_waited, question, questions, step_to_names, with_opened as name_opened, with_sent as name_sent, with_socket as with_question, without_socket as without_question}
+use Rattle.slirp_laws.specs.Names.{answered, answered_on, has_waited, question, questions, step_to_names, with_opened as name_opened, with_sent as name_sent, with_socket as with_question}
+use Rattle.slirp_laws.specs.Names.{without_socket as without_question}
 use Rattle.slirp_laws.specs.Ports.{forwards_open, is_port, mac_for, mac_known, mac_of, opened_for}
 use Rattle.slirp_laws.specs.Said.{SaysOf}
 use Rattle.slirp_laws.specs.Datagrams.{Errand, Step, Settled, NeedsRoom, NeedsSocket, NeedsSending, asks_a_name, due_for, opened_at}
 use Rattle.slirp_laws.specs.Relayed.{association, associations, with_forward, with_opened, with_sent, with_socket, without_socket}
-use Rattle.slirp_laws.specs.Laws.{May, MayDue, carries, due, due_for_services, gives_way, is_all_out, is_for_datagrams, is_just_answered, is_least, is_nothing, is_unused, may_part, name_gives_way, parts, relays, unless_due}
+use Rattle.slirp_laws.specs.Laws.{May, MayDue, carries, due, due_for_services, gives_way, is_all_out, is_for_datagrams, is_just_answered, is_least, is_nothing, is_unused, may_part}
+use Rattle.slirp_laws.specs.Laws.{name_gives_way, parts, relays, unless_due}
 use Rattle.slirp_laws.proofs.Bools.{among_last, among_without, and_both, first_of, same, second_of, turned}
 use Rattle.slirp_laws.proofs.Deeds.{any_one, closes, hears, opens, sends, this_one}
 use Rattle.slirp_laws.proofs.Finding.{idle_is, says_of}
@@ -111,7 +116,8 @@ own_mac config past socket own =
 same_guest : (guest : Endpoint) → same_endpoint guest guest ≡ true
 same_guest guest = and_both (address guest == address guest) (guest.port == guest.port) (same (address guest)) (same guest.port)
 
-last_for : (errand : Errand) (number now : ℕ) (list : List Association) → socket_of errand.datagram.from list ≡ None → socket_of errand.datagram.from (list ++ (association number errand now ∷ [])) ≡ Some number
+last_for : (errand : Errand) (number now : ℕ) (list : List Association) → socket_of errand.datagram.from list ≡ None → socket_of errand.datagram.from
+    (list ++ (association number errand now ∷ [])) ≡ Some number
 last_for errand number now [] none = ap (λ (b : Bool). option_map (λ (x : Association). x.number) (if b then Some (association number errand now) else None)) (same_guest errand.datagram.from)
 last_for errand number now (a ∷ list) none = by (is_of errand.datagram.from a) none (λ rest. last_for errand number now list rest)
   where
@@ -152,7 +158,8 @@ question_still_none guest ident socket [] none = refl
 question_still_none guest ident socket (q ∷ list) none = by (is_asked guest ident q) (q.number == socket) refl none (λ rest. question_still_none guest ident socket list rest)
   where
     by : (t gone : Bool) → is_asked guest ident q ≡ t → option_map (λ (x : Question). x.number) (if t then Some q else find (is_asked guest ident) list) ≡ None
-        → (question_socket guest ident list ≡ None → question_socket guest ident (question_without socket list) ≡ None) → question_socket guest ident (if not gone then q ∷ question_without socket list else question_without socket list) ≡ None
+        → (question_socket guest ident list ≡ None → question_socket guest ident (question_without socket list) ≡ None) → question_socket guest ident
+        (if not gone then q ∷ question_without socket list else question_without socket list) ≡ None
     by true gone is none more = cc
     by false true is none more = more none
     by false false is none more = ap (λ (b : Bool). option_map (λ (x : Question). x.number) (if b then Some q else find (is_asked guest ident) (question_without socket list))) is ∙ more none
@@ -163,15 +170,19 @@ question_has_room (x ∷ others) errand room = ap (λ b. if b then NeedsRoom x.n
 
 -- what is asked for, by whether it is a question
 pub asks_by_name : (config : Config) (slirp : SlirpState) (errand : Errand) → asks_a_name config errand ≡ true → asked_by config slirp (Some errand) ≡ step_to_names slirp.questions errand
-asks_by_name config slirp errand name = ap (λ (b : Bool). if b then step_to_names slirp.questions errand else with_forward (port_for errand.datagram.from slirp.forwards) slirp.associations errand) name
+asks_by_name config slirp errand name = ap (λ (b : Bool). if b then step_to_names slirp.questions errand else with_forward
+    (port_for errand.datagram.from slirp.forwards) slirp.associations errand) name
 
-pub asks_by_port : (config : Config) (slirp : SlirpState) (errand : Errand) → asks_a_name config errand ≡ false → asked_by config slirp (Some errand) ≡ with_forward (port_for errand.datagram.from slirp.forwards) slirp.associations errand
-asks_by_port config slirp errand other = ap (λ (b : Bool). if b then step_to_names slirp.questions errand else with_forward (port_for errand.datagram.from slirp.forwards) slirp.associations errand) other
+pub asks_by_port : (config : Config) (slirp : SlirpState) (errand : Errand) → asks_a_name config errand ≡ false → asked_by config slirp (Some errand) ≡ with_forward
+    (port_for errand.datagram.from slirp.forwards) slirp.associations errand
+asks_by_port config slirp errand other = ap (λ (b : Bool). if b then step_to_names slirp.questions errand else with_forward
+    (port_for errand.datagram.from slirp.forwards) slirp.associations errand) other
 
 -- no association's socket is closed
 pub unclosed : (n : ℕ) (list : List Association) → is_among n (numbers list) ≡ false → without n list ≡ list
 unclosed n [] none = refl
-unclosed n (a ∷ list) none = by (a.number == n) (turned n a.number false (none_one (n == a.number) (is_among n (numbers list)) none)) (unclosed n list (none_more (n == a.number) (is_among n (numbers list)) none))
+unclosed n (a ∷ list) none = by (a.number == n) (turned n a.number false (none_one (n == a.number) (is_among n (numbers list)) none))
+    (unclosed n list (none_more (n == a.number) (is_among n (numbers list)) none))
   where
     none_one : (a b : Bool) → (a || b) ≡ false → a ≡ false
     none_one true b is = cc
@@ -186,9 +197,11 @@ unclosed n (a ∷ list) none = by (a.number == n) (turned n a.number false (none
     by false is rest = ap (λ l. a ∷ l) rest
 
 -- the close of the socket is due
-close_is_due : (config : Config) (past : List Entry) (socket : ℕ) → InTurn config past → asked config past ≡ Settled → answered config past ≡ Some socket → (serving config past).files.quest ≡ QuestSettled → due config past ≡ Some (CallClose socket)
+close_is_due : (config : Config) (past : List Entry) (socket : ℕ) → InTurn config past → asked config past ≡ Settled → answered config past ≡ Some socket →
+    (serving config past).files.quest ≡ QuestSettled → due config past ≡ Some (CallClose socket)
 close_is_due config past socket turn settled heard unsought =
-    ap (λ q. unless_due (due_in q past) (unless_due (due_for config (asked config past) (next_number past)) (unless_due (due_for_services config past) (due_for_flows config (book config past) (next_number past))))) turn.working
+    ap (λ q. unless_due (due_in q past) (unless_due (due_for config (asked config past) (next_number past))
+    (unless_due (due_for_services config past) (due_for_flows config (book config past) (next_number past))))) turn.working
     ∙ ap (λ t. unless_due (due_for config t (next_number past)) (unless_due (due_for_services config past) (due_for_flows config (book config past) (next_number past)))) settled
     ∙ ap (λ o. unless_due o (due_for_flows config (book config past) (next_number past))) (close_due config past socket heard unsought)
 
@@ -238,7 +251,8 @@ module _ (config : Config) (at : Standing) (slirp : SlirpState) (f : Flowing) (l
     parted : (socket : ℕ) → is_among socket (numbers slirp.associations) ≡ true → (gives_way config socket (asked config past) || is_unused socket past) ≡ true → parts config past socket ≡ true
     parted socket among why = ap (may_part config past socket) (kind_carried config past holds.lawful socket (in_record socket among)) ∙ why
 
-    name_parted : (socket : ℕ) → is_among socket (question_numbers slirp.questions) ≡ true → (name_gives_way config socket (asked config past) || is_just_answered config past socket || has_waited config past socket) ≡ true
+    name_parted : (socket : ℕ) → is_among socket (question_numbers slirp.questions) ≡ true →
+        (name_gives_way config socket (asked config past) || is_just_answered config past socket || has_waited config past socket) ≡ true
         → parts config past socket ≡ true
     name_parted socket among why = ap (may_part config past socket) (kind_named config past holds.lawful socket (named_record socket among)) ∙ why
 
@@ -257,11 +271,13 @@ module _ (config : Config) (at : Standing) (slirp : SlirpState) (f : Flowing) (l
     module _ (port : Endpoint) (is_port : opened_at config errand ≡ port) where
       open_due : due config past ≡ Some (CallUdpOpen slirp.number port)
       open_due =
-          due_is config past (NeedsSocket errand) turn.working (none_due_for_services config past holds.relayed.heard holds.services.quest) holds.flows.holds.asked (asks (NeedsSocket errand) None holds)
+          due_is config past (NeedsSocket errand) turn.working (none_due_for_services config past holds.relayed.heard holds.services.quest) holds.flows.holds.asked
+          (asks (NeedsSocket errand) None holds)
           ∙ (λ i. Some (CallUdpOpen (holds.sockets.number i) (is_port i)))
 
       may_open : May config past (CallUdpOpen slirp.number port)
-      may_open = opens config past slirp.number port open_due (ap (λ n. slirp.number == n) holds.sockets.number ∙ same slirp.number) (flows_ask_nothing config f slirp.moment past holds.flows) holds.open_yet
+      may_open = opens config past slirp.number port open_due (ap (λ n. slirp.number == n) holds.sockets.number ∙ same slirp.number)
+          (flows_ask_nothing config f slirp.moment past holds.flows) holds.open_yet
 
       -- with these lists then
       opened_with : (list : List Association) (named : List Question) → Allowed (UdpOpen slirp.number port MadeDone)
@@ -274,7 +290,8 @@ module _ (config : Config) (at : Standing) (slirp : SlirpState) (f : Flowing) (l
             own = tt;
             answers = record {
               sent = holds.answers.sent;
-              owed = left_stays config f.aged slirp (record slirp { number = slirp.number + 1; associations = list; questions = named }) (UdpOpen slirp.number port MadeDone) past refl refl refl refl refl refl holds.answers.owed;
+              owed = left_stays config f.aged slirp (record slirp { number = slirp.number + 1; associations = list; questions = named })
+                  (UdpOpen slirp.number port MadeDone) past refl refl refl refl refl refl holds.answers.owed;
             };
             relayed = relayed;
             sockets = record { number = ap (λ n. n + 1) holds.sockets.number; kinds = kinds_open slirp.number port MadeDone past turn.waited holds.sockets.kinds };
@@ -283,9 +300,11 @@ module _ (config : Config) (at : Standing) (slirp : SlirpState) (f : Flowing) (l
           })
 
       pub after_refusal : Allowed (UdpOpen slirp.number port MadeFailed) → Holds config at
-          (record slirp { number = slirp.number + 1; pending = frames_of slirp.config slirp.sent (told_about slirp.config no_network errand.datagram) }) f link (UdpOpen slirp.number port MadeFailed ∷ past)
+          (record slirp { number = slirp.number + 1; pending = frames_of slirp.config slirp.sent (told_about slirp.config no_network errand.datagram) }) f link
+          (UdpOpen slirp.number port MadeFailed ∷ past)
       after_refusal allowed = after_socket config at at (NeedsSocket errand) Settled None None slirp
-          (record slirp { number = slirp.number + 1; pending = frames_of slirp.config slirp.sent (told_about slirp.config no_network errand.datagram) }) f link (UdpOpen slirp.number port MadeFailed) past tt refl refl refl refl refl turn holds (record {
+          (record slirp { number = slirp.number + 1; pending = frames_of slirp.config slirp.sent (told_about slirp.config no_network errand.datagram) }) f link
+          (UdpOpen slirp.number port MadeFailed) past tt refl refl refl refl refl turn holds (record {
             may = may_open;
             allowed = allowed;
             own = tt;
@@ -326,7 +345,8 @@ module _ (config : Config) (at : Standing) (slirp : SlirpState) (f : Flowing) (l
             ∙ ap (λ (b : Bool). if b then questions config past ++ (question slirp.number errand (moment past) ∷ []) else questions config past) other
             ∙ holds.relayed.questions;
         asks = ap (asked_by config (record slirp { number = slirp.number + 1; associations = slirp.associations ++ (association slirp.number errand slirp.moment ∷ []) })) is_left
-            ∙ asks_to_send slirp.associations (none_for (socket_of errand.datagram.from slirp.associations) slirp.associations errand (sym (ap (λ o. with_forward o slirp.associations errand) no_forward) ∙ by_port)) no_forward;
+            ∙ asks_to_send slirp.associations (none_for (socket_of errand.datagram.from slirp.associations) slirp.associations errand
+            (sym (ap (λ o. with_forward o slirp.associations errand) no_forward) ∙ by_port)) no_forward;
         heard = refl;
       })
         where
@@ -354,21 +374,25 @@ module _ (config : Config) (at : Standing) (slirp : SlirpState) (f : Flowing) (l
         asks = ap (asked_by config (record slirp { number = slirp.number + 1; questions = slirp.questions ++ (question slirp.number errand slirp.moment ∷ []) })) is_left
             ∙ asks_by_name config (record slirp { number = slirp.number + 1; questions = slirp.questions ++ (question slirp.number errand slirp.moment ∷ []) }) errand name
             ∙ ap (λ o. with_question o (slirp.questions ++ (question slirp.number errand slirp.moment ∷ [])) errand)
-            (socket_last errand.datagram.from (ident_in errand.datagram.body) slirp.questions (question slirp.number errand slirp.moment) (question_none_for (question_socket errand.datagram.from (ident_in errand.datagram.body) slirp.questions) slirp.questions errand (sym (asks_by_name config slirp errand name) ∙ asks_so))
-            (and_both (same_endpoint errand.datagram.from errand.datagram.from) (ident_in errand.datagram.body == ident_in errand.datagram.body) (same_guest errand.datagram.from) (same (ident_in errand.datagram.body))));
+            (socket_last errand.datagram.from (ident_in errand.datagram.body) slirp.questions (question slirp.number errand slirp.moment)
+            (question_none_for (question_socket errand.datagram.from (ident_in errand.datagram.body) slirp.questions) slirp.questions errand (sym (asks_by_name config slirp errand name) ∙ asks_so))
+            (and_both (same_endpoint errand.datagram.from errand.datagram.from) (ident_in errand.datagram.body == ident_in errand.datagram.body) (same_guest errand.datagram.from)
+            (same (ident_in errand.datagram.body))));
         heard = refl;
       })
 
   -- ---- a datagram is sent
 
   module _ (socket : ℕ) (errand : Errand) (on : relays past socket ≡ true) (list : List Association) (named : List Question)
-      (list_is : moved_last (sent_from (record { 0 = errand.datagram.mac }) slirp.moment) socket slirp.associations ≡ list) (named_is : question_moved (asked_from (record { 0 = errand.datagram.mac }) slirp.moment) socket slirp.questions ≡ named)
+      (list_is : moved_last (sent_from (record { 0 = errand.datagram.mac }) slirp.moment) socket slirp.associations ≡ list)
+      (named_is : question_moved (asked_from (record { 0 = errand.datagram.mac }) slirp.moment) socket slirp.questions ≡ named)
       (holds : HoldsAt config at (NeedsSending socket errand) slirp f link past) where
     send_turn : InTurn config past
     send_turn = in_turn holds.stands (λ u. cc (u.unasked))
 
     send_due : due config past ≡ Some (CallUdpSend socket errand.to errand.datagram.body)
-    send_due = due_is config past (NeedsSending socket errand) send_turn.working (none_due_for_services config past holds.relayed.heard holds.services.quest) holds.flows.holds.asked (asks (NeedsSending socket errand) None holds)
+    send_due = due_is config past (NeedsSending socket errand) send_turn.working
+        (none_due_for_services config past holds.relayed.heard holds.services.quest) holds.flows.holds.asked (asks (NeedsSending socket errand) None holds)
 
     may_send : May config past (CallUdpSend socket errand.to errand.datagram.body)
     may_send = sends config past socket errand.to errand.datagram.body send_due on (flows_ask_nothing config f slirp.moment past holds.flows) holds.open_yet
@@ -378,7 +402,8 @@ module _ (config : Config) (at : Standing) (slirp : SlirpState) (f : Flowing) (l
         → Holds config at (record slirp { associations = list; questions = named; pending = pending }) f link (UdpSend socket errand.to errand.datagram.body answer ∷ past)
     after_sending answer pending allowed owes =
         let e = UdpSend socket errand.to errand.datagram.body answer in
-        after_socket config at at (NeedsSending socket errand) Settled None None slirp (record slirp { associations = list; questions = named; pending = pending }) f link e past tt refl refl refl refl refl send_turn holds (record {
+        after_socket config at at (NeedsSending socket errand) Settled None None slirp
+        (record slirp { associations = list; questions = named; pending = pending }) f link e past tt refl refl refl refl refl send_turn holds (record {
           may = may_send;
           allowed = allowed;
           own = tt;
@@ -402,21 +427,30 @@ module _ (config : Config) (at : Standing) (slirp : SlirpState) (f : Flowing) (l
           open_yet = holds.open_yet;
         })
 
-    pub after_sent : Allowed (UdpSend socket errand.to errand.datagram.body SentDone) → Holds config at (record slirp { associations = list; questions = named }) f link (UdpSend socket errand.to errand.datagram.body SentDone ∷ past)
+    pub after_sent : Allowed (UdpSend socket errand.to errand.datagram.body SentDone) → Holds config at (record slirp { associations = list; questions = named }) f link
+        (UdpSend socket errand.to errand.datagram.body SentDone ∷ past)
     after_sent allowed = after_sending SentDone slirp.pending allowed holds.answers.owed.left
 
-    pub after_not_sent : Allowed (UdpSend socket errand.to errand.datagram.body SentNotYet) → Holds config at (record slirp { associations = list; questions = named }) f link (UdpSend socket errand.to errand.datagram.body SentNotYet ∷ past)
+    pub after_not_sent : Allowed (UdpSend socket errand.to errand.datagram.body SentNotYet) → Holds config at (record slirp { associations = list; questions = named }) f link
+        (UdpSend socket errand.to errand.datagram.body SentNotYet ∷ past)
     after_not_sent allowed = after_sending SentNotYet slirp.pending allowed holds.answers.owed.left
 
     pub after_failure : Allowed (UdpSend socket errand.to errand.datagram.body SentFailed)
-        → Holds config at (record slirp { associations = list; questions = named; pending = frames_of slirp.config slirp.sent (told_about slirp.config no_network errand.datagram) }) f link (UdpSend socket errand.to errand.datagram.body SentFailed ∷ past)
+        → Holds config at (record slirp {
+          associations = list;
+          questions = named;
+          pending = frames_of slirp.config slirp.sent
+              (told_about slirp.config no_network errand.datagram);
+        }) f link (UdpSend socket errand.to errand.datagram.body SentFailed ∷ past)
     after_failure allowed =
         after_sending SentFailed (frames_of slirp.config slirp.sent (told_about slirp.config no_network errand.datagram)) allowed
-        (ap (λ i. frames_of config i (told_about config no_network errand.datagram)) holds.answers.sent ∙ sym (ap (λ k. frames_of k slirp.sent (told_about k no_network errand.datagram)) holds.guests.settings))
+        (ap (λ i. frames_of config i (told_about config no_network errand.datagram)) holds.answers.sent ∙ sym
+        (ap (λ k. frames_of k slirp.sent (told_about k no_network errand.datagram)) holds.guests.settings))
 
   -- ---- a socket is closed for a reason of its kind
 
-  module _ (socket : ℕ) (step new_step : Step) (heard : Option ℕ) (list : List Association) (named : List Question) (list_is : without socket slirp.associations ≡ list) (named_is : question_without socket slirp.questions ≡ named)
+  module _ (socket : ℕ) (step new_step : Step) (heard : Option ℕ) (list : List Association) (named : List Question) (list_is : without socket slirp.associations ≡ list)
+      (named_is : question_without socket slirp.questions ≡ named)
       (holds : HoldsOn config at step heard slirp f link past) (turn : InTurn config past) (own : carries past socket ≡ true) (allowed : Allowed (Close socket)) where
     here : is_among socket (open_sockets past) ≡ true
     here = first_of (is_among socket (open_sockets past)) (is_association (kind_of socket past)) own
@@ -424,20 +458,25 @@ module _ (config : Config) (at : Standing) (slirp : SlirpState) (f : Flowing) (l
     parted_from : (IsOwedAt step config f.aged slirp past → IsOwedAt new_step config f.aged (record slirp { associations = list; questions = named }) (Close socket ∷ past))
         → MayDue config past (CallClose socket) → parts config past socket ≡ true → asked_by config (record slirp { associations = list; questions = named }) (errand_left config past) ≡ new_step
         → HoldsAt config at new_step (record slirp { associations = list; questions = named }) f link (Close socket ∷ past)
-    parted_from owed may_due why comes = after_socket config at at step new_step heard None slirp (record slirp { associations = list; questions = named }) f link (Close socket) past tt refl refl refl refl refl turn holds (record {
-      may = closes config past socket may_due (or_first (is_working (phase config past)) (is_run_over (phase config past)) (ap is_working turn.working))
-          (and_both (is_among socket (open_sockets past)) _ here
-          (ap (λ (b : Bool). if b then is_least socket (open_sockets past) else parts config past socket || (is_ended config past && is_least socket (open_sockets past))) holds.open_yet
-          ∙ or_first (parts config past socket) (is_ended config past && is_least socket (open_sockets past)) why))
-          (closes_freely config past socket (no_flow config past socket holds.lawful own) (flows_ask_nothing config f slirp.moment past holds.flows));
-      allowed = allowed;
-      own = own;
-      answers = record { sent = holds.answers.sent; owed = owed holds.answers.owed };
-      relayed = record { list = ap (without socket) holds.relayed.list ∙ list_is; questions = ap (question_without socket) holds.relayed.questions ∙ named_is; asks = comes; heard = refl };
-      sockets = record { number = holds.sockets.number; kinds = λ n among. holds.sockets.kinds n (second_of (not (n == socket)) (is_among n (open_sockets past)) (sym (among_without n socket (open_sockets past)) ∙ among)) };
-      agenda = holds.agenda;
-      open_yet = still_open config (Close socket) past (ap not why) holds.open_yet;
-    })
+    parted_from owed may_due why comes = after_socket config at at step new_step heard None slirp (record slirp { associations = list; questions = named }) f link
+        (Close socket) past tt refl refl refl refl refl turn holds (record {
+          may = closes config past socket may_due (or_first (is_working (phase config past)) (is_run_over (phase config past)) (ap is_working turn.working))
+              (and_both (is_among socket (open_sockets past)) _ here
+              (ap (λ (b : Bool). if b then is_least socket (open_sockets past) else parts config past socket || (is_ended config past && is_least socket (open_sockets past))) holds.open_yet
+              ∙ or_first (parts config past socket) (is_ended config past && is_least socket (open_sockets past)) why))
+              (closes_freely config past socket (no_flow config past socket holds.lawful own) (flows_ask_nothing config f slirp.moment past holds.flows));
+          allowed = allowed;
+          own = own;
+          answers = record { sent = holds.answers.sent; owed = owed holds.answers.owed };
+          relayed = record { list = ap (without socket) holds.relayed.list ∙ list_is; questions = ap (question_without socket) holds.relayed.questions ∙ named_is; asks = comes; heard = refl };
+          sockets = record {
+            number = holds.sockets.number;
+            kinds = λ n among. holds.sockets.kinds n (second_of (not (n == socket)) (is_among n (open_sockets past))
+                (sym (among_without n socket (open_sockets past)) ∙ among));
+          };
+          agenda = holds.agenda;
+          open_yet = still_open config (Close socket) past (ap not why) holds.open_yet;
+        })
 
   -- the longest unused association gave way
   pub after_yielding : (oldest : Association) (others : List Association) (errand : Errand) → asks_a_name config errand ≡ false → Allowed (Close oldest.number) → slirp.associations ≡ oldest ∷ others
@@ -454,10 +493,13 @@ module _ (config : Config) (at : Standing) (slirp : SlirpState) (f : Flowing) (l
       let no_forward = none_of_forward (port_for errand.datagram.from slirp.forwards) slirp.associations socket errand by_port in
       let none = none_of_room (socket_of errand.datagram.from slirp.associations) slirp.associations socket errand (sym (ap (λ o. with_forward o slirp.associations errand) no_forward) ∙ by_port) in
       let then_state : SlirpState = record slirp { associations = without socket slirp.associations } in
-      parted_from socket step (NeedsSocket errand) None (without socket slirp.associations) slirp.questions refl (none_without socket slirp.questions (no_name step None holds socket among)) holds turn (carried step None holds socket among) allowed
+      parted_from socket step (NeedsSocket errand) None (without socket slirp.associations) slirp.questions refl
+      (none_without socket slirp.questions (no_name step None holds socket among)) holds turn (carried step None holds socket among) allowed
       (left_stays config f.aged slirp then_state (Close socket) past refl refl refl refl refl refl)
-      (this_one config past (CallClose socket) (due_is config past step turn.working (none_due_for_services config past holds.relayed.heard holds.services.quest) holds.flows.holds.asked (asks step None holds)))
-      (parted step None holds socket among (or_first (gives_way config socket (asked config past)) (is_unused socket past) (ap (gives_way config socket) (asks step None holds) ∙ (λ i. same socket i && not (other i)))))
+      (this_one config past (CallClose socket) (due_is config past step turn.working
+      (none_due_for_services config past holds.relayed.heard holds.services.quest) holds.flows.holds.asked (asks step None holds)))
+      (parted step None holds socket among (or_first (gives_way config socket (asked config past)) (is_unused socket past) (ap (gives_way config socket) (asks step None holds) ∙
+      (λ i. same socket i && not (other i)))))
       (ap (asked_by config then_state) left ∙ asks_by_port config then_state errand other
       ∙ ap (λ o. with_forward o (without socket slirp.associations) errand) no_forward
       ∙ ap (λ o. with_socket o (without socket slirp.associations) errand) (still_none errand.datagram.from socket slirp.associations none)
@@ -471,15 +513,20 @@ module _ (config : Config) (at : Standing) (slirp : SlirpState) (f : Flowing) (l
       let socket = oldest.number in
       let step = NeedsRoom socket errand in
       let turn : InTurn config past = in_turn holds.stands (λ u. cc (u.unasked)) in
-      let among : is_among socket (question_numbers slirp.questions) ≡ true = ap (λ l. is_among socket (question_numbers l)) first ∙ ap (λ b. b || is_among socket (question_numbers others)) (same socket) in
+      let among : is_among socket (question_numbers slirp.questions) ≡ true = ap (λ l. is_among socket (question_numbers l)) first ∙ ap
+      (λ b. b || is_among socket (question_numbers others)) (same socket) in
       let left = errand_is step None holds in
       let by_name : step_to_names slirp.questions errand ≡ NeedsRoom socket errand = sym (asks_by_name config slirp errand name) ∙ sym (ap (asked_by config slirp) left) ∙ holds.relayed.asks in
       let none = question_none_of_room (question_socket errand.datagram.from (ident_in errand.datagram.body) slirp.questions) slirp.questions socket errand by_name in
       let then_state : SlirpState = record slirp { questions = question_without socket slirp.questions } in
-      parted_from socket step (NeedsSocket errand) None slirp.associations (question_without socket slirp.questions) (unclosed socket slirp.associations (no_port step None holds socket among)) refl holds turn (named step None holds socket among) allowed
+      parted_from socket step (NeedsSocket errand) None slirp.associations (question_without socket slirp.questions)
+      (unclosed socket slirp.associations (no_port step None holds socket among)) refl holds turn (named step None holds socket among) allowed
       (left_stays config f.aged slirp then_state (Close socket) past refl refl refl refl refl refl)
-      (this_one config past (CallClose socket) (due_is config past step turn.working (none_due_for_services config past holds.relayed.heard holds.services.quest) holds.flows.holds.asked (asks step None holds)))
-      (name_parted step None holds socket among (or_first (name_gives_way config socket (asked config past) || is_just_answered config past socket) (has_waited config past socket) (or_first (name_gives_way config socket (asked config past)) (is_just_answered config past socket) (ap (name_gives_way config socket) (asks step None holds) ∙ (λ i. same socket i && name i)))))
+      (this_one config past (CallClose socket) (due_is config past step turn.working
+      (none_due_for_services config past holds.relayed.heard holds.services.quest) holds.flows.holds.asked (asks step None holds)))
+      (name_parted step None holds socket among (or_first (name_gives_way config socket (asked config past) || is_just_answered config past socket) (has_waited config past socket)
+      (or_first (name_gives_way config socket (asked config past)) (is_just_answered config past socket) (ap (name_gives_way config socket) (asks step None holds) ∙
+      (λ i. same socket i && name i)))))
       (ap (asked_by config then_state) left ∙ asks_by_name config then_state errand name
       ∙ ap (λ o. with_question o (question_without socket slirp.questions) errand) (question_still_none errand.datagram.from (ident_in errand.datagram.body) socket slirp.questions none)
       ∙ question_has_room (question_without socket slirp.questions) errand (grind (arith, nat_tests, room)))
@@ -490,31 +537,39 @@ module _ (config : Config) (at : Standing) (slirp : SlirpState) (f : Flowing) (l
   after_idling socket allowed idle holds =
       let turn : InTurn config past = in_turn holds.stands (λ u. cc (sym (ap (is_idle socket slirp.moment) u.alone) ∙ idle)) in
       let among = idle_among socket slirp.moment slirp.associations idle in
-      let over : is_idle socket (moment past) (associations config past) ≡ true = ap (is_idle socket (moment past)) holds.relayed.list ∙ ap (λ m. is_idle socket m slirp.associations) holds.clock.moment ∙ idle in
+      let over : is_idle socket (moment past) (associations config past) ≡ true = ap (is_idle socket (moment past)) holds.relayed.list ∙ ap
+      (λ m. is_idle socket m slirp.associations) holds.clock.moment ∙ idle in
       let long = idle_is config past socket (moment past) (associations config past) (joined config past holds.lawful).kept over in
-      parted_from socket Settled Settled None (without socket slirp.associations) slirp.questions refl (none_without socket slirp.questions (no_name Settled None holds socket among)) holds turn (carried Settled None holds socket among) allowed
+      parted_from socket Settled Settled None (without socket slirp.associations) slirp.questions refl
+      (none_without socket slirp.questions (no_name Settled None holds socket among)) holds turn (carried Settled None holds socket among) allowed
       (owed_stays config f.aged slirp (record slirp { associations = without socket slirp.associations }) (Close socket) past refl refl refl refl refl refl refl)
-      (any_one config past (CallClose socket) (due_is config past Settled turn.working (none_due_for_services config past holds.relayed.heard holds.services.quest) holds.flows.holds.asked (asks Settled None holds)))
+      (any_one config past (CallClose socket) (due_is config past Settled turn.working
+      (none_due_for_services config past holds.relayed.heard holds.services.quest) holds.flows.holds.asked (asks Settled None holds)))
       (parted Settled None holds socket among (or_second (gives_way config socket (asked config past)) (is_unused socket past) (grind (arith, nat_tests, long))))
       (asks_nothing config (record slirp { associations = without socket slirp.associations }) (errand_left config past) (errand_is Settled None holds))
 
   -- a question had waited for long enough
-  pub after_waiting : (socket : ℕ) → Allowed (Close socket) → is_over socket slirp.moment slirp.questions ≡ true → is_among socket (question_numbers slirp.questions) ≡ true → Holds config at slirp f link past
+  pub after_waiting : (socket : ℕ) → Allowed (Close socket) → is_over socket slirp.moment slirp.questions ≡ true → is_among socket (question_numbers slirp.questions) ≡ true →
+      Holds config at slirp f link past
       → Holds config at (record slirp { questions = question_without socket slirp.questions }) f link (Close socket ∷ past)
   after_waiting socket allowed waited among holds =
       let turn : InTurn config past = in_turn holds.stands (λ u. cc (sym (ap (λ l. is_among socket (question_numbers l)) u.unnamed) ∙ among)) in
       let over : has_waited config past socket ≡ true = ap (is_over socket (moment past)) holds.relayed.questions ∙ ap (λ m. is_over socket m slirp.questions) holds.clock.moment ∙ waited in
-      parted_from socket Settled Settled None slirp.associations (question_without socket slirp.questions) (unclosed socket slirp.associations (no_port Settled None holds socket among)) refl holds turn (named Settled None holds socket among) allowed
+      parted_from socket Settled Settled None slirp.associations (question_without socket slirp.questions)
+      (unclosed socket slirp.associations (no_port Settled None holds socket among)) refl holds turn (named Settled None holds socket among) allowed
       (owed_stays config f.aged slirp (record slirp { questions = question_without socket slirp.questions }) (Close socket) past refl refl refl refl refl refl refl)
-      (any_one config past (CallClose socket) (due_is config past Settled turn.working (none_due_for_services config past holds.relayed.heard holds.services.quest) holds.flows.holds.asked (asks Settled None holds)))
+      (any_one config past (CallClose socket) (due_is config past Settled turn.working
+      (none_due_for_services config past holds.relayed.heard holds.services.quest) holds.flows.holds.asked (asks Settled None holds)))
       (name_parted Settled None holds socket among (or_second (name_gives_way config socket (asked config past) || is_just_answered config past socket) (has_waited config past socket) over))
       (asks_nothing config (record slirp { questions = question_without socket slirp.questions }) (errand_left config past) (errand_is Settled None holds))
 
   -- its answer came just now
-  pub after_answered : (socket : ℕ) → Allowed (Close socket) → is_among socket (question_numbers slirp.questions) ≡ true → InTurn config past → HoldsOn config at Settled (Some socket) slirp f link past
+  pub after_answered : (socket : ℕ) → Allowed (Close socket) → is_among socket (question_numbers slirp.questions) ≡ true → InTurn config past → HoldsOn config at Settled
+      (Some socket) slirp f link past
       → Holds config at (record slirp { questions = question_without socket slirp.questions }) f link (Close socket ∷ past)
   after_answered socket allowed among in_one holds =
-      parted_from socket Settled Settled (Some socket) slirp.associations (question_without socket slirp.questions) (unclosed socket slirp.associations (no_port Settled (Some socket) holds socket among)) refl holds in_one (named Settled (Some socket) holds socket among) allowed
+      parted_from socket Settled Settled (Some socket) slirp.associations (question_without socket slirp.questions)
+      (unclosed socket slirp.associations (no_port Settled (Some socket) holds socket among)) refl holds in_one (named Settled (Some socket) holds socket among) allowed
       (owed_stays config f.aged slirp (record slirp { questions = question_without socket slirp.questions }) (Close socket) past refl refl refl refl refl refl refl)
       (this_one config past (CallClose socket) (close_is_due config past socket in_one (asks Settled (Some socket) holds) holds.relayed.heard holds.services.quest))
       (name_parted Settled (Some socket) holds socket among (or_first (name_gives_way config socket (asked config past) || is_just_answered config past socket) (has_waited config past socket)
@@ -531,7 +586,8 @@ pub record IsForward (past : List Entry) (slirp : SlirpState) (socket : ℕ) : T
   pub unlisted : is_among socket (numbers slirp.associations) ≡ false
   pub unnamed : is_among socket (question_numbers slirp.questions) ≡ false
 
-pub not_carried : (config : Config) (at : Standing) (step : Step) (heard : Option ℕ) (slirp : SlirpState) (f : Flowing) (link : LinkState) (past : List Entry) → HoldsOn config at step heard slirp f link past → (socket : ℕ) → carries past socket ≡ false
+pub not_carried : (config : Config) (at : Standing) (step : Step) (heard : Option ℕ) (slirp : SlirpState) (f : Flowing) (link : LinkState) (past : List Entry) →
+    HoldsOn config at step heard slirp f link past → (socket : ℕ) → carries past socket ≡ false
     → (is_among socket (numbers slirp.associations) ≡ false) × (is_among socket (question_numbers slirp.questions) ≡ false)
 not_carried config at step heard slirp f link past holds socket none =
     let both = neither config past holds.lawful socket none in
@@ -546,7 +602,8 @@ forward_no_carrier true (Some Listener) is = cc
 forward_no_carrier true (Some OfFlow) is = cc
 forward_no_carrier false k is = refl
 
-pub forward_open : (config : Config) (at : Standing) (step : Step) (heard : Option ℕ) (slirp : SlirpState) (f : Flowing) (link : LinkState) (past : List Entry) → HoldsOn config at step heard slirp f link past → (guest : Endpoint) (socket : ℕ)
+pub forward_open : (config : Config) (at : Standing) (step : Step) (heard : Option ℕ) (slirp : SlirpState) (f : Flowing) (link : LinkState) (past : List Entry) →
+    HoldsOn config at step heard slirp f link past → (guest : Endpoint) (socket : ℕ)
     → port_for guest slirp.forwards ≡ Some socket → IsForward past slirp socket
 forward_open config at step heard slirp f link past holds guest socket is =
     let found = find_some (λ s. is_port guest (opened_for config s past)) (forwards_open past) socket (forward_in config at step heard slirp f link past holds guest ∙ is) in
@@ -580,7 +637,9 @@ module _ (config : Config) (count : ℕ) (wants : List Want) (item : Want) (item
       none_reported x rest (y ∷ front) is = cc
 
   may_hear : relays past socket ≡ true → May config past (CallUdpRecv socket size)
-  may_hear on = hears config past socket size (due_is config past Settled hear_turn.working (none_due_for_services config past holds.relayed.heard holds.services.quest) holds.flows.holds.asked (asks config before slirp f link past Settled None holds)) (flows_stay_open config f slirp.moment past holds.flows) (ap is_working hear_turn.working)
+  may_hear on = hears config past socket size (due_is config past Settled hear_turn.working
+      (none_due_for_services config past holds.relayed.heard holds.services.quest) holds.flows.holds.asked (asks config before slirp f link past Settled None holds))
+      (flows_stay_open config f slirp.moment past holds.flows) (ap is_working hear_turn.working)
       on whole (reads_of (UdpAt socket) (wanted_of wants item) (all_wanted wants items) (agenda past) reported holds.agenda) (all_out config before slirp f link past none out holds) holds.open_yet
 
   agenda_behind : (answer : Got) (octets : List ℕ) → IsLast (all_wanted wants items) (agenda (UdpRecv socket size answer octets ∷ past))
@@ -591,7 +650,8 @@ module _ (config : Config) (count : ℕ) (wants : List Want) (item : Want) (item
 
   module _ (on : relays past socket ≡ true) where
     -- none came
-    heard_nothing : (answer : Got) (octets : List ℕ) → Allowed (UdpRecv socket size answer octets) → left config (UdpRecv socket size answer octets ∷ past) ≡ slirp.pending → answered config (UdpRecv socket size answer octets ∷ past) ≡ None
+    heard_nothing : (answer : Got) (octets : List ℕ) → Allowed (UdpRecv socket size answer octets) → left config (UdpRecv socket size answer octets ∷ past) ≡ slirp.pending →
+        answered config (UdpRecv socket size answer octets ∷ past) ≡ None
         → associations config (UdpRecv socket size answer octets ∷ past) ≡ associations config past → questions config (UdpRecv socket size answer octets ∷ past) ≡ questions config past
         → Holds config behind_it slirp f link (UdpRecv socket size answer octets ∷ past)
     heard_nothing answer octets allowed owes unheard same_list same_names =
@@ -599,7 +659,11 @@ module _ (config : Config) (count : ℕ) (wants : List Want) (item : Want) (item
           may = may_hear on;
           allowed = allowed;
           own = tt;
-          answers = record { sent = holds.answers.sent; owed = inl (left_then config f.aged slirp slirp (UdpRecv socket size answer octets) past refl refl refl refl owes (of_left config f.aged slirp past none holds.answers.owed)) };
+          answers = record {
+            sent = holds.answers.sent;
+            owed = inl (left_then config f.aged slirp slirp (UdpRecv socket size answer octets) past refl refl refl refl owes
+                (of_left config f.aged slirp past none holds.answers.owed));
+          };
           relayed = record { list = same_list ∙ holds.relayed.list; questions = same_names ∙ holds.relayed.questions; asks = holds.relayed.asks; heard = unheard };
           sockets = record { number = holds.sockets.number; kinds = holds.sockets.kinds };
           agenda = agenda_behind answer octets;
@@ -617,11 +681,14 @@ module _ (config : Config) (count : ℕ) (wants : List Want) (item : Want) (item
       abbrev e : Entry
       e = UdpRecv socket size (From peer count_of) octets
 
-      heard_with : (heard : Option ℕ) (list : List Association) (named : List Question) (pending : List (List ℕ)) → moved_last (heard_at slirp.moment) socket slirp.associations ≡ list → question_moved (heard_on slirp.moment) socket slirp.questions ≡ named
-          → answered_on config peer octets (question_numbered socket slirp.questions) ≡ heard → frames_of config slirp.sent (reply_on config past socket peer octets (question_numbered socket slirp.questions)) ≡ pending
+      heard_with : (heard : Option ℕ) (list : List Association) (named : List Question) (pending : List (List ℕ)) → moved_last
+          (heard_at slirp.moment) socket slirp.associations ≡ list → question_moved (heard_on slirp.moment) socket slirp.questions ≡ named
+          → answered_on config peer octets (question_numbered socket slirp.questions) ≡ heard → frames_of config slirp.sent
+          (reply_on config past socket peer octets (question_numbered socket slirp.questions)) ≡ pending
           → HoldsOn config behind_it Settled heard (record slirp { associations = list; questions = named; pending = pending }) f link (e ∷ past)
       heard_with heard list named pending list_is named_is heard_is owes =
-          after_socket config before behind_it Settled Settled None heard slirp (record slirp { associations = list; questions = named; pending = pending }) f link e past tt refl refl refl refl refl hear_turn holds (record {
+          after_socket config before behind_it Settled Settled None heard slirp
+          (record slirp { associations = list; questions = named; pending = pending }) f link e past tt refl refl refl refl refl hear_turn holds (record {
             may = may_hear on;
             allowed = allowed;
             own = tt;
@@ -629,7 +696,8 @@ module _ (config : Config) (count : ℕ) (wants : List Want) (item : Want) (item
               sent = holds.answers.sent;
               owed = inl (left_then config f.aged slirp (record slirp { associations = list; questions = named; pending = pending }) e past refl refl refl refl
                   (ap (λ q. frames_of config (identification past) (reply_on config past socket peer octets (question_numbered socket q))) holds.relayed.questions
-                  ∙ ap (λ i. frames_of config i (reply_on config past socket peer octets (question_numbered socket slirp.questions))) holds.answers.sent ∙ owes) (of_left config f.aged slirp past none holds.answers.owed));
+                  ∙ ap (λ i. frames_of config i (reply_on config past socket peer octets (question_numbered socket slirp.questions))) holds.answers.sent ∙ owes)
+                  (of_left config f.aged slirp past none holds.answers.owed));
             };
             relayed = record {
               list = ap (moved_last (heard_at (moment past)) socket) holds.relayed.list ∙ ap (λ m. moved_last (heard_at m) socket slirp.associations) holds.clock.moment ∙ list_is;
@@ -662,7 +730,11 @@ module _ (config : Config) (count : ℕ) (wants : List Want) (item : Want) (item
     says = says_of config past socket (associations config past) a (joined config past holds.lawful).kept (ap (numbered socket) holds.relayed.list ∙ is)
 
     pub after_hearing : (peer : Endpoint) (count_of : ℕ) (octets : List ℕ) → Allowed (UdpRecv socket size (From peer count_of) octets)
-        → Holds config behind_it (record slirp { associations = moved_last (heard_at slirp.moment) socket slirp.associations; pending = frames_of slirp.config slirp.sent (reply_at slirp.config peer octets a.guest a.mac.0) }) f link
+        → Holds config behind_it (record slirp {
+          associations = moved_last (heard_at slirp.moment) socket slirp.associations;
+          pending = frames_of slirp.config slirp.sent
+              (reply_at slirp.config peer octets a.guest a.mac.0);
+        }) f link
         (UdpRecv socket size (From peer count_of) octets ∷ past)
     after_hearing peer count_of octets allowed =
         heard_with relays_association peer count_of octets allowed None (moved_last (heard_at slirp.moment) socket slirp.associations) slirp.questions
@@ -700,7 +772,8 @@ module _ (config : Config) (count : ℕ) (wants : List Want) (item : Want) (item
     no_names = (not_carried config before Settled None slirp f link past holds socket uncarried).1
 
     -- its guest hears at the address that was learnt last, if one is known; else it is asked for it
-    by_learnt : (peer : Endpoint) (octets : List ℕ) (o : Option Mac) → frames_of slirp.config slirp.sent (reply_for slirp.config peer octets (Some forward.guest) (option_map (λ (m : Mac). m.0) o)) ≡ owed_at slirp peer octets forward.guest o
+    by_learnt : (peer : Endpoint) (octets : List ℕ) (o : Option Mac) → frames_of slirp.config slirp.sent (reply_for slirp.config peer octets (Some forward.guest)
+        (option_map (λ (m : Mac). m.0) o)) ≡ owed_at slirp peer octets forward.guest o
     by_learnt peer octets None = refl
     by_learnt peer octets (Some mac) = refl
 
@@ -711,7 +784,8 @@ module _ (config : Config) (count : ℕ) (wants : List Want) (item : Want) (item
         ∙ ap (λ l. option_map (λ (m : Mac). m.0) (learnt_for forward.guest.addr l)) holds.guests.known
 
     pub after_forward : (peer : Endpoint) (count_of : ℕ) (octets : List ℕ) → Allowed (UdpRecv socket size (From peer count_of) octets)
-        → Holds config behind_it (record slirp { pending = owed_at slirp peer octets forward.guest (learnt_for forward.guest.addr slirp.known) }) f link (UdpRecv socket size (From peer count_of) octets ∷ past)
+        → Holds config behind_it (record slirp { pending = owed_at slirp peer octets forward.guest (learnt_for forward.guest.addr slirp.known) }) f link
+        (UdpRecv socket size (From peer count_of) octets ∷ past)
     after_forward peer count_of octets allowed =
         heard_with relays_forward peer count_of octets allowed None slirp.associations slirp.questions (owed_at slirp peer octets forward.guest (learnt_for forward.guest.addr slirp.known))
         (association_unmoved (heard_at slirp.moment) socket slirp.associations no_list) (none_moved (heard_on slirp.moment) socket slirp.questions no_names)
@@ -745,8 +819,12 @@ module _ (config : Config) (count : ℕ) (wants : List Want) (item : Want) (item
         ∙ ap (λ b. frames_of config slirp.sent (if b then name_answer config q octets ∷ [] else [])) other ∙ sym none)
 
     -- it is its answer, and the socket is closed
-    pub after_answer : (peer : Endpoint) (count_of : ℕ) (octets : List ℕ) → is_answered config.resolver q peer octets ≡ true → Allowed (UdpRecv socket size (From peer count_of) octets) → Allowed (Close socket)
-        → Holds config behind_it (record slirp { questions = question_without socket (question_moved (heard_on slirp.moment) socket slirp.questions); pending = frames_of slirp.config slirp.sent (name_answer slirp.config q octets ∷ []) }) f link
+    pub after_answer : (peer : Endpoint) (count_of : ℕ) (octets : List ℕ) → is_answered config.resolver q peer octets ≡ true → Allowed
+        (UdpRecv socket size (From peer count_of) octets) → Allowed (Close socket)
+        → Holds config behind_it (record slirp {
+          questions = question_without socket (question_moved (heard_on slirp.moment) socket slirp.questions);
+          pending = frames_of slirp.config slirp.sent (name_answer slirp.config q octets ∷ []);
+        }) f link
         (Close socket ∷ UdpRecv socket size (From peer count_of) octets ∷ past)
     after_answer peer count_of octets answers allowed allowed_close =
         after_answered config behind_it

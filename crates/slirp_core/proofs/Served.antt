@@ -45,7 +45,8 @@ receives_reads number past made (asked, answer, octets, closed, is) = ap (some_r
 asks_reads : (listener number : ℕ) (answer : Accepted) (past later : List Entry) → some_reads (AListener listener) past (later ++ Accept listener number answer ∷ []) ≡ true
 asks_reads listener number answer past [] = ap (λ t. t || false) (same listener)
 asks_reads listener number answer past (e ∷ later) =
-    or_second (serves_reading (AListener listener) e (partial ((later ++ Accept listener number answer ∷ []) ++ past))) (some_reads (AListener listener) past (later ++ Accept listener number answer ∷ []))
+    or_second (serves_reading (AListener listener) e (partial ((later ++ Accept listener number answer ∷ []) ++ past)))
+    (some_reads (AListener listener) past (later ++ Accept listener number answer ∷ []))
     (asks_reads listener number answer past later)
 
 -- ---- what the record takes is what the core hears
@@ -103,6 +104,7 @@ module _ (config : Config) (count : ℕ) (wants : List Want) (item : Want) (item
       by true heard = read_since config made past (ASocket number) waits_as_often (receives_reads number past made (receives heard))
       by false unheard = reading_on config made past (ASocket number) waits_as_often (unheard_is_unread config (standing count wants (item ∷ items)) old f link past before number unheard)
 
-  pub peer_is_read : (listener number : ℕ) (answer : Accepted) (later : List Entry) → made ≡ later ++ Accept listener number answer ∷ [] → is_left_to_read config (made ++ past) (AListener listener) ≡ false
+  pub peer_is_read : (listener number : ℕ) (answer : Accepted) (later : List Entry) → made ≡ later ++ Accept listener number answer ∷ [] → is_left_to_read config (made ++ past)
+      (AListener listener) ≡ false
   peer_is_read listener number answer later is =
       read_since config made past (AListener listener) waits_as_often (ap (some_reads (AListener listener) past) is ∙ asks_reads listener number answer past later)

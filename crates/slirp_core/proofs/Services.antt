@@ -32,7 +32,8 @@ leases_are config [] = refl
 leases_are config (e ∷ past) = refl
 
 -- what is served is what the core keeps, where no packet of a file is on its way again
-pub serving_is : (config : Config) (slirp : SlirpState) (past : List Entry) → moment past ≡ slirp.moment → OfServices config slirp past → (serving config past).again ≡ None → slirp.transfers ≡ (serving config past).files.transfers
+pub serving_is : (config : Config) (slirp : SlirpState) (past : List Entry) → moment past ≡ slirp.moment → OfServices config slirp past → (serving config past).again ≡ None →
+    slirp.transfers ≡ (serving config past).files.transfers
     → serving config past ≡ serving_of slirp
 serving_is config slirp past at of idle files =
     λ i. record { now = (now_is config past ∙ at) i; leases = (leases_are config past ∙ of.leases) i; files = (record { transfers = sym files i; quest = of.quest i }); again = idle i }
@@ -74,7 +75,8 @@ opened_for_other config errand other = ap (λ (b : Bool). if b && is_loopback (a
 
 -- ---- which call is due for a service
 
-due_by_answer : (config : Config) (past : List Entry) (o : Option ℕ) → answered config past ≡ o → (serving config past).files.quest ≡ Settled → due_for_services config past ≡ unless_due (due_for_answer o) None
+due_by_answer : (config : Config) (past : List Entry) (o : Option ℕ) → answered config past ≡ o → (serving config past).files.quest ≡ Settled →
+    due_for_services config past ≡ unless_due (due_for_answer o) None
 due_by_answer config past o is settled = λ i. unless_due (due_for_answer (is i)) (call_for (settled i))
 
 -- none, where no answer to a question came just now, and no file is asked for
@@ -89,13 +91,15 @@ unheard config past none = by (answered config past) none
     by (Some socket) is = cc
 
 -- else the close of its socket
-pub close_due : (config : Config) (past : List Entry) (socket : ℕ) → answered config past ≡ Some socket → (serving config past).files.quest ≡ Settled → due_for_services config past ≡ Some (CallClose socket)
+pub close_due : (config : Config) (past : List Entry) (socket : ℕ) → answered config past ≡ Some socket → (serving config past).files.quest ≡ Settled →
+    due_for_services config past ≡ Some (CallClose socket)
 close_due config past socket heard settled = due_by_answer config past (Some socket) heard settled
 
 -- ---- what an entry leaves
 
 -- one by which no frame came, and that sought no file
-pub services_stay : (config : Config) (slirp new : SlirpState) (e : Entry) (past : List Entry) → (happens config past e).came ≡ None → (serving config (e ∷ past)).files ≡ (serving config past).files → new.leases ≡ slirp.leases
+pub services_stay : (config : Config) (slirp new : SlirpState) (e : Entry) (past : List Entry) → (happens config past e).came ≡ None → (serving config (e ∷ past)).files ≡
+    (serving config past).files → new.leases ≡ slirp.leases
     → OfServices config slirp past → OfServices config new (e ∷ past)
 services_stay config slirp new e past nothing unsought same of = record {
   leases = ap (λ o. leases_by config (moment past) o (leases config past)) nothing ∙ of.leases ∙ sym same;

@@ -50,7 +50,8 @@ asked_of_file (SeeksLength s) e is = by_call e (CallFileLen s.file) (the_call is
     the_call is = cc
 asked_of_file (SeeksOctets t there) e is = by_call e (CallFileRead t.file (place_of t + length there) (octets_of t - length there)) (the_call is) tt
   where
-    the_call : Some (CallFileRead t.file (place_of t + length there) (octets_of t - length there)) ≡ Some (call_of e) → call_of e ≡ CallFileRead t.file (place_of t + length there) (octets_of t - length there)
+    the_call : Some (CallFileRead t.file (place_of t + length there) (octets_of t - length there)) ≡ Some (call_of e) → call_of e ≡ CallFileRead t.file (place_of t + length there)
+        (octets_of t - length there)
     the_call is = cc
 
 -- ---- they leave all else
@@ -110,9 +111,17 @@ module _ (config : Config) (at : Standing) (slirp : SlirpState) (kept : Kept) (l
   served d past made transfers told a allowed is_served =
       let o : Outcome = came config.tftp_path slirp.moment d.mac d.from d.body (settled slirp.transfers) in
       let at_now : (serving config past).now ≡ slirp.moment = now_is config past ∙ a.clock.moment in
-      let is : IsServed slirp.moment o transfers told made = subst (λ (k : Config). IsServed slirp.moment (came k.tftp_path slirp.moment d.mac d.from d.body (settled slirp.transfers)) transfers told made) a.guests.settings is_served in
-      let may : MaySeek config past = record { working = a.turn.working; settled = errand_for config Settled None slirp past a.relayed; unheard = a.relayed.heard; nothing = flows_ask_nothing config (flowing false kept) slirp.moment past a.flows; open_yet = a.open_yet } in
-      let calls : AreFileCalls config past o made = are_file_calls config past o made a.lawful may a.outcome (silent_packet config.tftp_path slirp.moment d.mac d.from (packet_in d.body) slirp.transfers)
+      let is : IsServed slirp.moment o transfers told made = subst (λ (k : Config). IsServed slirp.moment (came k.tftp_path slirp.moment d.mac d.from d.body
+      (settled slirp.transfers)) transfers told made) a.guests.settings is_served in
+      let may : MaySeek config past = record {
+        working = a.turn.working;
+        settled = errand_for config Settled None slirp past a.relayed;
+        unheard = a.relayed.heard;
+        nothing = flows_ask_nothing config (flowing false kept) slirp.moment past a.flows;
+        open_yet = a.open_yet;
+      } in
+      let calls : AreFileCalls config past o made = are_file_calls config past o made a.lawful may a.outcome (silent_packet config.tftp_path slirp.moment d.mac d.from
+      (packet_in d.body) slirp.transfers)
       (a.owed ∙ ap (λ i. frames_of config i (told_of_files config o.told)) (sym a.sent)) (subst (λ n. AreAskedFor n o made) (sym at_now) is.asked) in
       let after : after_calls (serving config past).now made o ≡ after_calls slirp.moment made o = ap (λ n. after_calls n made o) at_now in
       let files : (serving config (made ++ past)).files ≡ (after_calls slirp.moment made o).files = calls.files ∙ ap (λ (p : Outcome). p.files) after in
@@ -143,7 +152,15 @@ module _ (config : Config) (at : Standing) (slirp : SlirpState) (kept : Kept) (l
             files = is.transfers ∙ sym (ap (λ (f : Files). f.transfers) files);
           });
         };
-        guests = record { settings = s.guests.settings; known = s.guests.known; fragments = record { held = s.guests.fragments.held; is_held = s.guests.fragments.is_held; wait = s.guests.fragments.wait } };
+        guests = record {
+          settings = s.guests.settings;
+          known = s.guests.known;
+          fragments = record {
+            held = s.guests.fragments.held;
+            is_held = s.guests.fragments.is_held;
+            wait = s.guests.fragments.wait;
+          };
+        };
         relayed = record { list = s.list; questions = s.questions; asks = asks_nothing config slirp (errand_left config (made ++ past)) calls.may.settled; heard = calls.may.unheard };
         services = record { leases = s.leases; quest = ap (λ (f : Files). f.quest) files ∙ is.settled };
         forwards = a.forwards;

@@ -30,10 +30,12 @@ pumped_settled config at now old new link next result ended same pumps slots tol
       (after, settles past holds after);
 }
   where
-    settles : (past : List Entry) → Holds config at old (flowing true old.flows) link past → Holds config at new (flowing true new.flows) next (pumps.made ++ past) → AreSettled config now old.flows.flows.slots (pumps.made ++ past)
+    settles : (past : List Entry) → Holds config at old (flowing true old.flows) link past → Holds config at new (flowing true new.flows) next (pumps.made ++ past) →
+        AreSettled config now old.flows.flows.slots (pumps.made ++ past)
     settles past holds after n f found =
         let settled = subst (λ (m : ℕ). AreSettled config m new.flows.flows.slots (pumps.made ++ past)) same
-        (are_settled config new.moment new.flows.flows (pumps.made ++ past) after.clock.moment after.flows.holds slots (subst (λ l. AreTold l new.flows.flows.slots) (sym after.guests.known) told) clear) n f found in
+        (are_settled config new.moment new.flows.flows (pumps.made ++ past) after.clock.moment after.flows.holds slots
+        (subst (λ l. AreTold l new.flows.flows.slots) (sym after.guests.known) told) clear) n f found in
         let early_too : IsInTime now old.flows.flows.slots n → AreAhead now (resend_deadline f.story) = λ early. settled.resends (keeps past holds n early) in
         -- all else of it is as before
         search

@@ -14,7 +14,8 @@ pub numbered_among : (n : ℕ) (list : List Association) (a : Association) → n
 numbered_among n [] a is = cc
 numbered_among n (x ∷ list) a is = by_test (is_numbered n x) refl (λ more. numbered_among n list a more) is
   where
-    by_test : (t : Bool) → (x.number == n) ≡ t → (numbered n list ≡ Some a → is_among n (numbers list) ≡ true) → cond t (Some x) (numbered n list) ≡ Some a → ((n == x.number) || is_among n (numbers list)) ≡ true
+    by_test : (t : Bool) → (x.number == n) ≡ t → (numbered n list ≡ Some a → is_among n (numbers list) ≡ true) → cond t (Some x) (numbered n list) ≡ Some a →
+        ((n == x.number) || is_among n (numbers list)) ≡ true
     by_test true one more is = ap (λ b. b || is_among n (numbers list)) (turned x.number n true one)
     by_test false other more is = or_second (n == x.number) (is_among n (numbers list)) (more is)
 
@@ -22,7 +23,8 @@ pub among_numbered : (n : ℕ) (list : List Association) → is_among n (numbers
 among_numbered n [] is = cc
 among_numbered n (x ∷ list) is = by_test (x.number == n) refl (λ more. among_numbered n list more) is
   where
-    by_test : (t : Bool) → (x.number == n) ≡ t → (is_among n (numbers list) ≡ true → is_some (numbered n list) ≡ true) → ((n == x.number) || is_among n (numbers list)) ≡ true → is_some (cond t (Some x) (numbered n list)) ≡ true
+    by_test : (t : Bool) → (x.number == n) ≡ t → (is_among n (numbers list) ≡ true → is_some (numbered n list) ≡ true) → ((n == x.number) || is_among n (numbers list)) ≡ true →
+        is_some (cond t (Some x) (numbered n list)) ≡ true
     by_test true one more is = refl
     by_test false other more is = more (sym (ap (λ b. b || is_among n (numbers list)) (turned x.number n false other)) ∙ is)
 

@@ -1,5 +1,6 @@
 -- How a run begins, and fragments that are dropped.
-use Rattle.std.proofs.Common.{◌≡◌, ℕ, ◌+◌, ◌^◌, ◌≤◌, ◌==◌, min, max, nat_le, ◌||◌, Bool, true, false, zero, suc, List, [], ◌∷◌, ◌++◌, length, replicate, slice_get, Some, None, inl, inr, refl, sym, ◌∙◌, ap, subst, arith, if◌then◌else◌}
+use Rattle.std.proofs.Common.{◌≡◌, ℕ, ◌+◌, ◌^◌, ◌≤◌, ◌==◌, min, max, nat_le, ◌||◌, Bool, true, false, zero, suc, List, [], ◌∷◌, ◌++◌, length, replicate, slice_get, Some, None, inl, inr}
+use Rattle.std.proofs.Common.{refl, sym, ◌∙◌, ap, subst, arith, if◌then◌else◌}
 use Rattle.std.proofs.lemmas.Bool.Decides.{nat_tests}
 use Rattle.std.proofs.lemmas.List.{length-replicate}
 use Rattle.net_octets.specs.declared.Endpoint.{Endpoint}
@@ -39,7 +40,8 @@ use Rattle.slirp_laws.proofs.Deeds.{asks, listens, opens as opens_socket}
 use Rattle.stream_netdev.specs.State.{LinkState, under_way}
 use Rattle.slirp_core.specs.Forwards.{forward_sockets, with_numbers}
 use Rattle.slirp_core.specs.Fragments.{IsHeld}
-use Rattle.slirp_core.specs.Holds.{Standing, after, Begins, Holders, ClosingWith, asked_by, carriers, holders_of, holders_with, Ended, Flowing, Holds, IsOf, OfFlows, Opens, Rests, OverFor, AllWaited, Stands, Turns, flowing, is_ours}
+use Rattle.slirp_core.specs.Holds.{Standing, after, Begins, Holders, ClosingWith, asked_by, carriers, holders_of, holders_with, Ended, Flowing, Holds, IsOf, OfFlows, Opens, Rests, OverFor}
+use Rattle.slirp_core.specs.Holds.{AllWaited, Stands, Turns, flowing, is_ours}
 use Rattle.slirp_core.specs.Sockets.{IsRising}
 use Rattle.slirp_core.specs.State.{SlirpState}
 use Rattle.slirp_core.proofs.Guests.{guests_forget, guests_stay}
@@ -64,10 +66,21 @@ use Rattle.slirp_core.proofs.Open.{are_open}
 -- ---- fragments are dropped
 
 -- where the turn is stays
-stands_so : (config : Config) (slirp : SlirpState) (parts : List Gathered) (kept : Kept) (link : LinkState) (past : List Entry) → Stands config Settled slirp kept link past → Stands config Settled (record slirp { fragments = parts }) kept link past
+stands_so : (config : Config) (slirp : SlirpState) (parts : List Gathered) (kept : Kept) (link : LinkState) (past : List Entry) → Stands config Settled slirp kept link past →
+    Stands config Settled (record slirp { fragments = parts }) kept link past
 stands_so config slirp parts kept link past (Turns turn) = Turns turn
 stands_so config slirp parts kept link past (Begins u free unrested) =
-    Begins (record { started = u.started; unwaited = u.unwaited; unreported = u.unreported; unasked = u.unasked; alone = u.alone; unnamed = u.unnamed; nothing = u.nothing; unserved = u.unserved; empty = u.empty }) free unrested
+    Begins (record {
+      started = u.started;
+      unwaited = u.unwaited;
+      unreported = u.unreported;
+      unasked = u.unasked;
+      alone = u.alone;
+      unnamed = u.unnamed;
+      nothing = u.nothing;
+      unserved = u.unserved;
+      empty = u.empty;
+    }) free unrested
 
 pub forgets : (config : Config) (at : Standing) (slirp new : SlirpState) (f : Flowing) (link : LinkState) (past : List Entry) → new ≡ record slirp { fragments = new.fragments }
     → ((held : List PartSet) → IsHeld slirp.fragments held → IsHeld new.fragments (young slirp.moment held)) → Holds config at slirp f link past → Holds config at new f link past
@@ -77,7 +90,9 @@ forgets config at slirp new f link past same drops holds =
       allowed = holds.allowed;
       keeps = holds.keeps;
       answers = record { sent = holds.answers.sent; owed = owed_as config f.aged slirp (record slirp { fragments = new.fragments }) past refl refl holds.answers.owed };
-      guests = guests_forget config slirp (record slirp { fragments = new.fragments }) past refl refl (fragments_dropped config slirp (record slirp { fragments = new.fragments }) past (sym holds.clock.moment) holds.guests.fragments (drops holds.guests.fragments.held holds.guests.fragments.is_held)) holds.guests;
+      guests = guests_forget config slirp (record slirp { fragments = new.fragments }) past refl refl
+          (fragments_dropped config slirp (record slirp { fragments = new.fragments }) past (sym holds.clock.moment) holds.guests.fragments
+          (drops holds.guests.fragments.held holds.guests.fragments.is_held)) holds.guests;
       relayed = record { list = holds.relayed.list; questions = holds.relayed.questions; asks = holds.relayed.asks; heard = holds.relayed.heard };
       services = services_as config slirp (record slirp { fragments = new.fragments }) past refl holds.services;
       forwards = holds.forwards;
@@ -179,7 +194,8 @@ begun config slirp link new = record {
 
 -- ---- a port of the host is opened
 
-kinds_opened : (config : Config) (p : Proto) (number : ℕ) (at : Endpoint) (answer : Made) (past : List Entry) → waits past ≡ 0 → ((n : ℕ) → is_among n (open_sockets past) ≡ true → is_ours (kind_of n past) ≡ true)
+kinds_opened : (config : Config) (p : Proto) (number : ℕ) (at : Endpoint) (answer : Made) (past : List Entry) → waits past ≡ 0 → ((n : ℕ) → is_among n (open_sockets past) ≡ true →
+    is_ours (kind_of n past) ≡ true)
     → (n : ℕ) → is_among n (open_sockets (port_opening p number at answer ∷ past)) ≡ true → is_ours (kind_of n (port_opening p number at answer ∷ past)) ≡ true
 kinds_opened config p number at answer past unwaited kinds n among = ap is_ours (opening_kind config p number at answer past unwaited n) ∙ by (number == n) refl
   where
@@ -251,13 +267,45 @@ record Quiet (config : Config) (e : Entry) (past : List Entry) : Type 0 where
   again : (serving config (e ∷ past)).again ≡ (serving config past).again
 
 opens_quietly : (config : Config) (p : Proto) (number : ℕ) (at : Endpoint) (answer : Made) (past : List Entry) → Quiet config (port_opening p number at answer) past
-opens_quietly config Tcp number at answer past = record { framed = tt; partly = refl; rest = refl; blocked = refl; sent = refl; came = refl; unheard = refl; silent = refl; unasked = refl; moment = refl; unreported = refl; unrested = refl; files = refl; again = refl }
-opens_quietly config Udp number at answer past = record { framed = tt; partly = refl; rest = refl; blocked = refl; sent = refl; came = refl; unheard = refl; silent = refl; unasked = refl; moment = refl; unreported = refl; unrested = refl; files = refl; again = refl }
+opens_quietly config Tcp number at answer past = record {
+  framed = tt;
+  partly = refl;
+  rest = refl;
+  blocked = refl;
+  sent = refl;
+  came = refl;
+  unheard = refl;
+  silent = refl;
+  unasked = refl;
+  moment = refl;
+  unreported = refl;
+  unrested = refl;
+  files = refl;
+  again = refl;
+}
+opens_quietly config Udp number at answer past = record {
+  framed = tt;
+  partly = refl;
+  rest = refl;
+  blocked = refl;
+  sent = refl;
+  came = refl;
+  unheard = refl;
+  silent = refl;
+  unasked = refl;
+  moment = refl;
+  unreported = refl;
+  unrested = refl;
+  files = refl;
+  again = refl;
+}
 
-module _ (config : Config) (slirp : SlirpState) (link : LinkState) (past : List Entry) (opens : Opens config slirp.number slirp link past) (f : Forward) (rest : List Forward) (next : opens.left ≡ f ∷ rest) where
+module _ (config : Config) (slirp : SlirpState) (link : LinkState) (past : List Entry) (opens : Opens config slirp.number slirp link past) (f : Forward) (rest : List Forward)
+    (next : opens.left ≡ f ∷ rest) where
   open_due : due config past ≡ Some (opening_call f.proto slirp.number f)
   open_due =
-      ap (λ p. unless_due (due_in p past) (unless_due (due_for config (step config past) (next_number past)) (unless_due (due_for_services config past) (due_for_flows config (book config past) (next_number past)))))
+      ap (λ p. unless_due (due_in p past) (unless_due (due_for config (step config past) (next_number past))
+      (unless_due (due_for_services config past) (due_for_flows config (book config past) (next_number past)))))
       (opens.opening ∙ ap (Opening slirp.number) next)
       ∙ ap (λ n. Some (opening_call f.proto n f)) opens.sockets.number
 
@@ -312,7 +360,11 @@ module _ (config : Config) (slirp : SlirpState) (link : LinkState) (past : List 
       lawful = (may_open_it Done, opens.lawful);
       allowed = (fine, opens.allowed);
       keeps = record { framed = (q.framed, opens.keeps.framed); partly = q.partly ∙ opens.keeps.partly; rest = q.rest ∙ opens.keeps.rest; blocked = q.blocked ∙ opens.keeps.blocked };
-      answers = record { sent = q.sent ∙ opens.answers.sent; owed = owed_stays config false slirp with_one (opened_port Done) past q.files q.again q.moment refl (left_then f.proto) q.sent refl opens.answers.owed };
+      answers = record {
+        sent = q.sent ∙ opens.answers.sent;
+        owed = owed_stays config false slirp with_one (opened_port Done) past q.files q.again q.moment refl
+            (left_then f.proto) q.sent refl opens.answers.owed;
+      };
       guests = guests_stay config slirp with_one (opened_port Done) past q.came refl opens.guests;
       relayed = record {
         list = list_then f.proto ∙ opens.relayed.list;
@@ -328,8 +380,12 @@ module _ (config : Config) (slirp : SlirpState) (link : LinkState) (past : List 
       forwards = ap (λ l. l ++ (f, slirp.number) ∷ []) opens.forwards ∙ ap (λ n. with_numbers 0 opens.done ++ (f, n) ∷ []) opens.many ∙ numbers_last opens.done f;
       opening = phase_then f.proto Done ∙ ap (λ p. opened Done p) (opens.opening ∙ ap (Opening slirp.number) next);
       are_open = opening_made config f.proto slirp.number f.host Done past ∙ ap (λ l. l ++ slirp.number ∷ []) opens.are_open ∙ sym (sockets_more slirp.forwards f slirp.number);
-      flows = flows_stay config (flowing false slirp.flows) slirp.moment (opened_port Done) past q.silent q.unasked (let up = opening_next config f.proto slirp.number f.host Done past in omega (arith, up)) q.moment opens.flows;
-      sockets = record { number = opening_next config f.proto slirp.number f.host Done past ∙ ap (λ n. n + 1) opens.sockets.number; kinds = kinds_opened config f.proto slirp.number f.host Done past opens.clock.counted opens.sockets.kinds };
+      flows = flows_stay config (flowing false slirp.flows) slirp.moment (opened_port Done) past q.silent q.unasked
+          (let up = opening_next config f.proto slirp.number f.host Done past in omega (arith, up)) q.moment opens.flows;
+      sockets = record {
+        number = opening_next config f.proto slirp.number f.host Done past ∙ ap (λ n. n + 1) opens.sockets.number;
+        kinds = kinds_opened config f.proto slirp.number f.host Done past opens.clock.counted opens.sockets.kinds;
+      };
       clock = record { moment = q.moment ∙ opens.clock.moment; counted = opening_waits config f.proto slirp.number f.host Done past ∙ opens.clock.counted };
       number = refl;
       unreported = q.unreported ∙ opens.unreported;
@@ -352,8 +408,10 @@ module _ (config : Config) (slirp : SlirpState) (link : LinkState) (past : List 
     rests = OverFor (Refused slirp.number) phase_is;
     errand = errand_then f.proto Failed;
     served = none_due_for_services config (opened_port Failed ∷ past) q.unheard (ap (λ (k : Files). k.quest) q.files ∙ opens.services.quest);
-    idle = (flows_stay config (flowing false slirp.flows) slirp.moment (opened_port Failed) past q.silent q.unasked (let up = opening_next config f.proto slirp.number f.host Failed past in omega (arith, up)) q.moment opens.flows).holds.asked;
-    stay = flows_stay_open config (flowing false slirp.flows) slirp.moment (opened_port Failed ∷ past) (flows_stay config (flowing false slirp.flows) slirp.moment (opened_port Failed) past q.silent q.unasked (let up = opening_next config f.proto slirp.number f.host Failed past in omega (arith, up)) q.moment opens.flows);
+    idle = (flows_stay config (flowing false slirp.flows) slirp.moment (opened_port Failed) past q.silent q.unasked
+        (let up = opening_next config f.proto slirp.number f.host Failed past in omega (arith, up)) q.moment opens.flows).holds.asked;
+    stay = flows_stay_open config (flowing false slirp.flows) slirp.moment (opened_port Failed ∷ past) (flows_stay config (flowing false slirp.flows) slirp.moment
+        (opened_port Failed) past q.silent q.unasked (let up = opening_next config f.proto slirp.number f.host Failed past in omega (arith, up)) q.moment opens.flows);
     sockets = record {
       each = λ n among. inl (sym (ap (is_among n) (are_same n)) ∙ among);
       forward = λ n among. ap (is_among n) (are_same n) ∙ among;
@@ -393,7 +451,11 @@ started config slirp link told past fine opens = record {
   lawful = (asks config past asks_due (flows_ask_nothing config (flowing false slirp.flows) slirp.moment past opens.flows) opens.open_yet, opens.lawful);
   allowed = (fine, opens.allowed);
   keeps = record { framed = (tt, opens.keeps.framed); partly = opens.keeps.partly; rest = opens.keeps.rest; blocked = opens.keeps.blocked };
-  answers = record { sent = opens.answers.sent; owed = owed_told config slirp (record slirp { moment = max (min told (2 ^ 62)) slirp.moment }) past (Now told ∷ past) refl refl refl refl refl refl opens.answers.owed };
+  answers = record {
+    sent = opens.answers.sent;
+    owed = owed_told config slirp (record slirp { moment = max (min told (2 ^ 62)) slirp.moment }) past
+        (Now told ∷ past) refl refl refl refl refl refl opens.answers.owed;
+  };
   guests = guests_stay config slirp (record slirp { moment = max (min told (2 ^ 62)) slirp.moment }) (Now told) past refl refl opens.guests;
   relayed = record { list = opens.relayed.list; questions = opens.relayed.questions; asks = opens.relayed.asks; heard = refl };
   services = services_stay config slirp (record slirp { moment = max (min told (2 ^ 62)) slirp.moment }) (Now told) past refl refl refl opens.services;
@@ -401,7 +463,17 @@ started config slirp link told past fine opens = record {
   flows = flows_told config slirp.flows slirp.moment (max (min told (2 ^ 62)) slirp.moment) told past (omega arith) opens.flows;
   sockets = record { number = opens.sockets.number; kinds = opens.sockets.kinds };
   clock = record { moment = ap (max (min told (2 ^ 62))) opens.clock.moment; counted = opens.clock.counted };
-  stands = Begins (record { started = phase_is; unwaited = opens.clock.counted; unreported = opens.unreported; unasked = refl; alone = opens.alone; unnamed = opens.unnamed; nothing = opens.nothing; unserved = opens.unserved; empty = opens.empty }) opens.none opens.unrested;
+  stands = Begins (record {
+    started = phase_is;
+    unwaited = opens.clock.counted;
+    unreported = opens.unreported;
+    unasked = refl;
+    alone = opens.alone;
+    unnamed = opens.unnamed;
+    nothing = opens.nothing;
+    unserved = opens.unserved;
+    empty = opens.empty;
+  }) opens.none opens.unrested;
   agenda = ([], opens.unreported);
   open_yet = opens.open_yet;
 }
@@ -432,12 +504,14 @@ started config slirp link told past fine opens = record {
     phase_is = ap clocked opening
 
     asks_due : due config past ≡ Some CallNow
-    asks_due = ap (λ p. unless_due (due_in p past) (unless_due (due_for config (step config past) (next_number past)) (unless_due (due_for_services config past) (due_for_flows config (book config past) (next_number past))))) opening
+    asks_due = ap (λ p. unless_due (due_in p past) (unless_due (due_for config (step config past) (next_number past))
+        (unless_due (due_for_services config past) (due_for_flows config (book config past) (next_number past))))) opening
 
 -- ---- the end of the turns
 
 -- a run that an entry ended
-pub ran : (config : Config) (count : ℕ) (why : Ending) (forwards : List Opened) (o : Holders) (made : List Entry) → Ended config count why forwards o made → ClosingWith config (phase config made) (forward_sockets forwards) o made
+pub ran : (config : Config) (count : ℕ) (why : Ending) (forwards : List Opened) (o : Holders) (made : List Entry) → Ended config count why forwards o made → ClosingWith config
+    (phase config made) (forward_sockets forwards) o made
 ran config count why forwards o made ended = record {
   lawful = ended.lawful;
   ended = ap (λ p. is_over p || nat_le config.turns (waits made)) ended.over;
@@ -456,7 +530,8 @@ either true = refl
 either false = refl
 
 -- after as many waits as there may be
-pub spent : (config : Config) (count : ℕ) (slirp : SlirpState) (f : Flowing) (link : LinkState) (made : List Entry) → 1 ≤ config.turns → config.turns ≤ count → Holds config (after count) slirp f link made
+pub spent : (config : Config) (count : ℕ) (slirp : SlirpState) (f : Flowing) (link : LinkState) (made : List Entry) → 1 ≤ config.turns → config.turns ≤ count → Holds config
+    (after count) slirp f link made
     → ClosingWith config (phase config made) (forward_sockets slirp.forwards) (holders_with slirp f.kept) made
 spent config count slirp f link made some all holds = record {
   lawful = holds.lawful;

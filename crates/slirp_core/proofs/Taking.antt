@@ -33,7 +33,8 @@ use Rattle.record_flows.specs.Lots.{reset_to}
 use Rattle.record_flows.specs.Segments.{OnTuple}
 use Rattle.slirp_core.specs.Segments.{Coming, coming, segment_in, segment_of_arrived, segment_of_ether, segment_of_ip}
 use Rattle.slirp_core.specs.Fragments.{after_frame, after_ip, after_octets}
-use Rattle.slirp_core.specs.Packets.{Request, owed_at_once, request_for_udp, is_message_to_us, is_segment, leases_with, owed_for, owed_for_arrived, owed_for_ether, reply_to, udp_in, udp_of, udp_of_arrived, udp_of_ether, with_arp, with_ip, with_ether}
+use Rattle.slirp_core.specs.Packets.{Request, owed_at_once, request_for_udp, is_message_to_us, is_segment, leases_with, owed_for, owed_for_arrived, owed_for_ether, reply_to, udp_in}
+use Rattle.slirp_core.specs.Packets.{udp_of, udp_of_arrived, udp_of_ether, with_arp, with_ip, with_ether}
 use Rattle.run_laws.specs.Fragments.{fragment_by, fragment_in, fragment_of}
 use Rattle.run_laws.specs.Packets.{Datagram}
 use Rattle.owed_frames.specs.Outgoing.{segment_octets}
@@ -70,7 +71,8 @@ module _ (s : SlirpState) (parts : List Gathered) (waiting : List PartSet) (fram
   frame_of_packet kind = sym (ap after_read read ∙ ap (after_kind s parts waiting ether) kind)
 
 module _ (s : SlirpState) (parts : List Gathered) (waiting : List PartSet) (frame : List ℕ) (ether : Ether) (read : read_ether frame ≡ Some ether) (kind : ether.kind ≡ ipv4_kind) where
-  pub request_of_packet : request_for_udp s.config (option_and_then (udp_of_arrived s.config s.moment waiting ether.from ether.body) (read_ip ether.body)) ≡ request_for_udp s.config (udp_in s.config s.moment waiting frame)
+  pub request_of_packet : request_for_udp s.config (option_and_then (udp_of_arrived s.config s.moment waiting ether.from ether.body)
+      (read_ip ether.body)) ≡ request_for_udp s.config (udp_in s.config s.moment waiting frame)
   request_of_packet = ap (request_for_udp s.config) (sym (
       ap (option_and_then (udp_of_ether s.config s.moment waiting)) read
       ∙ ap (λ (k : ℕ). if k == ipv4_kind then option_and_then (udp_of_arrived s.config s.moment waiting ether.from ether.body) (read_ip ether.body) else None) kind))
@@ -172,7 +174,8 @@ frames_whole config ident to proto from guest body short =
     ∙ ap (λ (b : Bool). if b then datagram_frames config.mtu to (our_mac config.vhost) ident proto from guest body else []) fits)
 
 -- an echo request is answered
-pub echoed : (config : Config) (ident : ℕ) (mac : List ℕ) (ip : Ip) (message reply : IcmpView) → Some reply ≡ reply_to message → IsIcmp ip.body (icmp_of message) → length ip.body ≤ 65515 → read_icmp ip.body ≡ Some (icmp_of message)
+pub echoed : (config : Config) (ident : ℕ) (mac : List ℕ) (ip : Ip) (message reply : IcmpView) → Some reply ≡ reply_to message → IsIcmp ip.body (icmp_of message) →
+    length ip.body ≤ 65515 → read_icmp ip.body ≡ Some (icmp_of message)
     → datagram_frames config.mtu mac (our_mac config.vhost) ident icmp_proto ip.to ip.from (icmp_octets (icmp_of reply)) ≡ frames_of config ident (owed_for (owed_for_icmp mac ip) (read_icmp ip.body))
 echoed config ident mac ip (Echo true number count body) reply is g short read = absurd cc
 echoed config ident mac ip (Echo false number count body) reply is g short read =
@@ -248,7 +251,8 @@ shown_parts false from peer is = (refl, cc)
 
 -- a datagram of ours goes out whole
 pub datagram_sent : (config : Config) (ident : ℕ) (from to : Endpoint) (mac octets : List ℕ) → length octets ≤ 65507
-    → datagram_frames config.mtu mac (our_mac config.vhost) ident udp_proto (address from) (address to) (udp_octets (address from) (address to) (record { from_port = from.port; to_port = to.port; body = octets }))
+    → datagram_frames config.mtu mac (our_mac config.vhost) ident udp_proto (address from) (address to)
+    (udp_octets (address from) (address to) (record { from_port = from.port; to_port = to.port; body = octets }))
     ≡ frames_of config ident (answer_of (record { mac = mac; from = from; to = to; body = octets }) ∷ [])
 datagram_sent config ident from to mac octets short =
     let udp : Udp = record { from_port = from.port; to_port = to.port; body = octets } in
@@ -256,7 +260,8 @@ datagram_sent config ident from to mac octets short =
     frames_whole config ident mac udp_proto (address from) (address to) (udp_octets (address from) (address to) udp) (omega (arith, long, short))
 
 -- that of a peer, as it is shown
-pub shown_sent : (config : Config) (ident : ℕ) (peer from : Endpoint) (octets : List ℕ) (guest : Endpoint) (mac : List ℕ) → Some from ≡ (if is_hidden config peer then None else Some (shown config peer))
+pub shown_sent : (config : Config) (ident : ℕ) (peer from : Endpoint) (octets : List ℕ) (guest : Endpoint) (mac : List ℕ) → Some from ≡
+    (if is_hidden config peer then None else Some (shown config peer))
     → frames_of config ident (answer_of (record { mac = mac; from = from; to = guest; body = octets }) ∷ []) ≡ frames_of config ident (reply_at config peer octets guest mac)
 shown_sent config ident peer from octets guest mac is =
     let p = shown_parts (is_hidden config peer) from (shown config peer) is in
@@ -265,7 +270,8 @@ shown_sent config ident peer from octets guest mac is =
 
 -- the reply to a client goes out whole
 pub lease_sent : (config : Config) (ident count : ℕ) (from to : Endpoint) (mac : Mac) (octets : List ℕ) → length octets ≤ 790
-    → datagram_frames config.mtu mac.0 (our_mac config.vhost) ident udp_proto (address from) (address to) (udp_octets (address from) (address to) (record { from_port = from.port; to_port = to.port; body = octets }))
+    → datagram_frames config.mtu mac.0 (our_mac config.vhost) ident udp_proto (address from) (address to)
+    (udp_octets (address from) (address to) (record { from_port = from.port; to_port = to.port; body = octets }))
     ≡ frames_of config ident (answers_of (sending_of (ADatagram count from to (Some mac)) octets))
 lease_sent config ident count from to mac octets few =
     let udp : Udp = record { from_port = from.port; to_port = to.port; body = octets } in
@@ -280,14 +286,16 @@ lease_count config now leases (Some m) count from to mac is =
     by (is_silence (served config now leases (Some m)).answer) (goes_to_all m (served config now leases (Some m)).answer) (reply_octets config m (served config now leases (Some m)).answer) is
   where
     by : (silent all : Bool) (octets : List ℕ)
-        → (if silent then ReplyNothing else (if all then ADatagram (length octets) (endpoint config.vhost 67) (endpoint 0xffffffff 68) (Some everybody) else ADatagram (length octets) (endpoint config.vhost 67) (endpoint m.client.0 68) (Some m.mac))) ≡ ADatagram count from to mac
+        → (if silent then ReplyNothing else (if all then ADatagram (length octets) (endpoint config.vhost 67) (endpoint 0xffffffff 68) (Some everybody) else ADatagram
+        (length octets) (endpoint config.vhost 67) (endpoint m.client.0 68) (Some m.mac))) ≡ ADatagram count from to mac
         → count ≡ length (if silent then [] else octets)
     by true all octets is = cc
     by false true octets is = cc
     by false false octets is = cc
 
 -- a client that gets none is owed none
-pub lease_none : (config : Config) (ident : ℕ) (reply : Reply) (octets : List ℕ) → ((count : ℕ) (from to : Endpoint) (mac : Mac) → reply ≡ ADatagram count from to (Some mac) → ⊥) → [] ≡ frames_of config ident (answers_of (sending_of reply octets))
+pub lease_none : (config : Config) (ident : ℕ) (reply : Reply) (octets : List ℕ) → ((count : ℕ) (from to : Endpoint) (mac : Mac) → reply ≡ ADatagram count from to (Some mac) → ⊥) →
+    [] ≡ frames_of config ident (answers_of (sending_of reply octets))
 lease_none config ident ReplyNothing octets never = refl
 lease_none config ident (ADatagram count from to None) octets never = refl
 lease_none config ident (ADatagram count from to (Some mac)) octets never = absurd (never count from to mac refl)

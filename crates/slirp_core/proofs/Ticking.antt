@@ -19,7 +19,11 @@ from_zero now (a ∷ list) = (λ over. omega arith, from_zero now list)
 
 pub from_least : (n now : ℕ) (list : List Association) → All (λ a. is_over now a ≡ true → n ≤ a.number) list → AreFrom n now list
 from_least n now [] all = tt
-from_least n now (a ∷ list) all = (All-head (λ (x : Association). is_over now x ≡ true → n ≤ x.number) a list all, from_least n now list (All-tail (λ (x : Association). is_over now x ≡ true → n ≤ x.number) a list all))
+from_least n now (a ∷ list) all = (
+  All-head (λ (x : Association). is_over now x ≡ true → n ≤ x.number) a list all,
+  from_least n now list
+      (All-tail (λ (x : Association). is_over now x ≡ true → n ≤ x.number) a list all),
+)
 
 pub without_least : (n now : ℕ) (list : List Association) → AreFrom n now list → AreFrom (n + 1) now (without n list)
 without_least n now [] from = tt

@@ -1,5 +1,6 @@
 -- What the core tells of the reports that are left to be served.
-use Rattle.std.proofs.Common.{◌≡◌, ◌⊎◌, ℕ, zero, suc, ◌≤◌, ◌==◌, ◌&&◌, ◌||◌, not, nat_lt, Bool, true, false, is_some, List, [], ◌∷◌, length, slice_get, slice_set, Option, None, Some, inl, inr, refl, sym, ap, ◌∙◌, subst, arith}
+use Rattle.std.proofs.Common.{◌≡◌, ◌⊎◌, ℕ, zero, suc, ◌≤◌, ◌==◌, ◌&&◌, ◌||◌, not, nat_lt, Bool, true, false, is_some, List, [], ◌∷◌, length, slice_get, slice_set, Option, None, Some, inl}
+use Rattle.std.proofs.Common.{inr, refl, sym, ap, ◌∙◌, subst, arith}
 use Rattle.std.proofs.lemmas.Bool.Decides.{nat_tests}
 use Rattle.std.specs.List.{list_any}
 use Rattle.poll_list.specs.Listing.{are_wants, differ, is_who, number_of as socket_number, reads, same_number, same_who, writes}
@@ -66,7 +67,8 @@ either_false : (a b : Bool) → (a && b) ≡ false → (a ≡ true → b ≡ fal
 either_false true b is f = f refl is
 either_false false b is f = refl
 
-pub unsent : (config : Config) (at : Standing) (slirp : SlirpState) (f : Flowing) (link : LinkState) (past : List Entry) → Holds config at slirp f link past → is_settled slirp link ≡ false → is_all_sent config past ≡ false
+pub unsent : (config : Config) (at : Standing) (slirp : SlirpState) (f : Flowing) (link : LinkState) (past : List Entry) → Holds config at slirp f link past →
+    is_settled slirp link ≡ false → is_all_sent config past ≡ false
 unsent config at slirp f link past holds unsettled = by (length link.tail == 0) refl unsettled
   where
     by_owed : IsOwed config f.aged slirp past → not (nat_lt 0 (length slirp.pending)) ≡ false → is_all_sent config past ≡ false
@@ -104,7 +106,8 @@ open_or_none n (o ∷ parts) = by (here o refl) (open_or_none n parts)
     here None is = inr (λ p at open_yet number. let never : ◌≡◌ {A = Option Splice} None (Some p) = sym is ∙ at in absurd cc)
     here (Some p) is = of (is_it p)
       where
-        of : ((is_open p ≡ true) × (number_of p ≡ n)) ⊎ (is_open p ≡ true → number_of p ≡ n → ⊥) → HasSocket n (o ∷ parts) (λ q. Unit {0}) ⊎ ((q : Splice) → o ≡ Some q → is_open q ≡ true → number_of q ≡ n → ⊥)
+        of : ((is_open p ≡ true) × (number_of p ≡ n)) ⊎ (is_open p ≡ true → number_of p ≡ n → ⊥) → HasSocket n (o ∷ parts) (λ q. Unit {0}) ⊎
+            ((q : Splice) → o ≡ Some q → is_open q ≡ true → number_of q ≡ n → ⊥)
         of (inl it) = inl (0, p, record { here = ap Some is; open_yet = it.0 }, it.1, tt)
         of (inr not_it) = inr (λ q at open_yet number. let one : p ≡ q = some_part p q (sym is ∙ at) in not_it (ap is_open one ∙ open_yet) (ap number_of one ∙ number))
 
@@ -120,7 +123,8 @@ open_or_none n (o ∷ parts) = by (here o refl) (open_or_none n parts)
 
 -- After a flow was told: what holds of its number, and held of those that were told before, holds of those that were told by then.
 pub told_then : (number : ℕ) (old new : Kept) (P : ℕ → Type 0)
-    → ((k : ℕ) (p : Splice) → IsOpenAt old.flows.slots k p → number_of p ≡ number → new.served ≡ slice_set old.served k old.turn) → (NoneOpen number old.flows.slots → new ≡ old) → Stays old new → new.turn ≡ old.turn
+    → ((k : ℕ) (p : Splice) → IsOpenAt old.flows.slots k p → number_of p ≡ number → new.served ≡ slice_set old.served k old.turn) → (NoneOpen number old.flows.slots → new ≡ old) →
+    Stays old new → new.turn ≡ old.turn
     → ((k : ℕ) (p : Splice) → slice_get old.flows.slots k ≡ Some (Some p) → slice_get old.served k ≡ Some old.turn → P (number_of p)) → P number
     → (k : ℕ) (p : Splice) → slice_get new.flows.slots k ≡ Some (Some p) → slice_get new.served k ≡ Some new.turn → P (number_of p)
 told_then number old new P told untold stays turn each of_it k p here mark = by (open_or_none number old.flows.slots)
@@ -129,7 +133,8 @@ told_then number old new P told untold stays turn each of_it k p here mark = by 
     before = stays.numbers k p here
 
     by : HasSocket number old.flows.slots (λ q. Unit {0}) ⊎ NoneOpen number old.flows.slots → P (number_of p)
-    by (inr none) = let same_kept = untold none in each k p (ap (λ (f : Kept). slice_get f.flows.slots k) (sym same_kept) ∙ here) (ap (λ (f : Kept). slice_get f.served k) (sym same_kept) ∙ mark ∙ ap Some turn)
+    by (inr none) = let same_kept = untold none in each k p (ap (λ (f : Kept). slice_get f.flows.slots k) (sym same_kept) ∙ here)
+        (ap (λ (f : Kept). slice_get f.served k) (sym same_kept) ∙ mark ∙ ap Some turn)
     by (inl it) = at_slot (same_or_not k it.0)
       where
         at_slot : (k ≡ it.0) ⊎ ((k == it.0) ≡ false) → P (number_of p)
@@ -137,7 +142,8 @@ told_then number old new P told untold stays turn each of_it k p here mark = by 
             let same_part : before.0 ≡ it.1 = some_part before.0 it.1 (some_option (Some before.0) (Some it.1) (sym before.1 ∙ ap (slice_get old.flows.slots) one ∙ it.2.here)) in
             subst P (sym (before.2 ∙ ap number_of same_part ∙ it.3)) of_it
         at_slot (inr other) =
-            let was : slice_get old.served k ≡ Some old.turn = sym (get_set_other old.served it.0 k old.turn (slots_differ k it.0 other)) ∙ ap (λ l. slice_get l k) (sym (told it.0 it.1 it.2 it.3)) ∙ mark ∙ ap Some turn in
+            let was : slice_get old.served k ≡ Some old.turn = sym (get_set_other old.served it.0 k old.turn (slots_differ k it.0 other)) ∙ ap (λ l. slice_get l k)
+            (sym (told it.0 it.1 it.2 it.3)) ∙ mark ∙ ap Some turn in
             subst P (sym before.2) (each k before.0 before.1 was)
 
 -- ---- a list of what is waited for names no socket twice
@@ -278,15 +284,20 @@ module _ (config : Config) (past : List Entry) (lawful : Lawful config past) whe
     item_kind x some among is = by x.read x.write refl refl is
       where
         by : (r w : Bool) → x.read ≡ r → x.write ≡ w → (r || w) ≡ true → IsOfKind past x.of
-        by true w read write one = read_kind x.of (sym (are.to_read x.of) ∙ among.reading x.of (or_first (same_who x.of x.of && x.read) (reads x.of some) (both_true (same_who x.of x.of) x.read (same_self x.of) read)))
-        by false true read write one = written_kind x.of (are.only_to_write x.of (among.writing x.of (or_first (same_who x.of x.of && x.write) (writes x.of some) (both_true (same_who x.of x.of) x.write (same_self x.of) write))))
+        by true w read write one = read_kind x.of (sym (are.to_read x.of) ∙ among.reading x.of (or_first (same_who x.of x.of && x.read) (reads x.of some)
+            (both_true (same_who x.of x.of) x.read (same_self x.of) read)))
+        by false true read write one = written_kind x.of (are.only_to_write x.of
+            (among.writing x.of (or_first (same_who x.of x.of && x.write) (writes x.of some) (both_true (same_who x.of x.of) x.write (same_self x.of) write))))
         by false false read write one = absurd (true_false (sym one))
 
-    none_same : (x : Want) (some : List Want) → IsOfKind past x.of → AreAmong some → are_wants some ≡ true → comes_first x.of some ≡ true → list_any (λ w. same_number (socket_number x.of) (socket_number w.of)) some ≡ false
+    none_same : (x : Want) (some : List Want) → IsOfKind past x.of → AreAmong some → are_wants some ≡ true → comes_first x.of some ≡ true → list_any
+        (λ w. same_number (socket_number x.of) (socket_number w.of)) some ≡ false
     none_same x [] kind among all order = refl
     none_same x (v ∷ some) kind among all order =
-        let other = who_apart x.of v.of kind (item_kind v some among (first_of (v.read || v.write) (is_who v.of) (first_of ((v.read || v.write) && is_who v.of) (are_wants some) all))) (first_of (comes_before x.of v.of) (comes_first x.of some) order) in
-        let rest = none_same x some kind (behind v some among) (second_of ((v.read || v.write) && is_who v.of) (are_wants some) all) (second_of (comes_before x.of v.of) (comes_first x.of some) order) in
+        let other = who_apart x.of v.of kind (item_kind v some among (first_of (v.read || v.write) (is_who v.of)
+        (first_of ((v.read || v.write) && is_who v.of) (are_wants some) all))) (first_of (comes_before x.of v.of) (comes_first x.of some) order) in
+        let rest = none_same x some kind (behind v some among) (second_of ((v.read || v.write) && is_who v.of) (are_wants some) all)
+        (second_of (comes_before x.of v.of) (comes_first x.of some) order) in
         ap (λ b. b || list_any (λ w. same_number (socket_number x.of) (socket_number w.of)) some) other ∙ rest
 
     all_apart : (some : List Want) → AreAmong some → are_wants some ≡ true → are_in_order some ≡ true → differ some ≡ true

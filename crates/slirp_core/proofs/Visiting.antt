@@ -1,5 +1,6 @@
 -- A peer comes to a port of the host that is given to a guest: its flow begins, or it is refused and its socket closed, or none has come.
-use Rattle.std.proofs.Common.{◌≡◌, ℕ, zero, suc, ◌<◌, ◌+◌, ◌==◌, ◌&&◌, ◌||◌, not, nat_lt, ◌⊎◌, inl, inr, Bool, true, false, List, [], ◌∷◌, ◌++◌, length, slice_get, MatchOption, Option, Some, None, option_map, refl, sym, ◌∙◌, ap, subst, arith, if◌then◌else◌}
+use Rattle.std.proofs.Common.{◌≡◌, ℕ, zero, suc, ◌<◌, ◌+◌, ◌==◌, ◌&&◌, ◌||◌, not, nat_lt, ◌⊎◌, inl, inr, Bool, true, false, List, [], ◌∷◌, ◌++◌, length, slice_get, MatchOption, Option}
+use Rattle.std.proofs.Common.{Some, None, option_map, refl, sym, ◌∙◌, ap, subst, arith, if◌then◌else◌}
 use Rattle.std.proofs.lemmas.Bool.Decides.{nat_tests}
 use Rattle.net_octets.specs.declared.Endpoint.{Endpoint}
 use Rattle.net_octets.specs.declared.Mac.{Mac}
@@ -81,8 +82,10 @@ kinds_visited listener number answer past kinds n among = by (number == n) refl
     by true is = refl
     by false is = kinds n (before answer (turned is) among)
 
-module _ (config : Config) (count : ℕ) (wants : List Want) (item : Want) (items : List Want) (listener : ℕ) (reads_it : is_to_read (AListener listener) (wanted_of wants item) ≡ true) (slirp : SlirpState) (link : LinkState) (past : List Entry)
-    (holds : Holds config (standing count wants (item ∷ items)) slirp (flowing false slirp.flows) link past) (is_open : (listener < length config.forwards) × (kind_of listener past ≡ Some OfListener)) (room : in_use_slots slirp.flows.flows.table.slots < length slirp.flows.flows.table.slots) where
+module _ (config : Config) (count : ℕ) (wants : List Want) (item : Want) (items : List Want) (listener : ℕ)
+    (reads_it : is_to_read (AListener listener) (wanted_of wants item) ≡ true) (slirp : SlirpState) (link : LinkState) (past : List Entry)
+    (holds : Holds config (standing count wants (item ∷ items)) slirp (flowing false slirp.flows) link past) (is_open : (listener < length config.forwards) ×
+    (kind_of listener past ≡ Some OfListener)) (room : in_use_slots slirp.flows.flows.table.slots < length slirp.flows.flows.table.slots) where
   -- something was reported, so the first wait has been
   turn : InTurn config past
   turn = by holds.stands
@@ -106,12 +109,14 @@ module _ (config : Config) (count : ℕ) (wants : List Want) (item : Want) (item
 
   may_accept : May config past (CallAccept listener slirp.number)
   may_accept = accepts config past listener slirp.number
-      (due_is config past Settled turn.working (none_due_for_services config past holds.relayed.heard holds.services.quest) holds.flows.holds.asked (asked_for config (standing count wants (item ∷ items)) Settled None slirp (flowing false slirp.flows) link past holds))
+      (due_is config past Settled turn.working (none_due_for_services config past holds.relayed.heard holds.services.quest) holds.flows.holds.asked
+      (asked_for config (standing count wants (item ∷ items)) Settled None slirp (flowing false slirp.flows) link past holds))
       (flows_stay_open config (flowing false slirp.flows) slirp.moment past holds.flows) (ap is_working turn.working) takes (ap (λ n. slirp.number == n) holds.sockets.number ∙ same slirp.number)
       (reads_of (AListener listener) (wanted_of wants item) (all_wanted wants items) (agenda past) reads_it holds.agenda) holds.open_yet
 
   -- what an accept leaves, by its answer
-  module _ (answer : Accepted) (number : ℕ) (kept : Kept) (fine : Allowed (Accept listener slirp.number answer)) (then_is : Between config slirp.moment false None kept (Accept listener slirp.number answer ∷ past))
+  module _ (answer : Accepted) (number : ℕ) (kept : Kept) (fine : Allowed (Accept listener slirp.number answer)) (then_is : Between config slirp.moment false None kept
+      (Accept listener slirp.number answer ∷ past))
       (next : next_number (Accept listener slirp.number answer ∷ past) ≡ number)
       (kinds : (n : ℕ) → is_among n (open_sockets (Accept listener slirp.number answer ∷ past)) ≡ true → is_ours (kind_of n (Accept listener slirp.number answer ∷ past)) ≡ true) where
     abbrev e : Entry
@@ -137,7 +142,8 @@ module _ (config : Config) (count : ℕ) (wants : List Want) (item : Want) (item
 
   -- ---- none has come
 
-  module _ (answer : Accepted) (fine : Allowed (Accept listener slirp.number answer)) (nobody : doing config past (Accept listener slirp.number answer) ≡ Nothing) (next : number_for_peer answer (next_number past) ≡ next_number past)
+  module _ (answer : Accepted) (fine : Allowed (Accept listener slirp.number answer)) (nobody : doing config past (Accept listener slirp.number answer) ≡ Nothing)
+      (next : number_for_peer answer (next_number past) ≡ next_number past)
       (same_sockets : with_peer answer slirp.number (open_sockets past) ≡ open_sockets past) where
     abbrev none_at : Entry
     none_at = Accept listener slirp.number answer
@@ -151,7 +157,13 @@ module _ (config : Config) (count : ℕ) (wants : List Want) (item : Want) (item
       asked = quiet_flows.asked;
       settings = quiet_flows.settings;
       lawful = (may_accept, holds.lawful);
-      work = record { working = turn.working; errand = errand_for config Settled None slirp past holds.relayed; services = none_due_for_services config (none_at ∷ past) refl holds.services.quest; open_yet = holds.open_yet };
+      work = record {
+        working = turn.working;
+        errand = errand_for config Settled None slirp past holds.relayed;
+        services = none_due_for_services config
+            (none_at ∷ past) refl holds.services.quest;
+        open_yet = holds.open_yet;
+      };
       at = holds.clock.moment;
     }) (next ∙ holds.sockets.number) (λ n among. kinds_visited listener slirp.number answer past holds.sockets.kinds n among)
 
@@ -162,7 +174,8 @@ module _ (config : Config) (count : ℕ) (wants : List Want) (item : Want) (item
     visit = Accept listener slirp.number (From peer)
 
     -- its flow begins
-    pub welcomed : (kept : Kept) (mac : Option Mac) → is_refused config guest peer (book config past) ≡ false → mac ≡ learnt_for guest.addr slirp.known → Welcomes slirp.moment slirp.number slirp.flows kept (tuple_for config guest peer) mac
+    pub welcomed : (kept : Kept) (mac : Option Mac) → is_refused config guest peer (book config past) ≡ false → mac ≡ learnt_for guest.addr slirp.known →
+        Welcomes slirp.moment slirp.number slirp.flows kept (tuple_for config guest peer) mac
         → Holds config (standing count wants items) (record slirp { number = slirp.number + 1 }) (flowing false kept) link (visit ∷ past)
     welcomed kept mac welcome found welcomes = came (From peer) (slirp.number + 1) kept fine
         (welcomes config listener peer past (record {
@@ -174,7 +187,13 @@ module _ (config : Config) (count : ℕ) (wants : List Want) (item : Want) (item
           welcome = welcome;
           learnt = λ m is. known_was_taught config past guest.addr m (ap (learnt_for guest.addr) holds.guests.known ∙ sym found ∙ is);
           lawful = (may_accept, holds.lawful);
-          work = record { working = turn.working; errand = errand_for config Settled None slirp past holds.relayed; services = none_due_for_services config (visit ∷ past) refl holds.services.quest; open_yet = holds.open_yet };
+          work = record {
+            working = turn.working;
+            errand = errand_for config Settled None slirp past holds.relayed;
+            services = none_due_for_services config
+                (visit ∷ past) refl holds.services.quest;
+            open_yet = holds.open_yet;
+          };
         }))
         (ap (λ n. n + 1) holds.sockets.number) (λ n among. kinds_visited listener slirp.number (From peer) past holds.sockets.kinds n among)
 
@@ -186,7 +205,8 @@ module _ (config : Config) (count : ℕ) (wants : List Want) (item : Want) (item
       doomed_is : book config (visit ∷ past) ≡ doom slirp.number (book config past)
       doomed_is =
           ap (λ o. visits_for config (moment past) slirp.number peer o (book config past)) port
-          ∙ ap (λ (b : Bool). if b then doom slirp.number (book config past) else opens config (moment past) slirp.number (tuple_for config guest peer) (Accepts (first_number (moment past) (length (book config past).flows))) (book config past)) refused
+          ∙ ap (λ (b : Bool). if b then doom slirp.number (book config past) else opens config (moment past) slirp.number (tuple_for config guest peer)
+          (Accepts (first_number (moment past) (length (book config past).flows))) (book config past)) refused
 
       no_flow_yet : flow_of slirp.number (book config past).flows ≡ None
       no_flow_yet = subst (λ n. flow_of n (book config past).flows ≡ None) holds.sockets.number (holds.flows.holds.seats.fresh (next_number past) (omega arith))
@@ -198,7 +218,13 @@ module _ (config : Config) (count : ℕ) (wants : List Want) (item : Want) (item
       close_is_due = ap (λ b. due_for_flows config b (next_number (visit ∷ past))) doomed_is
 
       work_then : InWork config (visit ∷ past)
-      work_then = record { working = turn.working; errand = errand_for config Settled None slirp past holds.relayed; services = none_due_for_services config (visit ∷ past) refl holds.services.quest; open_yet = holds.open_yet }
+      work_then = record {
+        working = turn.working;
+        errand = errand_for config Settled None slirp past holds.relayed;
+        services = none_due_for_services config
+            (visit ∷ past) refl holds.services.quest;
+        open_yet = holds.open_yet;
+      }
 
       its_kind : kind_for config slirp.number (visit ∷ past) ≡ Some OfFlow
       its_kind = ap (λ b. if b then Some OfFlow else kind_for config slirp.number past) (same slirp.number)
@@ -215,13 +241,15 @@ module _ (config : Config) (count : ℕ) (wants : List Want) (item : Want) (item
           (ap (λ p. is_working p || is_over p) turn.working)
           (and_both (is_among slirp.number (open_sockets past ++ (slirp.number ∷ []))) _
           (among_last slirp.number slirp.number (open_sockets past) ∙ or_second (is_among slirp.number (open_sockets past)) (slirp.number == slirp.number) (same slirp.number))
-          (ap (λ (b : Bool). if b then is_least slirp.number (open_sockets (visit ∷ past)) else parts config (visit ∷ past) slirp.number || (is_ended config (visit ∷ past) && is_least slirp.number (open_sockets (visit ∷ past)))) holds.open_yet
+          (ap (λ (b : Bool). if b then is_least slirp.number (open_sockets (visit ∷ past)) else parts config (visit ∷ past) slirp.number ||
+          (is_ended config (visit ∷ past) && is_least slirp.number (open_sockets (visit ∷ past)))) holds.open_yet
           ∙ ap (λ b. b || (is_ended config (visit ∷ past) && is_least slirp.number (open_sockets (visit ∷ past)))) may_part_it))
           (record {
             due = subst (λ o. MatchOption o (Unit {0}) (λ d. CallClose slirp.number ≡ d)) (sym close_is_due) refl;
             touches = subst (MayShut (flow_settings config) (scene config (visit ∷ past)) (book config (visit ∷ past)).came) (sym no_flow_then) tt;
             must = tt;
-            at_once = λ n f found closes. absurd (flows_stay_open config (flowing false slirp.flows) slirp.moment past holds.flows n f (sym (ap (λ (b : Book). flow_of n b.flows) doomed_is) ∙ found) closes);
+            at_once = λ n f found closes. absurd (flows_stay_open config (flowing false slirp.flows) slirp.moment past holds.flows n f
+                (sym (ap (λ (b : Book). flow_of n b.flows) doomed_is) ∙ found) closes);
           })
 
       book_then : book config shut_again ≡ quiet (book config past)
@@ -249,11 +277,19 @@ module _ (config : Config) (count : ℕ) (wants : List Want) (item : Want) (item
         keeps = keeps_by link (Close slirp.number) (visit ∷ past) tt refl refl refl (keeps_by link visit past tt refl refl refl holds.keeps);
         answers = record {
           sent = holds.answers.sent;
-          owed = owed_stays config false (record slirp { number = slirp.number + 1 }) (record slirp { number = slirp.number + 1 }) (Close slirp.number) (visit ∷ past) refl refl refl refl refl refl refl
+          owed = owed_stays config false (record slirp { number = slirp.number + 1 }) (record slirp { number = slirp.number + 1 }) (Close slirp.number)
+              (visit ∷ past) refl refl refl refl refl refl refl
               (owed_stays config false slirp (record slirp { number = slirp.number + 1 }) visit past refl refl refl refl refl refl refl holds.answers.owed);
         };
-        guests = guests_stay config (record slirp { number = slirp.number + 1 }) (record slirp { number = slirp.number + 1 }) (Close slirp.number) (visit ∷ past) refl refl (guests_stay config slirp (record slirp { number = slirp.number + 1 }) visit past refl refl holds.guests);
-        relayed = record { list = ap (without slirp.number) holds.relayed.list ∙ unclosed slirp.number slirp.associations unlisted.0; questions = ap (question_without slirp.number) holds.relayed.questions ∙ none_without slirp.number slirp.questions unlisted.1; asks = holds.relayed.asks; heard = refl };
+        guests = guests_stay config (record slirp { number = slirp.number + 1 }) (record slirp { number = slirp.number + 1 }) (Close slirp.number) (visit ∷ past) refl refl
+            (guests_stay config slirp (record slirp { number = slirp.number + 1 }) visit past refl refl holds.guests);
+        relayed = record {
+          list = ap (without slirp.number) holds.relayed.list ∙ unclosed slirp.number slirp.associations unlisted.0;
+          questions = ap
+              (question_without slirp.number) holds.relayed.questions ∙ none_without slirp.number slirp.questions unlisted.1;
+          asks = holds.relayed.asks;
+          heard = refl;
+        };
         services = services_stay config (record slirp { number = slirp.number + 1 }) (record slirp { number = slirp.number + 1 }) (Close slirp.number) (visit ∷ past) refl refl refl
             (services_stay config slirp (record slirp { number = slirp.number + 1 }) visit past refl refl refl holds.services);
         forwards = holds.forwards;
@@ -273,7 +309,8 @@ at_given [] n k f number at = cc
 at_given (x ∷ fs) n zero f number at = (ap (option_map (λ (o : Opened). o.0)) at, omega arith)
 at_given (x ∷ fs) n (suc k) f number at = let more = at_given fs (n + 1) k f number at in (more.0, (let less = more.1 in omega (arith, less)))
 
-module _ (config : Config) (count : ℕ) (wants : List Want) (item : Want) (items : List Want) (listener : ℕ) (reads_it : is_to_read (AListener listener) (wanted_of wants item) ≡ true) (slirp : SlirpState) (link : LinkState) (past : List Entry)
+module _ (config : Config) (count : ℕ) (wants : List Want) (item : Want) (items : List Want) (listener : ℕ)
+    (reads_it : is_to_read (AListener listener) (wanted_of wants item) ≡ true) (slirp : SlirpState) (link : LinkState) (past : List Entry)
     (holds : Holds config (standing count wants (item ∷ items)) slirp (flowing false slirp.flows) link past) (room : in_use_slots slirp.flows.flows.table.slots < length slirp.flows.flows.table.slots)
     (forward : Forward) (number : ℕ) (at : slice_get slirp.forwards listener ≡ Some (forward, number)) (tcp : forward.proto ≡ Tcp) where
   place : (slice_get config.forwards listener ≡ Some forward) × (listener < length config.forwards)
@@ -281,19 +318,26 @@ module _ (config : Config) (count : ℕ) (wants : List Want) (item : Want) (item
 
   -- it is one to which peers connect
   is_open : (listener < length config.forwards) × (kind_of listener past ≡ Some OfListener)
-  is_open = (place.1, (given_in config (standing count wants (item ∷ items)) Settled None slirp (flowing false slirp.flows) link past holds).kinds listener forward place.1 place.0 ∙ ap (λ p. Some (given_kind p)) tcp)
+  is_open = (
+    place.1,
+    (given_in config (standing count wants (item ∷ items)) Settled None slirp (flowing false slirp.flows) link past holds).kinds listener forward place.1 place.0
+        ∙ ap (λ p. Some (given_kind p)) tcp,
+  )
 
   leads : port_of config listener ≡ Some forward.guest
   leads = ap (option_and_then (λ (f : Forward). port_by f.proto f.guest)) place.0 ∙ ap (λ p. port_by p forward.guest) tcp
 
-  pub nobody_came : Allowed (Accept listener slirp.number NotYetAccepted) → Holds config (standing count wants items) slirp (flowing false slirp.flows) link (Accept listener slirp.number NotYetAccepted ∷ past)
+  pub nobody_came : Allowed (Accept listener slirp.number NotYetAccepted) → Holds config (standing count wants items) slirp (flowing false slirp.flows) link
+      (Accept listener slirp.number NotYetAccepted ∷ past)
   nobody_came fine = none_came config count wants item items listener reads_it slirp link past holds is_open room NotYetAccepted fine refl refl refl
 
-  pub none_accepted : Allowed (Accept listener slirp.number AcceptFailed) → Holds config (standing count wants items) slirp (flowing false slirp.flows) link (Accept listener slirp.number AcceptFailed ∷ past)
+  pub none_accepted : Allowed (Accept listener slirp.number AcceptFailed) → Holds config (standing count wants items) slirp (flowing false slirp.flows) link
+      (Accept listener slirp.number AcceptFailed ∷ past)
   none_accepted fine = none_came config count wants item items listener reads_it slirp link past holds is_open room AcceptFailed fine refl refl refl
 
   -- a peer came, and was treated so
-  pub treated : (peer : Endpoint) (new : SlirpState) (made : List Entry) → AreAllowed (made ++ Accept listener slirp.number (From peer) ∷ []) → new ≡ record slirp { number = slirp.number + 1; flows = new.flows }
+  pub treated : (peer : Endpoint) (new : SlirpState) (made : List Entry) → AreAllowed (made ++ Accept listener slirp.number (From peer) ∷ []) →
+      new ≡ record slirp { number = slirp.number + 1; flows = new.flows }
       → Treats (is_refused config forward.guest peer (book config past)) forward.guest peer slirp new made
       → Holds config (standing count wants items) new (flowing false new.flows) link ((made ++ Accept listener slirp.number (From peer) ∷ []) ++ past)
   treated peer new made allowed same treats = by (is_refused config forward.guest peer (book config past)) refl treats
@@ -308,8 +352,10 @@ module _ (config : Config) (count : ℕ) (wants : List Want) (item : Want) (item
       by : (b : Bool) → is_refused config forward.guest peer (book config past) ≡ b → Treats b forward.guest peer slirp new made
           → Holds config (standing count wants items) new (flowing false new.flows) link ((made ++ Accept listener slirp.number (From peer) ∷ []) ++ past)
       by false welcome (none, welcomes) =
-          let begun = welcomed config count wants item items listener reads_it slirp link past holds is_open room forward.guest peer leads came_so new.flows (learnt_for forward.guest.addr slirp.known) welcome refl
-          (subst (λ (c : Config). Welcomes slirp.moment slirp.number slirp.flows new.flows (tuple_for c forward.guest peer) (learnt_for forward.guest.addr slirp.known)) holds.guests.settings welcomes) in
+          let begun = welcomed config count wants item items listener reads_it slirp link past holds is_open room forward.guest peer leads came_so new.flows
+          (learnt_for forward.guest.addr slirp.known) welcome refl
+          (subst (λ (c : Config). Welcomes slirp.moment slirp.number slirp.flows new.flows (tuple_for c forward.guest peer)
+          (learnt_for forward.guest.addr slirp.known)) holds.guests.settings welcomes) in
           subst (λ es. Holds config (standing count wants items) new (flowing false new.flows) link ((es ++ Accept listener slirp.number (From peer) ∷ []) ++ past)) (sym none)
           (subst (λ (s : SlirpState). Holds config (standing count wants items) s (flowing false new.flows) link (Accept listener slirp.number (From peer) ∷ past)) (sym same)
           (flows_put config (standing count wants items) (record slirp { number = slirp.number + 1 }) new.flows (flowing false new.flows) link (Accept listener slirp.number (From peer) ∷ past) begun))
@@ -324,22 +370,31 @@ module _ (config : Config) (count : ℕ) (wants : List Want) (item : Want) (item
           first_allowed made is all = (subst (λ es. AreAllowed (es ++ Accept listener slirp.number (From peer) ∷ [])) is all).0
 
 -- nobody came, or the host failed: nothing is left of the report
-pub passed_by : (a b : Telling) (config : Config) (count : ℕ) (wants : List Want) (item : Want) (items : List Want) (listener : ℕ) → is_to_read (AListener listener) (wanted_of wants item) ≡ true → (slirp : SlirpState) (link : LinkState)
-    → in_use_slots slirp.flows.flows.table.slots < length slirp.flows.flows.table.slots → (forward : Forward) (number : ℕ) → slice_get slirp.forwards listener ≡ Some (forward, number) → forward.proto ≡ Tcp
+pub passed_by : (a b : Telling) (config : Config) (count : ℕ) (wants : List Want) (item : Want) (items : List Want) (listener : ℕ) → is_to_read (AListener listener)
+    (wanted_of wants item) ≡ true → (slirp : SlirpState) (link : LinkState)
+    → in_use_slots slirp.flows.flows.table.slots < length slirp.flows.flows.table.slots → (forward : Forward) (number : ℕ) → slice_get slirp.forwards listener ≡ Some
+    (forward, number) → forward.proto ≡ Tcp
     → (answer : Accepted) → (answer ≡ NotYetAccepted) ⊎ (answer ≡ AcceptFailed) → Answers a b (Accept listener slirp.number answer)
     → Brings a b (Holds config (standing count wants (item ∷ items)) slirp (flowing false slirp.flows) link)
     (λ past. Holds config (standing count wants items) slirp (flowing false slirp.flows) link past × (is_left_to_read config past (AListener listener) ≡ false))
 passed_by a b config count wants item items listener reads_it slirp link room forward number at tcp answer (inl is) answers =
     brings_one (subst (λ (r : Accepted). Answers a b (Accept listener slirp.number r)) is answers)
-    (λ fine past holds. let then_is = nobody_came config count wants item items listener reads_it slirp link past holds room forward number at tcp fine in
-    (then_is, peer_is_read config count wants item items slirp slirp (flowing false slirp.flows) (flowing false slirp.flows) link link past (Accept listener slirp.number NotYetAccepted ∷ []) holds then_is listener slirp.number NotYetAccepted [] refl))
+    (λ fine past holds. let then_is = nobody_came config count wants item items listener reads_it slirp link past holds room forward number at tcp fine in (
+      then_is,
+      peer_is_read config count wants item items slirp slirp (flowing false slirp.flows) (flowing false slirp.flows) link link past
+          (Accept listener slirp.number NotYetAccepted ∷ []) holds then_is listener slirp.number NotYetAccepted [] refl,
+    ))
 passed_by a b config count wants item items listener reads_it slirp link room forward number at tcp answer (inr is) answers =
     brings_one (subst (λ (r : Accepted). Answers a b (Accept listener slirp.number r)) is answers)
-    (λ fine past holds. let then_is = none_accepted config count wants item items listener reads_it slirp link past holds room forward number at tcp fine in
-    (then_is, peer_is_read config count wants item items slirp slirp (flowing false slirp.flows) (flowing false slirp.flows) link link past (Accept listener slirp.number AcceptFailed ∷ []) holds then_is listener slirp.number AcceptFailed [] refl))
+    (λ fine past holds. let then_is = none_accepted config count wants item items listener reads_it slirp link past holds room forward number at tcp fine in (
+      then_is,
+      peer_is_read config count wants item items slirp slirp (flowing false slirp.flows) (flowing false slirp.flows) link link past
+          (Accept listener slirp.number AcceptFailed ∷ []) holds then_is listener slirp.number AcceptFailed [] refl,
+    ))
 
 -- who is refused, by what the policy and the slots say
-pub refused_by : (config : Config) (guest peer other : Endpoint) (b : Book) (found : Option Endpoint) (used : Bool) → found ≡ (if is_hidden config peer then None else Some (shown config peer)) → found ≡ Some other
+pub refused_by : (config : Config) (guest peer other : Endpoint) (b : Book) (found : Option Endpoint) (used : Bool) → found ≡
+    (if is_hidden config peer then None else Some (shown config peer)) → found ≡ Some other
     → used ≡ is_used (record { guest = guest; other = other }) b.flows → is_refused config guest peer b ≡ used
 refused_by config guest peer other b found used is was recorded = by (is_hidden config peer) refl (sym is ∙ was)
   where
@@ -361,7 +416,8 @@ false_then : (b : Bool) → true ≡ not b → false ≡ b
 false_then true is = cc
 false_then false is = refl
 
-pub treats_refused : (b : Bool) (guest peer : Endpoint) (old new : SlirpState) (made : List Entry) → false ≡ not b → made ≡ Close old.number ∷ [] → new.flows ≡ old.flows → Treats b guest peer old new made
+pub treats_refused : (b : Bool) (guest peer : Endpoint) (old new : SlirpState) (made : List Entry) → false ≡ not b → made ≡ Close old.number ∷ [] → new.flows ≡ old.flows →
+    Treats b guest peer old new made
 treats_refused b guest peer old new made is one same_flows = subst (λ (x : Bool). Treats x guest peer old new made) (true_then b is) (one, same_flows)
 
 pub treats_welcome : (b : Bool) (guest peer : Endpoint) (old new : SlirpState) (made : List Entry) → true ≡ not b → made ≡ []

@@ -35,7 +35,8 @@ module _ (config : Config) (count : ℕ) (slirp : SlirpState) (kept : Kept) (old
     (few : count < config.turns) (none_again : slirp.pending ≡ [] → next_again slirp.moment slirp.transfers ≡ None) (holds : Holds config (after count) slirp (flowing true kept) old past) where
   -- a wait may begin a turn, the first or a later one
   none_due : Stands config Settled slirp kept old past → due config past ≡ None
-  none_due (Turns turn) = due_is config past Settled turn.working (none_due_for_services config past holds.relayed.heard holds.services.quest) holds.flows.holds.asked (asked_for config (after count) Settled None slirp (flowing true kept) old past holds)
+  none_due (Turns turn) = due_is config past Settled turn.working (none_due_for_services config past holds.relayed.heard holds.services.quest) holds.flows.holds.asked
+      (asked_for config (after count) Settled None slirp (flowing true kept) old past holds)
   none_due (Begins unbegun free unrested) =
       due_in_phase config past Started unbegun.started (none_due_for_services config past holds.relayed.heard holds.services.quest) holds.flows.holds.asked
       ∙ ap (λ (t : Step). due_for config t (next_number past)) (asked_for config (after count) Settled None slirp (flowing true kept) old past holds)
@@ -63,7 +64,8 @@ module _ (config : Config) (count : ℕ) (slirp : SlirpState) (kept : Kept) (old
   now_open : AreOpenWith (forward_sockets slirp.forwards) (carriers (holders_with slirp kept)) kept.flows.slots past
   now_open = are_open config (after count) Settled None slirp (flowing true kept) old past holds
 
-  pub wait_ends_it : (answer : Waited) (ready : List Want) (why : Ending) → wait_ending answer ≡ Some why → Ended config (count + 1) why slirp.forwards (holders_with slirp kept) (Wait wants timeout answer ready ∷ past)
+  pub wait_ends_it : (answer : Waited) (ready : List Want) (why : Ending) → wait_ending answer ≡ Some why → Ended config (count + 1) why slirp.forwards (holders_with slirp kept)
+      (Wait wants timeout answer ready ∷ past)
   wait_ends_it answer ready why is = record {
     lawful = waited answer ready;
     over = ap (λ o. phase_after (Wait wants timeout answer ready) o (phase config past)) is ∙ ends why holds.stands;
@@ -80,7 +82,11 @@ module _ (config : Config) (count : ℕ) (slirp : SlirpState) (kept : Kept) (old
       → new.blocked ≡ (if writes TheLink ready then false else old.blocked)
       → Holds config (standing (count + 1) wants ready) (record slirp { moment = max (min told (2 ^ 62)) slirp.moment }) (flowing false kept) new (Now told ∷ Wait wants timeout Ready ready ∷ past)
   wait_wakes ready told new allowed_wait allowed_now same_in same_out free = record {
-    lawful = (asks config (Wait wants timeout Ready ready ∷ past) refl (flows_ask_nothing config (flowing false kept) slirp.moment (Wait wants timeout Ready ready ∷ past) (flows_then Ready ready)) holds.open_yet, waited Ready ready);
+    lawful = (
+      asks config (Wait wants timeout Ready ready ∷ past) refl (flows_ask_nothing config (flowing false kept) slirp.moment (Wait wants timeout Ready ready ∷ past)
+          (flows_then Ready ready)) holds.open_yet,
+      waited Ready ready,
+    );
     allowed = (allowed_now, (allowed_wait, holds.allowed));
     keeps = record {
       framed = (tt, (tt, holds.keeps.framed));
@@ -90,10 +96,12 @@ module _ (config : Config) (count : ℕ) (slirp : SlirpState) (kept : Kept) (old
     };
     answers = record {
       sent = holds.answers.sent;
-      owed = owed_told config slirp (record slirp { moment = max (min told (2 ^ 62)) slirp.moment }) (Wait wants timeout Ready ready ∷ past) (Now told ∷ Wait wants timeout Ready ready ∷ past) refl refl refl refl refl refl
+      owed = owed_told config slirp (record slirp { moment = max (min told (2 ^ 62)) slirp.moment }) (Wait wants timeout Ready ready ∷ past)
+          (Now told ∷ Wait wants timeout Ready ready ∷ past) refl refl refl refl refl refl
           (owed_waited config slirp past wants timeout Ready ready holds.clock.moment none_again holds.answers.owed);
     };
-    guests = guests_stay config slirp (record slirp { moment = max (min told (2 ^ 62)) slirp.moment }) (Now told) (Wait wants timeout Ready ready ∷ past) refl refl (guests_stay config slirp slirp (Wait wants timeout Ready ready) past refl refl holds.guests);
+    guests = guests_stay config slirp (record slirp { moment = max (min told (2 ^ 62)) slirp.moment }) (Now told) (Wait wants timeout Ready ready ∷ past) refl refl
+        (guests_stay config slirp slirp (Wait wants timeout Ready ready) past refl refl holds.guests);
     relayed = record { list = holds.relayed.list; questions = holds.relayed.questions; asks = holds.relayed.asks; heard = refl };
     services = record { leases = holds.services.leases; quest = holds.services.quest };
     forwards = holds.forwards;

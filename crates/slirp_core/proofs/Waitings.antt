@@ -20,7 +20,8 @@ later (Now told) past = omega arith
 later _ past = omega arith
 
 -- those that are young at a later moment were young before
-young_if : (one other : ℕ) (s : PartSet) (b : Bool) → one ≤ other → is_young one s ≡ b → (sets : List PartSet) → young other (cond b (s ∷ sets) sets) ≡ cond (is_young other s) (s ∷ young other sets) (young other sets)
+young_if : (one other : ℕ) (s : PartSet) (b : Bool) → one ≤ other → is_young one s ≡ b → (sets : List PartSet) → young other (cond b (s ∷ sets) sets) ≡ cond (is_young other s)
+    (s ∷ young other sets) (young other sets)
 young_if one other s true goes is sets = refl
 young_if one other s false goes is sets =
     let old : is_young other s ≡ false = grind (arith, nat_tests, is, goes) in
@@ -60,7 +61,8 @@ pub none_arrived : (config : Config) (past : List Entry) (e : Entry) → (happen
 none_arrived config past e is = no_frame _ (arrives e past) is
 
 -- an entry by which no frame came
-pub fragments_stay : (config : Config) (slirp new : SlirpState) (e : Entry) (past : List Entry) → arrives e past ≡ None → new.fragments ≡ slirp.fragments → OfFragments config slirp past → OfFragments config new (e ∷ past)
+pub fragments_stay : (config : Config) (slirp new : SlirpState) (e : Entry) (past : List Entry) → arrives e past ≡ None → new.fragments ≡ slirp.fragments →
+    OfFragments config slirp past → OfFragments config new (e ∷ past)
 fragments_stay config slirp new e past nothing same is = record {
   held = is.held;
   is_held = subst (λ (areas : List Gathered). IsHeld areas is.held) (sym same) is.is_held;
@@ -69,7 +71,8 @@ fragments_stay config slirp new e past nothing same is = record {
 }
 
 -- one by which a frame came
-pub fragments_take : (config : Config) (slirp new : SlirpState) (e : Entry) (past : List Entry) (frame : List ℕ) → arrives e past ≡ Some frame → moment (e ∷ past) ≡ moment past → slirp.moment ≡ moment past → (is : OfFragments config slirp past)
+pub fragments_take : (config : Config) (slirp new : SlirpState) (e : Entry) (past : List Entry) (frame : List ℕ) → arrives e past ≡ Some frame → moment (e ∷ past) ≡ moment past →
+    slirp.moment ≡ moment past → (is : OfFragments config slirp past)
     → IsHeld new.fragments (with_fragment slirp.moment (fragment_in config frame) is.held) → OfFragments config new (e ∷ past)
 fragments_take config slirp new e past frame came at now is held = record {
   held = with_fragment (moment past) (fragment_in config frame) is.held;
@@ -82,7 +85,8 @@ fragments_take config slirp new e past frame came at now is held = record {
 }
 
 -- old ones are dropped
-pub fragments_dropped : (config : Config) (slirp new : SlirpState) (past : List Entry) → slirp.moment ≡ moment past → (is : OfFragments config slirp past) → IsHeld new.fragments (young slirp.moment is.held) → OfFragments config new past
+pub fragments_dropped : (config : Config) (slirp new : SlirpState) (past : List Entry) → slirp.moment ≡ moment past → (is : OfFragments config slirp past) → IsHeld new.fragments
+    (young slirp.moment is.held) → OfFragments config new past
 fragments_dropped config slirp new past now is held = record {
   held = young (moment past) is.held;
   is_held = subst (λ (n : ℕ). IsHeld new.fragments (young n is.held)) now held;
@@ -90,7 +94,8 @@ fragments_dropped config slirp new past now is held = record {
 }
 
 -- what drops areas drops sets
-pub drops_old : (now : ℕ) (areas new : List Gathered) (slirp : SlirpState) → now ≡ slirp.moment → areas ≡ slirp.fragments → ((held : List PartSet) → StandFor areas held → StandFor new (young now held))
+pub drops_old : (now : ℕ) (areas new : List Gathered) (slirp : SlirpState) → now ≡ slirp.moment → areas ≡ slirp.fragments →
+    ((held : List PartSet) → StandFor areas held → StandFor new (young now held))
     → (held : List PartSet) → IsHeld slirp.fragments held → IsHeld new (young slirp.moment held)
 drops_old now areas new slirp at same drops held is = record {
   stand = subst (λ (n : ℕ). StandFor new (young n held)) at (drops held (subst (λ (l : List Gathered). StandFor l held) (sym same) is.stand));

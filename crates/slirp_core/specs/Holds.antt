@@ -114,7 +114,8 @@ pub record Flowing : Type 0 where
 abbrev pub flowing : Bool → Kept → Flowing
 flowing aged kept = record { kept = kept; aged = aged }
 
--- the slots stand for the flows of the record, none of which asks for a call; no guest was asked for more often than the flows that were accepted for it may ask; and a frame has room for a header and a unit of 8 octets
+-- the slots stand for the flows of the record, none of which asks for a call; no guest was asked for more often than the flows that were accepted for it may
+-- ask; and a frame has room for a header and a unit of 8 octets
 pub record OfFlows (config : Config) (f : Flowing) (now : ℕ) (past : List Entry) : Type 0 where
   pub holds : CoreHolds config now f.aged None f.kept.flows past
   pub asked : AreAsked config f.kept.flows.slots past

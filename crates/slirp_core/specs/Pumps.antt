@@ -49,7 +49,8 @@ pub record WantsOf (slirp : SlirpState) (link : LinkState) (wants : List Want) :
   pub rising : IsNonDecreasing sockets
   pub flows : List Want
   pub of_flows : AreWantsOf slirp.flows.flows.slots flows
-  pub is : wants ≡ ((link_want (is_settled slirp link) link.blocked ++ map listener_want (listeners_of slirp)) ++ socket_wants (is_settled slirp link) (sockets_over OverUdp slirp.forwards ++ sockets)) ++ flows
+  pub is : wants ≡ ((link_want (is_settled slirp link) link.blocked ++ map listener_want (listeners_of slirp)) ++ socket_wants (is_settled slirp link)
+      (sockets_over OverUdp slirp.forwards ++ sockets)) ++ flows
 
 -- no flow's socket stands twice
 abbrev pub TcpOnce : List Want → Type 0

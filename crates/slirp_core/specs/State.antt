@@ -12,7 +12,9 @@ use Rattle.tftp_server.specs.Transfers.{Transfer, settled}
 use Rattle.slirp_laws.specs.Answers.{Serving}
 use Rattle.tcp_flows.specs.Kept.{Kept}
 
--- its settings, the guests that are known, the identification of the next datagram, the frames that are owed and aren't out yet, the moment in force, the number of the next socket, the associations, the questions that wait for an answer, what is in the areas of fragments, the flows of TCP, who has which address, the open ports of the host that are given to guests, and the transfers of files
+-- its settings, the guests that are known, the identification of the next datagram, the frames that are owed and aren't out yet, the moment in force, the
+-- number of the next socket, the associations, the questions that wait for an answer, what is in the areas of fragments, the flows of TCP, who has which
+-- address, the open ports of the host that are given to guests, and the transfers of files
 pub record SlirpState : Type 0 where
   pub config : Config
   pub known : List (Ip4 × Mac)

@@ -30,7 +30,9 @@ IsFlowTime true now parts (Some left) = (at : ℕ) × (IsDueAfter now parts at �
 IsFlowTime false now parts None = NoneDue parts
 IsFlowTime false now parts (Some left) = (at : ℕ) × (IsDue parts at × (left ≡ at - now))
 
--- By the record a wait that ends with this time suits the flows. It isn't too long for one that connects, if no host's time to connect is over, nor, where the link isn't blocked and no flow owes a frame, for one that waits for its guest, nor for one that rests; and it isn't too short: something of a flow is to be done by then, or a rest is over.
+-- By the record a wait that ends with this time suits the flows. It isn't too long for one that connects, if no host's time to connect is over, nor, where the
+-- link isn't blocked and no flow owes a frame, for one that waits for its guest, nor for one that rests; and it isn't too short: something of a flow is to be
+-- done by then, or a rest is over.
 pub record SuitsFlows (config : Config) (now : ℕ) (blocked : Bool) (parts : List (Option Splice)) (past : List Entry) (time : Option ℕ) : Type 0 where
   pub due : Option ℕ
   pub left : time ≡ option_map (λ at. at - now) due
@@ -44,13 +46,15 @@ abbrev pub IsFileTime : ℕ → List Transfer → Option ℕ → Type 0
 IsFileTime now transfers None = IsNextDue now transfers None
 IsFileTime now transfers (Some left) = (at : ℕ) × (IsNextDue now transfers (Some at) × (left ≡ at - now))
 
--- it lasts until the idle life of the longest unused socket is over, the longest unused question has waited for long enough, these sets are dropped, a flow is to be told the time, or a packet of a file is due to go again
+-- it lasts until the idle life of the longest unused socket is over, the longest unused question has waited for long enough, these sets are dropped, a flow is
+-- to be told the time, or a packet of a file is due to go again
 pub record IsTimeout (slirp : SlirpState) (blocked : Bool) (held : List PartSet) (timeout : Option ℕ) : Type 0 where
   pub fragments : Option ℕ
   pub of_fragments : IsPartTime slirp.moment held fragments
   pub flows : Option ℕ
   pub of_flows : IsFlowTime blocked slirp.moment slirp.flows.flows.slots flows
-  pub suits_flows : (config : Config) (before : ℕ) (past : List Entry) → CoreHolds config before true None slirp.flows.flows past → SuitsFlows config slirp.moment blocked slirp.flows.flows.slots past flows
+  pub suits_flows : (config : Config) (before : ℕ) (past : List Entry) → CoreHolds config before true None slirp.flows.flows past →
+      SuitsFlows config slirp.moment blocked slirp.flows.flows.slots past flows
   pub files : Option ℕ
   pub of_files : IsFileTime slirp.moment slirp.transfers files
   pub is : timeout ≡ sooner (sooner (sooner (sooner (time_left slirp.moment slirp.associations) (question_left slirp.moment slirp.questions)) fragments) flows) files

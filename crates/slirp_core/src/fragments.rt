@@ -15,7 +15,8 @@ use net_octets::{Ip4, Mac};
 /// The most octets of a joined datagram: a header of 60 and a body of 65,515.
 pub const LONGEST_ASSEMBLED: usize = 65_575;
 
-/// A datagram that was joined: the hardware address of the frame by which it was whole, its fields, and how many octets its header and its body have, which stand in this order at the front of a buffer.
+/// A datagram that was joined: the hardware address of the frame by which it was whole, its fields, and how many octets its header and its body have, which
+/// stand in this order at the front of a buffer.
 #[derive(Clone, Copy)]
 pub struct Assembled {
     pub mac: Mac,

@@ -32,7 +32,9 @@ const LAST_MOMENT: u64 = 1 << 62;
 /// The room for what a server of ours answers, in octets: a reply to a client of DHCP has at most 790, a packet of a file 1,472.
 const MESSAGE_ROOM: usize = 1472;
 
-/// The virtual network: who its guests are, which sockets are open for their datagrams and their questions, how many datagrams went out, the frames that are owed to a guest and aren't out yet, the fragments that wait to be joined, the flows of TCP, who has which address, the ports of the host that are given to guests, and the files that guests get.
+/// The virtual network: who its guests are, which sockets are open for their datagrams and their questions, how many datagrams went out, the frames that are
+/// owed to a guest and aren't out yet, the fragments that wait to be joined, the flows of TCP, who has which address, the ports of the host that are given to
+/// guests, and the files that guests get.
 #[derive(Drop)]
 pub struct Slirp {
     pub(crate) policy: Policy,
@@ -61,9 +63,25 @@ impl Model for Slirp {
 
     ghost Value = { SlirpState };
 
-    ghost view = { λ s. record { config = s.policy; known = s.guests; sent = s.sent; pending = s.outgoing; moment = s.moment; number = s.number; associations = s.associations.list; questions = s.questions.list; fragments = s.reasm; flows = s.flows; leases = s.leases.leases; forwards = s.forwards; transfers = s.files.transfers } };
+    ghost view = { λ s. record {
+      config = s.policy;
+      known = s.guests;
+      sent = s.sent;
+      pending = s.outgoing;
+      moment = s.moment;
+      number = s.number;
+      associations = s.associations.list;
+      questions = s.questions.list;
+      fragments = s.reasm;
+      flows = s.flows;
+      leases = s.leases.leases;
+      forwards = s.forwards;
+      transfers = s.files.transfers;
+    } };
 
-    // each socket has a number under that of the next one, those of questions and of flows too, of which there are at most 4,096; sockets are opened at the address of the settings, or at 0.0.0.0, every address of the host; and the servers of leases and of files and the relay of questions have the settings, and there is room for a reply
+    // each socket has a number under that of the next one, those of questions and of flows too, of which there are at most 4,096; sockets are opened at the
+    // address of the settings, or at 0.0.0.0, every address of the host; and the servers of leases and of files and the relay of questions have the settings,
+    // and there is room for a reply
     ghost invariant = { λ s. All (λ n. n < s.number) (numbers s.associations.list) × (s.moment ≤ 2 ^ 62) × (s.associations.bind ≡ unwrap_or s.policy.outbound 0)
         × AreDrawn s.number s.flows × (s.leases.config ≡ s.policy) × (length s.message.items ≡ 1472) × AreAsked s.number s.policy s.questions
         × IsServer s.policy s.files };
@@ -306,8 +324,10 @@ impl Slirp {
         }
     }
 
-    /// Begins a turn after which another wait may come: the flows are told their guests' hardware addresses and the time, the transfers of files that are over are gone, the fragments that have waited for 60,000 milliseconds are dropped, and the
-    /// sockets of datagrams whose idle life is over are closed, and those of questions that have waited for 10,000 milliseconds. Of each kind sockets are closed by rising number. There are at most 2^45 turns.
+    /// Begins a turn after which another wait may come: the flows are told their guests' hardware addresses and the time, the transfers of files that are over
+    /// are gone, the fragments that have waited for 60,000 milliseconds are dropped, and the
+    /// sockets of datagrams whose idle life is over are closed, and those of questions that have waited for 10,000 milliseconds. Of each kind sockets are
+    /// closed by rising number. There are at most 2^45 turns.
     /// A flow that owed no acknowledgement is in time then: its timer isn't due.
     pub fn tick<W: World>(&mut self, world: &mut W)
         requires { self.old.flows.turn < 2 ^ 45 }

@@ -89,7 +89,7 @@ impl TurnWants {
         })
     }
 
-    /// The list.
+    /// What the turn waits for: the link, listeners, sockets for datagrams, connections, each kind by rising number.
     pub fn list(&self) -> &Wants
         ensures { result.now ≡ self.now }
     {
@@ -231,7 +231,11 @@ impl Slirp {
     ghost use Rattle.slirp_core.specs.Pumps.{WantsOf, listeners_of};
     ghost use Rattle.slirp_core.specs.Timeouts.{IsTimeout};
 
-    /// What the network waits for, and how long at most: the link for reading, and each open socket of datagrams, where nothing is left to be sent: those of ports of the host, then those of associations and questions, by rising number; the link for writing where it is blocked; each port of the host to which peers connect exactly where there is room for a flow more; what flows wait for, by rising number; until the idle life of the longest unused socket is over, the longest unused question has waited for long enough, the first fragments are dropped, a flow is to be told the time, or a packet of a file is due to go again.
+    /// What the network waits for, and how long at most: the link for reading, and each open socket of datagrams, where nothing is left to be sent: those of
+    /// ports of the host, then those of associations and questions, by rising number; the link for writing where it is blocked; each port of the host to which
+    /// peers connect exactly where there is room for a flow more; what flows wait for, by rising number; until the idle life of the longest unused socket is
+    /// over, the longest unused question has waited for long enough, the first fragments are dropped, a flow is to be told the time, or a packet of a file is
+    /// due to go again.
     pub fn pollfds_fill(&self, link: &Link, wants: &mut TurnWants) -> Option<u64>
         requires { 5153 ≤ wants.old.capacity }
         ensures timeout { (held : List PartSet) → IsHeld self.now.fragments held → IsTimeout self.now link.now.blocked held result }

@@ -35,7 +35,8 @@ use Rattle.slirp_laws.proofs.Spelt.{spelt}
 
 -- ---- an answer, as it is read
 
-pub answer_read : (config : Config) (past : List Entry) (frame : List ℕ) (ip : Ip) (udp : Udp) → 28 ≤ config.mtu → Lawful config past → AreAllowed past → HasPorts config → config.vnameserver < 2 ^ 32 → Carries frame ip → is_unbroken ip ≡ true
+pub answer_read : (config : Config) (past : List Entry) (frame : List ℕ) (ip : Ip) (udp : Udp) → 28 ≤ config.mtu → Lawful config past → AreAllowed past → HasPorts config →
+    config.vnameserver < 2 ^ 32 → Carries frame ip → is_unbroken ip ≡ true
     → read_udp ip.from ip.to ip.body ≡ Some udp → (a : AnswersQuestion config past frame) → (udp.from_port ≡ 53) × AnswerCame config past (endpoint ip.to udp.to_port) udp.body
 answer_read config past frame ip udp room lawful allowed ports fits c unbroken is a =
     let q = a.question in
@@ -47,15 +48,19 @@ answer_read config past frame ip udp room lawful allowed ports fits c unbroken i
     let range = asker_range config past q a.peer a.octets lawful allowed ports a.last in
     let six : length q.mac.0 ≡ 6 = subst SixOccasion a.last (six_occasion config past) in
     let back = datagram_back config past frame ip udp a.out a.rest q.mac.0 config.vnameserver (address q.guest) sent frames fits range.0 (omega arith) range.1 room six c unbroken is in
-    let to : q.guest ≡ endpoint ip.to udp.to_port = λ i. record { addr = record { 0 = sym back.to i }; port = (sym back.whole i).to_port } in
-    (ap (λ (u : Udp). u.from_port) back.whole, subst (λ g. AnswerCame config past g udp.body) to (subst (AnswerCame config past q.guest) (ap (λ (u : Udp). u.body) (sym back.whole)) (answer_written config past frame lawful a)))
+    let to : q.guest ≡ endpoint ip.to udp.to_port = λ i. record { addr = record { 0 = sym back.to i }; port = (sym back.whole i).to_port } in (
+      ap (λ (u : Udp). u.from_port) back.whole,
+      subst (λ g. AnswerCame config past g udp.body) to (subst (AnswerCame config past q.guest) (ap (λ (u : Udp). u.body) (sym back.whole))
+          (answer_written config past frame lawful a)),
+    )
 
 -- ---- a reply to what a peer sent is from no address of the network but the virtual host's
 
 no_peer : (config : Config) (past : List Entry) (ip : Ip) (udp : Udp) → HasNameServer config → ip.from ≡ config.vnameserver → IsReplyToItsPort config past ip udp → ⊥
 no_peer config past ip udp server from r =
     let same : address (shown config r.peer) ≡ config.vnameserver = ap address r.source ∙ from in
-    let hidden : is_hidden config r.peer ≡ true = ap (λ a. in_network config a && not (a == config.vhost)) same ∙ ap (λ b. b && not (config.vnameserver == config.vhost)) server.inside ∙ ap not server.other in
+    let hidden : is_hidden config r.peer ≡ true = ap (λ a. in_network config a && not (a == config.vhost)) same ∙ ap
+    (λ b. b && not (config.vnameserver == config.vhost)) server.inside ∙ ap not server.other in
     let never : true ≡ false = sym hidden ∙ r.seen in
     cc
 
@@ -72,7 +77,8 @@ abbrev IsFromVhost : Config → Answer → Type 0
 IsFromVhost config (ArpAnswer to arp) = Unit {0}
 IsFromVhost config (IpAnswer to proto from guest body) = from ≡ config.vhost
 
-from_vhost : (config : Config) (past : List Entry) (frame : List ℕ) (ip : Ip) (a : Answer) (k : ℕ) (rest : List (List ℕ)) → SixAnswer a → config.vhost < 2 ^ 32 → Carries frame ip → drop k (frames_for config (identification_with k past) a) ≡ frame ∷ rest → IsFromVhost config a → ip.from ≡ config.vhost
+from_vhost : (config : Config) (past : List Entry) (frame : List ℕ) (ip : Ip) (a : Answer) (k : ℕ) (rest : List (List ℕ)) → SixAnswer a → config.vhost < 2 ^ 32 → Carries frame ip →
+    drop k (frames_for config (identification_with k past) a) ≡ frame ∷ rest → IsFromVhost config a → ip.from ≡ config.vhost
 from_vhost config past frame ip (ArpAnswer to arp) k rest six fits c is of = absurd (carries_no_arp config (identification_with k past) k to arp frame rest ip six is c)
 from_vhost config past frame ip (IpAnswer to proto from guest body) k rest six fits c is of =
     let p = part_of_frames config (identification_with k past) to proto from guest body frame rest k is in
@@ -80,12 +86,14 @@ from_vhost config past frame ip (IpAnswer to proto from guest body) k rest six f
     let held = carried_ip config (identification_with k past) to proto from guest cut ip six (subst (λ f. Carries f ip) p.is c) in
     reads_from (identification_with k past) (fragment_of cut.more cut.place) proto from guest cut.body ip (subst (λ n. n < 2 ^ 32) (sym of) fits) held ∙ of
 
-lease_from : (config : Config) (now : ℕ) (leases : List Lease) (o : Option Message) → AllAnswers (IsFromVhost config) (answers_of (sending_of (reply_to config now leases o) (replied_octets config now leases o)))
+lease_from : (config : Config) (now : ℕ) (leases : List Lease) (o : Option Message) → AllAnswers (IsFromVhost config)
+    (answers_of (sending_of (reply_to config now leases o) (replied_octets config now leases o)))
 lease_from config now leases None = tt
 lease_from config now leases (Some m) = by (is_silence (served_lease config now leases (Some m)).answer) (goes_to_all m (served_lease config now leases (Some m)).answer) _ _
   where
     by : (silent to_all : Bool) (count : ℕ) (octets : List ℕ)
-        → AllAnswers (IsFromVhost config) (answers_of (sending_of (if silent then Nothing else (if to_all then ADatagram count (endpoint config.vhost 67) (endpoint 0xffffffff 68) (Some everybody) else ADatagram count (endpoint config.vhost 67) (endpoint m.client.0 68) (Some m.mac))) octets))
+        → AllAnswers (IsFromVhost config) (answers_of (sending_of (if silent then Nothing else (if to_all then ADatagram count (endpoint config.vhost 67) (endpoint 0xffffffff 68)
+        (Some everybody) else ADatagram count (endpoint config.vhost 67) (endpoint m.client.0 68) (Some m.mac))) octets))
     by true to_all count octets = tt
     by false true count octets = (refl, tt)
     by false false count octets = (refl, tt)
@@ -104,22 +112,26 @@ fate_from config s d (GoesTo to) is = absurd cc
 of_one : (config : Config) (answers : List Answer) (a : Answer) → answers ≡ a ∷ [] → AllAnswers (IsFromVhost config) answers → IsFromVhost config a
 of_one config answers a is all = (subst (AllAnswers (IsFromVhost config)) is all).0
 
-from_server : (config : Config) (e : Entry) (past : List Entry) (frame : List ℕ) (ip : Ip) → 28 ≤ config.mtu → Lawful config (e ∷ past) → config.vhost < 2 ^ 32 → goes_out e past ≡ Some frame → Carries frame ip → ip.proto ≡ udp_proto → IsOfServer config past frame → ip.from ≡ config.vhost
+from_server : (config : Config) (e : Entry) (past : List Entry) (frame : List ℕ) (ip : Ip) → 28 ≤ config.mtu → Lawful config (e ∷ past) → config.vhost < 2 ^ 32 →
+    goes_out e past ≡ Some frame → Carries frame ip → ip.proto ≡ udp_proto → IsOfServer config past frame → ip.from ≡ config.vhost
 from_server config e past frame ip room lawful fits out c udp server = by_frame (out_by config e past frame lawful.0 out)
   where
     -- the first frame of a packet that goes again
     by_again : GoesAgain config past frame → ip.from ≡ config.vhost
     by_again g =
         let b = begins_with frame (frames_of config (identification past) (told_of_files config (Some g.said))) g.first in
-        from_vhost config past frame ip (file_answer config g.said) 0 b.0 (subst SixSaid g.may (six_again config past)) fits c (sym (frames_one config (identification past) (file_answer config g.said)) ∙ b.1) refl
+        from_vhost config past frame ip (file_answer config g.said) 0 b.0 (subst SixSaid g.may (six_again config past)) fits c
+        (sym (frames_one config (identification past) (file_answer config g.said)) ∙ b.1) refl
 
     -- a frame of the answer to what came last
-    by_answer : (a : Answer) (k : ℕ) (rest : List (List ℕ)) → owed_for config past (last_occasion config past) ≡ a ∷ [] → drop k (frames_for config (identification_with k past) a) ≡ frame ∷ rest → IsOfServer config past frame → ip.from ≡ config.vhost
+    by_answer : (a : Answer) (k : ℕ) (rest : List (List ℕ)) → owed_for config past (last_occasion config past) ≡ a ∷ [] → drop k
+        (frames_for config (identification_with k past) a) ≡ frame ∷ rest → IsOfServer config past frame → ip.from ≡ config.vhost
     by_answer a k rest owed is (ForPacket s stray d last served) =
         from_vhost config past frame ip a k rest (out_six config past a owed) fits c is
         (of_one config (owed_for_fate config s d (fate config d)) a (sym (ap (owed_for config past) last) ∙ owed) (fate_from config s d (fate config d) served))
     by_answer a k rest owed is (ByFile said last) =
-        from_vhost config past frame ip a k rest (out_six config past a owed) fits c is (of_one config (told_of_files config (Some said)) a (sym (ap (owed_for config past) last) ∙ owed) (files_from config (Some said)))
+        from_vhost config past frame ip a k rest (out_six config past a owed) fits c is (of_one config (told_of_files config (Some said)) a
+        (sym (ap (owed_for config past) last) ∙ owed) (files_from config (Some said)))
     by_answer a k rest owed is (Again g) = by_again g
 
     by_frame : Begins config past frame → ip.from ≡ config.vhost
@@ -138,8 +150,10 @@ no_server config from server is was =
     let never : true ≡ false = sym same ∙ server.other in
     cc
 
-pub answer_as_read : (config : Config) (e : Entry) (past : List Entry) (frame : List ℕ) (ip : Ip) (udp : Udp) → 28 ≤ config.mtu → Lawful config (e ∷ past) → AreAllowed past → config.vhost < 2 ^ 32 → HasPorts config → HasNameServer config → goes_out e past ≡ Some frame
-    → Carries frame ip → is_unbroken ip ≡ true → ip.proto ≡ udp_proto → read_udp ip.from ip.to ip.body ≡ Some udp → ip.from ≡ config.vnameserver → (udp.from_port ≡ 53) × AnswerCame config past (endpoint ip.to udp.to_port) udp.body
+pub answer_as_read : (config : Config) (e : Entry) (past : List Entry) (frame : List ℕ) (ip : Ip) (udp : Udp) → 28 ≤ config.mtu → Lawful config (e ∷ past) → AreAllowed past →
+    config.vhost < 2 ^ 32 → HasPorts config → HasNameServer config → goes_out e past ≡ Some frame
+    → Carries frame ip → is_unbroken ip ≡ true → ip.proto ≡ udp_proto → read_udp ip.from ip.to ip.body ≡ Some udp → ip.from ≡ config.vnameserver →
+    (udp.from_port ≡ 53) × AnswerCame config past (endpoint ip.to udp.to_port) udp.body
 answer_as_read config e past frame ip udp room lawful allowed ours ports server out c unbroken proto is from =
     elim (reply_as_read config e past frame ip udp room lawful allowed ours ports out c unbroken proto is) [
       | inl r ↦ absurd (no_peer config past ip udp server from r)

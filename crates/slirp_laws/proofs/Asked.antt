@@ -49,17 +49,25 @@ opened_on config _ past n may drawn = refl
 kind_on : (config : Config) (e : Entry) (past : List Entry) (n : ℕ) → May config past (call_of e) → n < next_number past → kind_for config n (e ∷ past) ≡ kind_for config n past
 kind_on config (Connect socket to answer) past n may drawn = ap (λ (b : Bool). if b then Some OfFlow else kind_for config n past) (not_new socket n (next_number past) may.socket drawn)
 kind_on config (Listen socket at answer) past n may drawn = ap (λ (b : Bool). if b then Some OfListener else kind_for config n past) (not_new socket n (next_number past) may.socket drawn)
-kind_on config (UdpOpen socket at answer) past n may drawn = ap (λ (b : Bool). if b then Some (datagram_kind_for config (nat_lt 0 (waits past)) (errand_left config past)) else kind_for config n past) (not_new socket n (next_number past) may.socket drawn)
-kind_on config (Accept listener socket answer) past n may drawn = ap (λ (b : Bool). if b then Some OfFlow else kind_for config n past) (not_new socket n (next_number past) (peer_next config past listener socket answer may) drawn)
+kind_on config (UdpOpen socket at answer) past n may drawn = ap
+    (λ (b : Bool). if b then Some (datagram_kind_for config (nat_lt 0 (waits past)) (errand_left config past)) else kind_for config n past) (not_new socket n (next_number past) may.socket drawn)
+kind_on config (Accept listener socket answer) past n may drawn = ap (λ (b : Bool). if b then Some OfFlow else kind_for config n past)
+    (not_new socket n (next_number past) (peer_next config past listener socket answer may) drawn)
 kind_on config _ past n may drawn = refl
 
 kept_on : (config : Config) (e : Entry) (past : List Entry) (q : Question) → May config past (call_of e) → KeptQuestion config past q → KeptQuestion config (e ∷ past) q
-kept_on config e past q may kept = record { guest = opened_on config e past q.number may kept.drawn ∙ kept.guest; kind = kind_on config e past q.number may kept.drawn ∙ kept.kind; drawn = drawn_on e past q.number kept.drawn }
+kept_on config e past q may kept = record {
+  guest = opened_on config e past q.number may kept.drawn ∙ kept.guest;
+  kind = kind_on config e past q.number may kept.drawn ∙ kept.kind;
+  drawn = drawn_on e past q.number kept.drawn;
+}
 
 -- ---- by an entry
 
-opened_kept : (config : Config) (past : List Entry) (socket : ℕ) (at : Endpoint) (answer : Made) (o : Option Errand) → May config past (call_of (UdpOpen socket at answer)) → Lawful config past → errand_left config past ≡ o
-    → AreKeptQuestions config (UdpOpen socket at answer ∷ past) (questions config past) → AreKeptQuestions config (UdpOpen socket at answer ∷ past) (with_opened config answer socket (moment past) o (questions config past))
+opened_kept : (config : Config) (past : List Entry) (socket : ℕ) (at : Endpoint) (answer : Made) (o : Option Errand) → May config past (call_of (UdpOpen socket at answer)) →
+    Lawful config past → errand_left config past ≡ o
+    → AreKeptQuestions config (UdpOpen socket at answer ∷ past) (questions config past) → AreKeptQuestions config (UdpOpen socket at answer ∷ past)
+    (with_opened config answer socket (moment past) o (questions config past))
 opened_kept config past socket at Done None may lawful left kept = kept
 opened_kept config past socket at Failed o may lawful left kept = kept
 opened_kept config past socket at Done (Some errand) may lawful left kept = by (asks_a_name config errand) refl
@@ -67,14 +75,16 @@ opened_kept config past socket at Done (Some errand) may lawful left kept = by (
     new : asks_a_name config errand ≡ true → KeptQuestion config (UdpOpen socket at Done ∷ past) (question socket errand (moment past))
     new name = record {
       guest = ap (λ (b : Bool). if b then port_for config socket past else opened_for config socket past) (same socket)
-          ∙ ap (λ (b : Bool). if b then last_port config past else given_port config socket) (waited_for config past errand left lawful) ∙ ap (option_map (λ (d : Datagram). d.from)) (errand_asks config past errand left).datagram;
+          ∙ ap (λ (b : Bool). if b then last_port config past else given_port config socket) (waited_for config past errand left lawful) ∙ ap
+          (option_map (λ (d : Datagram). d.from)) (errand_asks config past errand left).datagram;
       kind = ap (λ (b : Bool). if b then Some (datagram_kind_for config (nat_lt 0 (waits past)) (errand_left config past)) else kind_for config socket past) (same socket)
           ∙ ap (λ o. Some (datagram_kind_for config (nat_lt 0 (waits past)) o)) left
           ∙ ap (λ (b : Bool). Some (if b then DnsSocket else datagram_kind (nat_lt 0 (waits past)))) name;
       drawn = (let number = may.socket in let here : socket ≡ next_number past = grind (arith, nat_tests, number) in omega (arith, here));
     }
 
-    by : (b : Bool) → asks_a_name config errand ≡ b → AreKeptQuestions config (UdpOpen socket at Done ∷ past) (if b then questions config past ++ (question socket errand (moment past) ∷ []) else questions config past)
+    by : (b : Bool) → asks_a_name config errand ≡ b → AreKeptQuestions config (UdpOpen socket at Done ∷ past)
+        (if b then questions config past ++ (question socket errand (moment past) ∷ []) else questions config past)
     by true name = all_last (KeptQuestion config (UdpOpen socket at Done ∷ past)) (questions config past) (question socket errand (moment past)) kept (new name)
     by false other = kept
 
@@ -85,19 +95,23 @@ same_question config past q other number guest kept = record {
   drawn = (let before = kept.drawn in omega (arith, before, number));
 }
 
-sent_kept : (config : Config) (past : List Entry) (socket now : ℕ) (o : Option Errand) (list : List Question) → AreKeptQuestions config past list → AreKeptQuestions config past (with_sent socket now o list)
+sent_kept : (config : Config) (past : List Entry) (socket now : ℕ) (o : Option Errand) (list : List Question) → AreKeptQuestions config past list → AreKeptQuestions config past
+    (with_sent socket now o list)
 sent_kept config past socket now None list kept = kept
 sent_kept config past socket now (Some errand) list kept = all_moved (KeptQuestion config past) _ socket list (λ q one. same_question config past q _ refl refl one) kept
 
-heard_kept : (config : Config) (past : List Entry) (answer : Got) (socket now : ℕ) (list : List Question) → AreKeptQuestions config past list → AreKeptQuestions config past (with_heard answer socket now list)
+heard_kept : (config : Config) (past : List Entry) (answer : Got) (socket now : ℕ) (list : List Question) → AreKeptQuestions config past list → AreKeptQuestions config past
+    (with_heard answer socket now list)
 heard_kept config past (From peer n) socket now list kept = all_moved (KeptQuestion config past) (heard_at now) socket list (λ q one. same_question config past q (heard_at now q) refl refl one) kept
 heard_kept config past GotNotYet socket now list kept = kept
 heard_kept config past GotFailed socket now list kept = kept
 
-kept_by : (config : Config) (e : Entry) (past : List Entry) → May config past (call_of e) → Lawful config past → AreKeptQuestions config (e ∷ past) (questions config past) → AreKeptQuestions config (e ∷ past) (questions config (e ∷ past))
+kept_by : (config : Config) (e : Entry) (past : List Entry) → May config past (call_of e) → Lawful config past → AreKeptQuestions config (e ∷ past) (questions config past) →
+    AreKeptQuestions config (e ∷ past) (questions config (e ∷ past))
 kept_by config (Close socket) past may lawful kept = all_left (KeptQuestion config (Close socket ∷ past)) socket (questions config past) kept
 kept_by config (UdpOpen socket at answer) past may lawful kept = opened_kept config past socket at answer (errand_left config past) may lawful refl kept
-kept_by config (UdpSend socket to octets answer) past may lawful kept = sent_kept config (UdpSend socket to octets answer ∷ past) socket (moment past) (errand_left config past) (questions config past) kept
+kept_by config (UdpSend socket to octets answer) past may lawful kept = sent_kept config (UdpSend socket to octets answer ∷ past) socket (moment past) (errand_left config past)
+    (questions config past) kept
 kept_by config (UdpRecv socket asked answer octets) past may lawful kept = heard_kept config (UdpRecv socket asked answer octets ∷ past) answer socket (moment past) (questions config past) kept
 kept_by config _ past may lawful kept = kept
 
@@ -108,7 +122,8 @@ kept_questions config (e ∷ past) lawful = kept_by config e past lawful.0 lawfu
 
 -- ---- the socket of a question was opened for the port that asks it
 
-pub asked_for : (config : Config) (past : List Entry) (guest : Endpoint) (ident socket : ℕ) → Lawful config past → socket_of guest ident (questions config past) ≡ Some socket → opened_for config socket past ≡ Some guest
+pub asked_for : (config : Config) (past : List Entry) (guest : Endpoint) (ident socket : ℕ) → Lawful config past → socket_of guest ident (questions config past) ≡ Some socket →
+    opened_for config socket past ≡ Some guest
 asked_for config past guest ident socket lawful is =
     let q = socket_found (KeptQuestion config past) guest ident socket (questions config past) (kept_questions config past lawful) is in
     subst (λ n. opened_for config n past ≡ Some guest) q.3 (q.1.guest ∙ ap Some (equal_endpoints q.0.guest guest (first_of (same_endpoint q.0.guest guest) (q.0.ident == ident) q.2)))

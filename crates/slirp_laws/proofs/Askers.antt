@@ -1,5 +1,6 @@
 -- Of each question that waits the record has that it was asked, or it is sent next.
-use Rattle.std.proofs.Common.{◌≡◌, ℕ, ◌<◌, ◌==◌, ◌&&◌, not, Bool, true, false, List, [], ◌∷◌, ◌++◌, MatchOption, Option, Some, None, option_map, unwrap_or, if◌then◌else◌, ◌⊎◌, inl, inr, refl, sym, ◌∙◌, ap, subst, arith}
+use Rattle.std.proofs.Common.{◌≡◌, ℕ, ◌<◌, ◌==◌, ◌&&◌, not, Bool, true, false, List, [], ◌∷◌, ◌++◌, MatchOption, Option, Some, None, option_map, unwrap_or, if◌then◌else◌, ◌⊎◌, inl, inr}
+use Rattle.std.proofs.Common.{refl, sym, ◌∙◌, ap, subst, arith}
 use Rattle.std.proofs.lemmas.Bool.Decides.{nat_tests}
 use Rattle.world_face.specs.Journal.{Entry, Call, Close, UdpOpen, UdpSend, UdpRecv, CallClose, CallUdpOpen, CallUdpSend, CallUdpRecv, call_of}
 use Rattle.world_face.specs.declared.Made.{Made}
@@ -51,7 +52,9 @@ resolves_by config port to is = by ((port == 53) && not config.no_dns) is
 by_rules_of : (config : Config) (at to : Endpoint) → (address at == config.vnameserver) ≡ true → by_rules config at ≡ Go to → config.resolver ≡ Some to
 by_rules_of config at to names is = by config.restricted (at.port == 0) (address at == config.vnameserver) _ names is
   where
-    by : (shut none server : Bool) (rest : Verdict) → server ≡ true → (if shut then Denied Restricted else (if none then Denied PortZero else (if server then unwrap_or (option_map Go (resolver_on config at.port)) (Denied NameServer) else rest))) ≡ Go to → config.resolver ≡ Some to
+    by : (shut none server : Bool) (rest : Verdict) → server ≡ true →
+        (if shut then Denied Restricted else (if none then Denied PortZero else (if server then unwrap_or (option_map Go (resolver_on config at.port))
+        (Denied NameServer) else rest))) ≡ Go to → config.resolver ≡ Some to
     by true none server rest here is = cc
     by false true server rest here is = cc
     by false false true rest here is = resolves_by config at.port to (by_go (resolver_on config at.port) NameServer to is)
@@ -84,7 +87,8 @@ record IsUnsent (config : Config) (past : List Entry) (n : ℕ) (guest : Endpoin
   identifier : ident_in errand.datagram.body ≡ ident
   ahead : (due_in (phase config past) past ≡ None) ⊎ (due_in (phase config past) past ≡ Some (CallClose n))
 
-first_due : (p : Phase) (past : List Entry) (other : Option Call) (socket : ℕ) (at : Endpoint) → HasWaited p (waits past) → 0 < waits past → unless_due (due_in p past) other ≡ Some (CallUdpOpen socket at)
+first_due : (p : Phase) (past : List Entry) (other : Option Call) (socket : ℕ) (at : Endpoint) → HasWaited p (waits past) → 0 < waits past → unless_due (due_in p past) other ≡ Some
+    (CallUdpOpen socket at)
     → (due_in (opened Done p) (UdpOpen socket at Done ∷ past) ≡ None) ⊎ (due_in (opened Done p) (UdpOpen socket at Done ∷ past) ≡ Some (CallClose socket))
 first_due (Opening count forwards) past other socket at waited some is = absurd (omega (arith, waited, some))
 first_due Started past other socket at waited some is = inl refl
@@ -106,7 +110,8 @@ no_socket_for None list errand is = refl
 no_socket_for (Some socket) list errand is = cc
 
 -- a socket is opened for a question where none waits that is of this port with this identifier
-pub no_socket_yet : (config : Config) (past : List Entry) (socket : ℕ) (at : Endpoint) (errand : Errand) → May config past (CallUdpOpen socket at) → Lawful config past → errand_left config past ≡ Some errand → asks_a_name config errand ≡ true
+pub no_socket_yet : (config : Config) (past : List Entry) (socket : ℕ) (at : Endpoint) (errand : Errand) → May config past (CallUdpOpen socket at) → Lawful config past →
+    errand_left config past ≡ Some errand → asks_a_name config errand ≡ true
     → socket_of errand.datagram.from (ident_in errand.datagram.body) (questions config past) ≡ None
 no_socket_yet config past socket at errand may lawful left names =
     elim (opens config past socket at may) [
@@ -118,18 +123,22 @@ no_socket_yet config past socket at errand may lawful left names =
     the_same : (other : Errand) → Some other ≡ Some errand → other ≡ errand
     the_same other is = cc
 
-opened_unsent : (config : Config) (past : List Entry) (socket : ℕ) (at : Endpoint) (errand : Errand) → May config past (CallUdpOpen socket at) → Lawful config past → errand_left config past ≡ Some errand → asks_a_name config errand ≡ true
+opened_unsent : (config : Config) (past : List Entry) (socket : ℕ) (at : Endpoint) (errand : Errand) → May config past (CallUdpOpen socket at) → Lawful config past →
+    errand_left config past ≡ Some errand → asks_a_name config errand ≡ true
     → IsUnsent config (UdpOpen socket at Done ∷ past) socket errand.datagram.from (ident_in errand.datagram.body)
 opened_unsent config past socket at errand may lawful left names = record {
   errand = errand;
   needs = step_to_name config (UdpOpen socket at Done ∷ past) errand names left ∙ ap (λ list. step_to_names list errand) list_is
-      ∙ ap (λ o. with_socket o (questions config past ++ (question socket errand (moment past) ∷ [])) errand) (socket_last errand.datagram.from (ident_in errand.datagram.body) (questions config past) (question socket errand (moment past))
+      ∙ ap (λ o. with_socket o (questions config past ++ (question socket errand (moment past) ∷ [])) errand) (socket_last errand.datagram.from (ident_in errand.datagram.body)
+      (questions config past) (question socket errand (moment past))
       (no_socket_yet config past socket at errand may lawful left names)
-      (and_both (same_endpoint errand.datagram.from errand.datagram.from) (ident_in errand.datagram.body == ident_in errand.datagram.body) (same_port errand.datagram.from) (same (ident_in errand.datagram.body))));
+      (and_both (same_endpoint errand.datagram.from errand.datagram.from) (ident_in errand.datagram.body == ident_in errand.datagram.body) (same_port errand.datagram.from)
+      (same (ident_in errand.datagram.body))));
   names = names;
   port = refl;
   identifier = refl;
-  ahead = first_due (phase config past) past (unless_due (due_for config (step config past) (next_number past)) (others_due config past)) socket at (has_waited config past) (let waited = waited_for config past errand left lawful in grind (arith, nat_tests, waited))
+  ahead = first_due (phase config past) past (unless_due (due_for config (step config past) (next_number past)) (others_due config past)) socket at (has_waited config past)
+      (let waited = waited_for config past errand left lawful in grind (arith, nat_tests, waited))
       (due_call (due config past) (CallUdpOpen socket at) may.place may.due);
 }
   where
@@ -139,11 +148,13 @@ opened_unsent config past socket at errand may lawful left names = record {
 
 -- the call that comes then
 data Following (config : Config) (past : List Entry) (n : ℕ) (guest : Endpoint) (ident : ℕ) (call : Call) : Type 0 where
-  AskedNext : (errand : Errand) → call ≡ CallUdpSend n errand.to errand.datagram.body → errand_left config past ≡ Some errand → asks_a_name config errand ≡ true → errand.datagram.from ≡ guest → ident_in errand.datagram.body ≡ ident
+  AskedNext : (errand : Errand) → call ≡ CallUdpSend n errand.to errand.datagram.body → errand_left config past ≡ Some errand → asks_a_name config errand ≡ true →
+      errand.datagram.from ≡ guest → ident_in errand.datagram.body ≡ ident
       → Following config past n guest ident call
   ShutNext : call ≡ CallClose n → Following config past n guest ident call
 
-following : (config : Config) (past : List Entry) (n : ℕ) (guest : Endpoint) (ident : ℕ) (call : Call) → IsUnsent config past n guest ident → May config past call → Following config past n guest ident call
+following : (config : Config) (past : List Entry) (n : ℕ) (guest : Endpoint) (ident : ℕ) (call : Call) → IsUnsent config past n guest ident → May config past call →
+    Following config past n guest ident call
 following config past n guest ident call u may = elim u.ahead [
   | inl none ↦ AskedNext u.errand
       (is_due config past call (CallUdpSend n u.errand.to u.errand.datagram.body) may
@@ -205,37 +216,47 @@ asked_on config e past q may asked = elim asked [
           identifier = identifier;
         })
 
-all_asked_on : (config : Config) (e : Entry) (past : List Entry) (list : List Question) → May config past (call_of e) → AllQuestions (IsAsked config past) list → AllQuestions (WasAskedOrShut config e past) list
+all_asked_on : (config : Config) (e : Entry) (past : List Entry) (list : List Question) → May config past (call_of e) → AllQuestions (IsAsked config past) list → AllQuestions
+    (WasAskedOrShut config e past) list
 all_asked_on config e past list may all = all_so (IsAsked config past) (WasAskedOrShut config e past) list (λ q asked. asked_on config e past q may asked) all
 
 -- the entry is no close
-stay_asked : (config : Config) (e : Entry) (past : List Entry) (list : List Question) → ((n : ℕ) → call_of e ≡ CallClose n → ⊥) → AllQuestions (WasAskedOrShut config e past) list → AllQuestions (IsAsked config (e ∷ past)) list
+stay_asked : (config : Config) (e : Entry) (past : List Entry) (list : List Question) → ((n : ℕ) → call_of e ≡ CallClose n → ⊥) → AllQuestions (WasAskedOrShut config e past) list →
+    AllQuestions (IsAsked config (e ∷ past)) list
 stay_asked config e past list never all = all_so (WasAskedOrShut config e past) (IsAsked config (e ∷ past)) list (λ q either. elim either [
   | inl was ↦ inl was
   | inr shut ↦ absurd (never q.number shut)
 ]) all
 
-opened_asked : (config : Config) (past : List Entry) (socket : ℕ) (at : Endpoint) (answer : Made) (o : Option Errand) → May config past (CallUdpOpen socket at) → Lawful config past → errand_left config past ≡ o
-    → AllQuestions (IsAsked config (UdpOpen socket at answer ∷ past)) (questions config past) → AllQuestions (IsAsked config (UdpOpen socket at answer ∷ past)) (with_opened config answer socket (moment past) o (questions config past))
+opened_asked : (config : Config) (past : List Entry) (socket : ℕ) (at : Endpoint) (answer : Made) (o : Option Errand) → May config past (CallUdpOpen socket at) →
+    Lawful config past → errand_left config past ≡ o
+    → AllQuestions (IsAsked config (UdpOpen socket at answer ∷ past)) (questions config past) → AllQuestions (IsAsked config (UdpOpen socket at answer ∷ past))
+    (with_opened config answer socket (moment past) o (questions config past))
 opened_asked config past socket at Done None may lawful left all = all
 opened_asked config past socket at Failed o may lawful left all = all
 opened_asked config past socket at Done (Some errand) may lawful left all = by (asks_a_name config errand) refl
   where
-    by : (b : Bool) → asks_a_name config errand ≡ b → AllQuestions (IsAsked config (UdpOpen socket at Done ∷ past)) (if b then questions config past ++ (question socket errand (moment past) ∷ []) else questions config past)
-    by true names = all_last (IsAsked config (UdpOpen socket at Done ∷ past)) (questions config past) (question socket errand (moment past)) all (inr (opened_unsent config past socket at errand may lawful left names))
+    by : (b : Bool) → asks_a_name config errand ≡ b → AllQuestions (IsAsked config (UdpOpen socket at Done ∷ past))
+        (if b then questions config past ++ (question socket errand (moment past) ∷ []) else questions config past)
+    by true names = all_last (IsAsked config (UdpOpen socket at Done ∷ past)) (questions config past) (question socket errand (moment past)) all
+        (inr (opened_unsent config past socket at errand may lawful left names))
     by false names = all
 
-sent_asked : (config : Config) (past : List Entry) (socket now : ℕ) (o : Option Errand) (list : List Question) → AllQuestions (IsAsked config past) list → AllQuestions (IsAsked config past) (with_sent socket now o list)
+sent_asked : (config : Config) (past : List Entry) (socket now : ℕ) (o : Option Errand) (list : List Question) → AllQuestions (IsAsked config past) list → AllQuestions
+    (IsAsked config past) (with_sent socket now o list)
 sent_asked config past socket now None list all = all
 sent_asked config past socket now (Some errand) list all = all_moved (IsAsked config past) _ socket list (λ q asked. asked) all
 
-heard_asked : (config : Config) (past : List Entry) (answer : Got) (socket now : ℕ) (list : List Question) → AllQuestions (IsAsked config past) list → AllQuestions (IsAsked config past) (with_heard answer socket now list)
+heard_asked : (config : Config) (past : List Entry) (answer : Got) (socket now : ℕ) (list : List Question) → AllQuestions (IsAsked config past) list → AllQuestions
+    (IsAsked config past) (with_heard answer socket now list)
 heard_asked config past (From peer n) socket now list all = all_moved (IsAsked config past) _ socket list (λ q asked. asked) all
 heard_asked config past GotNotYet socket now list all = all
 heard_asked config past GotFailed socket now list all = all
 
-closed_asked : (config : Config) (past : List Entry) (socket : ℕ) (list : List Question) → AllQuestions (WasAskedOrShut config (Close socket) past) list → AllQuestions (IsAsked config (Close socket ∷ past)) (without socket list)
-closed_asked config past socket list all = all_so (λ q. WasAskedOrShut config (Close socket) past q × ((q.number == socket) ≡ false)) (IsAsked config (Close socket ∷ past)) (without socket list) (λ q both. left q both.0 both.1) (all_without (WasAskedOrShut config (Close socket) past) socket list all)
+closed_asked : (config : Config) (past : List Entry) (socket : ℕ) (list : List Question) → AllQuestions (WasAskedOrShut config (Close socket) past) list → AllQuestions
+    (IsAsked config (Close socket ∷ past)) (without socket list)
+closed_asked config past socket list all = all_so (λ q. WasAskedOrShut config (Close socket) past q × ((q.number == socket) ≡ false)) (IsAsked config (Close socket ∷ past))
+    (without socket list) (λ q both. left q both.0 both.1) (all_without (WasAskedOrShut config (Close socket) past) socket list all)
   where
     left : (q : Question) → WasAskedOrShut config (Close socket) past q → (q.number == socket) ≡ false → IsAsked config (Close socket ∷ past) q
     left q either other = elim either [
@@ -243,14 +264,17 @@ closed_asked config past socket list all = all_so (λ q. WasAskedOrShut config (
       | inr shut ↦ (let this : q.number ≡ socket = cc in absurd (let never : true ≡ false = sym (same q.number) ∙ ap (λ m. q.number == m) this ∙ other in cc))
     ]
 
-asked_by : (config : Config) (e : Entry) (past : List Entry) → May config past (call_of e) → Lawful config past → AllQuestions (WasAskedOrShut config e past) (questions config past) → AllQuestions (IsAsked config (e ∷ past)) (questions config (e ∷ past))
+asked_by : (config : Config) (e : Entry) (past : List Entry) → May config past (call_of e) → Lawful config past → AllQuestions (WasAskedOrShut config e past)
+    (questions config past) → AllQuestions (IsAsked config (e ∷ past)) (questions config (e ∷ past))
 asked_by config (Close socket) past may lawful all = closed_asked config past socket (questions config past) all
 asked_by config (UdpOpen socket at answer) past may lawful all =
     opened_asked config past socket at answer (errand_left config past) may lawful refl (stay_asked config (UdpOpen socket at answer) past (questions config past) (λ n is. cc) all)
 asked_by config (UdpSend socket to octets answer) past may lawful all =
-    sent_asked config (UdpSend socket to octets answer ∷ past) socket (moment past) (errand_left config past) (questions config past) (stay_asked config (UdpSend socket to octets answer) past (questions config past) (λ n is. cc) all)
+    sent_asked config (UdpSend socket to octets answer ∷ past) socket (moment past) (errand_left config past) (questions config past)
+    (stay_asked config (UdpSend socket to octets answer) past (questions config past) (λ n is. cc) all)
 asked_by config (UdpRecv socket asked answer octets) past may lawful all =
-    heard_asked config (UdpRecv socket asked answer octets ∷ past) answer socket (moment past) (questions config past) (stay_asked config (UdpRecv socket asked answer octets) past (questions config past) (λ n is. cc) all)
+    heard_asked config (UdpRecv socket asked answer octets ∷ past) answer socket (moment past) (questions config past) (stay_asked config (UdpRecv socket asked answer octets) past
+    (questions config past) (λ n is. cc) all)
 asked_by config e past may lawful all = stay_asked config e past (questions config past) (λ n is. cc) all
 
 are_asked : (config : Config) (past : List Entry) → Lawful config past → AllQuestions (IsAsked config past) (questions config past)
@@ -261,7 +285,8 @@ are_asked config (e ∷ past) lawful = asked_by config e past lawful.0 lawful.1 
 abbrev pub WasAskedOf : Config → List Entry → Question → Type 0
 WasAskedOf config past q = WasAsked config past q.number q.guest q.ident
 
-pub all_were_asked : (config : Config) (past : List Entry) (socket asked : ℕ) → Lawful config past → May config past (CallUdpRecv socket asked) → AllQuestions (WasAskedOf config past) (questions config past)
+pub all_were_asked : (config : Config) (past : List Entry) (socket asked : ℕ) → Lawful config past → May config past (CallUdpRecv socket asked) → AllQuestions
+    (WasAskedOf config past) (questions config past)
 all_were_asked config past socket asked lawful may = all_so (IsAsked config past) (WasAskedOf config past) (questions config past) was (are_asked config past lawful)
   where
     by : (q : Question) → Following config past q.number q.guest q.ident (CallUdpRecv socket asked) → WasAskedOf config past q

@@ -1,5 +1,6 @@
 -- Frames that go out beside the answers: segments of flows, and requests for a guest's hardware address.
-use Rattle.std.proofs.Common.{◌≡◌, ℕ, ◌^◌, ◌<◌, ◌≤◌, ◌==◌, ◌&&◌, ◌||◌, not, nat_le, Bool, true, false, List, [], ◌∷◌, length, drop, bytes_eq, Option, Some, None, option_map, option_and_then, if◌then◌else◌, ◌⊎◌, inl, inr, refl, sym, ◌∙◌, ap, subst, arith, lit<}
+use Rattle.std.proofs.Common.{◌≡◌, ℕ, ◌^◌, ◌<◌, ◌≤◌, ◌==◌, ◌&&◌, ◌||◌, not, nat_le, Bool, true, false, List, [], ◌∷◌, length, drop, bytes_eq, Option, Some, None, option_map}
+use Rattle.std.proofs.Common.{option_and_then, if◌then◌else◌, ◌⊎◌, inl, inr, refl, sym, ◌∙◌, ap, subst, arith, lit<}
 use Rattle.std.specs.List.{list_any}
 use Rattle.std.proofs.lemmas.Bool.Decides.{nat_tests}
 use Rattle.std.proofs.lemmas.Option.{cond_some}
@@ -17,7 +18,8 @@ use Rattle.record_flows.specs.Flows.{Flow, is_strange, owner}
 use Rattle.record_flows.specs.Segments.{OnTuple, asked_in, segment_in, tcp_of, to_guest, went_by, went_of}
 use Rattle.record_flows.specs.Taught.{is_pair, taught}
 use Rattle.run_laws.specs.Guests.{known}
-use Rattle.slirp_laws.specs.Answers.{is_flows, again_frames, frames_of, may_go_again, serving, told_of_files, begins_datagram, datagrams_in, identification, is_first, left, part_frame, uncut, everyone, request}
+use Rattle.slirp_laws.specs.Answers.{is_flows, again_frames, frames_of, may_go_again, serving, told_of_files, begins_datagram, datagrams_in, identification, is_first, left, part_frame}
+use Rattle.slirp_laws.specs.Answers.{uncut, everyone, request}
 use Rattle.world_face.specs.Frames.{goes_out}
 use Rattle.slirp_laws.specs.Laws.{Lawful}
 use Rattle.slirp_laws.specs.Said.{AnswersLast, AsksForGuest, Carries, GoesAgain, IsOfFlow}
@@ -52,15 +54,18 @@ of_owner config past frame on (Some f) nothing carried owned is = record {
     is_not true is = cc
     is_not false is = refl
 
-pub by_segment : (config : Config) (past : List Entry) (frame : List ℕ) (o : Option OnTuple) → left config past ≡ [] → segment_in frame ≡ o → sends_segment config past frame o ≡ true → IsOfFlow config past frame
+pub by_segment : (config : Config) (past : List Entry) (frame : List ℕ) (o : Option OnTuple) → left config past ≡ [] → segment_in frame ≡ o →
+    sends_segment config past frame o ≡ true → IsOfFlow config past frame
 by_segment config past frame None nothing carried is = cc
 by_segment config past frame (Some on) nothing carried is = of_owner config past frame on (owner on.tuple (book config past).flows) nothing carried refl is
 
-pub by_request : (config : Config) (past : List Entry) (frame : List ℕ) (o : Option ℕ) → left config past ≡ [] → asked_in frame ≡ o → may_ask config past frame o ≡ true → AsksForGuest config past frame
+pub by_request : (config : Config) (past : List Entry) (frame : List ℕ) (o : Option ℕ) → left config past ≡ [] → asked_in frame ≡ o → may_ask config past frame o ≡ true →
+    AsksForGuest config past frame
 by_request config past frame None nothing asked is = cc
 by_request config past frame (Some guest) nothing asked is = record { nothing = nothing; guest = guest; asked = asked; may = is }
 
-pub beside : (config : Config) (past : List Entry) (frame : List ℕ) → left config past ≡ [] → is_beside config past frame ≡ true → IsOfFlow config past frame ⊎ (AsksForGuest config past frame ⊎ GoesAgain config past frame)
+pub beside : (config : Config) (past : List Entry) (frame : List ℕ) → left config past ≡ [] → is_beside config past frame ≡ true → IsOfFlow config past frame ⊎
+    (AsksForGuest config past frame ⊎ GoesAgain config past frame)
 beside config past frame nothing is = by (sends_segment config past frame (segment_in frame)) (may_ask config past frame (asked_in frame)) refl refl is
   where
     of_said : (o : Option Said) → may_go_again (serving config past) ≡ o → is_first frame (frames_of config (identification past) (told_of_files config o)) ≡ true → GoesAgain config past frame
@@ -82,7 +87,8 @@ why_out config e past frame fits lawful out = by (out_by config e past frame law
     by (Next first) = inl (first_answers config past frame fits lawful.1 first)
     by (Beside nothing is) = inr (beside config past frame nothing is)
 
-pub first_or_none : (config : Config) (e : Entry) (past : List Entry) (frame : List ℕ) → Lawful config (e ∷ past) → goes_out e past ≡ Some frame → (left config past ≡ []) ⊎ (is_first frame (left config past) ≡ true)
+pub first_or_none : (config : Config) (e : Entry) (past : List Entry) (frame : List ℕ) → Lawful config (e ∷ past) → goes_out e past ≡ Some frame → (left config past ≡ []) ⊎
+    (is_first frame (left config past) ≡ true)
 first_or_none config e past frame lawful out = by (out_by config e past frame lawful.0 out)
   where
     by : Begins config past frame → (left config past ≡ []) ⊎ (is_first frame (left config past) ≡ true)
@@ -144,7 +150,8 @@ sends_whole config past frame ip f c =
     let s = carried_segment frame ip f.on c f.carried in
     let six : length f.on.mac ≡ 6 = ap (λ (on : OnTuple). length on.mac) (sym s.2) ∙ to_six frame c.ether c.framed in
     let written : is_written config (identification past) frame f.on (Some ip) ≡ true =
-    ap (is_written config (identification past) frame f.on) (sym (as_read frame ip c)) ∙ second_of (list_any (is_pair (address f.on.tuple.guest) f.on.mac) (taught config past) && is_latest f.on.mac (learnt_for f.on.tuple.guest.addr (known config past))) (is_written config (identification past) frame f.on (ip_in frame)) f.sent in
+    ap (is_written config (identification past) frame f.on) (sym (as_read frame ip c)) ∙ second_of (list_any (is_pair (address f.on.tuple.guest) f.on.mac)
+    (taught config past) && is_latest f.on.mac (learnt_for f.on.tuple.guest.addr (known config past))) (is_written config (identification past) frame f.on (ip_in frame)) f.sent in
     let whole = part_frame f.on.mac (our_mac config.vhost) (identification past) ip.proto ip.from ip.to (uncut ip.body) in
     let same = equal_octets frame whole (first_of (bytes_eq frame whole) (bytes_eq ip.body (tcp_octets ip.from ip.to (tcp_for f.on))) written) in
     let fits : identification past < 2 ^ 16 = omega arith in
@@ -152,7 +159,8 @@ sends_whole config past frame ip f c =
     record {
       ident = r.ident;
       front = r.place;
-      begins = ap datagrams_in same ∙ one (begins_datagram whole) (part_begins f.on.mac (our_mac config.vhost) (identification past) ip.proto ip.from ip.to (uncut ip.body) six (our_six config.vhost) (lit< tt));
+      begins = ap datagrams_in same ∙ one (begins_datagram whole) (part_begins f.on.mac (our_mac config.vhost) (identification past) ip.proto ip.from ip.to (uncut ip.body) six
+          (our_six config.vhost) (lit< tt));
     }
   where
     one : (b : Bool) → b ≡ true → ◌≡◌ {A = ℕ} (if b then 1 else 0) 1
@@ -163,7 +171,8 @@ sends_whole config past frame ip f c =
 pub carries_only : (config : Config) (past : List Entry) (frame : List ℕ) (ip : Ip) (f : IsOfFlow config past frame) → Carries frame ip → ip.body ≡ tcp_octets ip.from ip.to (tcp_for f.on)
 carries_only config past frame ip f c =
     let written : is_written config (identification past) frame f.on (Some ip) ≡ true =
-    ap (is_written config (identification past) frame f.on) (sym (as_read frame ip c)) ∙ second_of (list_any (is_pair (address f.on.tuple.guest) f.on.mac) (taught config past) && is_latest f.on.mac (learnt_for f.on.tuple.guest.addr (known config past))) (is_written config (identification past) frame f.on (ip_in frame)) f.sent in
+    ap (is_written config (identification past) frame f.on) (sym (as_read frame ip c)) ∙ second_of (list_any (is_pair (address f.on.tuple.guest) f.on.mac)
+    (taught config past) && is_latest f.on.mac (learnt_for f.on.tuple.guest.addr (known config past))) (is_written config (identification past) frame f.on (ip_in frame)) f.sent in
     let whole = part_frame f.on.mac (our_mac config.vhost) (identification past) ip.proto ip.from ip.to (uncut ip.body) in
     let only = tcp_octets ip.from ip.to (tcp_for f.on) in
     equal_octets ip.body only (second_of (bytes_eq frame whole) (bytes_eq ip.body only) written)

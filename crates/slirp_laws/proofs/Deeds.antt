@@ -1,9 +1,11 @@
--- A call may come: one lemma for each kind of call, which has what is to be shown of that kind. Only `gathered` builds the record of the sentences, so that one more sentence is one more line there, and a premise of the kinds of which it speaks.
+-- A call may come: one lemma for each kind of call, which has what is to be shown of that kind. Only `gathered` builds the record of the sentences, so that one
+-- more sentence is one more line there, and a premise of the kinds of which it speaks.
 use Rattle.std.proofs.Common.{◌∷◌, ◌≡◌, ℕ, ◌==◌, ◌||◌, not, nat_lt, Bool, true, false, List, is_some, MatchOption, Option, Some, None, refl, sym, ◌∙◌, ap, subst}
 use Rattle.poll_list.specs.Listing.{reads}
 use Rattle.poll_list.specs.declared.Want.{Want}
 use Rattle.poll_list.specs.declared.Who.TheVariants.{Link, Udp, Listener as AListener}
-use Rattle.world_face.specs.Journal.{Entry, LinkWrite, Call, CallNow, CallWait, CallLinkRead, CallLinkWrite, CallClose, CallUdpOpen, CallUdpSend, CallUdpRecv, CallFileLen, CallFileRead, CallListen, CallAccept}
+use Rattle.world_face.specs.Journal.{Entry, LinkWrite, Call, CallNow, CallWait, CallLinkRead, CallLinkWrite, CallClose, CallUdpOpen, CallUdpSend, CallUdpRecv, CallFileLen, CallFileRead}
+use Rattle.world_face.specs.Journal.{CallListen, CallAccept}
 use Rattle.world_face.specs.Frames.{MayFrame, goes_out, tail}
 use Rattle.world_face.specs.Limits.{most_to_udp}
 use Rattle.net_octets.specs.declared.Endpoint.{Endpoint}
@@ -15,7 +17,8 @@ use Rattle.record_flows.specs.Laws.{MayFlow, MayTouch, MustTouch, NoneMustClose}
 use Rattle.record_flows.specs.Lots.{due_for_flows}
 use Rattle.run_laws.specs.Moments.{waits}
 use Rattle.slirp_laws.specs.Agenda.{agenda}
-use Rattle.slirp_laws.specs.Laws.{May, MayDue, deed_of, due, due_for_answer, due_for_services, goes_on, has_place, has_socket, is_all_out, is_answered, is_closing, is_served, may_begin, may_close, unless_due, relays, takes_peers}
+use Rattle.slirp_laws.specs.Laws.{May, MayDue, deed_of, due, due_for_answer, due_for_services, goes_on, has_place, has_socket, is_all_out, is_answered, is_closing, is_served, may_begin}
+use Rattle.slirp_laws.specs.Laws.{may_close, unless_due, relays, takes_peers}
 use Rattle.slirp_laws.specs.Asking.{step}
 use Rattle.slirp_laws.specs.Datagrams.{due_for}
 use Rattle.world_face.specs.declared.Io.{Io}
@@ -25,9 +28,19 @@ use Rattle.tftp_server.specs.Asking.{call_for}
 use Rattle.tftp_server.specs.Transfers.{Said, Transfer, next_again}
 use Rattle.slirp_laws.proofs.Bools.{and_both, same, equal}
 
-pub gathered : (config : Config) (past : List Entry) (call : Call) → MayFrame past call → MayDue config past call → has_place config past (deed_of call) ≡ true → has_socket config past (deed_of call) ≡ true
+pub gathered : (config : Config) (past : List Entry) (call : Call) → MayFrame past call → MayDue config past call → has_place config past (deed_of call) ≡ true →
+    has_socket config past (deed_of call) ≡ true
     → is_served past (deed_of call) ≡ true → is_answered config past (deed_of call) ≡ true → goes_on config past (deed_of call) ≡ true → MayFlow config past call → May config past call
-gathered config past call framed is_due has_place has_socket served answered on flows = record { framed = framed; due = is_due; place = has_place; socket = has_socket; served = served; answered = answered; goes_on = on; flows = flows }
+gathered config past call framed is_due has_place has_socket served answered on flows = record {
+  framed = framed;
+  due = is_due;
+  place = has_place;
+  socket = has_socket;
+  served = served;
+  answered = answered;
+  goes_on = on;
+  flows = flows;
+}
 
 -- ---- what flows say of it
 
@@ -108,52 +121,67 @@ module _ (config : Config) (past : List Entry) where
 
   -- the clock is asked where that is due
   pub asks : due config past ≡ Some CallNow → FlowsAskNothing config past → is_closing config past ≡ false → May config past CallNow
-  asks is nothing open_yet = gathered config past CallNow tt (this_one config past CallNow is) (some_due config past CallNow is) refl refl refl (on_yet open_yet) (untouched config past CallNow nothing tt tt)
+  asks is nothing open_yet = gathered config past CallNow tt (this_one config past CallNow is) (some_due config past CallNow is) refl refl refl (on_yet open_yet)
+      (untouched config past CallNow nothing tt tt)
 
   -- a turn begins
-  pub waits_now : (wants : List Want) (timeout : Option ℕ) → due config past ≡ None → NoneMustClose config past → may_turn (phase config past) ≡ true → nat_lt (waits past) config.turns ≡ true → is_closing config past ≡ false → May config past (CallWait wants timeout)
+  pub waits_now : (wants : List Want) (timeout : Option ℕ) → due config past ≡ None → NoneMustClose config past → may_turn (phase config past) ≡ true → nat_lt
+      (waits past) config.turns ≡ true → is_closing config past ≡ false → May config past (CallWait wants timeout)
   waits_now wants timeout none stay turn few open_yet =
-      gathered config past (CallWait wants timeout) tt (any_one config past (CallWait wants timeout) none) (and_both (may_turn (phase config past)) (nat_lt (waits past) config.turns) turn few) refl refl refl
+      gathered config past (CallWait wants timeout) tt (any_one config past (CallWait wants timeout) none)
+      (and_both (may_turn (phase config past)) (nat_lt (waits past) config.turns) turn few) refl refl refl
       (on_yet open_yet) (untouched config past (CallWait wants timeout) (ask_nothing config past none stay) tt tt)
 
   -- the link is read where the last wait reported it and nothing is left to be sent
-  pub reads_on : (asked : ℕ) → MayFrame past (CallLinkRead asked) → due config past ≡ None → NoneMustClose config past → is_working (phase config past) ≡ true → reads Link (agenda past) ≡ true → is_all_out config past ≡ true
+  pub reads_on : (asked : ℕ) → MayFrame past (CallLinkRead asked) → due config past ≡ None → NoneMustClose config past → is_working (phase config past) ≡ true → reads Link
+      (agenda past) ≡ true → is_all_out config past ≡ true
       → is_closing config past ≡ false → May config past (CallLinkRead asked)
   reads_on asked framed none stay working reported out open_yet =
-      gathered config past (CallLinkRead asked) framed (any_one config past (CallLinkRead asked) none) working refl reported out (on_yet open_yet) (untouched config past (CallLinkRead asked) (ask_nothing config past none stay) tt tt)
+      gathered config past (CallLinkRead asked) framed (any_one config past (CallLinkRead asked) none) working refl reported out (on_yet open_yet)
+      (untouched config past (CallLinkRead asked) (ask_nothing config past none stay) tt tt)
 
   -- a frame is written, or goes on
-  pub writes : (octets : List ℕ) → MayFrame past (CallLinkWrite octets) → due config past ≡ None → NoneMustClose config past → is_working (phase config past) ≡ true → may_begin config past (tail past) octets ≡ true
+  pub writes : (octets : List ℕ) → MayFrame past (CallLinkWrite octets) → due config past ≡ None → NoneMustClose config past → is_working (phase config past) ≡ true →
+      may_begin config past (tail past) octets ≡ true
       → is_closing config past ≡ false → FlowsLetWrite config past octets → May config past (CallLinkWrite octets)
   writes octets framed none stay working begins open_yet sent =
-      gathered config past (CallLinkWrite octets) framed (any_one config past (CallLinkWrite octets) none) working refl refl begins (on_yet open_yet) (untouched config past (CallLinkWrite octets) (ask_nothing config past none stay) sent.0 sent.1)
+      gathered config past (CallLinkWrite octets) framed (any_one config past (CallLinkWrite octets) none) working refl refl begins (on_yet open_yet)
+      (untouched config past (CallLinkWrite octets) (ask_nothing config past none stay) sent.0 sent.1)
 
   -- a socket is opened with the next number where that is due
-  pub opens : (socket : ℕ) (at : Endpoint) → due config past ≡ Some (CallUdpOpen socket at) → (socket == next_number past) ≡ true → FlowsAskNothing config past → is_closing config past ≡ false → May config past (CallUdpOpen socket at)
+  pub opens : (socket : ℕ) (at : Endpoint) → due config past ≡ Some (CallUdpOpen socket at) → (socket == next_number past) ≡ true → FlowsAskNothing config past →
+      is_closing config past ≡ false → May config past (CallUdpOpen socket at)
   opens socket at is next nothing open_yet =
-      gathered config past (CallUdpOpen socket at) tt (this_one config past (CallUdpOpen socket at) is) (some_due config past (CallUdpOpen socket at) is) next refl refl (on_yet open_yet) (untouched config past (CallUdpOpen socket at) nothing tt tt)
+      gathered config past (CallUdpOpen socket at) tt (this_one config past (CallUdpOpen socket at) is) (some_due config past (CallUdpOpen socket at) is) next refl refl
+      (on_yet open_yet) (untouched config past (CallUdpOpen socket at) nothing tt tt)
 
   -- and so is a port of the host that takes connections
-  pub listens : (socket : ℕ) (at : Endpoint) → due config past ≡ Some (CallListen socket at) → (socket == next_number past) ≡ true → FlowsAskNothing config past → is_closing config past ≡ false → May config past (CallListen socket at)
+  pub listens : (socket : ℕ) (at : Endpoint) → due config past ≡ Some (CallListen socket at) → (socket == next_number past) ≡ true → FlowsAskNothing config past →
+      is_closing config past ≡ false → May config past (CallListen socket at)
   listens socket at is next nothing open_yet =
-      gathered config past (CallListen socket at) tt (this_one config past (CallListen socket at) is) (some_due config past (CallListen socket at) is) next refl refl (on_yet open_yet) (untouched config past (CallListen socket at) nothing tt tt)
+      gathered config past (CallListen socket at) tt (this_one config past (CallListen socket at) is) (some_due config past (CallListen socket at) is) next refl refl
+      (on_yet open_yet) (untouched config past (CallListen socket at) nothing tt tt)
 
   -- a peer is taken where the last wait reported the port, while there is room for a flow more
-  pub accepts : (listener socket : ℕ) → due config past ≡ None → NoneMustClose config past → is_working (phase config past) ≡ true → takes_peers config past listener ≡ true → (socket == next_number past) ≡ true → reads (AListener listener) (agenda past) ≡ true
+  pub accepts : (listener socket : ℕ) → due config past ≡ None → NoneMustClose config past → is_working (phase config past) ≡ true → takes_peers config past listener ≡ true →
+      (socket == next_number past) ≡ true → reads (AListener listener) (agenda past) ≡ true
       → is_closing config past ≡ false → May config past (CallAccept listener socket)
   accepts listener socket none stay working room next reported open_yet =
-      gathered config past (CallAccept listener socket) tt (any_one config past (CallAccept listener socket) none) working (and_both (takes_peers config past listener) (socket == next_number past) room next) reported refl (on_yet open_yet)
+      gathered config past (CallAccept listener socket) tt (any_one config past (CallAccept listener socket) none) working
+      (and_both (takes_peers config past listener) (socket == next_number past) room next) reported refl (on_yet open_yet)
       (untouched config past (CallAccept listener socket) (ask_nothing config past none stay) (equal socket (next_number past) next) tt)
 
   -- a datagram is sent where that is due
-  pub sends : (socket : ℕ) (to : Endpoint) (octets : List ℕ) → due config past ≡ Some (CallUdpSend socket to octets) → relays past socket ≡ true → FlowsAskNothing config past → is_closing config past ≡ false
+  pub sends : (socket : ℕ) (to : Endpoint) (octets : List ℕ) → due config past ≡ Some (CallUdpSend socket to octets) → relays past socket ≡ true → FlowsAskNothing config past →
+      is_closing config past ≡ false
       → May config past (CallUdpSend socket to octets)
   sends socket to octets is on nothing open_yet =
       gathered config past (CallUdpSend socket to octets) tt (this_one config past (CallUdpSend socket to octets) is) (some_due config past (CallUdpSend socket to octets) is) on refl refl
       (on_yet open_yet) (untouched config past (CallUdpSend socket to octets) nothing tt tt)
 
   -- one is asked for where the last wait reported the socket and nothing is left to be sent
-  pub hears : (socket asked : ℕ) → due config past ≡ None → NoneMustClose config past → is_working (phase config past) ≡ true → relays past socket ≡ true → asked ≡ most_to_udp → reads (Udp socket) (agenda past) ≡ true → is_all_out config past ≡ true
+  pub hears : (socket asked : ℕ) → due config past ≡ None → NoneMustClose config past → is_working (phase config past) ≡ true → relays past socket ≡ true → asked ≡ most_to_udp →
+      reads (Udp socket) (agenda past) ≡ true → is_all_out config past ≡ true
       → is_closing config past ≡ false → May config past (CallUdpRecv socket asked)
   hears socket asked none stay working on whole reported out open_yet =
       gathered config past (CallUdpRecv socket asked) tt (any_one config past (CallUdpRecv socket asked) none) working
@@ -161,16 +189,19 @@ module _ (config : Config) (past : List Entry) where
       (untouched config past (CallUdpRecv socket asked) (ask_nothing config past none stay) tt tt)
 
   -- a socket is closed
-  pub closes : (socket : ℕ) → MayDue config past (CallClose socket) → (is_working (phase config past) || is_over (phase config past)) ≡ true → may_close config past socket ≡ true → MayFlow config past (CallClose socket)
+  pub closes : (socket : ℕ) → MayDue config past (CallClose socket) → (is_working (phase config past) || is_over (phase config past)) ≡ true → may_close config past socket ≡ true →
+      MayFlow config past (CallClose socket)
       → May config past (CallClose socket)
   closes socket is_due place may flows = gathered config past (CallClose socket) tt is_due place may refl refl (shuts config past) flows
 
   -- the length of a file, or octets of it, are asked for where that is due
   pub measures : (name : List ℕ) → due config past ≡ Some (CallFileLen name) → FlowsAskNothing config past → is_closing config past ≡ false → May config past (CallFileLen name)
   measures name is nothing open_yet =
-      gathered config past (CallFileLen name) tt (this_one config past (CallFileLen name) is) (some_due config past (CallFileLen name) is) refl refl refl (on_yet open_yet) (untouched config past (CallFileLen name) nothing tt tt)
+      gathered config past (CallFileLen name) tt (this_one config past (CallFileLen name) is) (some_due config past (CallFileLen name) is) refl refl refl (on_yet open_yet)
+      (untouched config past (CallFileLen name) nothing tt tt)
 
-  pub takes_octets : (name : List ℕ) (place asked : ℕ) → due config past ≡ Some (CallFileRead name place asked) → FlowsAskNothing config past → is_closing config past ≡ false → May config past (CallFileRead name place asked)
+  pub takes_octets : (name : List ℕ) (place asked : ℕ) → due config past ≡ Some (CallFileRead name place asked) → FlowsAskNothing config past → is_closing config past ≡ false →
+      May config past (CallFileRead name place asked)
   takes_octets name place asked is nothing open_yet =
       gathered config past (CallFileRead name place asked) tt (this_one config past (CallFileRead name place asked) is) (some_due config past (CallFileRead name place asked) is) refl refl refl
       (on_yet open_yet) (untouched config past (CallFileRead name place asked) nothing tt tt)

@@ -32,8 +32,10 @@ NoFile (Some (CallFileLen name)) = ⊥
 NoFile (Some (CallFileRead name place asked)) = ⊥
 NoFile o = NoTurn o
 
-module _ (Q : Option Call → Type 0) (close : (socket : ℕ) → Q (Some (CallClose socket))) (connect : (socket : ℕ) (to : Endpoint) → Q (Some (CallConnect socket to))) (listen : (socket : ℕ) (at : Endpoint) → Q (Some (CallListen socket at)))
-    (open_one : (socket : ℕ) (at : Endpoint) → Q (Some (CallUdpOpen socket at))) (send : (socket : ℕ) (to : Endpoint) (octets : List ℕ) → Q (Some (CallUdpSend socket to octets))) (clock : Q (Some CallNow)) (none : Q None) where
+module _ (Q : Option Call → Type 0) (close : (socket : ℕ) → Q (Some (CallClose socket))) (connect : (socket : ℕ) (to : Endpoint) → Q (Some (CallConnect socket to)))
+    (listen : (socket : ℕ) (at : Endpoint) → Q (Some (CallListen socket at)))
+    (open_one : (socket : ℕ) (at : Endpoint) → Q (Some (CallUdpOpen socket at))) (send : (socket : ℕ) (to : Endpoint) (octets : List ℕ) → Q (Some (CallUdpSend socket to octets)))
+    (clock : Q (Some CallNow)) (none : Q None) where
   opens : (proto : Proto) (number : ℕ) (forward : Forward) → Q (Some (opening_of proto number forward))
   opens Tcp number forward = listen number forward.host
   opens Udp number forward = open_one number forward.host
@@ -92,14 +94,17 @@ is_sought config past call file is =
     let services = unless_due (due_for_services config past) flows in
     let datagrams = unless_due (due_for config (step config past) (next_number past)) services in
     let one = passed (due_in (phase config past) past) datagrams call file (by_phase NoFile (λ s. tt) (λ s to. tt) (λ s at. tt) (λ s at. tt) (λ s to o. tt) tt tt (phase config past) past) is in
-    let two = passed (due_for config (step config past) (next_number past)) services call file (by_step NoFile (λ s. tt) (λ s to. tt) (λ s at. tt) (λ s at. tt) (λ s to o. tt) tt tt config (step config past) (next_number past)) one in
-    let three = stops (due_for_services config past) flows call file (by_flows NoFile (λ s. tt) (λ s to. tt) (λ s at. tt) (λ s at. tt) (λ s to o. tt) tt tt (book config past).doomed (connects_to config (book config past)) (next_number past)) two in
+    let two = passed (due_for config (step config past) (next_number past)) services call file (by_step NoFile (λ s. tt) (λ s to. tt) (λ s at. tt) (λ s at. tt)
+    (λ s to o. tt) tt tt config (step config past) (next_number past)) one in
+    let three = stops (due_for_services config past) flows call file (by_flows NoFile (λ s. tt) (λ s to. tt) (λ s at. tt) (λ s at. tt) (λ s to o. tt) tt tt
+    (book config past).doomed (connects_to config (book config past)) (next_number past)) two in
     passed (due_for_answer (answered config past)) quest call file (by_answer NoFile (λ s. tt) (λ s to. tt) (λ s at. tt) (λ s at. tt) (λ s to o. tt) tt tt (answered config past)) three
 
 pub sought_length : (config : Config) (past : List Entry) (name : List ℕ) → May config past (CallFileLen name) → call_for (serving config past).files.quest ≡ Some (CallFileLen name)
 sought_length config past name may = is_sought config past (CallFileLen name) tt (due_call (due config past) (CallFileLen name) may.place may.due)
 
-pub sought_octets : (config : Config) (past : List Entry) (name : List ℕ) (place asked : ℕ) → May config past (CallFileRead name place asked) → call_for (serving config past).files.quest ≡ Some (CallFileRead name place asked)
+pub sought_octets : (config : Config) (past : List Entry) (name : List ℕ) (place asked : ℕ) → May config past (CallFileRead name place asked) → call_for
+    (serving config past).files.quest ≡ Some (CallFileRead name place asked)
 sought_octets config past name place asked may = is_sought config past (CallFileRead name place asked) tt (due_call (due config past) (CallFileRead name place asked) may.place may.due)
 
 -- ---- where a turn goes on
@@ -117,10 +122,13 @@ no_turn_due : (config : Config) (past : List Entry) → NoTurn (due config past)
 no_turn_due config past =
     let flows = due_for_flows config (book config past) (next_number past) in
     let services = unless_due (due_for_services config past) flows in
-    both NoTurn (due_in (phase config past) past) (unless_due (due_for config (step config past) (next_number past)) services) (by_phase NoTurn (λ s. tt) (λ s to. tt) (λ s at. tt) (λ s at. tt) (λ s to o. tt) tt tt (phase config past) past)
-    (both NoTurn (due_for config (step config past) (next_number past)) services (by_step NoTurn (λ s. tt) (λ s to. tt) (λ s at. tt) (λ s at. tt) (λ s to o. tt) tt tt config (step config past) (next_number past))
+    both NoTurn (due_in (phase config past) past) (unless_due (due_for config (step config past) (next_number past)) services) (by_phase NoTurn (λ s. tt) (λ s to. tt) (λ s at. tt)
+    (λ s at. tt) (λ s to o. tt) tt tt (phase config past) past)
+    (both NoTurn (due_for config (step config past) (next_number past)) services (by_step NoTurn (λ s. tt) (λ s to. tt) (λ s at. tt) (λ s at. tt) (λ s to o. tt) tt tt config
+    (step config past) (next_number past))
     (both NoTurn (due_for_services config past) flows
-    (both NoTurn (due_for_answer (answered config past)) (call_for (serving config past).files.quest) (by_answer NoTurn (λ s. tt) (λ s to. tt) (λ s at. tt) (λ s at. tt) (λ s to o. tt) tt tt (answered config past)) (no_turn_for_quest (serving config past).files.quest))
+    (both NoTurn (due_for_answer (answered config past)) (call_for (serving config past).files.quest) (by_answer NoTurn (λ s. tt) (λ s to. tt) (λ s at. tt) (λ s at. tt)
+    (λ s to o. tt) tt tt (answered config past)) (no_turn_for_quest (serving config past).files.quest))
     (by_flows NoTurn (λ s. tt) (λ s to. tt) (λ s at. tt) (λ s at. tt) (λ s to o. tt) tt tt (book config past).doomed (connects_to config (book config past)) (next_number past))))
 
 second_none : (one other : Option Call) → unless_due one other ≡ None → other ≡ None
@@ -143,7 +151,8 @@ settled config past call turn may =
     let services = unless_due (due_for_services config past) flows in
     let none = none_due (due config past) call (no_turn_due config past) turn may.due in
     let answers = first_none (due_for_services config past) flows
-    (second_none (due_for config (step config past) (next_number past)) services (second_none (due_in (phase config past) past) (unless_due (due_for config (step config past) (next_number past)) services) none)) in
+    (second_none (due_for config (step config past) (next_number past)) services
+    (second_none (due_in (phase config past) past) (unless_due (due_for config (step config past) (next_number past)) services) none)) in
     none_sought (serving config past).files.quest (second_none (due_for_answer (answered config past)) quest answers)
   where
     first_none : (one other : Option Call) → unless_due one other ≡ None → one ≡ None

@@ -1,5 +1,6 @@
 -- What the laws on files come to.
-use Rattle.std.proofs.Common.{◌≡◌, ℕ, ◌<◌, ◌+◌, ◌-◌, ◌≤◌, ◌⊎◌, inl, inr, Bool, true, false, List, [], ◌∷◌, find, length, Option, Some, None, option_map, if◌then◌else◌, refl, sym, ◌∙◌, ap, subst, arith}
+use Rattle.std.proofs.Common.{◌≡◌, ℕ, ◌<◌, ◌+◌, ◌-◌, ◌≤◌, ◌⊎◌, inl, inr, Bool, true, false, List, [], ◌∷◌, find, length, Option, Some, None, option_map, if◌then◌else◌, refl, sym, ◌∙◌, ap}
+use Rattle.std.proofs.Common.{subst, arith}
 use Rattle.net_octets.specs.Octets.{two_at}
 use Rattle.world_face.specs.Journal.{Entry, CallFileLen, CallFileRead, LinkWrite, Wait}
 use Rattle.world_face.specs.Frames.{goes_out}
@@ -19,9 +20,11 @@ use Rattle.slirp_laws.proofs.KeptFiles.{AnswersOptions, IsPacket, IsQuest, Kept,
 -- ---- which calls ask for files
 
 pub length_asked : (config : Config) (past : List Entry) (name : List ℕ) → Lawful config past → May config past (CallFileLen name) → IsAskedFor config past name
-length_asked config past name lawful may = asked_for_length config past name (serving config past).files.quest (serving config past).files.transfers (holds config past lawful).quest (sought_length config past name may)
+length_asked config past name lawful may = asked_for_length config past name (serving config past).files.quest (serving config past).files.transfers
+    (holds config past lawful).quest (sought_length config past name may)
 
-pub octets_asked : (config : Config) (past : List Entry) (name : List ℕ) (place asked : ℕ) → Lawful config past → May config past (CallFileRead name place asked) → ReadsWanted config past name place asked
+pub octets_asked : (config : Config) (past : List Entry) (name : List ℕ) (place asked : ℕ) → Lawful config past → May config past (CallFileRead name place asked) →
+    ReadsWanted config past name place asked
 octets_asked config past name place asked lawful may = by (serving config past).files.quest (holds config past lawful).quest (sought_octets config past name place asked may)
   where
     by : (q : Quest) → IsQuest config past (serving config past).files.transfers q → call_for q ≡ Some (CallFileRead name place asked) → ReadsWanted config past name place asked
@@ -39,7 +42,8 @@ octets_asked config past name place asked lawful may = by (serving config past).
 
 -- ---- blocks
 
-pub block_told : (config : Config) (e : Entry) (past : List Entry) (said : Said) → Lawful config (e ∷ past) → told_by config past e ≡ Some said → two_at said.octets 0 ≡ 3 → IsBlockAsRead config (e ∷ past) said
+pub block_told : (config : Config) (e : Entry) (past : List Entry) (said : Said) → Lawful config (e ∷ past) → told_by config past e ≡ Some said → two_at said.octets 0 ≡ 3 →
+    IsBlockAsRead config (e ∷ past) said
 block_told config e past said lawful told opcode = by ((after config e past lawful.0 (holds config past lawful.1)).tells said told)
   where
     by : IsPacket config (e ∷ past) said → IsBlockAsRead config (e ∷ past) said
@@ -65,12 +69,14 @@ way_by : (config : Config) (e : Entry) (past : List Entry) → ((said : Said) �
 way_by config (Wait wants timeout answer ready) past before said is = by (serving config past).again before is
   where
     by : (o : Option Said) → ((said : Said) → o ≡ Some said → IsOnItsWay config past said)
-        → or_begun o (begun (serving config past).now (is_free (ledger config past)) (serving config past).files.transfers) ≡ Some said → IsOnItsWay config (Wait wants timeout answer ready ∷ past) said
+        → or_begun o (begun (serving config past).now (is_free (ledger config past)) (serving config past).files.transfers) ≡ Some said → IsOnItsWay config
+        (Wait wants timeout answer ready ∷ past) said
     by None before is = record { later = []; sender = Wait wants timeout answer ready; before = past; record_is = refl; sent = is; none_goes = tt }
     by (Some other) before is = on_further config (Wait wants timeout answer ready) past said refl (before said is)
 way_by config (LinkWrite octets answer) past before said is = by (begins_again config (identification past) (ledger config past) (goes_out (LinkWrite octets answer) past)) refl is
   where
-    by : (b : Bool) → begins_again config (identification past) (ledger config past) (goes_out (LinkWrite octets answer) past) ≡ b → unless_begun b (serving config past).again ≡ Some said → IsOnItsWay config (LinkWrite octets answer ∷ past) said
+    by : (b : Bool) → begins_again config (identification past) (ledger config past) (goes_out (LinkWrite octets answer) past) ≡ b → unless_begun b
+        (serving config past).again ≡ Some said → IsOnItsWay config (LinkWrite octets answer ∷ past) said
     by true begins is = cc
     by false begins is = on_further config (LinkWrite octets answer) past said (ap (λ (b : Bool). if b then may_go_again (serving config past) else None) begins) (before said is)
 way_by config e past before said is = on_further config e past said refl (before said is)
@@ -82,17 +88,21 @@ on_way config (e ∷ past) said is = way_by config e past (on_way config past) s
 pub goes_once : (config : Config) (e : Entry) (past : List Entry) (said : Said) → goes_by config past e ≡ Some said → (sent_again_by config past e ≡ Some said) ⊎ IsOnItsWay config past said
 goes_once config (LinkWrite octets answer) past said is = by (begins_again config (identification past) (ledger config past) (goes_out (LinkWrite octets answer) past)) refl
   where
-    of : (o : Option Said) → (serving config past).again ≡ o → may_go_again (serving config past) ≡ Some said → (unless_on_its_way (serving config past).again (goes_by config past (LinkWrite octets answer)) ≡ Some said) ⊎ IsOnItsWay config past said
+    of : (o : Option Said) → (serving config past).again ≡ o → may_go_again (serving config past) ≡ Some said →
+        (unless_on_its_way (serving config past).again (goes_by config past (LinkWrite octets answer)) ≡ Some said) ⊎ IsOnItsWay config past said
     of None none may = inl (ap (λ o. unless_on_its_way o (goes_by config past (LinkWrite octets answer))) none ∙ is)
-    of (Some other) some may = inr (on_way config past said (some ∙ sym (ap (λ o. or_begun o (option_map said_again (next_again (serving config past).now (serving config past).files.transfers))) some) ∙ may))
+    of (Some other) some may = inr (on_way config past said (some ∙ sym
+        (ap (λ o. or_begun o (option_map said_again (next_again (serving config past).now (serving config past).files.transfers))) some) ∙ may))
 
-    by : (b : Bool) → begins_again config (identification past) (ledger config past) (goes_out (LinkWrite octets answer) past) ≡ b → (unless_on_its_way (serving config past).again (goes_by config past (LinkWrite octets answer)) ≡ Some said) ⊎ IsOnItsWay config past said
+    by : (b : Bool) → begins_again config (identification past) (ledger config past) (goes_out (LinkWrite octets answer) past) ≡ b →
+        (unless_on_its_way (serving config past).again (goes_by config past (LinkWrite octets answer)) ≡ Some said) ⊎ IsOnItsWay config past said
     by true begins = of (serving config past).again refl (sym (ap (λ (b : Bool). if b then may_go_again (serving config past) else None) begins) ∙ is)
     by false begins = let never : None ≡ Some said = sym (ap (λ (b : Bool). if b then may_go_again (serving config past) else None) begins) ∙ is in cc
 goes_once config _ past said is = cc
 
 -- what is sent again was told by an entry, and is sent in its time
-of_transfer : (config : Config) (e : Entry) (past : List Entry) (t : Transfer) → Lawful config past → find (goes_again (serving config past).now) (serving config past).files.transfers ≡ Some t → sent_again_by config past e ≡ Some (said_again t) → IsAsTold config e past (said_again t)
+of_transfer : (config : Config) (e : Entry) (past : List Entry) (t : Transfer) → Lawful config past → find (goes_again (serving config past).now)
+    (serving config past).files.transfers ≡ Some t → sent_again_by config past e ≡ Some (said_again t) → IsAsTold config e past (said_again t)
 of_transfer config e past t lawful found sent =
     let h = holds config past lawful in
     let there = all_found (Kept config past) (goes_again (serving config past).now) (serving config past).files.transfers t h.all found in
@@ -121,7 +131,8 @@ of_transfer config e past t lawful found sent =
       in_time = subst (AreInTime t.timeout (moment k.before)) (sym same) (omega (arith, falls, at, now), k.in_time);
     }
 
-of_next : (config : Config) (e : Entry) (past : List Entry) (said : Said) → Lawful config past → option_map said_again (next_again (serving config past).now (serving config past).files.transfers) ≡ Some said → sent_again_by config past e ≡ Some said → IsAsTold config e past said
+of_next : (config : Config) (e : Entry) (past : List Entry) (said : Said) → Lawful config past → option_map said_again
+    (next_again (serving config past).now (serving config past).files.transfers) ≡ Some said → sent_again_by config past e ≡ Some said → IsAsTold config e past said
 of_next config e past said lawful next sent = by (next_again (serving config past).now (serving config past).files.transfers) refl next
   where
     by : (o : Option Transfer) → find (goes_again (serving config past).now) (serving config past).files.transfers ≡ o → option_map said_again o ≡ Some said → IsAsTold config e past said
@@ -130,11 +141,13 @@ of_next config e past said lawful next sent = by (next_again (serving config pas
         let same : said_again t ≡ said = cc in
         subst (IsAsTold config e past) same (of_transfer config e past t lawful found (sent ∙ ap Some (sym same)))
 
-by_frame : (config : Config) (e : Entry) (past : List Entry) (said : Said) → Lawful config past → sent_again_by config past e ≡ Some said → unless_on_its_way (serving config past).again (goes_by config past e) ≡ Some said → IsAsTold config e past said
+by_frame : (config : Config) (e : Entry) (past : List Entry) (said : Said) → Lawful config past → sent_again_by config past e ≡ Some said → unless_on_its_way
+    (serving config past).again (goes_by config past e) ≡ Some said → IsAsTold config e past said
 by_frame config e past said lawful sent is = by (serving config past).again refl is
   where
     begins : (b : Bool) → (serving config past).again ≡ None → (if b then may_go_again (serving config past) else None) ≡ Some said → IsAsTold config e past said
-    begins true none is = of_next config e past said lawful (sym (ap (λ o. or_begun o (option_map said_again (next_again (serving config past).now (serving config past).files.transfers))) none) ∙ is) sent
+    begins true none is = of_next config e past said lawful (sym (ap
+        (λ o. or_begun o (option_map said_again (next_again (serving config past).now (serving config past).files.transfers))) none) ∙ is) sent
     begins false none is = cc
 
     by : (o : Option Said) → (serving config past).again ≡ o → unless_on_its_way o (goes_by config past e) ≡ Some said → IsAsTold config e past said

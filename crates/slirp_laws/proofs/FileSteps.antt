@@ -1,5 +1,6 @@
 -- The calls on files for which a packet asks may come one after another, and the record keeps of files what they bring.
-use Rattle.std.proofs.Common.{◌≡◌, ℕ, ◌+◌, ◌-◌, ◌%◌, ◌^◌, ◌==◌, ◌⊎◌, inl, inr, nat_le, Bool, true, false, List, [], ◌∷◌, ◌++◌, length, take, Option, Some, None, if◌then◌else◌, refl, sym, ◌∙◌, ap, subst, codes, find}
+use Rattle.std.proofs.Common.{◌≡◌, ℕ, ◌+◌, ◌-◌, ◌%◌, ◌^◌, ◌==◌, ◌⊎◌, inl, inr, nat_le, Bool, true, false, List, [], ◌∷◌, ◌++◌, length, take, Option, Some, None, if◌then◌else◌, refl, sym}
+use Rattle.std.proofs.Common.{◌∙◌, ap, subst, codes, find}
 use Rattle.net_octets.specs.declared.Endpoint.{Endpoint}
 use Rattle.world_face.specs.Journal.{Call, CallFileLen, CallFileRead, Entry, FileLen, FileRead, call_of}
 use Rattle.world_face.specs.declared.FileSize.{FileSize}
@@ -16,7 +17,8 @@ use Rattle.run_laws.specs.Sockets.{next_number}
 use Rattle.tftp_server.specs.Asking.{AreAskedFor, after_calls, by_answer, call_for, or_outcome}
 use Rattle.tftp_server.specs.Packets.{Packet, Asks, AsksToWrite, Acknowledges, GivesUp, Unheard, Request, Terms, is_name, request_in, says, terms_of}
 use Rattle.tftp_server.specs.Serving.{IsFromServer, said_by}
-use Rattle.tftp_server.specs.Transfers.{Files, Outcome, Quest, Said, SeeksLength, SeeksOctets, Settled, Sought, Transfer, acknowledged, is_for, length_came, measured, octets_came, octets_of, place_of, requested, requested_file, seeks_block, taken_in, transfer, with_room, without}
+use Rattle.tftp_server.specs.Transfers.{Files, Outcome, Quest, Said, SeeksLength, SeeksOctets, Settled, Sought, Transfer, acknowledged, is_for, length_came, measured, octets_came}
+use Rattle.tftp_server.specs.Transfers.{octets_of, place_of, requested, requested_file, seeks_block, taken_in, transfer, with_room, without}
 use Rattle.slirp_laws.specs.Answers.{answer_of, answers_of, frames_of, identification, left, left_by_file, serving, told_of_files}
 use Rattle.slirp_laws.specs.Asking.{step, step_of}
 use Rattle.slirp_laws.specs.Datagrams.{due_for}
@@ -49,7 +51,8 @@ silent_request folder mac guest (Some r) others = silent_if (says (codes "octet"
 
 silent_acknowledgement : (now number : ℕ) (o : Option Transfer) (ts : List Transfer) → IsSilent (acknowledged now number o ts)
 silent_acknowledgement now number None ts = inl refl
-silent_acknowledgement now number (Some t) ts = silent_if (number == t.block % 2 ^ 16) _ _ (silent_if t.is_last _ _ (inl refl) (silent_block now (record t { block = t.block + 1 }) (without t.guest ts))) (inl refl)
+silent_acknowledgement now number (Some t) ts = silent_if (number == t.block % 2 ^ 16) _ _
+    (silent_if t.is_last _ _ (inl refl) (silent_block now (record t { block = t.block + 1 }) (without t.guest ts))) (inl refl)
 
 pub silent_packet : (folder : Option (List ℕ)) (now : ℕ) (mac : List ℕ) (guest : Endpoint) (p : Packet) (ts : List Transfer) → IsSilent (taken_in folder now mac guest p ts)
 silent_packet folder now mac guest (Asks texts) ts = silent_request folder mac guest (request_in texts) (without guest ts)
@@ -176,7 +179,8 @@ left_told : (config : Config) (ident : ℕ) (o : Option Said) (frames : List (Li
 left_told config ident None frames none = none
 left_told config ident (Some said) frames none = refl
 
-one_more : (config : Config) (past : List Entry) (o : Outcome) (e : Entry) (made : List Entry) → call_for (after_calls (serving config past).now made o).files.quest ≡ Some (call_of e) → AreFileCalls config past o made → AreFileCalls config past o (e ∷ made)
+one_more : (config : Config) (past : List Entry) (o : Outcome) (e : Entry) (made : List Entry) → call_for (after_calls (serving config past).now made o).files.quest ≡ Some
+    (call_of e) → AreFileCalls config past o made → AreFileCalls config past o (e ∷ made)
 one_more config past o e made asked before =
     let here = made ++ past in
     let so_far = after_calls (serving config past).now made o in

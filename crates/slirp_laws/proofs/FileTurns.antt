@@ -1,5 +1,6 @@
 -- The first frame of a packet of a file that goes again may go out where nothing is left of an answer, and what the record keeps then.
-use Rattle.std.proofs.Common.{◌≡◌, ℕ, ◌≤◌, ◌==◌, ◌&&◌, ◌||◌, not, Bool, true, false, bytes_eq, List, [], ◌∷◌, drop, length, Option, Some, None, is_some, option_and_then, option_map, if◌then◌else◌, refl, sym, ◌∙◌, ap, subst, lit<}
+use Rattle.std.proofs.Common.{◌≡◌, ℕ, ◌≤◌, ◌==◌, ◌&&◌, ◌||◌, not, Bool, true, false, bytes_eq, List, [], ◌∷◌, drop, length, Option, Some, None, is_some, option_and_then, option_map}
+use Rattle.std.proofs.Common.{if◌then◌else◌, refl, sym, ◌∙◌, ap, subst, lit<}
 use Rattle.net_octets.specs.Kinds.{ipv4_kind, tcp_proto, udp_proto}
 use Rattle.world_face.specs.Journal.{Entry, LinkWrite}
 use Rattle.world_face.specs.Frames.{goes_out}
@@ -14,7 +15,8 @@ use Rattle.tcp_segment.specs.Tcp.{read_tcp}
 use Rattle.record_flows.specs.Segments.{asked_in, asked_of, segment_in, to_guest, went_by, went_of}
 use Rattle.tftp_server.specs.Transfers.{Files, Said, Transfer, are_left, next_again, said_again, ticked}
 use Rattle.tftp_server.proofs.Turning.{ticked_some}
-use Rattle.slirp_laws.specs.Answers.{IpAnswer, again_frames, begins_again, begun_by, files_begun, files_sent, frames_for, frames_of, identification, is_first, is_out, ledger, left, may_go_again, or_begun, serving, starts, taken, told_of_files, uncut, unless_begun}
+use Rattle.slirp_laws.specs.Answers.{IpAnswer, again_frames, begins_again, begun_by, files_begun, files_sent, frames_for, frames_of, identification, is_first, is_out, ledger, left}
+use Rattle.slirp_laws.specs.Answers.{may_go_again, or_begun, serving, starts, taken, told_of_files, uncut, unless_begun}
 use Rattle.slirp_laws.specs.Laws.{Lawful}
 use Rattle.slirp_laws.specs.Sending.{is_beside, is_explained, may_ask, sends_again, sends_segment}
 use Rattle.slirp_laws.proofs.Bools.{and_both, same}
@@ -33,7 +35,8 @@ pub record IsNoFlows (frame : List ℕ) : Type 0 where
   pub segment : segment_in frame ≡ None
   pub asked : asked_in frame ≡ None
 
-of_part : (config : Config) (past : List Entry) (mac : List ℕ) (from to : ℕ) (body frame : List ℕ) (rest : List (List ℕ)) → 28 ≤ config.mtu → length mac ≡ 6 → drop 0 (frames_for config (identification past) (IpAnswer mac udp_proto from to body)) ≡ frame ∷ rest → IsNoFlows frame
+of_part : (config : Config) (past : List Entry) (mac : List ℕ) (from to : ℕ) (body frame : List ℕ) (rest : List (List ℕ)) → 28 ≤ config.mtu → length mac ≡ 6 → drop 0
+    (frames_for config (identification past) (IpAnswer mac udp_proto from to body)) ≡ frame ∷ rest → IsNoFlows frame
 of_part config past mac from to body frame rest room six is = record { segment = ap (option_and_then went_of) framed ∙ by (read_ip octets) refl; asked = ap (option_and_then asked_of) framed }
   where
     p : IsPart config (identification past) mac udp_proto from to body frame 0
@@ -71,7 +74,9 @@ module _ (config : Config) (past : List Entry) (said : Said) (frame : List ℕ) 
   no_flows =
       let six : length said.mac ≡ 6 = subst SixSaid m.may (six_again config past) in
       let a = file_answer config said in
-      of_part config past said.mac config.vhost (address said.guest) (udp_octets config.vhost (address said.guest) (record { from_port = 69; to_port = said.guest.port; body = said.octets })) frame rest room six (sym (frames_one config (identification past) a) ∙ m.frames)
+      of_part config past said.mac config.vhost (address said.guest)
+      (udp_octets config.vhost (address said.guest) (record { from_port = 69; to_port = said.guest.port; body = said.octets })) frame rest room six
+      (sym (frames_one config (identification past) a) ∙ m.frames)
 
   again_is : again_frames config (identification past) (serving config past) ≡ frame ∷ rest
   again_is = ap (λ o. frames_of config (identification past) (told_of_files config o)) m.may ∙ m.frames
@@ -92,7 +97,8 @@ module _ (config : Config) (past : List Entry) (said : Said) (frame : List ℕ) 
 
   begins_it : (e : Entry) → goes_out e past ≡ Some frame → begins_again config (identification past) (ledger config past) (goes_out e past) ≡ true
   begins_it e out =
-      ap (begins_again config (identification past) (ledger config past)) out ∙ ap (λ l. is_out l && starts frame (again_frames config (identification past) (serving config past))) m.nothing ∙ starts_it
+      ap (begins_again config (identification past) (ledger config past)) out ∙ ap
+      (λ l. is_out l && starts frame (again_frames config (identification past) (serving config past))) m.nothing ∙ starts_it
 
   -- the others are left; the packet isn't on its way any more, and was counted now unless it was before
   pub left_again : (octets : List ℕ) (answer : Io) → goes_out (LinkWrite octets answer) past ≡ Some frame → left config (LinkWrite octets answer ∷ past) ≡ rest
@@ -104,11 +110,13 @@ module _ (config : Config) (past : List Entry) (said : Said) (frame : List ℕ) 
   pub gone_again : (octets : List ℕ) (answer : Io) → goes_out (LinkWrite octets answer) past ≡ Some frame → (serving config (LinkWrite octets answer ∷ past)).again ≡ None
   gone_again octets answer out = ap (λ (b : Bool). unless_begun b (serving config past).again) (begins_it (LinkWrite octets answer) out)
 
-  pub files_again : (octets : List ℕ) (answer : Io) → goes_out (LinkWrite octets answer) past ≡ Some frame → (serving config (LinkWrite octets answer ∷ past)).files ≡ files_begun (serving config past).now (serving config past).again (serving config past).files
+  pub files_again : (octets : List ℕ) (answer : Io) → goes_out (LinkWrite octets answer) past ≡ Some frame → (serving config (LinkWrite octets answer ∷ past)).files ≡ files_begun
+      (serving config past).now (serving config past).again (serving config past).files
   files_again octets answer out = ap (λ (b : Bool). files_sent b (serving config past)) (begins_it (LinkWrite octets answer) out)
 
   -- where a server let those go that are over, and counted this one, it has then what is left of those of the record
-  pub aged_again : (octets : List ℕ) (answer : Io) (kept : List Transfer) → Lawful config past → goes_out (LinkWrite octets answer) past ≡ Some frame → (serving config past).again ≡ None → kept ≡ ticked (serving config past).now true (serving config past).files.transfers
+  pub aged_again : (octets : List ℕ) (answer : Io) (kept : List Transfer) → Lawful config past → goes_out (LinkWrite octets answer) past ≡ Some frame →
+      (serving config past).again ≡ None → kept ≡ ticked (serving config past).now true (serving config past).files.transfers
       → kept ≡ are_left (serving config (LinkWrite octets answer ∷ past)).now (serving config (LinkWrite octets answer ∷ past)).files.transfers
   aged_again octets answer kept lawful out idle is =
       let s = serving config past in
@@ -118,7 +126,8 @@ module _ (config : Config) (past : List Entry) (said : Said) (frame : List ℕ) 
       ∙ sym (ap (λ n. are_left n (serving config (LinkWrite octets answer ∷ past)).files.transfers) same ∙ ap (λ (f : Files). are_left s.now f.transfers) after)
     where
       by : (o : Option Transfer) → next_again (serving config past).now (serving config past).files.transfers ≡ o → option_map said_again o ≡ Some said
-          → ticked (serving config past).now true (serving config past).files.transfers ≡ are_left (serving config past).now (files_begun (serving config past).now None (serving config past).files).transfers
+          → ticked (serving config past).now true (serving config past).files.transfers ≡ are_left (serving config past).now
+          (files_begun (serving config past).now None (serving config past).files).transfers
       by None found is = cc
       by (Some t) found is =
           let k = are_kept config past lawful in

@@ -1,5 +1,6 @@
 -- What is found in the list of associations is what the record says.
-use Rattle.std.proofs.Common.{◌≡◌, ℕ, ◌+◌, ◌<◌, ◌≤◌, ◌==◌, ◌&&◌, ◌||◌, nat_le, Bool, true, false, List, [], ◌∷◌, find, length, Option, Some, None, option_map, if◌then◌else◌, refl, sym, ◌∙◌, ap, subst, arith}
+use Rattle.std.proofs.Common.{◌≡◌, ℕ, ◌+◌, ◌<◌, ◌≤◌, ◌==◌, ◌&&◌, ◌||◌, nat_le, Bool, true, false, List, [], ◌∷◌, find, length, Option, Some, None, option_map, if◌then◌else◌, refl, sym}
+use Rattle.std.proofs.Common.{◌∙◌, ap, subst, arith}
 use Rattle.std.proofs.lemmas.Bool.Decides.{nat_tests}
 use Rattle.world_face.specs.Journal.{Entry}
 use Rattle.net_octets.specs.declared.Endpoint.{Endpoint}
@@ -43,16 +44,19 @@ says_of config past n (x ∷ list) a kept is = by (x.number == n) refl is (λ mo
 
 -- ---- of a port
 
-pub found_port : (config : Config) (past : List Entry) (guest : Endpoint) (list : List Association) (socket : ℕ) → AreKept config past list → socket_of guest list ≡ Some socket → opened_for config socket past ≡ Some guest
+pub found_port : (config : Config) (past : List Entry) (guest : Endpoint) (list : List Association) (socket : ℕ) → AreKept config past list → socket_of guest list ≡ Some socket →
+    opened_for config socket past ≡ Some guest
 found_port config past guest [] socket kept is = cc
 found_port config past guest (a ∷ list) socket kept is = by (is_of guest a) refl is (λ rest. found_port config past guest list socket kept.1 rest)
   where
-    by : (t : Bool) → is_of guest a ≡ t → option_map (λ (b : Association). b.number) (if t then Some a else find (is_of guest) list) ≡ Some socket → (socket_of guest list ≡ Some socket → opened_for config socket past ≡ Some guest) → opened_for config socket past ≡ Some guest
+    by : (t : Bool) → is_of guest a ≡ t → option_map (λ (b : Association). b.number) (if t then Some a else find (is_of guest) list) ≡ Some socket →
+        (socket_of guest list ≡ Some socket → opened_for config socket past ≡ Some guest) → opened_for config socket past ≡ Some guest
     by true this is rest = let here : a.number ≡ socket = cc in subst (λ n. opened_for config n past ≡ Some guest) here (kept.0.guest ∙ ap Some (equal_endpoints a.guest guest this))
     by false this is rest = rest is
 
 -- the one for a port is the only one
-apart : (past : List Entry) (config : Config) (a : Association) (list : List Association) (m : ℕ) (guest : Endpoint) → BeforeAll past a list → AreKept config past list → is_of guest a ≡ true → is_among m (numbers list) ≡ true
+apart : (past : List Entry) (config : Config) (a : Association) (list : List Association) (m : ℕ) (guest : Endpoint) → BeforeAll past a list → AreKept config past list →
+    is_of guest a ≡ true → is_among m (numbers list) ≡ true
     → is_port guest (opened_for config m past) ≡ true → ⊥
 apart past config a [] m guest before kept one among port = cc
 apart past config a (b ∷ list) m guest before kept one among port = by (m == b.number) refl among (λ more. apart past config a list m guest before.1 kept.1 one more port)
@@ -67,7 +71,8 @@ apart past config a (b ∷ list) m guest before kept one among port = by (m == b
         cc
     by false this among more = more among
 
-only_one : (config : Config) (past : List Entry) (guest : Endpoint) (list : List Association) (m : ℕ) → AreKept config past list → InOrder past list → is_among m (numbers list) ≡ true → is_port guest (opened_for config m past) ≡ true → socket_of guest list ≡ Some m
+only_one : (config : Config) (past : List Entry) (guest : Endpoint) (list : List Association) (m : ℕ) → AreKept config past list → InOrder past list → is_among m
+    (numbers list) ≡ true → is_port guest (opened_for config m past) ≡ true → socket_of guest list ≡ Some m
 only_one config past guest [] m kept order among port = cc
 only_one config past guest (a ∷ list) m kept order among port = by (is_of guest a) (m == a.number) refl refl among (λ more. only_one config past guest list m kept.1 order.1 more port)
   where
@@ -86,7 +91,8 @@ pub socket_among : (guest : Endpoint) (list : List Association) (n : ℕ) → so
 socket_among guest [] n is = cc
 socket_among guest (x ∷ list) n is = by_test (is_of guest x) (λ more. socket_among guest list n more) is
   where
-    by_test : (t : Bool) → (socket_of guest list ≡ Some n → is_among n (numbers list) ≡ true) → option_map (λ (a : Association). a.number) (if t then Some x else find (is_of guest) list) ≡ Some n → ((n == x.number) || is_among n (numbers list)) ≡ true
+    by_test : (t : Bool) → (socket_of guest list ≡ Some n → is_among n (numbers list) ≡ true) → option_map (λ (a : Association). a.number)
+        (if t then Some x else find (is_of guest) list) ≡ Some n → ((n == x.number) || is_among n (numbers list)) ≡ true
     by_test true more is = let this : x.number ≡ n = cc in ap (λ b. b || is_among n (numbers list)) (subst (λ m. (n == m) ≡ true) (sym this) (same n))
     by_test false more is = or_second (n == x.number) (is_among n (numbers list)) (more is)
 
@@ -114,7 +120,8 @@ pub all_after : (past : List Entry) (a : Association) (list : List Association) 
 all_after past a [] n is among = cc
 all_after past a (b ∷ list) n is among = by (n == b.number) refl (λ more. all_after past a list n is.1 more) among
   where
-    by : (t : Bool) → (n == b.number) ≡ t → (is_among n (numbers list) ≡ true → last_use a.number past < last_use n past) → (t || is_among n (numbers list)) ≡ true → last_use a.number past < last_use n past
+    by : (t : Bool) → (n == b.number) ≡ t → (is_among n (numbers list) ≡ true → last_use a.number past < last_use n past) → (t || is_among n (numbers list)) ≡ true →
+        last_use a.number past < last_use n past
     by true this more among = subst (λ m. last_use a.number past < last_use m past) (sym (equal n b.number this)) is.0.sooner
     by false this more among = more among
 
@@ -125,7 +132,8 @@ first_is_least past a list n is among = by (n == a.number) refl among
     by true this among = let here = ap (λ m. last_use m past) (equal n a.number this) in omega (arith, here)
     by false this among = let after = all_after past a list n is among in omega (arith, after)
 
-oldest_is : (past : List Entry) (list : List Association) (ns : List ℕ) (o : Option ℕ) → InOrder past list → ((n : ℕ) → is_among n ns ≡ is_among n (numbers list)) → IsLeastOf past ns o → option_map (λ (a : Association). a.number) (first list) ≡ o
+oldest_is : (past : List Entry) (list : List Association) (ns : List ℕ) (o : Option ℕ) → InOrder past list → ((n : ℕ) → is_among n ns ≡ is_among n (numbers list)) →
+    IsLeastOf past ns o → option_map (λ (a : Association). a.number) (first list) ≡ o
 oldest_is past [] ns None order those least = refl
 oldest_is past [] ns (Some m) order those least = let never = sym (those m) ∙ least.among in cc
 oldest_is past (a ∷ list) ns None order those none =
@@ -140,7 +148,8 @@ oldest_is past (a ∷ list) ns (Some m) order those least = by (m == a.number) r
     by false this among = absurd (let later = all_after past a list m order.0 among in let before = sooner in omega (arith, later, before))
 
 pub same_oldest : (config : Config) (past : List Entry) (list : List Association) → Joined config past list → option_map (λ (a : Association). a.number) (first list) ≡ longest_unused config past
-same_oldest config past list j = oldest_is past list (associations_open config past) (longest_unused config past) j.order (same_sockets config past list j) (least_of past (associations_open config past))
+same_oldest config past list j = oldest_is past list (associations_open config past) (longest_unused config past) j.order (same_sockets config past list j)
+    (least_of past (associations_open config past))
 
 -- ---- of the idle life
 
@@ -157,7 +166,8 @@ idle_is config past n now (a ∷ list) kept is = by (a.number == n) (is_over now
     by true false this over more is = more is
     by false u this over more is = more is
 
-is_idle_of : (config : Config) (past : List Entry) (n now : ℕ) (list : List Association) → AreKept config past list → is_among n (numbers list) ≡ true → used_at n past + idle_life ≤ now → is_idle n now list ≡ true
+is_idle_of : (config : Config) (past : List Entry) (n now : ℕ) (list : List Association) → AreKept config past list → is_among n (numbers list) ≡ true →
+    used_at n past + idle_life ≤ now → is_idle n now list ≡ true
 is_idle_of config past n now [] kept among long = cc
 is_idle_of config past n now (a ∷ list) kept among long = by (a.number == n) refl (λ more. is_idle_of config past n now list kept.1 more long)
   where
@@ -202,7 +212,8 @@ count (a ∷ list) = let rest = count list in omega (arith, rest)
 same_count : (config : Config) (past : List Entry) (list : List Association) → Once (open_sockets past) → Joined config past list → length (associations_open config past) ≡ length list
 same_count config past list once j =
     let fewer_listed = no_longer (numbers list) (associations_open config past) (once_numbers past list j.order) (λ n among. same_sockets config past list j n ∙ among) in
-    let fewer_open = no_longer (associations_open config past) (numbers list) (once_if (λ s. is_association (kind_for config s past)) (open_sockets past) once) (λ n among. sym (same_sockets config past list j n) ∙ among) in
+    let fewer_open = no_longer (associations_open config past) (numbers list) (once_if (λ s. is_association (kind_for config s past)) (open_sockets past) once)
+    (λ n among. sym (same_sockets config past list j n) ∙ among) in
     omega (arith, fewer_listed, fewer_open, count list)
 
 -- ---- what is asked for
@@ -212,7 +223,8 @@ module _ (config : Config) (past : List Entry) (list : List Association) (once :
       → (if nat_le most_associations (length list) then yields oldest errand else NeedsSocket errand) ≡ without_socket list errand
   yields_same oldest [] errand is = refl
   yields_same None (a ∷ list) errand is = cc
-  yields_same (Some oldest) (a ∷ list) errand is = (let this : a.number ≡ oldest = cc in ap (λ n. if nat_le most_associations (length (a ∷ list)) then NeedsRoom n errand else NeedsSocket errand) (sym this))
+  yields_same (Some oldest) (a ∷ list) errand is = (let this : a.number ≡ oldest = cc in ap
+      (λ n. if nat_le most_associations (length (a ∷ list)) then NeedsRoom n errand else NeedsSocket errand) (sym this))
 
   on_same : (o : Option ℕ) (errand : Errand) → step_on config o past errand ≡ with_socket o list errand
   on_same (Some socket) errand = refl

@@ -115,7 +115,8 @@ unshown_finished = record { ended = refl; none_due = refl; closed = refl }
 -- ---- broken runs: no proof that they are lawful can be
 
 -- the SYN-ACK before the host connected
-syn_ack_too_early : (answer : Io) → Lawful usual (LinkWrite (hex "0000003a52540012345652550a00020208004500002c000000004006acb6c00002070a00020f00500fa00003d090000003e96012ffffe5930000020405b4") answer ∷ run (take 6 late)) → ⊥
+syn_ack_too_early : (answer : Io) → Lawful usual (LinkWrite (hex
+    "0000003a52540012345652550a00020208004500002c000000004006acb6c00002070a00020f00500fa00003d090000003e96012ffffe5930000020405b4") answer ∷ run (take 6 late)) → ⊥
 syn_ack_too_early answer lawful = no_syn_ack lawful.0.flows
 
 -- octets of a flow on the socket of another
@@ -134,16 +135,19 @@ not_both : {b : Bool} → b ≡ false → b ≡ true → ⊥
 not_both {b} off on = cc
 
 -- the reset that a flow owed, a second time
-reset_again : (answer : Io) → Lawful usual (LinkWrite (hex "0000003652540012345652550a000202080045000028000200004006acb8c00002070a00020f00500fa00003d091000003e950140000fd4c0000") answer ∷ run (take 19 failed_read)) → ⊥
+reset_again : (answer : Io) → Lawful usual (LinkWrite (hex "0000003652540012345652550a000202080045000028000200004006acb8c00002070a00020f00500fa00003d091000003e950140000fd4c0000")
+    answer ∷ run (take 19 failed_read)) → ⊥
 unfolding missing spelling is_too_long spelt_length read_on
 reset_again answer lawful = not_both refl lawful.0.answered
 
 -- a SYN-ACK with an option that isn't the segment's (SACK-permitted), and octets with timestamps, URG, ECE and CWR: a flow's frame is that of the segment and no other
-foreign_option : (answer : Io) → Lawful usual (LinkWrite (hex "0000003e52540012345652550a000202080045000030000000004006acb2c00002070a00020f00500fa00003d090000003e97012ffffd08c0000020405b404020101") answer ∷ run (take 9 failed_read)) → ⊥
+foreign_option : (answer : Io) → Lawful usual (LinkWrite (hex
+    "0000003e52540012345652550a000202080045000030000000004006acb2c00002070a00020f00500fa00003d090000003e97012ffffd08c0000020405b404020101") answer ∷ run (take 9 failed_read)) → ⊥
 unfolding missing spelling is_too_long spelt_length read_on
 foreign_option answer lawful = not_both refl lawful.0.answered
 
 foreign_flags : (answer : Io)
-    → Lawful usual (LinkWrite (hex "0000004752540012345652550a000202080045000039000100004006aca8c00002070a00020f00500fa00003d091000003e980f8ffff7f7600030101080a000000010000000068656c6c6f") answer ∷ TcpRead 0 16384 (Done 5) (hex "68656c6c6f") ∷ run (take 16 failed_read)) → ⊥
+    → Lawful usual (LinkWrite (hex "0000004752540012345652550a000202080045000039000100004006aca8c00002070a00020f00500fa00003d091000003e980f8ffff7f7600030101080a000000010000000068656c6c6f")
+    answer ∷ TcpRead 0 16384 (Done 5) (hex "68656c6c6f") ∷ run (take 16 failed_read)) → ⊥
 unfolding missing spelling is_too_long spelt_length read_on
 foreign_flags answer lawful = not_both refl lawful.0.answered

@@ -105,7 +105,8 @@ refused_lawful = is_sound forwarding (run (Listen 0 (endpoint 2130706433 5555) M
 
 -- What may not come: the SYN before the address is known;
 syn_too_early : (answer : Io)
-    → Lawful forwarding (LinkWrite (hex "0000003e52540012345652550a00020208004500003000000000400662b80a0002020a00020f9c400016000004e2000000007002ffffcad60000020405b401030300") answer ∷ run (take 5 visited)) → ⊥
+    → Lawful forwarding (LinkWrite (hex "0000003e52540012345652550a00020208004500003000000000400662b80a0002020a00020f9c400016000004e2000000007002ffffcad60000020405b401030300")
+    answer ∷ run (take 5 visited)) → ⊥
 unfolding missing spelling is_too_long spelt_length read_on
 syn_too_early reply lawful = not_both refl lawful.0.answered
 
@@ -231,7 +232,8 @@ abbrev pub named : List Entry
 named = UdpOpen 0 (endpoint 2130706433 6000) MadeDone ∷ Now 0 ∷ link_comes 5 ++ comes question ++ UdpOpen 1 anywhere MadeDone ∷ UdpSend 1 resolver asked_name SentDone ∷ []
 
 abbrev pub both_wait : List Entry
-both_wait = Wait (reading Link ∷ reading (Udp 0) ∷ reading (Udp 1) ∷ []) (Some 10000) Ready (reading (Udp 1) ∷ []) ∷ Now 6 ∷ UdpRecv 1 65507 (From resolver 13) name_answer ∷ Close 1 ∷ LinkWrite name_reply (Done 59) ∷ []
+both_wait = Wait (reading Link ∷ reading (Udp 0) ∷ reading (Udp 1) ∷ []) (Some 10000) Ready (reading (Udp 1) ∷ []) ∷ Now 6 ∷ UdpRecv 1 65507 (From resolver 13) name_answer
+    ∷ Close 1 ∷ LinkWrite name_reply (Done 59) ∷ []
 
 abbrev pub named_run : List Entry
 named_run = run (named ++ both_wait ++ link_comes 7 ++ comes datagram ++ UdpSend 0 target_of_row (hex "6869") SentDone ∷ Wait (reading Link ∷ reading (Udp 0) ∷ []) None Stop [] ∷ Close 0 ∷ [])

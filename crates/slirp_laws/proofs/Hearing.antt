@@ -22,7 +22,8 @@ use Rattle.slirp_laws.specs.Laws.{Lawful}
 use Rattle.slirp_laws.specs.Names.{questions}
 use Rattle.slirp_laws.specs.Ports.{last_datagram}
 use Rattle.slirp_laws.specs.Questions.{AnswerCame}
-use Rattle.slirp_laws.specs.Said.{AnswersQuestion, HasPorts, Occasion, NoOccasion, Came, Heard, HeardOfName, OfFile, Unsent, Unconnected, by_call, by_joined, by_made, by_outcome, by_said, by_sent, heard_on, last_occasion, occasion_after, refused_or, unsent_or}
+use Rattle.slirp_laws.specs.Said.{AnswersQuestion, HasPorts, Occasion, NoOccasion, Came, Heard, HeardOfName, OfFile, Unsent, Unconnected, by_call, by_joined, by_made, by_outcome, by_said}
+use Rattle.slirp_laws.specs.Said.{by_sent, heard_on, last_occasion, occasion_after, refused_or, unsent_or}
 use Rattle.slirp_laws.proofs.Asked.{KeptQuestion, kept_questions}
 use Rattle.slirp_laws.proofs.Askers.{WasAskedOf, all_were_asked}
 use Rattle.slirp_laws.proofs.Leaving.{answer_of}
@@ -86,7 +87,8 @@ here : (config : Config) (past : List Entry) (socket asked : ℕ) (peer : Endpoi
 here config past socket asked peer count octets None is = tt
 here config past socket asked peer count octets (Some q) is = record { later = []; socket = socket; asked = asked; count = count; before = past; received = refl; waits = is }
 
-heard_by : (config : Config) (e : Entry) (past : List Entry) (last : Option Datagram) (on : Option OnTuple) (o : Occasion) → IsHeard config (e ∷ past) o → IsHeard config (e ∷ past) (by_call config past e last on o)
+heard_by : (config : Config) (e : Entry) (past : List Entry) (last : Option Datagram) (on : Option OnTuple) (o : Occasion) → IsHeard config (e ∷ past) o → IsHeard config (e ∷ past)
+    (by_call config past e last on o)
 heard_by config (Connect socket to answer) past last on o before = heard_joined config (Connect socket to answer ∷ past) answer on o before
 heard_by config (UdpOpen socket at answer) past last on o before = heard_made config (UdpOpen socket at answer ∷ past) answer last o before
 heard_by config (UdpSend socket to octets answer) past last on o before = heard_sent config (UdpSend socket to octets answer ∷ past) answer last o before
@@ -94,13 +96,16 @@ heard_by config (UdpRecv socket asked (From peer count) octets) past last on o b
 heard_by config (UdpRecv socket asked GotNotYet octets) past last on o before = before
 heard_by config (UdpRecv socket asked GotFailed octets) past last on o before = before
 heard_by config (LinkWrite octets answer) past last on o before =
-    heard_if config (LinkWrite octets answer ∷ past) (begins_again config (identification past) (ledger config past) (goes_out (LinkWrite octets answer) past)) _ o (heard_said config (LinkWrite octets answer ∷ past) (may_go_again (serving config past)) o before) before
-heard_by config (FileLen name answer) past last on o before = heard_outcome config (FileLen name answer ∷ past) (by_answer (serving config past).now (FileLen name answer) (serving config past).files) o before
+    heard_if config (LinkWrite octets answer ∷ past) (begins_again config (identification past) (ledger config past) (goes_out (LinkWrite octets answer) past)) _ o
+    (heard_said config (LinkWrite octets answer ∷ past) (may_go_again (serving config past)) o before) before
+heard_by config (FileLen name answer) past last on o before = heard_outcome config (FileLen name answer ∷ past) (by_answer (serving config past).now (FileLen name answer)
+    (serving config past).files) o before
 heard_by config (FileRead name place asked answer octets) past last on o before =
     heard_outcome config (FileRead name place asked answer octets ∷ past) (by_answer (serving config past).now (FileRead name place asked answer octets) (serving config past).files) o before
 heard_by config _ past last on o before = before
 
-heard_on_entry : (config : Config) (e : Entry) (past : List Entry) (came : Option Arrival) (o : Occasion) → IsHeard config (e ∷ past) o → IsHeard config (e ∷ past) (occasion_after config e past came o)
+heard_on_entry : (config : Config) (e : Entry) (past : List Entry) (came : Option Arrival) (o : Occasion) → IsHeard config (e ∷ past) o → IsHeard config (e ∷ past)
+    (occasion_after config e past came o)
 heard_on_entry config e past None o before = heard_by config e past (last_datagram config past) (book config past).came o before
 heard_on_entry config e past (Some arrival) o before = tt
 
@@ -132,7 +137,8 @@ lawful_before : (config : Config) (later past : List Entry) → Lawful config (l
 lawful_before config [] past lawful = lawful
 lawful_before config (e ∷ later) past lawful = lawful_before config later past lawful.1
 
-pub answer_came : (config : Config) (past : List Entry) (q : Question) (peer : Endpoint) (octets : List ℕ) → Lawful config past → last_occasion config past ≡ HeardOfName q peer octets → is_answered config.resolver q peer octets ≡ true
+pub answer_came : (config : Config) (past : List Entry) (q : Question) (peer : Endpoint) (octets : List ℕ) → Lawful config past →
+    last_occasion config past ≡ HeardOfName q peer octets → is_answered config.resolver q peer octets ≡ true
     → AnswerCame config past q.guest octets
 answer_came config past q peer octets lawful last counts =
     let h : HeardAt config past q peer octets = subst (IsHeard config past) last (is_heard config past) in
@@ -159,7 +165,8 @@ allowed_before : (later past : List Entry) → AreAllowed (later ++ past) → Ar
 allowed_before [] past allowed = allowed
 allowed_before (e ∷ later) past allowed = allowed_before later past allowed.1
 
-pub asker_range : (config : Config) (past : List Entry) (q : Question) (peer : Endpoint) (octets : List ℕ) → Lawful config past → AreAllowed past → HasPorts config → last_occasion config past ≡ HeardOfName q peer octets → IsEndpoint q.guest
+pub asker_range : (config : Config) (past : List Entry) (q : Question) (peer : Endpoint) (octets : List ℕ) → Lawful config past → AreAllowed past → HasPorts config →
+    last_occasion config past ≡ HeardOfName q peer octets → IsEndpoint q.guest
 asker_range config past q peer octets lawful allowed ports last =
     let h : HeardAt config past q peer octets = subst (IsHeard config past) last (is_heard config past) in
     let here = UdpRecv h.socket h.asked (From peer h.count) octets ∷ h.before in

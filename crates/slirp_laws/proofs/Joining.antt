@@ -1,5 +1,6 @@
 -- The list of associations in the order of use, and what the record says of sockets, are one.
-use Rattle.std.proofs.Common.{◌≡◌, ℕ, ◌<◌, ◌==◌, ◌&&◌, ◌||◌, not, nat_lt, Bool, true, false, List, [], ◌∷◌, ◌++◌, length, filter, Option, Some, None, option_map, if◌then◌else◌, inl, inr, refl, sym, ◌∙◌, ap, subst, arith}
+use Rattle.std.proofs.Common.{◌≡◌, ℕ, ◌<◌, ◌==◌, ◌&&◌, ◌||◌, not, nat_lt, Bool, true, false, List, [], ◌∷◌, ◌++◌, length, filter, Option, Some, None, option_map, if◌then◌else◌, inl, inr}
+use Rattle.std.proofs.Common.{refl, sym, ◌∙◌, ap, subst, arith}
 use Rattle.std.proofs.lemmas.Bool.Decides.{nat_tests}
 use Rattle.world_face.specs.Journal.{Entry, Connect, Listen, Accept, Close, UdpOpen, UdpSend, UdpRecv, call_of}
 use Rattle.world_face.specs.declared.Accepted.{Accepted}
@@ -29,7 +30,8 @@ use Rattle.slirp_laws.proofs.Longest.{once_open}
 use Rattle.slirp_laws.proofs.OpenSockets.{next_is_new, peer_next}
 use Rattle.slirp_laws.proofs.Phases.{asks_after_waits, opens, sends}
 use Rattle.slirp_laws.proofs.Steps.{Asks, OfErrand, errand_asks, errand_is, unopened}
-use Rattle.slirp_laws.proofs.Uses.{AllBefore, AreKept, AreUnused, Kept, NoneOf, Use, all_unused, are_kept_on, in_order_last, in_order_moved, in_order_on, in_order_without, kept_last, kept_moved, kept_without, none_of, use_unused}
+use Rattle.slirp_laws.proofs.Uses.{AllBefore, AreKept, AreUnused, Kept, NoneOf, Use, all_unused, are_kept_on, in_order_last, in_order_moved, in_order_on, in_order_without, kept_last}
+use Rattle.slirp_laws.proofs.Uses.{kept_moved, kept_without, none_of, use_unused}
 
 -- ---- numbers
 
@@ -37,12 +39,15 @@ pub numbers_last : (list : List Association) (a : Association) → numbers (list
 numbers_last [] a = refl
 numbers_last (x ∷ list) a = ap (λ ns. x.number ∷ ns) (numbers_last list a)
 
-pub among_moved : (change : Association → Association) → ((a : Association) → (change a).number ≡ a.number) → (n m : ℕ) (list : List Association) → is_among n (numbers (moved_last change m list)) ≡ is_among n (numbers list)
+pub among_moved : (change : Association → Association) → ((a : Association) → (change a).number ≡ a.number) → (n m : ℕ) (list : List Association) → is_among n
+    (numbers (moved_last change m list)) ≡ is_among n (numbers list)
 among_moved change keeps n m [] = refl
 among_moved change keeps n m (x ∷ list) = by_test (is_numbered m x) (among_moved change keeps n m list)
   where
-    by_test : (t : Bool) → is_among n (numbers (moved_last change m list)) ≡ is_among n (numbers list) → is_among n (numbers (if t then list ++ (change x ∷ []) else x ∷ moved_last change m list)) ≡ is_among n (numbers (x ∷ list))
-    by_test true rest = ap (is_among n) (numbers_last list (change x)) ∙ among_last n (change x).number (numbers list) ∙ ap (λ k. is_among n (numbers list) || (n == k)) (keeps x) ∙ or_swap (is_among n (numbers list)) (n == x.number)
+    by_test : (t : Bool) → is_among n (numbers (moved_last change m list)) ≡ is_among n (numbers list) → is_among n
+        (numbers (if t then list ++ (change x ∷ []) else x ∷ moved_last change m list)) ≡ is_among n (numbers (x ∷ list))
+    by_test true rest = ap (is_among n) (numbers_last list (change x)) ∙ among_last n (change x).number (numbers list) ∙ ap (λ k. is_among n (numbers list) || (n == k)) (keeps x)
+        ∙ or_swap (is_among n (numbers list)) (n == x.number)
     by_test false rest = ap (λ b. (n == x.number) || b) rest
 
 pub numbers_without : (m : ℕ) (list : List Association) → numbers (without m list) ≡ filter (λ s. not (s == m)) (numbers list)
@@ -56,14 +61,16 @@ numbers_without m (x ∷ list) = by_test (x.number == m) (numbers_without m list
 
 -- ---- an entry that uses none of them and changes none
 
-quiet : (config : Config) (e : Entry) (past : List Entry) (list : List Association) → AreUnused e list → ((n : ℕ) → serves_port config (e ∷ past) n ≡ serves_port config past n) → Joined config past list → Joined config (e ∷ past) list
+quiet : (config : Config) (e : Entry) (past : List Entry) (list : List Association) → AreUnused e list → ((n : ℕ) → serves_port config (e ∷ past) n ≡ serves_port config past n) →
+    Joined config past list → Joined config (e ∷ past) list
 quiet config e past list unused carried joined = record {
   those = λ n. carried n ∙ joined.those n;
   kept = are_kept_on config e past list unused joined.kept;
   order = in_order_on e past list unused joined.order;
 }
 
-silent : (config : Config) (e : Entry) (past : List Entry) (list : List Association) → ((n : ℕ) → is_used_by n e ≡ false) → ((n : ℕ) → serves_port config (e ∷ past) n ≡ serves_port config past n) → Joined config past list → Joined config (e ∷ past) list
+silent : (config : Config) (e : Entry) (past : List Entry) (list : List Association) → ((n : ℕ) → is_used_by n e ≡ false) →
+    ((n : ℕ) → serves_port config (e ∷ past) n ≡ serves_port config past n) → Joined config past list → Joined config (e ∷ past) list
 silent config e past list none carried joined = quiet config e past list (all_unused e list none) carried joined
 
 -- ---- a socket is opened
@@ -122,7 +129,8 @@ fresh_one test n socket sockets k kind one = by (socket == n) refl
         ∙ sym (or_second (is_among n sockets && test kind) (n == socket) (turned socket n true this))
     by false this = ap (λ b. b && test kind) (among_last n socket sockets) ∙ none (is_among n sockets) (n == socket) (test kind) (turned socket n false this)
 
-unused_below : (config : Config) (past : List Entry) (socket : ℕ) (at : Endpoint) (answer : Made) (list : List Association) → (socket == next_number past) ≡ true → AreKept config past list → AreUnused (UdpOpen socket at answer) list
+unused_below : (config : Config) (past : List Entry) (socket : ℕ) (at : Endpoint) (answer : Made) (list : List Association) → (socket == next_number past) ≡ true →
+    AreKept config past list → AreUnused (UdpOpen socket at answer) list
 unused_below config past socket at answer [] is kept = tt
 unused_below config past socket at answer (a ∷ list) is kept =
     (let drawn = kept.0.drawn in grind (arith, nat_tests, drawn, is), unused_below config past socket at answer list is kept.1)
@@ -131,7 +139,8 @@ pub none_early : (n : ℕ) (o : Option Errand) → n ≡ 0 → OfErrand (λ (err
 none_early n None is asks = refl
 none_early n (Some errand) is asks = absurd (omega (arith, is, asks))
 
-module _ (config : Config) (past : List Entry) (socket : ℕ) (at : Endpoint) (answer : Made) (errand : Errand) (number : (socket == next_number past) ≡ true) (waited : nat_lt 0 (waits past) ≡ true) (asks : Asks config (last_datagram config past) errand) where
+module _ (config : Config) (past : List Entry) (socket : ℕ) (at : Endpoint) (answer : Made) (errand : Errand) (number : (socket == next_number past) ≡ true)
+    (waited : nat_lt 0 (waits past) ≡ true) (asks : Asks config (last_datagram config past) errand) where
   port_new : opened_for config socket (UdpOpen socket at answer ∷ past) ≡ Some errand.datagram.from
   port_new = ap (λ (b : Bool). if b then port_for config socket past else opened_for config socket past) (same socket)
       ∙ ap (λ (b : Bool). if b then last_port config past else given_port config socket) waited ∙ ap (option_map (λ (d : Datagram). d.from)) asks.datagram
@@ -148,7 +157,8 @@ module _ (config : Config) (past : List Entry) (socket : ℕ) (at : Endpoint) (a
     drawn = (let here = equal socket (next_number past) number in omega (arith, here));
   }
 
-  before_new : (list : List Association) → AreUnused (UdpOpen socket at answer) list → AreKept config past list → NoneOf errand.datagram.from list → AllBefore (UdpOpen socket at answer ∷ past) list (association socket errand (moment past))
+  before_new : (list : List Association) → AreUnused (UdpOpen socket at answer) list → AreKept config past list → NoneOf errand.datagram.from list → AllBefore
+      (UdpOpen socket at answer ∷ past) list (association socket errand (moment past))
   before_new [] unused kept none = tt
   before_new (a ∷ list) unused kept none = (
     record {
@@ -158,7 +168,8 @@ module _ (config : Config) (past : List Entry) (socket : ℕ) (at : Endpoint) (a
     before_new list unused.1 kept.1 none.1,
   )
 
-module _ (config : Config) (past : List Entry) (socket : ℕ) (at : Endpoint) (number : (socket == next_number past) ≡ true) (new : is_among socket (open_sockets past) ≡ false) (list : List Association) (joined : Joined config past list) where
+module _ (config : Config) (past : List Entry) (socket : ℕ) (at : Endpoint) (number : (socket == next_number past) ≡ true) (new : is_among socket (open_sockets past) ≡ false)
+    (list : List Association) (joined : Joined config past list) where
   unused : (answer : Made) → AreUnused (UdpOpen socket at answer) list
   unused answer = unused_below config past socket at answer list number joined.kept
 
@@ -180,7 +191,8 @@ module _ (config : Config) (past : List Entry) (socket : ℕ) (at : Endpoint) (n
   -- a guest's
   module _ (errand : Errand) (waited : nat_lt 0 (waits past) ≡ true) (left : errand_left config past ≡ Some errand) (asks : Asks config (last_datagram config past) errand) where
     kind_is : (name : Bool) → asks_a_name config errand ≡ name → is_association (Some (datagram_kind_for config (nat_lt 0 (waits past)) (errand_left config past))) ≡ not name
-    kind_is name is = ap (λ o. is_association (Some (datagram_kind_for config (nat_lt 0 (waits past)) o))) left ∙ ap (λ (b : Bool). is_association (Some (if b then DnsSocket else datagram_kind (nat_lt 0 (waits past))))) is ∙ by name
+    kind_is name is = ap (λ o. is_association (Some (datagram_kind_for config (nat_lt 0 (waits past)) o))) left ∙ ap
+        (λ (b : Bool). is_association (Some (if b then DnsSocket else datagram_kind (nat_lt 0 (waits past))))) is ∙ by name
       where
         by : (name : Bool) → is_association (Some (if name then DnsSocket else datagram_kind (nat_lt 0 (waits past)))) ≡ not name
         by true = refl
@@ -192,12 +204,15 @@ module _ (config : Config) (past : List Entry) (socket : ℕ) (at : Endpoint) (n
     -- for a question
     name_joins : (answer : Made) → asks_a_name config errand ≡ true → Joined config (UdpOpen socket at answer ∷ past) list
     name_joins answer name = quiet config (UdpOpen socket at answer) past list (unused answer)
-        (λ n. fresh_other is_association answer n socket (open_sockets past) (Some (datagram_kind_for config (nat_lt 0 (waits past)) (errand_left config past))) (kind_for config n past) new (kind_is true name)) joined
+        (λ n. fresh_other is_association answer n socket (open_sockets past) (Some (datagram_kind_for config (nat_lt 0 (waits past)) (errand_left config past)))
+        (kind_for config n past) new (kind_is true name)) joined
 
     -- for its port
-    port_joins : (answer : Made) → asks_a_name config errand ≡ false → NoneOf errand.datagram.from list → Joined config (UdpOpen socket at answer ∷ past) (with_opened config answer socket (moment past) (Some errand) list)
+    port_joins : (answer : Made) → asks_a_name config errand ≡ false → NoneOf errand.datagram.from list → Joined config (UdpOpen socket at answer ∷ past)
+        (with_opened config answer socket (moment past) (Some errand) list)
     port_joins Done other none = subst (λ (b : Bool). Joined config (UdpOpen socket at Done ∷ past) (if b then list else list ++ (association socket errand (moment past) ∷ []))) (sym other) (record {
-      those = λ n. fresh_one is_association n socket (open_sockets past) (Some (datagram_kind_for config (nat_lt 0 (waits past)) (errand_left config past))) (kind_for config n past) (kind_is false other)
+      those = λ n. fresh_one is_association n socket (open_sockets past) (Some (datagram_kind_for config (nat_lt 0 (waits past)) (errand_left config past)))
+          (kind_for config n past) (kind_is false other)
           ∙ ap (λ b. b || (n == socket)) (joined.those n) ∙ sym (list_last n);
       kept = kept_last config (UdpOpen socket at Done ∷ past) list (association socket errand (moment past)) (are_kept_on config (UdpOpen socket at Done) past list (unused Done) joined.kept)
           (kept_new config past socket at Done errand number waited asks);
@@ -207,8 +222,10 @@ module _ (config : Config) (past : List Entry) (socket : ℕ) (at : Endpoint) (n
     port_joins Failed other none = quiet config (UdpOpen socket at Failed) past list (unused Failed)
         (λ n. fresh_failed is_association n socket (open_sockets past) (Some (datagram_kind_for config (nat_lt 0 (waits past)) (errand_left config past))) (kind_for config n past) new) joined
 
-    late_joins : (answer : Made) (name : Bool) → asks_a_name config errand ≡ name → (name ≡ false → NoneOf errand.datagram.from list) → Joined config (UdpOpen socket at answer ∷ past) (with_opened config answer socket (moment past) (Some errand) list)
-    late_joins Done true name none = subst (λ (b : Bool). Joined config (UdpOpen socket at Done ∷ past) (if b then list else list ++ (association socket errand (moment past) ∷ []))) (sym name) (name_joins Done name)
+    late_joins : (answer : Made) (name : Bool) → asks_a_name config errand ≡ name → (name ≡ false → NoneOf errand.datagram.from list) → Joined config
+        (UdpOpen socket at answer ∷ past) (with_opened config answer socket (moment past) (Some errand) list)
+    late_joins Done true name none = subst (λ (b : Bool). Joined config (UdpOpen socket at Done ∷ past)
+        (if b then list else list ++ (association socket errand (moment past) ∷ []))) (sym name) (name_joins Done name)
     late_joins Failed true name none = name_joins Failed name
     late_joins answer false name none = port_joins answer name (none refl)
 
@@ -219,10 +236,12 @@ waited_for config past errand is lawful =
 abbrev JoinedAt : Config → List Entry → Type 0
 JoinedAt config past = Joined config past (associations config past)
 
-opened_joins : (config : Config) (past : List Entry) (socket : ℕ) (at : Endpoint) (answer : Made) → May config past (call_of (UdpOpen socket at answer)) → Lawful config past → JoinedAt config past → JoinedAt config (UdpOpen socket at answer ∷ past)
+opened_joins : (config : Config) (past : List Entry) (socket : ℕ) (at : Endpoint) (answer : Made) → May config past (call_of (UdpOpen socket at answer)) → Lawful config past →
+    JoinedAt config past → JoinedAt config (UdpOpen socket at answer ∷ past)
 opened_joins config past socket at answer may lawful joined =
     elim (opens config past socket at may) [
-      | inl early ↦ subst (λ o. Joined config (UdpOpen socket at answer ∷ past) (with_opened config answer socket (moment past) o (associations config past))) (sym (none_early (waits past) (errand_left config past) early.0 (asks_after_waits config past lawful)))
+      | inl early ↦ subst (λ o. Joined config (UdpOpen socket at answer ∷ past) (with_opened config answer socket (moment past) o (associations config past)))
+          (sym (none_early (waits past) (errand_left config past) early.0 (asks_after_waits config past lawful)))
           (early_joins config past socket at may.socket new (associations config past) joined answer early.0
           (none_early (waits past) (errand_left config past) early.0 (asks_after_waits config past lawful)))
       | inr o ↦ late o.errand o.asked
@@ -237,7 +256,8 @@ opened_joins config past socket at answer may lawful joined =
         subst (λ o. Joined config (UdpOpen socket at answer ∷ past) (with_opened config answer socket (moment past) o (associations config past))) (sym left)
         (late_joins config past socket at may.socket new (associations config past) joined errand (waited_for config past errand left lawful) left (errand_asks config past errand left) answer
         (asks_a_name config errand) refl
-        (λ other. none_of errand.datagram.from (associations config past) (same_port_socket config past errand.datagram.from (associations config past) joined ∙ unopened config past errand other asked)))
+        (λ other. none_of errand.datagram.from (associations config past) (same_port_socket config past errand.datagram.from (associations config past) joined
+        ∙ unopened config past errand other asked)))
 
 -- ---- a socket is used
 
@@ -262,7 +282,8 @@ send_use config past socket to octets answer errand asks = record {
     guest = kept.guest;
     mac = ap (λ (b : Bool). if b then last_mac config past else mac_of config a.number past) (this_one socket a.number this) ∙ ap (option_map (λ (d : Datagram). d.mac)) asks.datagram;
     used = ap (λ (b : Bool). if b then moment past else used_at a.number past) (this_one socket a.number this);
-    placed = (let now : last_use a.number (UdpSend socket to octets answer ∷ past) ≡ length past = ap (λ (b : Bool). if b then length past else last_use a.number past) (this_one socket a.number this) in omega (arith, now));
+    placed = (let now : last_use a.number (UdpSend socket to octets answer ∷ past) ≡ length past = ap (λ (b : Bool). if b then length past else last_use a.number past)
+        (this_one socket a.number this) in omega (arith, now));
     drawn = kept.drawn;
   };
   others = λ n other. turned n socket false other;
@@ -285,7 +306,8 @@ and_none : (b : Bool) → b ≡ false → (b && true) ≡ false
 and_none true is = cc
 and_none false is = refl
 
-hear_use : (config : Config) (past : List Entry) (socket asked : ℕ) (peer : Endpoint) (count : ℕ) (octets : List ℕ) → Use config (UdpRecv socket asked (From peer count) octets) past (heard_at (moment past)) socket
+hear_use : (config : Config) (past : List Entry) (socket asked : ℕ) (peer : Endpoint) (count : ℕ) (octets : List ℕ) → Use config
+    (UdpRecv socket asked (From peer count) octets) past (heard_at (moment past)) socket
 hear_use config past socket asked peer count octets = record {
   number = λ a. refl;
   guest = λ a. refl;
@@ -294,7 +316,8 @@ hear_use config past socket asked peer count octets = record {
     guest = kept.guest;
     mac = kept.mac;
     used = ap (λ (b : Bool). if b then moment past else used_at a.number past) (and_true (socket == a.number) (this_one socket a.number this));
-    placed = (let now : last_use a.number (UdpRecv socket asked (From peer count) octets ∷ past) ≡ length past = ap (λ (b : Bool). if b then length past else last_use a.number past) (and_true (socket == a.number) (this_one socket a.number this)) in omega (arith, now));
+    placed = (let now : last_use a.number (UdpRecv socket asked (From peer count) octets ∷ past) ≡ length past = ap
+        (λ (b : Bool). if b then length past else last_use a.number past) (and_true (socket == a.number) (this_one socket a.number this)) in omega (arith, now));
     drawn = kept.drawn;
   };
   others = λ n other. and_none (socket == n) (turned n socket false other);
@@ -302,7 +325,8 @@ hear_use config past socket asked peer count octets = record {
 
 heard_joins : (config : Config) (past : List Entry) (socket asked : ℕ) (answer : Got) (octets : List ℕ) → JoinedAt config past → JoinedAt config (UdpRecv socket asked answer octets ∷ past)
 heard_joins config past socket asked (From peer count) octets joined =
-    moved_joins config (UdpRecv socket asked (From peer count) octets) past (heard_at (moment past)) socket (associations config past) (hear_use config past socket asked peer count octets) (λ n. refl) joined
+    moved_joins config (UdpRecv socket asked (From peer count) octets) past (heard_at (moment past)) socket (associations config past)
+    (hear_use config past socket asked peer count octets) (λ n. refl) joined
 heard_joins config past socket asked GotNotYet octets joined = silent config (UdpRecv socket asked GotNotYet octets) past (associations config past) (λ n. and_false (socket == n)) (λ n. refl) joined
 heard_joins config past socket asked GotFailed octets joined = silent config (UdpRecv socket asked GotFailed octets) past (associations config past) (λ n. and_false (socket == n)) (λ n. refl) joined
 
@@ -322,24 +346,30 @@ closed_joins config past socket list joined = record {
 -- ---- at every moment of a lawful run
 
 -- a peer was accepted, or none came
-peer_joins : (config : Config) (past : List Entry) (listener socket : ℕ) (answer : Accepted) (list : List Association) → is_among socket (open_sockets past) ≡ false → Joined config past list → Joined config (Accept listener socket answer ∷ past) list
+peer_joins : (config : Config) (past : List Entry) (listener socket : ℕ) (answer : Accepted) (list : List Association) → is_among socket (open_sockets past) ≡ false →
+    Joined config past list → Joined config (Accept listener socket answer ∷ past) list
 peer_joins config past listener socket (FromPeer peer) list new joined =
-    silent config (Accept listener socket (FromPeer peer)) past list (λ n. refl) (λ n. fresh_other is_association Done n socket (open_sockets past) (Some OfFlow) (kind_for config n past) new refl) joined
+    silent config (Accept listener socket (FromPeer peer)) past list (λ n. refl) (λ n. fresh_other is_association Done n socket (open_sockets past) (Some OfFlow)
+    (kind_for config n past) new refl) joined
 peer_joins config past listener socket NoPeer list new joined =
     silent config (Accept listener socket NoPeer) past list (λ n. refl) (λ n. fresh_other is_association Failed n socket (open_sockets past) (Some OfFlow) (kind_for config n past) new refl) joined
 peer_joins config past listener socket AcceptFailed list new joined =
-    silent config (Accept listener socket AcceptFailed) past list (λ n. refl) (λ n. fresh_other is_association Failed n socket (open_sockets past) (Some OfFlow) (kind_for config n past) new refl) joined
+    silent config (Accept listener socket AcceptFailed) past list (λ n. refl) (λ n. fresh_other is_association Failed n socket (open_sockets past) (Some OfFlow)
+    (kind_for config n past) new refl) joined
 
 joins_by : (config : Config) (e : Entry) (past : List Entry) → May config past (call_of e) → Lawful config past → JoinedAt config past → JoinedAt config (e ∷ past)
 joins_by config (Connect socket to answer) past may lawful joined =
     let new : is_among socket (open_sockets past) ≡ false = ap (λ n. is_among n (open_sockets past)) (equal socket (next_number past) may.socket) ∙ next_is_new config past lawful in
-    silent config (Connect socket to answer) past (associations config past) (λ n. refl) (λ n. fresh_other is_association answer n socket (open_sockets past) (Some OfFlow) (kind_for config n past) new refl) joined
+    silent config (Connect socket to answer) past (associations config past) (λ n. refl) (λ n. fresh_other is_association answer n socket (open_sockets past) (Some OfFlow)
+    (kind_for config n past) new refl) joined
 joins_by config (Accept listener socket answer) past may lawful joined =
-    let new : is_among socket (open_sockets past) ≡ false = ap (λ n. is_among n (open_sockets past)) (equal socket (next_number past) (peer_next config past listener socket answer may)) ∙ next_is_new config past lawful in
+    let new : is_among socket (open_sockets past) ≡ false = ap (λ n. is_among n (open_sockets past))
+    (equal socket (next_number past) (peer_next config past listener socket answer may)) ∙ next_is_new config past lawful in
     peer_joins config past listener socket answer (associations config past) new joined
 joins_by config (Listen socket at answer) past may lawful joined =
     let new : is_among socket (open_sockets past) ≡ false = ap (λ n. is_among n (open_sockets past)) (equal socket (next_number past) may.socket) ∙ next_is_new config past lawful in
-    silent config (Listen socket at answer) past (associations config past) (λ n. refl) (λ n. fresh_other is_association answer n socket (open_sockets past) (Some OfListener) (kind_for config n past) new refl) joined
+    silent config (Listen socket at answer) past (associations config past) (λ n. refl) (λ n. fresh_other is_association answer n socket (open_sockets past) (Some OfListener)
+    (kind_for config n past) new refl) joined
 joins_by config (UdpOpen socket at answer) past may lawful joined = opened_joins config past socket at answer may lawful joined
 joins_by config (UdpSend socket to octets answer) past may lawful joined = sent_joins config past socket to octets answer may joined
 joins_by config (UdpRecv socket asked answer octets) past may lawful joined = heard_joins config past socket asked answer octets joined
@@ -351,5 +381,6 @@ joined config [] lawful = record { those = λ n. refl; kept = tt; order = tt }
 joined config (e ∷ past) lawful = joins_by config e past lawful.0 lawful.1 (joined config past lawful.1)
 
 -- and so is what the datagram that came last still asks for
-pub joined_step : (config : Config) (past : List Entry) → Lawful config past → step config past ≡ step_for config (questions config past) (λ guest. forward_for config guest past) (associations config past) (errand_left config past)
+pub joined_step : (config : Config) (past : List Entry) → Lawful config past → step config past ≡ step_for config (questions config past) (λ guest. forward_for config guest past)
+    (associations config past) (errand_left config past)
 joined_step config past lawful = same_step config past (associations config past) (once_open config past lawful) (joined config past lawful) (errand_left config past)

@@ -1,5 +1,6 @@
 -- Each open transfer is as the record has it: told by an entry, and sent again since in its time; and what is sought is what the datagram that came last asks for.
-use Rattle.std.proofs.Common.{◌≡◌, ℕ, ◌+◌, ◌-◌, ◌%◌, ◌^◌, ◌<◌, ◌≤◌, ◌⊎◌, inl, inr, Bool, true, false, List, [], ◌∷◌, ◌++◌, length, find, Option, Some, None, option_map, if◌then◌else◌, refl, sym, ◌∙◌, ap, subst, arith}
+use Rattle.std.proofs.Common.{◌≡◌, ℕ, ◌+◌, ◌-◌, ◌%◌, ◌^◌, ◌<◌, ◌≤◌, ◌⊎◌, inl, inr, Bool, true, false, List, [], ◌∷◌, ◌++◌, length, find, Option, Some, None, option_map, if◌then◌else◌}
+use Rattle.std.proofs.Common.{refl, sym, ◌∙◌, ap, subst, arith}
 use Rattle.net_octets.specs.declared.Endpoint.{Endpoint}
 use Rattle.world_face.specs.Journal.{Entry, Call, CallFileLen, CallFileRead, CallLinkRead, FileLen, FileRead, LinkRead, LinkWrite, Now, Wait, call_of}
 use Rattle.world_face.specs.Frames.{goes_out}
@@ -14,15 +15,18 @@ use Rattle.tftp_server.specs.Asking.{call_for}
 use Rattle.tftp_server.specs.Laws.{IsInFolder, octets_done, octets_read}
 use Rattle.tftp_server.specs.Packets.{Acknowledges, Asks, Request, Terms, block_octets, error_octets, file_in, is_name, options_octets, packet_in, request_in, terms_of}
 use Rattle.tftp_server.specs.Rows.{AreApart, WaitsWell}
-use Rattle.tftp_server.specs.Transfers.{Files, Outcome, Quest, Said, SeeksLength, SeeksOctets, Settled, Sought, Transfer, are_left, begun, goes_again, is_for, length_came, next_again, octets_came, octets_of, place_of, said_again, sending, sent_again, ticked, ticked_by, transfer, with_again}
+use Rattle.tftp_server.specs.Transfers.{Files, Outcome, Quest, Said, SeeksLength, SeeksOctets, Settled, Sought, Transfer, are_left, begun, goes_again, is_for, length_came, next_again}
+use Rattle.tftp_server.specs.Transfers.{octets_came, octets_of, place_of, said_again, sending, sent_again, ticked, ticked_by, transfer, with_again}
 use Rattle.tftp_server.proofs.Choosing.{AllTransfers, IfThere, all_filtered, all_found, all_last, all_so, if_there}
 use Rattle.tftp_server.proofs.Listing.{apart_again, apart_filter, apart_push, same_refl, same_swap}
 use Rattle.tftp_server.proofs.Repeating.{due_at}
 use Rattle.tftp_server.proofs.Staying.{parts_below}
 use Rattle.tftp_server.proofs.Waiting.{terms_well}
-use Rattle.slirp_laws.specs.Answers.{Serving, begins_again, begun_by, files_after, files_begun, files_by_call, files_by_fate, files_by_packet, files_sent, identification, is_free, ledger, may_go_again, or_begun, served_file, serving}
+use Rattle.slirp_laws.specs.Answers.{Serving, begins_again, begun_by, files_after, files_begun, files_by_call, files_by_fate, files_by_packet, files_sent, identification, is_free, ledger}
+use Rattle.slirp_laws.specs.Answers.{may_go_again, or_begun, served_file, serving}
 use Rattle.slirp_laws.specs.Datagrams.{Fate, Ignored, Refused, ForLeases, ForFiles, GoesTo, fate}
-use Rattle.slirp_laws.specs.Files.{AreInTime, AreReadsOfIt, IsAskedFor, IsBlockAsRead, IsFirstBlock, IsNextBlock, IsWanted, before_last, is_told_to, length_found, length_of, moments_again, or_made, sent_again_by, since_last, told_at, told_by, told_by_fate, told_by_packet, unless_came, unless_on_its_way}
+use Rattle.slirp_laws.specs.Files.{AreInTime, AreReadsOfIt, IsAskedFor, IsBlockAsRead, IsFirstBlock, IsNextBlock, IsWanted, before_last, is_told_to, length_found, length_of, moments_again}
+use Rattle.slirp_laws.specs.Files.{or_made, sent_again_by, since_last, told_at, told_by, told_by_fate, told_by_packet, unless_came, unless_on_its_way}
 use Rattle.slirp_laws.specs.Laws.{May, Lawful}
 use Rattle.slirp_laws.specs.Ports.{last_datagram, or_before}
 use Rattle.slirp_laws.proofs.FileCalls.{settled, sought_octets}
@@ -85,7 +89,8 @@ quiet _ made other = record { found = refl; octets = refl; reads = λ t is. is; 
 abbrev asked_on : (config : Config) (e : Entry) (past : List Entry) (file : List ℕ) → SameLast config e past → IsAskedFor config past file → IsAskedFor config (e ∷ past) file
 asked_on config e past file same is = record { datagram = is.datagram; last = same.last ∙ is.last; asks = is.asks }
 
-wanted_on : (config : Config) (e : Entry) (past : List Entry) (t : Transfer) → SameLast config e past → length_found (e ∷ since_last config past) ≡ length_found (since_last config past) → IsWanted config past t → IsWanted config (e ∷ past) t
+wanted_on : (config : Config) (e : Entry) (past : List Entry) (t : Transfer) → SameLast config e past → length_found (e ∷ since_last config past) ≡ length_found
+    (since_last config past) → IsWanted config past t → IsWanted config (e ∷ past) t
 wanted_on config e past t same found is = record {
   datagram = is.datagram;
   last = same.last ∙ is.last;
@@ -98,7 +103,8 @@ wanted_on config e past t same found is = record {
     by (inl f) = inl (record { asks = f.asks; found = ap length_found same.since ∙ found ∙ f.found; terms = f.terms; agreed = f.agreed; size = f.size; first = f.first })
     by (inr n) = inr (subst (λ p. IsNextBlock config (serving config p).files.transfers is.datagram t) (sym same.before) n)
 
-quest_on : (config : Config) (e : Entry) (past : List Entry) (transfers : List Transfer) (quest : Quest) → SameLast config e past → is_on_file e ≡ false → IsQuest config past transfers quest → IsQuest config (e ∷ past) transfers quest
+quest_on : (config : Config) (e : Entry) (past : List Entry) (transfers : List Transfer) (quest : Quest) → SameLast config e past → is_on_file e ≡ false →
+    IsQuest config past transfers quest → IsQuest config (e ∷ past) transfers quest
 quest_on config e past transfers Settled same other is = tt
 quest_on config e past transfers (SeeksLength s) same other is =
     let q = quiet e (since_last config past) other in
@@ -172,7 +178,8 @@ moments_now config e past t this k =
     let that : is_told_to t.guest (sent_again_by config here e) ≡ true = subst (λ p. is_told_to t.guest (sent_again_by config p e) ≡ true) k.record_is this in
     ap (λ (b : Bool). if b then moment here ∷ m else m) that ∙ ap (λ p. moment p ∷ m) (sym k.record_is)
 
-kept_again : (config : Config) (e : Entry) (past : List Entry) (t : Transfer) → is_told_to t.guest (sent_again_by config past e) ≡ true → t.due ≤ moment past → t.again < 5 → Kept config past t → Kept config (e ∷ past) (sent_again (moment past) t)
+kept_again : (config : Config) (e : Entry) (past : List Entry) (t : Transfer) → is_told_to t.guest (sent_again_by config past e) ≡ true → t.due ≤ moment past → t.again < 5 →
+    Kept config past t → Kept config (e ∷ past) (sent_again (moment past) t)
 kept_again config e past t this due few k =
     let m = moments_again config t.guest k.later (k.teller ∷ k.before) in
     let same = moments_now config e past t this k in
@@ -234,11 +241,13 @@ found_last : (transfers : List Transfer) (t : Transfer) → find (is_for t.guest
 found_last [] t none = ap (λ (b : Bool). if b then Some t else None) (same_refl t.guest)
 found_last (u ∷ transfers) t none = by (is_for t.guest u) none (λ rest. found_last transfers t rest)
   where
-    by : (b : Bool) → (if b then Some u else find (is_for t.guest) transfers) ≡ None → (find (is_for t.guest) transfers ≡ None → find (is_for t.guest) (transfers ++ (t ∷ [])) ≡ Some t) → (if b then Some u else find (is_for t.guest) (transfers ++ (t ∷ []))) ≡ Some t
+    by : (b : Bool) → (if b then Some u else find (is_for t.guest) transfers) ≡ None → (find (is_for t.guest) transfers ≡ None → find (is_for t.guest)
+        (transfers ++ (t ∷ [])) ≡ Some t) → (if b then Some u else find (is_for t.guest) (transfers ++ (t ∷ []))) ≡ Some t
     by true none rest = cc
     by false none rest = rest none
 
-new_kept : (config : Config) (e : Entry) (past : List Entry) (o : Outcome) (others : List Transfer) → (serving config (e ∷ past)).files ≡ o.files → told_by config past e ≡ o.told → (n : IsNew (IsTold config e past) (serving config past).now o others) → Kept config (e ∷ past) n.t
+new_kept : (config : Config) (e : Entry) (past : List Entry) (o : Outcome) (others : List Transfer) → (serving config (e ∷ past)).files ≡ o.files → told_by config past e ≡ o.told →
+    (n : IsNew (IsTold config e past) (serving config past).now o others) → Kept config (e ∷ past) n.t
 new_kept config e past o others files told n = record {
   later = [];
   teller = e;
@@ -272,7 +281,8 @@ pub record Step (config : Config) (e : Entry) (past : List Entry) (files : Files
 abbrev ComesSo : Config → Entry → List Entry → Outcome → Type 0
 ComesSo config e past o = Comes (Kept config (e ∷ past)) (IsTold config e past) (IsSought config (e ∷ past)) (IsRead config (e ∷ past)) (serving config past).now o
 
-by_outcome : (config : Config) (e : Entry) (past : List Entry) (o : Outcome) → (serving config (e ∷ past)).files ≡ o.files → told_by config past e ≡ o.told → ComesSo config e past o → Step config e past o.files
+by_outcome : (config : Config) (e : Entry) (past : List Entry) (o : Outcome) → (serving config (e ∷ past)).files ≡ o.files → told_by config past e ≡ o.told →
+    ComesSo config e past o → Step config e past o.files
 by_outcome config e past o files told c = by c.tells
   where
     these : o.files.transfers ≡ c.others → HoldsOf config (e ∷ past) o.files
@@ -294,7 +304,8 @@ by_outcome config e past o files told c = by c.tells
         apart = subst AreApart (sym n.list) (apart_push c.others n.t c.apart n.fresh);
         quest = subst (IsQuest config (e ∷ past) o.files.transfers) (sym n.settled) tt;
       };
-      tells = λ said that. (let same : said_again n.t ≡ said = (let both : Some (said_again n.t) ≡ Some said = sym (told ∙ n.told) ∙ that in cc) in subst (IsPacket config (e ∷ past)) same (packet n.is.packet));
+      tells = λ said that. (let same : said_again n.t ≡ said = (let both : Some (said_again n.t) ≡ Some said = sym (told ∙ n.told) ∙ that in cc) in subst
+          (IsPacket config (e ∷ past)) same (packet n.is.packet));
     }
       where
         packet : ((terms : Terms) × (n.t.packet ≡ options_octets terms)) ⊎ IsBlockAsRead config (e ∷ past) (said_again n.t) → IsPacket config (e ∷ past) (said_again n.t)
@@ -306,20 +317,23 @@ not_sent : (guest : Endpoint) (o : Option Said) → is_told_to guest (unless_on_
 not_sent guest None = refl
 not_sent guest (Some said) = refl
 
-kept_all : (config : Config) (e : Entry) (past : List Entry) (transfers : List Transfer) → ((guest : Endpoint) → is_told_to guest (sent_again_by config past e) ≡ false) → AllTransfers (Kept config past) transfers → AllTransfers (Kept config (e ∷ past)) transfers
+kept_all : (config : Config) (e : Entry) (past : List Entry) (transfers : List Transfer) → ((guest : Endpoint) → is_told_to guest (sent_again_by config past e) ≡ false) →
+    AllTransfers (Kept config past) transfers → AllTransfers (Kept config (e ∷ past)) transfers
 kept_all config e past transfers none all = all_so (Kept config past) (Kept config (e ∷ past)) transfers (λ t k. kept_on config e past t (none t.guest) k) all
 
 tells_none : (config : Config) (e : Entry) (past : List Entry) → told_by config past e ≡ None → (said : Said) → told_by config past e ≡ Some said → IsPacket config (e ∷ past) said
 tells_none config e past none said is = let never : None ≡ Some said = sym none ∙ is in cc
 
 -- one after which nothing is sought
-with_settled : (config : Config) (e : Entry) (past : List Entry) (files : Files) → ((guest : Endpoint) → is_told_to guest (sent_again_by config past e) ≡ false) → told_by config past e ≡ None → files.quest ≡ Settled → HoldsOf config past files → Step config e past files
+with_settled : (config : Config) (e : Entry) (past : List Entry) (files : Files) → ((guest : Endpoint) → is_told_to guest (sent_again_by config past e) ≡ false) →
+    told_by config past e ≡ None → files.quest ≡ Settled → HoldsOf config past files → Step config e past files
 with_settled config e past files none told settles h = record {
   holds = record { all = kept_all config e past files.transfers none h.all; apart = h.apart; quest = subst (IsQuest config (e ∷ past) files.transfers) (sym settles) tt };
   tells = tells_none config e past told;
 }
 
-same_files : (config : Config) (e : Entry) (past : List Entry) (files : Files) → SameLast config e past → is_on_file e ≡ false → ((guest : Endpoint) → is_told_to guest (sent_again_by config past e) ≡ false) → told_by config past e ≡ None → HoldsOf config past files → Step config e past files
+same_files : (config : Config) (e : Entry) (past : List Entry) (files : Files) → SameLast config e past → is_on_file e ≡ false →
+    ((guest : Endpoint) → is_told_to guest (sent_again_by config past e) ≡ false) → told_by config past e ≡ None → HoldsOf config past files → Step config e past files
 same_files config e past files same other none told h = record {
   holds = record { all = kept_all config e past files.transfers none h.all; apart = h.apart; quest = quest_on config e past files.transfers files.quest same other h.quest };
   tells = tells_none config e past told;
@@ -353,7 +367,8 @@ module _ (config : Config) (e : Entry) (past : List Entry) (d : Datagram) (to_se
     none = subst NoReads (sym came.since) tt;
   }
 
-  next : (t : Transfer) → AllTransfers (Kept config past) (serving config past).files.transfers → packet_in d.body ≡ Acknowledges (t.block % 2 ^ 16) → find (is_for d.from) (serving config past).files.transfers ≡ Some t → t.is_last ≡ false
+  next : (t : Transfer) → AllTransfers (Kept config past) (serving config past).files.transfers → packet_in d.body ≡ Acknowledges (t.block % 2 ^ 16) → find (is_for d.from)
+      (serving config past).files.transfers ≡ Some t → t.is_last ≡ false
       → IsRead config (e ∷ past) (record t { block = t.block + 1 }) []
   next t all packet found more = record {
     wanted = record {
@@ -375,22 +390,30 @@ module _ (config : Config) (e : Entry) (past : List Entry) (d : Datagram) (to_se
   }
 
 -- those that stay of an entry by which nothing is sent again
-stay : (config : Config) (e : Entry) (past : List Entry) → ((guest : Endpoint) → is_told_to guest (sent_again_by config past e) ≡ false) → HoldsOf config past (serving config past).files → AllTransfers (Kept config (e ∷ past)) (serving config past).files.transfers
+stay : (config : Config) (e : Entry) (past : List Entry) → ((guest : Endpoint) → is_told_to guest (sent_again_by config past e) ≡ false) → HoldsOf config past
+    (serving config past).files → AllTransfers (Kept config (e ∷ past)) (serving config past).files.transfers
 stay config e past none h = kept_all config e past (serving config past).files.transfers none h.all
 
-for_files : (config : Config) (e : Entry) (past : List Entry) (arrival : Arrival) (d : Datagram) → (happens config past e).came ≡ Some arrival → arrival.packet ≡ DatagramPacket d → fate config d ≡ ForFiles
-    → ((guest : Endpoint) → is_told_to guest (sent_again_by config past e) ≡ false) → HoldsOf config past (serving config past).files → Step config e past (served_file config (serving config past) d).files
+for_files : (config : Config) (e : Entry) (past : List Entry) (arrival : Arrival) (d : Datagram) → (happens config past e).came ≡ Some arrival → arrival.packet ≡ DatagramPacket d →
+    fate config d ≡ ForFiles
+    → ((guest : Endpoint) → is_told_to guest (sent_again_by config past e) ≡ false) → HoldsOf config past (serving config past).files → Step config e past
+    (served_file config (serving config past) d).files
 for_files config e past arrival d came packet to_server none h =
     let o = served_file config (serving config past) d in
     let last = is_last_one config e past d (ap datagram_came came ∙ ap datagram_by packet) in
     by_outcome config e past o
-    (ap (λ a. files_after config past (happens config past e) a (ledger config past)) came ∙ ap (files_by_packet config (serving config past)) packet ∙ ap (files_by_fate config (serving config past) d) to_server)
+    (ap (λ a. files_after config past (happens config past e) a (ledger config past)) came ∙ ap (files_by_packet config (serving config past)) packet ∙ ap
+    (files_by_fate config (serving config past) d) to_server)
     (ap (λ a. told_at config (serving config past) a e) came ∙ ap (told_by_packet config (serving config past)) packet ∙ ap (told_by_fate config (serving config past) d) to_server)
-    (packet_comes (Kept config (e ∷ past)) (IsTold config e past) (IsSought config (e ∷ past)) (IsRead config (e ∷ past)) (serving config past).now (whole_block config e past (serving config past).now) d.mac d.from config.tftp_path (packet_in d.body)
-    (serving config past).files.transfers (stay config e past none h) h.apart (asks config e past d to_server last) (λ t packet found more. next config e past d to_server last t h.all packet found more))
+    (packet_comes (Kept config (e ∷ past)) (IsTold config e past) (IsSought config (e ∷ past)) (IsRead config (e ∷ past)) (serving config past).now
+    (whole_block config e past (serving config past).now) d.mac d.from config.tftp_path (packet_in d.body)
+    (serving config past).files.transfers (stay config e past none h) h.apart (asks config e past d to_server last)
+    (λ t packet found more. next config e past d to_server last t h.all packet found more))
 
-by_packet : (config : Config) (e : Entry) (past : List Entry) (arrival : Arrival) (packet : Packet) → (happens config past e).came ≡ Some arrival → arrival.packet ≡ packet → (serving config past).files.quest ≡ Settled
-    → ((guest : Endpoint) → is_told_to guest (sent_again_by config past e) ≡ false) → HoldsOf config past (serving config past).files → Step config e past (files_by_packet config (serving config past) packet)
+by_packet : (config : Config) (e : Entry) (past : List Entry) (arrival : Arrival) (packet : Packet) → (happens config past e).came ≡ Some arrival → arrival.packet ≡ packet →
+    (serving config past).files.quest ≡ Settled
+    → ((guest : Endpoint) → is_told_to guest (sent_again_by config past e) ≡ false) → HoldsOf config past (serving config past).files → Step config e past
+    (files_by_packet config (serving config past) packet)
 by_packet config e past arrival (DatagramPacket d) came is settles none h = by (fate config d) refl
   where
     told : (what : Fate) → fate config d ≡ what → told_by config past e ≡ told_by_fate config (serving config past) d what
@@ -411,10 +434,12 @@ by_packet config e past arrival (Message mac ip message) came is settles none h 
 by_packet config e past arrival (Segment mac ip tcp) came is settles none h =
     with_settled config e past (serving config past).files none (ap (λ a. told_at config (serving config past) a e) came ∙ ap (told_by_packet config (serving config past)) is) settles h
 
-by_arrival : (config : Config) (e : Entry) (past : List Entry) (arrival : Arrival) → (happens config past e).came ≡ Some arrival → May config past (call_of e) → HoldsOf config past (serving config past).files
+by_arrival : (config : Config) (e : Entry) (past : List Entry) (arrival : Arrival) → (happens config past e).came ≡ Some arrival → May config past (call_of e) → HoldsOf config past
+    (serving config past).files
     → Step config e past (files_by_packet config (serving config past) arrival.packet)
 by_arrival config (LinkRead asked answer octets) past arrival came may h =
-    by_packet config (LinkRead asked answer octets) past arrival arrival.packet came refl (settled config past (CallLinkRead asked) (λ never. never) may) (λ guest. not_sent guest (serving config past).again) h
+    by_packet config (LinkRead asked answer octets) past arrival arrival.packet came refl (settled config past (CallLinkRead asked) (λ never. never) may)
+    (λ guest. not_sent guest (serving config past).again) h
 by_arrival config _ past arrival came may h = cc
 
 -- ---- by an answer of a file
@@ -428,7 +453,8 @@ inside_of : (config : Config) (past : List Entry) (file : List ℕ) → IsAskedF
 inside_of config past file a = record { at = a.asks.folder; name = a.asks.request.name; folder_is = a.asks.given; taken = a.asks.taken; file_is = a.asks.is }
 
 starts : (config : Config) (name : List ℕ) (answer : FileSize) (past : List Entry) (s : Sought) (n : ℕ) (terms : Terms) → IsSought config past s → answer ≡ Length n → terms_of n s.options ≡ Some terms
-    → IsTold config (FileLen name answer) past (sending (serving config past).now false (options_octets terms) (transfer n s terms)) × IsRead config (FileLen name answer ∷ past) (record (transfer n s terms) { block = 1 }) []
+    → IsTold config (FileLen name answer) past (sending (serving config past).now false (options_octets terms) (transfer n s terms)) × IsRead config (FileLen name answer ∷ past)
+    (record (transfer n s terms) { block = 1 }) []
 starts config name answer past s n terms is length agreed =
     let nothing = no_reads (record (transfer n s terms) { block = 1 }) (since_last config past) is.none in
     let waits = terms_well n s.options terms agreed in (
@@ -452,7 +478,8 @@ by_length config name answer past h =
     let e = FileLen name answer in
     let s = serving config past in
     by_outcome config e past (length_came s.now answer s.files.quest s.files.transfers) refl refl
-    (length_comes (Kept config (e ∷ past)) (IsTold config e past) (IsSought config (e ∷ past)) (IsRead config (e ∷ past)) s.now (whole_block config e past s.now) (IsSought config past) (IsRead config past) answer s.files.quest
+    (length_comes (Kept config (e ∷ past)) (IsTold config e past) (IsSought config (e ∷ past)) (IsRead config (e ∷ past)) s.now (whole_block config e past s.now)
+    (IsSought config past) (IsRead config past) answer s.files.quest
     s.files.transfers (stay config e past (λ guest. not_sent guest s.again) h) h.apart h.quest (λ sought n terms is length agreed. starts config name answer past sought n terms is length agreed))
 
 -- the call that a block asks for is this one
@@ -473,13 +500,15 @@ abbrev asked_in : Call → ℕ
 asked_in (CallFileRead name place asked) = asked
 asked_in _ = 0
 
-pub the_call : (t : Transfer) (there name : List ℕ) (place asked : ℕ) (quest : Quest) → quest ≡ SeeksOctets t there → call_for quest ≡ Some (CallFileRead name place asked) → IsCall t there name place asked
+pub the_call : (t : Transfer) (there name : List ℕ) (place asked : ℕ) (quest : Quest) → quest ≡ SeeksOctets t there → call_for quest ≡ Some (CallFileRead name place asked) →
+    IsCall t there name place asked
 the_call t there name place asked quest is due =
     let both : Some (CallFileRead t.file (place_of t + length there) (octets_of t - length there)) ≡ Some (CallFileRead name place asked) = sym (ap call_for is) ∙ due in
     let one : CallFileRead t.file (place_of t + length there) (octets_of t - length there) ≡ CallFileRead name place asked = cc in
     record { name_is = sym (ap name_in one); place_is = sym (ap place_in one); asked_is = sym (ap asked_in one) }
 
-more : (config : Config) (name : List ℕ) (place asked : ℕ) (answer : Io) (octets : List ℕ) (past : List Entry) (t : Transfer) (there : List ℕ) → IsCall t there name place asked → IsRead config past t there
+more : (config : Config) (name : List ℕ) (place asked : ℕ) (answer : Io) (octets : List ℕ) (past : List Entry) (t : Transfer) (there : List ℕ) → IsCall t there name place asked →
+    IsRead config past t there
     → IsRead config (FileRead name place asked answer octets ∷ past) t (there ++ octets_done answer octets)
 more config name place asked answer octets past t there call is = record {
   wanted = wanted_on config (FileRead name place asked answer octets) past t (same_last config (FileRead name place asked answer octets) past refl) refl is.wanted;
@@ -493,20 +522,23 @@ more config name place asked answer octets past t there call is = record {
   there_is = ap (λ (o : List ℕ). o ++ octets_done answer octets) is.there_is;
 }
 
-by_octets : (config : Config) (name : List ℕ) (place asked : ℕ) (answer : Io) (octets : List ℕ) (past : List Entry) → May config past (CallFileRead name place asked) → HoldsOf config past (serving config past).files
+by_octets : (config : Config) (name : List ℕ) (place asked : ℕ) (answer : Io) (octets : List ℕ) (past : List Entry) → May config past (CallFileRead name place asked) →
+    HoldsOf config past (serving config past).files
     → Step config (FileRead name place asked answer octets) past (octets_came (serving config past).now answer octets (serving config past).files.quest (serving config past).files.transfers).files
 by_octets config name place asked answer octets past may h =
     let e = FileRead name place asked answer octets in
     let s = serving config past in
     by_outcome config e past (octets_came s.now answer octets s.files.quest s.files.transfers) refl refl
-    (octets_come (Kept config (e ∷ past)) (IsTold config e past) (IsSought config (e ∷ past)) (IsRead config (e ∷ past)) s.now (whole_block config e past s.now) (IsSought config past) (IsRead config past) answer octets s.files.quest
+    (octets_come (Kept config (e ∷ past)) (IsTold config e past) (IsSought config (e ∷ past)) (IsRead config (e ∷ past)) s.now (whole_block config e past s.now)
+    (IsSought config past) (IsRead config past) answer octets s.files.quest
     s.files.transfers (stay config e past (λ guest. not_sent guest s.again) h) h.apart h.quest
     (λ t there is read. more config name place asked answer octets past t there (the_call t there name place asked s.files.quest is (sought_octets config past name place asked may)) read))
 
 -- ---- packets that go again
 
 -- the one that is due goes again, of these
-goes_too : (config : Config) (e : Entry) (past : List Entry) (t : Transfer) (ts : List Transfer) → sent_again_by config past e ≡ Some (said_again t) → AllTransfers (IfThere (Kept config past) (goes_again (serving config past).now) t) ts
+goes_too : (config : Config) (e : Entry) (past : List Entry) (t : Transfer) (ts : List Transfer) → sent_again_by config past e ≡ Some (said_again t) → AllTransfers
+    (IfThere (Kept config past) (goes_again (serving config past).now) t) ts
     → AllTransfers (Kept config (e ∷ past)) (with_again (serving config past).now t.guest ts)
 goes_too config e past t ts sent all = all_again (IfThere (Kept config past) (goes_again (serving config past).now) t) (Kept config (e ∷ past)) (serving config past).now t.guest ts all these others
   where
@@ -525,8 +557,10 @@ goes_too config e past t ts sent all = all_again (IfThere (Kept config past) (go
 
 -- ---- by a wait
 
-by_wait : (config : Config) (e : Entry) (past : List Entry) (free : Bool) → sent_again_by config past e ≡ begun (serving config past).now free (serving config past).files.transfers → told_by config past e ≡ None → (serving config past).files.quest ≡ Settled
-    → HoldsOf config past (serving config past).files → Step config e past (record (serving config past).files { transfers = ticked (serving config past).now free (serving config past).files.transfers })
+by_wait : (config : Config) (e : Entry) (past : List Entry) (free : Bool) → sent_again_by config past e ≡ begun (serving config past).now free
+    (serving config past).files.transfers → told_by config past e ≡ None → (serving config past).files.quest ≡ Settled
+    → HoldsOf config past (serving config past).files → Step config e past
+    (record (serving config past).files { transfers = ticked (serving config past).now free (serving config past).files.transfers })
 by_wait config e past free sent told settles h = by free sent
   where
     s : Serving
@@ -552,22 +586,27 @@ by_wait config e past free sent told settles h = by free sent
         (if_there (Kept config past) (goes_again (serving config past).now) (serving config past).files.transfers t h.all h.apart found)))
         (apart_again (serving config past).now t.guest (are_left (serving config past).now (serving config past).files.transfers) (apart_filter _ (serving config past).files.transfers h.apart))
 
-    by : (free : Bool) → sent_again_by config past e ≡ begun (serving config past).now free (serving config past).files.transfers → Step config e past (record (serving config past).files { transfers = ticked (serving config past).now free (serving config past).files.transfers })
+    by : (free : Bool) → sent_again_by config past e ≡ begun (serving config past).now free (serving config past).files.transfers → Step config e past
+        (record (serving config past).files { transfers = ticked (serving config past).now free (serving config past).files.transfers })
     by false sent = left sent
     by true sent = ticks (next_again (serving config past).now (serving config past).files.transfers) refl sent
 
 -- ---- by a frame
 
-by_frame : (config : Config) (e : Entry) (past : List Entry) (b : Bool) → sent_again_by config past e ≡ unless_on_its_way (serving config past).again (if b then may_go_again (serving config past) else None) → told_by config past e ≡ None
+by_frame : (config : Config) (e : Entry) (past : List Entry) (b : Bool) → sent_again_by config past e ≡ unless_on_its_way (serving config past).again
+    (if b then may_go_again (serving config past) else None) → told_by config past e ≡ None
     → (serving config past).files.quest ≡ Settled → HoldsOf config past (serving config past).files → Step config e past (files_sent b (serving config past))
-by_frame config e past false sent told settles h = with_settled config e past (serving config past).files (λ guest. ap (is_told_to guest) sent ∙ not_sent guest (serving config past).again) told settles h
+by_frame config e past false sent told settles h = with_settled config e past (serving config past).files (λ guest. ap (is_told_to guest) sent ∙ not_sent guest
+    (serving config past).again) told settles h
 by_frame config e past true sent told settles h = by (serving config past).again refl
   where
-    begins : (o : Option Transfer) → find (goes_again (serving config past).now) (serving config past).files.transfers ≡ o → sent_again_by config past e ≡ option_map said_again o → Step config e past (begun_by (serving config past).now o (serving config past).files)
+    begins : (o : Option Transfer) → find (goes_again (serving config past).now) (serving config past).files.transfers ≡ o → sent_again_by config past e ≡ option_map said_again o →
+        Step config e past (begun_by (serving config past).now o (serving config past).files)
     begins None found none = with_settled config e past (serving config past).files (λ guest. ap (is_told_to guest) none) told settles h
     begins (Some t) found this = record {
       holds = record {
-        all = goes_too config e past t (serving config past).files.transfers this (if_there (Kept config past) (goes_again (serving config past).now) (serving config past).files.transfers t h.all h.apart found);
+        all = goes_too config e past t (serving config past).files.transfers this (if_there (Kept config past) (goes_again (serving config past).now)
+            (serving config past).files.transfers t h.all h.apart found);
         apart = apart_again (serving config past).now t.guest (serving config past).files.transfers h.apart;
         quest = subst (IsQuest config (e ∷ past) (with_again (serving config past).now t.guest (serving config past).files.transfers)) (sym settles) tt;
       };
@@ -577,19 +616,23 @@ by_frame config e past true sent told settles h = by (serving config past).again
     by : (o : Option Said) → (serving config past).again ≡ o → Step config e past (files_begun (serving config past).now o (serving config past).files)
     by None none = begins (next_again (serving config past).now (serving config past).files.transfers) refl
         (sent ∙ ap (λ o. unless_on_its_way o (or_begun o (option_map said_again (next_again (serving config past).now (serving config past).files.transfers)))) none)
-    by (Some said) some = with_settled config e past (serving config past).files (λ guest. ap (is_told_to guest) (sent ∙ ap (λ o. unless_on_its_way o (may_go_again (serving config past))) some)) told settles h
+    by (Some said) some = with_settled config e past (serving config past).files
+        (λ guest. ap (is_told_to guest) (sent ∙ ap (λ o. unless_on_its_way o (may_go_again (serving config past))) some)) told settles h
 
 -- ---- every entry
 
 by_call : (config : Config) (e : Entry) (past : List Entry) → (happens config past e).came ≡ None → May config past (call_of e) → HoldsOf config past (serving config past).files
     → Step config e past (files_by_call config past (happens config past e) e (ledger config past))
-by_call config (Wait wants timeout answer ready) past none may h = by_wait config (Wait wants timeout answer ready) past (is_free (ledger config past)) refl refl (settled config past (call_of (Wait wants timeout answer ready)) (λ never. never) may) h
+by_call config (Wait wants timeout answer ready) past none may h = by_wait config (Wait wants timeout answer ready) past (is_free (ledger config past)) refl refl
+    (settled config past (call_of (Wait wants timeout answer ready)) (λ never. never) may) h
 by_call config (LinkWrite octets answer) past none may h =
-    by_frame config (LinkWrite octets answer) past (begins_again config (identification past) (ledger config past) (goes_out (LinkWrite octets answer) past)) refl refl (settled config past (call_of (LinkWrite octets answer)) (λ never. never) may) h
+    by_frame config (LinkWrite octets answer) past (begins_again config (identification past) (ledger config past) (goes_out (LinkWrite octets answer) past)) refl refl
+    (settled config past (call_of (LinkWrite octets answer)) (λ never. never) may) h
 by_call config (FileLen name answer) past none may h = by_length config name answer past h
 by_call config (FileRead name place asked answer octets) past none may h = by_octets config name place asked answer octets past may h
 by_call config (LinkRead asked answer octets) past none may h =
-    same_files config (LinkRead asked answer octets) past (serving config past).files (same_last config (LinkRead asked answer octets) past (ap datagram_came none)) refl (λ guest. not_sent guest (serving config past).again) (ap (λ a. told_at config (serving config past) a (LinkRead asked answer octets)) none) h
+    same_files config (LinkRead asked answer octets) past (serving config past).files (same_last config (LinkRead asked answer octets) past (ap datagram_came none)) refl
+    (λ guest. not_sent guest (serving config past).again) (ap (λ a. told_at config (serving config past) a (LinkRead asked answer octets)) none) h
 by_call config e past none may h = same_files config e past (serving config past).files (same_last config e past refl) refl (λ guest. not_sent guest (serving config past).again) refl h
 
 pub after : (config : Config) (e : Entry) (past : List Entry) → May config past (call_of e) → HoldsOf config past (serving config past).files → Step config e past (serving config (e ∷ past)).files
@@ -605,7 +648,8 @@ holds config (e ∷ past) lawful = (after config e past lawful.0 (holds config p
 
 -- ---- what is sought is what was asked for
 
-pub asked_for_length : (config : Config) (past : List Entry) (name : List ℕ) (quest : Quest) (transfers : List Transfer) → IsQuest config past transfers quest → call_for quest ≡ Some (CallFileLen name) → IsAskedFor config past name
+pub asked_for_length : (config : Config) (past : List Entry) (name : List ℕ) (quest : Quest) (transfers : List Transfer) → IsQuest config past transfers quest →
+    call_for quest ≡ Some (CallFileLen name) → IsAskedFor config past name
 asked_for_length config past name Settled transfers on is = cc
 asked_for_length config past name (SeeksOctets t there) transfers on is = cc
 asked_for_length config past name (SeeksLength s) transfers on is =

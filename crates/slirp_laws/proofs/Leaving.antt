@@ -1,5 +1,6 @@
 -- Why the socket of a question is closed, and that it is after the answer.
-use Rattle.std.proofs.Common.{◌≡◌, ℕ, ◌+◌, ◌<◌, ◌≤◌, ◌==◌, ◌&&◌, ◌||◌, not, nat_le, Bool, true, false, List, [], ◌∷◌, ◌++◌, length, find, Option, Some, None, option_map, if◌then◌else◌, ◌⊎◌, inl, inr, refl, sym, ◌∙◌, ap, subst, arith}
+use Rattle.std.proofs.Common.{◌≡◌, ℕ, ◌+◌, ◌<◌, ◌≤◌, ◌==◌, ◌&&◌, ◌||◌, not, nat_le, Bool, true, false, List, [], ◌∷◌, ◌++◌, length, find, Option, Some, None, option_map, if◌then◌else◌}
+use Rattle.std.proofs.Common.{◌⊎◌, inl, inr, refl, sym, ◌∙◌, ap, subst, arith}
 use Rattle.std.proofs.lemmas.Bool.Decides.{nat_tests}
 use Rattle.world_face.specs.Journal.{Entry, Close, UdpOpen, UdpSend, UdpRecv, CallClose, call_of}
 use Rattle.world_face.specs.declared.Made.{Made}
@@ -76,7 +77,8 @@ as_many (q ∷ list) = (let rest = as_many list in omega (arith, rest))
 
 -- ---- the reasons of a close
 
-longest : (config : Config) (past : List Entry) (o : Option ℕ) (list : List Question) (errand : Errand) (oldest : ℕ) → AreWaiting config past list → with_socket o list errand ≡ NeedsRoom oldest errand → HasWaitedLongest config oldest past
+longest : (config : Config) (past : List Entry) (o : Option ℕ) (list : List Question) (errand : Errand) (oldest : ℕ) → AreWaiting config past list →
+    with_socket o list errand ≡ NeedsRoom oldest errand → HasWaitedLongest config oldest past
 longest config past (Some s) list errand oldest w is = absurd cc
 longest config past None [] errand oldest w is = absurd cc
 longest config past None (q ∷ list) errand oldest w is = by (nat_le most_questions (length (q ∷ list))) refl is
@@ -108,7 +110,8 @@ waited_long : (past : List Entry) (n now : ℕ) (list : List Question) → AllQu
 waited_long past n now [] all is = absurd cc
 waited_long past n now (q ∷ list) all is = by (q.number == n) (is_over now q) refl refl is (λ more. waited_long past n now list all.1 more)
   where
-    by : (t u : Bool) → (q.number == n) ≡ t → is_over now q ≡ u → ((t && u) || is_idle n now list) ≡ true → (is_idle n now list ≡ true → used_at n past + question_life ≤ now) → used_at n past + question_life ≤ now
+    by : (t u : Bool) → (q.number == n) ≡ t → is_over now q ≡ u → ((t && u) || is_idle n now list) ≡ true → (is_idle n now list ≡ true → used_at n past + question_life ≤ now) →
+        used_at n past + question_life ≤ now
     by true true this over is more =
         let here : used_at n past ≡ q.used = ap (λ m. used_at m past) (sym (equal q.number n this)) ∙ all.0.used in
         let long : q.used + question_life ≤ now = grind (arith, nat_tests, over) in
@@ -117,7 +120,8 @@ waited_long past n now (q ∷ list) all is = by (q.number == n) (is_over now q) 
     by false u this over is more = more is
 
 -- what an answer is, by the test
-resolves_of : (resolver : Option Endpoint) (q : Question) (peer : Endpoint) (octets : List ℕ) → is_answered resolver q peer octets ≡ true → (resolver ≡ Some peer) × (is_answer octets ≡ true) × (ident_in octets ≡ q.ident)
+resolves_of : (resolver : Option Endpoint) (q : Question) (peer : Endpoint) (octets : List ℕ) → is_answered resolver q peer octets ≡ true → (resolver ≡ Some peer) ×
+    (is_answer octets ≡ true) × (ident_in octets ≡ q.ident)
 resolves_of None q peer octets is = absurd cc
 resolves_of (Some at) q peer octets is =
     let front = first_of (same_endpoint peer at && is_answer octets) (ident_in octets == q.ident) is in (
@@ -126,7 +130,8 @@ resolves_of (Some at) q peer octets is =
       equal (ident_in octets) q.ident (second_of (same_endpoint peer at && is_answer octets) (ident_in octets == q.ident) is),
     )
 
-pub answer_of : (config : Config) (past : List Entry) (q : Question) (peer : Endpoint) (octets : List ℕ) → is_answered config.resolver q peer octets ≡ true → WasAskedOf config past q → IsAnswerTo config past q.number q.guest peer octets
+pub answer_of : (config : Config) (past : List Entry) (q : Question) (peer : Endpoint) (octets : List ℕ) → is_answered config.resolver q peer octets ≡ true →
+    WasAskedOf config past q → IsAnswerTo config past q.number q.guest peer octets
 answer_of config past q peer octets counts asked =
     let known = resolves_of config.resolver q peer octets counts in
     record { resolves = known.0; answers = known.1; asked = subst (WasAsked config past q.number q.guest) (sym known.2) asked }
@@ -134,7 +139,8 @@ answer_of config past q peer octets counts asked =
 just_answered : (config : Config) (socket : ℕ) (past : List Entry) → Lawful config past → is_it socket (answered config past) ≡ true → WasJustAnswered config socket past
 just_answered config socket (UdpRecv s asked (From peer count) octets ∷ before) lawful is = by (numbered s (questions config before)) refl is
   where
-    of_answer : (q : Question) (b : Bool) → is_answered config.resolver q peer octets ≡ b → numbered s (questions config before) ≡ Some q → is_it socket (if b then Some q.number else None) ≡ true → WasJustAnswered config socket (UdpRecv s asked (From peer count) octets ∷ before)
+    of_answer : (q : Question) (b : Bool) → is_answered config.resolver q peer octets ≡ b → numbered s (questions config before) ≡ Some q → is_it socket
+        (if b then Some q.number else None) ≡ true → WasJustAnswered config socket (UdpRecv s asked (From peer count) octets ∷ before)
     of_answer q false other at is = absurd cc
     of_answer q true counts at is =
         let known = found (WasAskedOf config before) s (questions config before) q (all_were_asked config before s asked lawful.1 lawful.0) at in
@@ -150,7 +156,8 @@ just_answered config socket (UdpRecv s asked (From peer count) octets ∷ before
           answer = subst (λ n. IsAnswerTo config before n q.guest peer octets) one (answer_of config before q peer octets counts known.0);
         }
 
-    by : (o : Option Question) → numbered s (questions config before) ≡ o → is_it socket (answered_on config peer octets o) ≡ true → WasJustAnswered config socket (UdpRecv s asked (From peer count) octets ∷ before)
+    by : (o : Option Question) → numbered s (questions config before) ≡ o → is_it socket (answered_on config peer octets o) ≡ true → WasJustAnswered config socket
+        (UdpRecv s asked (From peer count) octets ∷ before)
     by None at is = absurd cc
     by (Some q) at is = of_answer q (is_answered config.resolver q peer octets) refl at is
 just_answered config socket (UdpRecv s asked GotNotYet octets ∷ before) lawful is = absurd cc
@@ -161,7 +168,8 @@ just_answered config socket [] lawful is = absurd cc
 abbrev Reasons : Config → ℕ → List Entry → Type 0
 Reasons config socket past = WasJustAnswered config socket past ⊎ (HasWaitedLong socket past ⊎ HasWaitedLongest config socket past)
 
-by_reason : (config : Config) (past : List Entry) (socket : ℕ) (a b c : Bool) → Lawful config past → name_gives_way config socket (step config past) ≡ a → is_just_answered config past socket ≡ b → has_waited config past socket ≡ c → (a || b || c) ≡ true → Reasons config socket past
+by_reason : (config : Config) (past : List Entry) (socket : ℕ) (a b c : Bool) → Lawful config past → name_gives_way config socket (step config past) ≡ a →
+    is_just_answered config past socket ≡ b → has_waited config past socket ≡ c → (a || b || c) ≡ true → Reasons config socket past
 by_reason config past socket true b c lawful way came long is = inr (inr (gives_way config past socket (step config past) refl lawful way))
 by_reason config past socket false true c lawful way came long is = inl (just_answered config socket past lawful came)
 by_reason config past socket false false true lawful way came long is = inr (inl (waited_long past socket (moment past) (questions config past) (are_waiting config past lawful).used long))
@@ -176,11 +184,13 @@ by_kind config past socket (Some Listener) lawful one is = absurd cc
 by_kind config past socket (Some Flow) lawful one is = absurd cc
 by_kind config past socket None lawful one is = absurd cc
 
-pub leaves_for : (config : Config) (past : List Entry) (socket : ℕ) → May config past (CallClose socket) → Lawful config past → is_ended config past ≡ false → is_for_question (kind_for config socket past) ≡ true → Reasons config socket past
+pub leaves_for : (config : Config) (past : List Entry) (socket : ℕ) → May config past (CallClose socket) → Lawful config past → is_ended config past ≡ false → is_for_question
+    (kind_for config socket past) ≡ true → Reasons config socket past
 leaves_for config past socket may lawful running one =
     by_kind config past socket (kind_for config socket past) lawful one
     (parts_where (is_closing config past) (is_least socket (open_sockets past)) (parts config past socket) (is_ended config past) (λ closing. closing_ended config past lawful closing) running
-    (second_of (is_among socket (open_sockets past)) (if is_closing config past then is_least socket (open_sockets past) else parts config past socket || (is_ended config past && is_least socket (open_sockets past))) may.socket))
+    (second_of (is_among socket (open_sockets past)) (if is_closing config past then is_least socket (open_sockets past) else parts config past socket ||
+    (is_ended config past && is_least socket (open_sockets past))) may.socket))
 
 -- ---- what is asked on an open socket is kept
 
@@ -204,13 +214,18 @@ of_one : (past : List Entry) (guest : Endpoint) (ident n : ℕ) (list : List Que
 of_one past guest ident n [] order is = absurd cc
 of_one past guest ident n (x ∷ list) order is = by (is_of guest ident x) refl is (λ more. of_one past guest ident n list order.1 more)
   where
-    by : (b : Bool) → is_of guest ident x ≡ b → option_map (λ (q : Question). q.number) (if b then Some x else find (is_of guest ident) list) ≡ Some n → (socket_of guest ident list ≡ Some n → IsOfOne n guest ident list) → IsOfOne n guest ident (x ∷ list)
+    by : (b : Bool) → is_of guest ident x ≡ b → option_map (λ (q : Question). q.number) (if b then Some x else find (is_of guest ident) list) ≡ Some n →
+        (socket_of guest ident list ≡ Some n → IsOfOne n guest ident list) → IsOfOne n guest ident (x ∷ list)
     by true this is more =
         let here : x.number ≡ n = cc in
         record {
           among = ap (λ b. b || is_among n (numbers list)) (ap (λ m. n == m) here ∙ same n);
           idents = (
-            (λ number. (equal_endpoints x.guest guest (first_of (same_endpoint x.guest guest) (x.ident == ident) this), equal x.ident ident (second_of (same_endpoint x.guest guest) (x.ident == ident) this))),
+            (λ number. (
+              equal_endpoints x.guest guest (first_of (same_endpoint x.guest guest) (x.ident == ident) this),
+              equal x.ident ident
+                  (second_of (same_endpoint x.guest guest) (x.ident == ident) this),
+            )),
             subst (λ m. AllQuestions (IsFor m guest ident) list) here (vacuous past x.number guest ident list order.0),
           );
         }
@@ -223,7 +238,8 @@ of_one past guest ident n (x ∷ list) order is = by (is_of guest ident x) refl 
         }
 
 -- an entry after which the socket is open
-opened_keeps : (config : Config) (past : List Entry) (n : ℕ) (guest : Endpoint) (ident socket now : ℕ) (answer : Made) (o : Option Errand) (list : List Question) → socket ≡ next_number past → n < next_number past → IsOfOne n guest ident list → IsOfOne n guest ident (with_opened config answer socket now o list)
+opened_keeps : (config : Config) (past : List Entry) (n : ℕ) (guest : Endpoint) (ident socket now : ℕ) (answer : Made) (o : Option Errand) (list : List Question) →
+    socket ≡ next_number past → n < next_number past → IsOfOne n guest ident list → IsOfOne n guest ident (with_opened config answer socket now o list)
 opened_keeps config past n guest ident socket now Done None list number drawn one = one
 opened_keeps config past n guest ident socket now Failed o list number drawn one = one
 opened_keeps config past n guest ident socket now Done (Some errand) list number drawn one = by (asks_a_name config errand)
@@ -256,15 +272,19 @@ closed_keeps n guest ident socket list other one = record {
   idents = all_left (IsFor n guest ident) socket list one.idents;
 }
 
-keeps_one : (config : Config) (e : Entry) (past : List Entry) (n : ℕ) (guest : Endpoint) (ident : ℕ) → May config past (call_of e) → n < next_number past → is_among n (open_sockets (e ∷ past)) ≡ true → IsOfOne n guest ident (questions config past) → IsOfOne n guest ident (questions config (e ∷ past))
-keeps_one config (Close socket) past n guest ident may drawn open_yet one = closed_keeps n guest ident socket (questions config past) (first_of (not (n == socket)) (is_among n (open_sockets past)) (sym (among_without n socket (open_sockets past)) ∙ open_yet)) one
-keeps_one config (UdpOpen socket at answer) past n guest ident may drawn open_yet one = opened_keeps config past n guest ident socket (moment past) answer (errand_left config past) (questions config past) (equal socket (next_number past) may.socket) drawn one
+keeps_one : (config : Config) (e : Entry) (past : List Entry) (n : ℕ) (guest : Endpoint) (ident : ℕ) → May config past (call_of e) → n < next_number past → is_among n
+    (open_sockets (e ∷ past)) ≡ true → IsOfOne n guest ident (questions config past) → IsOfOne n guest ident (questions config (e ∷ past))
+keeps_one config (Close socket) past n guest ident may drawn open_yet one = closed_keeps n guest ident socket (questions config past)
+    (first_of (not (n == socket)) (is_among n (open_sockets past)) (sym (among_without n socket (open_sockets past)) ∙ open_yet)) one
+keeps_one config (UdpOpen socket at answer) past n guest ident may drawn open_yet one = opened_keeps config past n guest ident socket (moment past) answer (errand_left config past)
+    (questions config past) (equal socket (next_number past) may.socket) drawn one
 keeps_one config (UdpSend socket to octets answer) past n guest ident may drawn open_yet one = sent_keeps n guest ident socket (moment past) (errand_left config past) (questions config past) one
 keeps_one config (UdpRecv socket asked answer octets) past n guest ident may drawn open_yet one = heard_keeps n guest ident socket (moment past) answer (questions config past) one
 keeps_one config _ past n guest ident may drawn open_yet one = one
 
 -- a socket that is open was so before, where its number was drawn
-was_open : (config : Config) (e : Entry) (past : List Entry) (n : ℕ) → May config past (call_of e) → n < next_number past → is_among n (open_sockets (e ∷ past)) ≡ true → is_among n (open_sockets past) ≡ true
+was_open : (config : Config) (e : Entry) (past : List Entry) (n : ℕ) → May config past (call_of e) → n < next_number past → is_among n (open_sockets (e ∷ past)) ≡ true → is_among n
+    (open_sockets past) ≡ true
 was_open config e past n may drawn open_yet = by (is_among n (open_sockets past)) refl
   where
     by : (b : Bool) → is_among n (open_sockets past) ≡ b → b ≡ true
@@ -279,7 +299,8 @@ record IsKept (config : Config) (past : List Entry) (n : ℕ) (guest : Endpoint)
 same_datagram : (o : Option Datagram) (a b : Datagram) → o ≡ Some a → o ≡ Some b → a ≡ b
 same_datagram o a b is was = let both : Some a ≡ Some b = sym is ∙ was in cc
 
-asked_here : (config : Config) (earlier : List Entry) (socket : ℕ) (to : Endpoint) (d : Datagram) (answer : Sent) → Lawful config (UdpSend socket to d.body answer ∷ earlier) → last_datagram config earlier ≡ Some d → (d.to.addr.0 == config.vnameserver) ≡ true
+asked_here : (config : Config) (earlier : List Entry) (socket : ℕ) (to : Endpoint) (d : Datagram) (answer : Sent) → Lawful config (UdpSend socket to d.body answer ∷ earlier) →
+    last_datagram config earlier ≡ Some d → (d.to.addr.0 == config.vnameserver) ≡ true
     → IsKept config (UdpSend socket to d.body answer ∷ earlier) socket d.from (ident_in d.body)
 asked_here config earlier socket to d answer lawful last names =
     let s = sends config earlier socket to d.body lawful.0 in
@@ -291,10 +312,12 @@ asked_here config earlier socket to d answer lawful last names =
     let known = socket_found (KeptQuestion config earlier) s.errand.datagram.from (ident_in s.errand.datagram.body) socket (questions config earlier) (kept_questions config earlier lawful.1) at in
     record {
       drawn = (let drawn = known.1.drawn in let number = known.3 in omega (arith, drawn, number));
-      one = λ open_yet. sent_keeps socket d.from (ident_in d.body) socket (moment earlier) (errand_left config earlier) (questions config earlier) (subst (λ (x : Datagram). IsOfOne socket x.from (ident_in x.body) (questions config earlier)) (sym this) one);
+      one = λ open_yet. sent_keeps socket d.from (ident_in d.body) socket (moment earlier) (errand_left config earlier) (questions config earlier)
+          (subst (λ (x : Datagram). IsOfOne socket x.from (ident_in x.body) (questions config earlier)) (sym this) one);
     }
 
-kept_since : (config : Config) (later earlier : List Entry) (socket : ℕ) (to : Endpoint) (d : Datagram) (answer : Sent) → Lawful config (later ++ (UdpSend socket to d.body answer ∷ earlier)) → last_datagram config earlier ≡ Some d → (d.to.addr.0 == config.vnameserver) ≡ true
+kept_since : (config : Config) (later earlier : List Entry) (socket : ℕ) (to : Endpoint) (d : Datagram) (answer : Sent) → Lawful config
+    (later ++ (UdpSend socket to d.body answer ∷ earlier)) → last_datagram config earlier ≡ Some d → (d.to.addr.0 == config.vnameserver) ≡ true
     → IsKept config (later ++ (UdpSend socket to d.body answer ∷ earlier)) socket d.from (ident_in d.body)
 kept_since config [] earlier socket to d answer lawful last names = asked_here config earlier socket to d answer lawful last names
 kept_since config (e ∷ later) earlier socket to d answer lawful last names =
@@ -306,10 +329,12 @@ kept_since config (e ∷ later) earlier socket to d answer lawful last names =
     }
 
 -- what was asked on an open socket waits, with its identifier
-pub kept_asked : (config : Config) (past : List Entry) (socket : ℕ) (guest : Endpoint) (ident : ℕ) → Lawful config past → is_among socket (open_sockets past) ≡ true → WasAsked config past socket guest ident → IsOfOne socket guest ident (questions config past)
+pub kept_asked : (config : Config) (past : List Entry) (socket : ℕ) (guest : Endpoint) (ident : ℕ) → Lawful config past → is_among socket (open_sockets past) ≡ true →
+    WasAsked config past socket guest ident → IsOfOne socket guest ident (questions config past)
 kept_asked config past socket guest ident lawful open_yet w =
     let names : (w.datagram.to.addr.0 == config.vnameserver) ≡ true = ap (λ n. n == config.vnameserver) w.to_names ∙ same config.vnameserver in
-    let here = subst (λ l. IsKept config l socket w.datagram.from (ident_in w.datagram.body)) (sym w.sent) (kept_since config w.later w.earlier socket w.resolver w.datagram w.answer (subst (Lawful config) w.sent lawful) w.last names) in
+    let here = subst (λ l. IsKept config l socket w.datagram.from (ident_in w.datagram.body)) (sym w.sent)
+    (kept_since config w.later w.earlier socket w.resolver w.datagram w.answer (subst (Lawful config) w.sent lawful) w.last names) in
     subst (λ g. IsOfOne socket g ident (questions config past)) w.port (subst (λ i. IsOfOne socket w.datagram.from i (questions config past)) w.identifier (here.one open_yet))
 
 -- ---- after the answer
@@ -321,12 +346,15 @@ working_none Started past is = absurd cc
 working_none Woken past is = absurd cc
 working_none (Over cause) past is = absurd cc
 
-counts_of : (config : Config) (q : Question) (peer : Endpoint) (octets : List ℕ) → config.resolver ≡ Some peer → is_answer octets ≡ true → q.ident ≡ ident_in octets → is_answered config.resolver q peer octets ≡ true
+counts_of : (config : Config) (q : Question) (peer : Endpoint) (octets : List ℕ) → config.resolver ≡ Some peer → is_answer octets ≡ true → q.ident ≡ ident_in octets →
+    is_answered config.resolver q peer octets ≡ true
 counts_of config q peer octets resolves answers ident =
     ap (λ o. is_answered o q peer octets) resolves
-    ∙ and_both (same_endpoint peer peer && is_answer octets) (ident_in octets == q.ident) (and_both (same_endpoint peer peer) (is_answer octets) (same_port peer) answers) (ap (λ i. ident_in octets == i) ident ∙ same (ident_in octets))
+    ∙ and_both (same_endpoint peer peer && is_answer octets) (ident_in octets == q.ident) (and_both (same_endpoint peer peer) (is_answer octets) (same_port peer) answers)
+    (ap (λ i. ident_in octets == i) ident ∙ same (ident_in octets))
 
-pub closed_next : (config : Config) (e : Entry) (past : List Entry) (socket asked count : ℕ) (guest peer : Endpoint) (octets : List ℕ) → Lawful config (e ∷ (UdpRecv socket asked (From peer count) octets ∷ past)) → IsAnswerTo config past socket guest peer octets → call_of e ≡ CallClose socket
+pub closed_next : (config : Config) (e : Entry) (past : List Entry) (socket asked count : ℕ) (guest peer : Endpoint) (octets : List ℕ) → Lawful config
+    (e ∷ (UdpRecv socket asked (From peer count) octets ∷ past)) → IsAnswerTo config past socket guest peer octets → call_of e ≡ CallClose socket
 closed_next config e past socket asked count guest peer octets lawful a =
     let may = lawful.1.0 in
     let now = UdpRecv socket asked (From peer count) octets ∷ past in
@@ -348,7 +376,8 @@ close_entry (Close socket) n is = cc
 close_entry _ n is = absurd cc
 
 -- from then on the socket is closed
-gone_since : (config : Config) (e : Entry) (between past : List Entry) (socket asked count : ℕ) (guest peer : Endpoint) (octets : List ℕ) → Lawful config (e ∷ (between ++ (UdpRecv socket asked (From peer count) octets ∷ past))) → IsAnswerTo config past socket guest peer octets
+gone_since : (config : Config) (e : Entry) (between past : List Entry) (socket asked count : ℕ) (guest peer : Endpoint) (octets : List ℕ) → Lawful config
+    (e ∷ (between ++ (UdpRecv socket asked (From peer count) octets ∷ past))) → IsAnswerTo config past socket guest peer octets
     → IsGone socket (e ∷ (between ++ (UdpRecv socket asked (From peer count) octets ∷ past)))
 gone_since config e [] past socket asked count guest peer octets lawful a =
     let here = UdpRecv socket asked (From peer count) octets ∷ past in
@@ -360,7 +389,8 @@ gone_since config e (f ∷ between) past socket asked count guest peer octets la
 -- so nothing more is received on it
 pub heard_once : (config : Config) (between past : List Entry) (socket asked count more : ℕ) (guest peer : Endpoint) (octets others : List ℕ) (answer : Got)
     → Lawful config (UdpRecv socket more answer others ∷ (between ++ (UdpRecv socket asked (From peer count) octets ∷ past))) → IsAnswerTo config past socket guest peer octets → ⊥
-heard_once config [] past socket asked count more guest peer octets others answer lawful a = absurd (let never = closed_next config (UdpRecv socket more answer others) past socket asked count guest peer octets lawful a in cc)
+heard_once config [] past socket asked count more guest peer octets others answer lawful a = absurd
+    (let never = closed_next config (UdpRecv socket more answer others) past socket asked count guest peer octets lawful a in cc)
 heard_once config (e ∷ between) past socket asked count more guest peer octets others answer lawful a =
     let gone = gone_since config e between past socket asked count guest peer octets lawful.1 a in
     let never : true ≡ false = sym (hears_on_open config (e ∷ (between ++ (UdpRecv socket asked (From peer count) octets ∷ past))) socket more lawful.0.socket) ∙ gone.shut in

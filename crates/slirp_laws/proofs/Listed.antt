@@ -19,7 +19,8 @@ pub all_last : (P : Question → Type 0) (list : List Question) (q : Question) �
 all_last P [] q all one = (one, tt)
 all_last P (x ∷ list) q all one = (all.0, all_last P list q all.1 one)
 
-pub all_moved : (P : Question → Type 0) (change : Question → Question) (n : ℕ) (list : List Question) → ((q : Question) → P q → P (change q)) → AllQuestions P list → AllQuestions P (moved_last change n list)
+pub all_moved : (P : Question → Type 0) (change : Question → Question) (n : ℕ) (list : List Question) → ((q : Question) → P q → P (change q)) → AllQuestions P list → AllQuestions P
+    (moved_last change n list)
 all_moved P change n [] keeps all = tt
 all_moved P change n (q ∷ list) keeps all = by (q.number == n) (all_moved P change n list keeps all.1)
   where
@@ -32,7 +33,8 @@ pub all_without : (P : Question → Type 0) (n : ℕ) (list : List Question) →
 all_without P n [] all = tt
 all_without P n (q ∷ list) all = by (q.number == n) refl (all_without P n list all.1)
   where
-    by : (b : Bool) → (q.number == n) ≡ b → AllQuestions (λ q. P q × ((q.number == n) ≡ false)) (without n list) → AllQuestions (λ q. P q × ((q.number == n) ≡ false)) (if not b then q ∷ without n list else without n list)
+    by : (b : Bool) → (q.number == n) ≡ b → AllQuestions (λ q. P q × ((q.number == n) ≡ false)) (without n list) → AllQuestions (λ q. P q × ((q.number == n) ≡ false))
+        (if not b then q ∷ without n list else without n list)
     by true this rest = rest
     by false other rest = ((all.0, other), rest)
 
@@ -71,11 +73,13 @@ socket_found P guest ident n (x ∷ list) all is = by (is_of guest ident x) refl
     by false other is more = more is
 
 -- where there was none the last one is
-pub socket_last : (guest : Endpoint) (ident : ℕ) (list : List Question) (q : Question) → socket_of guest ident list ≡ None → is_of guest ident q ≡ true → socket_of guest ident (list ++ (q ∷ [])) ≡ Some q.number
+pub socket_last : (guest : Endpoint) (ident : ℕ) (list : List Question) (q : Question) → socket_of guest ident list ≡ None → is_of guest ident q ≡ true → socket_of guest ident
+    (list ++ (q ∷ [])) ≡ Some q.number
 socket_last guest ident [] q none this = ap (λ (b : Bool). option_map (λ (x : Question). x.number) (if b then Some q else None)) this
 socket_last guest ident (x ∷ list) q none this = by (is_of guest ident x) none (λ more. socket_last guest ident list q more this)
   where
-    by : (b : Bool) → option_map (λ (y : Question). y.number) (if b then Some x else find (is_of guest ident) list) ≡ None → (socket_of guest ident list ≡ None → socket_of guest ident (list ++ (q ∷ [])) ≡ Some q.number)
+    by : (b : Bool) → option_map (λ (y : Question). y.number) (if b then Some x else find (is_of guest ident) list) ≡ None →
+        (socket_of guest ident list ≡ None → socket_of guest ident (list ++ (q ∷ [])) ≡ Some q.number)
         → option_map (λ (y : Question). y.number) (if b then Some x else find (is_of guest ident) (list ++ (q ∷ []))) ≡ Some q.number
     by true none more = cc
     by false none more = more none
@@ -86,11 +90,13 @@ pub numbers_last : (n : ℕ) (list : List Question) (q : Question) → is_among 
 numbers_last n [] q = or_false (n == q.number)
 numbers_last n (x ∷ list) q = ap (λ b. (n == x.number) || b) (numbers_last n list q) ∙ or_assoc (n == x.number) (is_among n (numbers list)) (n == q.number)
 
-pub numbers_moved : (change : Question → Question) → ((q : Question) → (change q).number ≡ q.number) → (n m : ℕ) (list : List Question) → is_among n (numbers (moved_last change m list)) ≡ is_among n (numbers list)
+pub numbers_moved : (change : Question → Question) → ((q : Question) → (change q).number ≡ q.number) → (n m : ℕ) (list : List Question) → is_among n
+    (numbers (moved_last change m list)) ≡ is_among n (numbers list)
 numbers_moved change keeps n m [] = refl
 numbers_moved change keeps n m (x ∷ list) = by (x.number == m) (numbers_moved change keeps n m list)
   where
-    by : (b : Bool) → is_among n (numbers (moved_last change m list)) ≡ is_among n (numbers list) → is_among n (numbers (if b then list ++ (change x ∷ []) else x ∷ moved_last change m list)) ≡ is_among n (numbers (x ∷ list))
+    by : (b : Bool) → is_among n (numbers (moved_last change m list)) ≡ is_among n (numbers list) → is_among n
+        (numbers (if b then list ++ (change x ∷ []) else x ∷ moved_last change m list)) ≡ is_among n (numbers (x ∷ list))
     by true rest = numbers_last n list (change x) ∙ ap (λ k. is_among n (numbers list) || (n == k)) (keeps x) ∙ or_swap (is_among n (numbers list)) (n == x.number)
     by false rest = ap (λ b. (n == x.number) || b) rest
 

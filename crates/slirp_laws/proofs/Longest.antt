@@ -1,5 +1,6 @@
 -- Sockets of the record: the one for a port, the longest unused, and how many there are.
-use Rattle.std.proofs.Common.{◌≡◌, ℕ, ◌<◌, ◌≤◌, ◌==◌, ◌&&◌, ◌||◌, not, nat_lt, Bool, true, false, List, [], ◌∷◌, ◌++◌, length, filter, find, Option, Some, None, if◌then◌else◌, refl, sym, ◌∙◌, ap, subst, arith}
+use Rattle.std.proofs.Common.{◌≡◌, ℕ, ◌<◌, ◌≤◌, ◌==◌, ◌&&◌, ◌||◌, not, nat_lt, Bool, true, false, List, [], ◌∷◌, ◌++◌, length, filter, find, Option, Some, None, if◌then◌else◌, refl, sym}
+use Rattle.std.proofs.Common.{◌∙◌, ap, subst, arith}
 use Rattle.std.proofs.lemmas.Bool.Decides.{nat_tests}
 use Rattle.world_face.specs.Journal.{Entry, Connect, Listen, Accept, Close, UdpOpen, call_of}
 use Rattle.world_face.specs.declared.Accepted.{Accepted}
@@ -54,7 +55,8 @@ fewer : (n : ℕ) (ns : List ℕ) → is_among n ns ≡ true → length (filter 
 fewer n [] is = cc
 fewer n (x ∷ ns) is = by (x == n) refl (λ more. fewer n ns more)
   where
-    by : (t : Bool) → (x == n) ≡ t → (is_among n ns ≡ true → length (filter (λ s. not (s == n)) ns) < length ns) → length (if not t then x ∷ filter (λ s. not (s == n)) ns else filter (λ s. not (s == n)) ns) < length (x ∷ ns)
+    by : (t : Bool) → (x == n) ≡ t → (is_among n ns ≡ true → length (filter (λ s. not (s == n)) ns) < length ns) → length
+        (if not t then x ∷ filter (λ s. not (s == n)) ns else filter (λ s. not (s == n)) ns) < length (x ∷ ns)
     by true this more = omega (arith, no_more n ns)
     by false other more = let rest = more (sym (ap (λ b. b || is_among n ns) (turned x n false other)) ∙ is) in omega (arith, rest)
 
@@ -111,12 +113,16 @@ once_peer (From peer) n ns new once = once_last n ns new once
 once_peer NotYetAccepted n ns new once = once
 once_peer AcceptFailed n ns new once = once
 
-once_by : (config : Config) (e : Entry) (past : List Entry) → May config past (call_of e) → is_among (next_number past) (open_sockets past) ≡ false → Once (open_sockets past) → Once (open_sockets (e ∷ past))
-once_by config (Connect socket to answer) past may new once = once_made answer socket (open_sockets past) (ap (λ n. is_among n (open_sockets past)) (equal socket (next_number past) may.socket) ∙ new) once
+once_by : (config : Config) (e : Entry) (past : List Entry) → May config past (call_of e) → is_among (next_number past) (open_sockets past) ≡ false → Once (open_sockets past) →
+    Once (open_sockets (e ∷ past))
+once_by config (Connect socket to answer) past may new once = once_made answer socket (open_sockets past)
+    (ap (λ n. is_among n (open_sockets past)) (equal socket (next_number past) may.socket) ∙ new) once
 once_by config (Accept listener socket answer) past may new once =
     once_peer answer socket (open_sockets past) (ap (λ n. is_among n (open_sockets past)) (equal socket (next_number past) (peer_next config past listener socket answer may)) ∙ new) once
-once_by config (Listen socket at answer) past may new once = once_made answer socket (open_sockets past) (ap (λ n. is_among n (open_sockets past)) (equal socket (next_number past) may.socket) ∙ new) once
-once_by config (UdpOpen socket at answer) past may new once = once_made answer socket (open_sockets past) (ap (λ n. is_among n (open_sockets past)) (equal socket (next_number past) may.socket) ∙ new) once
+once_by config (Listen socket at answer) past may new once = once_made answer socket (open_sockets past)
+    (ap (λ n. is_among n (open_sockets past)) (equal socket (next_number past) may.socket) ∙ new) once
+once_by config (UdpOpen socket at answer) past may new once = once_made answer socket (open_sockets past)
+    (ap (λ n. is_among n (open_sockets past)) (equal socket (next_number past) may.socket) ∙ new) once
 once_by config (Close socket) past may new once = once_if (λ s. not (s == socket)) (open_sockets past) once
 once_by config _ past may new once = once
 

@@ -1,5 +1,6 @@
 -- What comes in a frame and in a datagram are octets, and addresses in range, where each answer is one that a World may give.
-use Rattle.std.proofs.Common.{◌≡◌, ℕ, ◌-◌, ◌^◌, ◌<◌, ◌==◌, ◌&&◌, not, cond, find, lit<, nat_le, Bool, true, false, List, [], ◌∷◌, ◌++◌, get_or, length, drop, Option, Some, None, option_and_then, if◌then◌else◌, inl, inr, refl, ap, subst, arith}
+use Rattle.std.proofs.Common.{◌≡◌, ℕ, ◌-◌, ◌^◌, ◌<◌, ◌==◌, ◌&&◌, not, cond, find, lit<, nat_le, Bool, true, false, List, [], ◌∷◌, ◌++◌, get_or, length, drop, Option, Some, None}
+use Rattle.std.proofs.Common.{option_and_then, if◌then◌else◌, inl, inr, refl, ap, subst, arith}
 use Rattle.std.proofs.lemmas.Bool.{cases_lt}
 use Rattle.std.proofs.lemmas.List.{get_or_past}
 use Rattle.std.specs.List.{range_with_len}
@@ -13,7 +14,8 @@ use Rattle.net_octets.proofs.Parts.{four_at-fits}
 use Rattle.host_policy.specs.Addresses.{Config, is_guest}
 use Rattle.ether_frame.specs.Ether.{Ether, read_ether}
 use Rattle.ipv4_head.specs.Ip.{Ip, read_ip, head_length, is_unbroken}
-use Rattle.ipv4_head.specs.Sets.{Key, Part, PartSet, Outcome, UnevenPart, LongPart, Clashes, Waits, Joined, has_octet, joined_body, joined_size, octet_in, octet_of, outcome_among, parts_for, changed_by, OfParts, OfSets, place_of, set_for, start_of, whole_by}
+use Rattle.ipv4_head.specs.Sets.{Key, Part, PartSet, Outcome, UnevenPart, LongPart, Clashes, Waits, Joined, has_octet, joined_body, joined_size, octet_in, octet_of, outcome_among}
+use Rattle.ipv4_head.specs.Sets.{parts_for, changed_by, OfParts, OfSets, place_of, set_for, start_of, whole_by}
 use Rattle.ipv4_head.proofs.Members.{found_key, of_changed_by, of_left, of_there, same_key}
 use Rattle.run_laws.specs.Fragments.{Fragment, arrived, fragment_by, fragment_in, fragment_of, joined_by, key_by, part_by, sets, waiting, with_fragment, with_frame}
 use Rattle.run_laws.specs.Moments.{moment}
@@ -104,13 +106,15 @@ range_fragment_of false o is = tt
 range_fragment_in : (config : Config) (frame : List ℕ) (o : Option Ether) → read_ether frame ≡ o → AreOctets frame → RangeFragment (option_and_then (fragment_of config) o)
 range_fragment_in config frame None is all = tt
 range_fragment_in config frame (Some ether) is all =
-    range_fragment_of (ether.kind == ipv4_kind) (option_and_then (fragment_by config ether.body) (read_ip ether.body)) (range_fragment_ip config ether.body (read_ip ether.body) refl (ether_range frame ether is all))
+    range_fragment_of (ether.kind == ipv4_kind) (option_and_then (fragment_by config ether.body) (read_ip ether.body))
+    (range_fragment_ip config ether.body (read_ip ether.body) refl (ether_range frame ether is all))
 
 sets_with : (now : ℕ) (o : Option Fragment) (waiting : List PartSet) → RangeFragment o → OfSets RangePart waiting → OfSets RangePart (with_fragment now o waiting)
 sets_with now None waiting is all = all
 sets_with now (Some f) waiting is all = of_left RangePart now f.key f.part waiting all (λ even. is)
 
-sets_by : (config : Config) (now : ℕ) (o : Option (List ℕ)) (waiting : List PartSet) → ((frame : List ℕ) → o ≡ Some frame → AreOctets frame) → OfSets RangePart waiting → OfSets RangePart (with_frame config now o waiting)
+sets_by : (config : Config) (now : ℕ) (o : Option (List ℕ)) (waiting : List PartSet) → ((frame : List ℕ) → o ≡ Some frame → AreOctets frame) → OfSets RangePart waiting →
+    OfSets RangePart (with_frame config now o waiting)
 sets_by config now None waiting octets all = all
 sets_by config now (Some frame) waiting octets all = sets_with now (fragment_in config frame) waiting (range_fragment_in config frame (read_ether frame) refl (octets frame refl)) all
 
@@ -128,13 +132,15 @@ octets_of key (p ∷ parts) test k all = octet_if (test p) (in_range p.body all.
     octet_if false is later = later
 
 joined_octets : (s : PartSet) → OfParts RangePart s.key s.parts → AreOctets (joined_body s.parts)
-joined_octets s all = All-map IsOctet (octet_of s.parts) (range_with_len 0 (joined_size s.parts)) (λ i d less. octets_of s.key s.parts (has_octet (get_or (range_with_len 0 (joined_size s.parts)) i d)) (get_or (range_with_len 0 (joined_size s.parts)) i d) all)
+joined_octets s all = All-map IsOctet (octet_of s.parts) (range_with_len 0 (joined_size s.parts))
+    (λ i d less. octets_of s.key s.parts (has_octet (get_or (range_with_len 0 (joined_size s.parts)) i d)) (get_or (range_with_len 0 (joined_size s.parts)) i d) all)
 
 abbrev pub RangeIp : Option Ip → Type 0
 RangeIp None = Unit {0}
 RangeIp (Some ip) = IsRanged ip
 
-whole_range : (key : Key) (waiting : List PartSet) (outcome : Outcome) (o : Option PartSet) → set_for key waiting ≡ o → key.from < 2 ^ 32 → key.to < 2 ^ 32 → OfSets RangePart waiting → RangeIp (whole_by outcome o)
+whole_range : (key : Key) (waiting : List PartSet) (outcome : Outcome) (o : Option PartSet) → set_for key waiting ≡ o → key.from < 2 ^ 32 → key.to < 2 ^ 32 →
+    OfSets RangePart waiting → RangeIp (whole_by outcome o)
 whole_range key waiting Joined None at from to all = tt
 whole_range key waiting Joined (Some s) at from to all =
     let key_is : key ≡ s.key = same_key key s.key (found_key RangePart key waiting s at) in

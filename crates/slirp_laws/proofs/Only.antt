@@ -25,7 +25,8 @@ module _ (config : Config) (past : List Entry) (frame : List ℕ) (ip : Ip) (on 
   by_reason : left config past ≡ [] → is_beside config past frame ≡ true → IsOfFlow config past frame
   by_reason nothing is = by (sends_segment config past frame (segment_in frame)) (may_ask config past frame (asked_in frame)) refl refl is
     where
-      by : (b m : Bool) → sends_segment config past frame (segment_in frame) ≡ b → may_ask config past frame (asked_in frame) ≡ m → (b || m || sends_again config past frame) ≡ true → IsOfFlow config past frame
+      by : (b m : Bool) → sends_segment config past frame (segment_in frame) ≡ b → may_ask config past frame (asked_in frame) ≡ m →
+          (b || m || sends_again config past frame) ≡ true → IsOfFlow config past frame
       by true m sends asks may = by_segment config past frame (segment_in frame) nothing refl sends
       by false true none asks may = absurd (no_request config past frame ip (by_request config past frame (asked_in frame) nothing refl asks) c)
       by false false none asks may = absurd (no_file may)
@@ -41,10 +42,12 @@ module _ (config : Config) (past : List Entry) (frame : List ℕ) (ip : Ip) (on 
       one a b is = cc
 
 -- a segment that goes out, where nothing is left of an answer, is one of a flow
-pub is_of_flow : (config : Config) (e : Entry) (past : List Entry) (frame : List ℕ) (ip : Ip) (on : OnTuple) → Lawful config (e ∷ past) → goes_out e past ≡ Some frame → left config past ≡ [] → Carries frame ip → segment_in frame ≡ Some on
+pub is_of_flow : (config : Config) (e : Entry) (past : List Entry) (frame : List ℕ) (ip : Ip) (on : OnTuple) → Lawful config (e ∷ past) → goes_out e past ≡ Some frame →
+    left config past ≡ [] → Carries frame ip → segment_in frame ≡ Some on
     → IsOfFlow config past frame
 is_of_flow config e past frame ip on lawful out nothing c carried = by_frame config past frame ip on c carried nothing (out_by config e past frame lawful.0 out)
 
-pub writes_only : (config : Config) (e : Entry) (past : List Entry) (frame : List ℕ) (ip : Ip) (on : OnTuple) → Lawful config (e ∷ past) → goes_out e past ≡ Some frame → left config past ≡ [] → Carries frame ip → segment_in frame ≡ Some on
+pub writes_only : (config : Config) (e : Entry) (past : List Entry) (frame : List ℕ) (ip : Ip) (on : OnTuple) → Lawful config (e ∷ past) → goes_out e past ≡ Some frame →
+    left config past ≡ [] → Carries frame ip → segment_in frame ≡ Some on
     → ip.body ≡ tcp_octets ip.from ip.to (tcp_for on)
 writes_only config e past frame ip on lawful out nothing c carried = of_flow config past frame ip on c carried (is_of_flow config e past frame ip on lawful out nothing c carried)

@@ -1,5 +1,6 @@
 -- Where the ports of the host that are given to guests are opened, and when they are closed.
-use Rattle.std.proofs.Common.{◌≡◌, ℕ, suc, zero, ◌+◌, ◌<◌, ◌==◌, ◌&&◌, ◌||◌, Bool, true, false, List, [], ◌∷◌, drop, slice_get, is_some, MatchOption, Option, Some, None, option_map, if◌then◌else◌, refl, sym, ap, ◌∙◌, subst, arith}
+use Rattle.std.proofs.Common.{◌≡◌, ℕ, suc, zero, ◌+◌, ◌<◌, ◌==◌, ◌&&◌, ◌||◌, Bool, true, false, List, [], ◌∷◌, drop, slice_get, is_some, MatchOption, Option, Some, None, option_map}
+use Rattle.std.proofs.Common.{if◌then◌else◌, refl, sym, ap, ◌∙◌, subst, arith}
 use Rattle.world_face.specs.Journal.{Entry, Call, Now, Wait, Listen, UdpOpen, CallClose, CallListen, CallUdpOpen}
 use Rattle.world_face.specs.Frames.{Ending, ending, partial}
 use Rattle.world_face.specs.declared.Made.{Made}
@@ -78,11 +79,13 @@ are_left config (e ∷ past) = left_after config.forwards e (ending e (partial p
 
 -- ---- so the port that is opened next is one of them
 
-listens_at : (all : List Forward) (proto : Proto) (number socket : ℕ) (f : Forward) (at : Endpoint) (k : ℕ) → f.proto ≡ proto → slice_get all k ≡ Some f → opening_of proto number f ≡ CallListen socket at → OpensGiven all Tcp at
+listens_at : (all : List Forward) (proto : Proto) (number socket : ℕ) (f : Forward) (at : Endpoint) (k : ℕ) → f.proto ≡ proto → slice_get all k ≡ Some f →
+    opening_of proto number f ≡ CallListen socket at → OpensGiven all Tcp at
 listens_at all Tcp number socket f at k proto here is = (k, f, here, proto, cc)
 listens_at all Udp number socket f at k proto here is = absurd cc
 
-opens_at : (all : List Forward) (proto : Proto) (number socket : ℕ) (f : Forward) (at : Endpoint) (k : ℕ) → f.proto ≡ proto → slice_get all k ≡ Some f → opening_of proto number f ≡ CallUdpOpen socket at → OpensGiven all Udp at
+opens_at : (all : List Forward) (proto : Proto) (number socket : ℕ) (f : Forward) (at : Endpoint) (k : ℕ) → f.proto ≡ proto → slice_get all k ≡ Some f →
+    opening_of proto number f ≡ CallUdpOpen socket at → OpensGiven all Udp at
 opens_at all Udp number socket f at k proto here is = (k, f, here, proto, cc)
 opens_at all Tcp number socket f at k proto here is = absurd cc
 
@@ -94,13 +97,15 @@ closes_first None other call never is = is
 closes_first (Some s) other call never is = absurd (never s (some_call (CallClose s) call is))
 
 -- a listener is opened for a port of the settings alone
-no_listening : (config : Config) (st : Step) (other : Option Call) (number socket : ℕ) (at : Endpoint) → IsForOther other → unless_due (due_for config st number) other ≡ Some (CallListen socket at) → ⊥
+no_listening : (config : Config) (st : Step) (other : Option Call) (number socket : ℕ) (at : Endpoint) → IsForOther other → unless_due (due_for config st number) other ≡ Some
+    (CallListen socket at) → ⊥
 no_listening config Settled other number socket at flow is = subst IsForOther is flow
 no_listening config (NeedsRoom oldest errand) other number socket at flow is = cc
 no_listening config (NeedsSocket errand) other number socket at flow is = cc
 no_listening config (NeedsSending s errand) other number socket at flow is = cc
 
-listening : (all : List Forward) (p : Phase) (past : List Entry) (other : Option Call) (socket : ℕ) (at : Endpoint) → IsLeft all p → (other ≡ Some (CallListen socket at) → ⊥) → unless_due (due_in p past) other ≡ Some (CallListen socket at) → OpensGiven all Tcp at
+listening : (all : List Forward) (p : Phase) (past : List Entry) (other : Option Call) (socket : ℕ) (at : Endpoint) → IsLeft all p → (other ≡ Some (CallListen socket at) → ⊥) →
+    unless_due (due_in p past) other ≡ Some (CallListen socket at) → OpensGiven all Tcp at
 listening all (Opening count []) past other socket at left never is = absurd cc
 listening all (Opening count (f ∷ forwards)) past other socket at left never is =
     listens_at all f.proto (next_number past) socket f at count refl (drop_next count all forwards f left).1 (some_call (opening_of f.proto (next_number past) f) (CallListen socket at) is)
@@ -116,13 +121,15 @@ listens_where_given config past socket at may =
     (due_call (due config past) (CallListen socket at) may.place may.due)
 
 -- what is asked for by a datagram was asked for after a wait
-asked_later : (config : Config) (past : List Entry) (socket : ℕ) (at : Endpoint) → Lawful config past → unless_due (due_for config (step config past) (next_number past)) (others_due config past) ≡ Some (CallUdpOpen socket at) → 0 < waits past
+asked_later : (config : Config) (past : List Entry) (socket : ℕ) (at : Endpoint) → Lawful config past → unless_due (due_for config (step config past) (next_number past))
+    (others_due config past) ≡ Some (CallUdpOpen socket at) → 0 < waits past
 asked_later config past socket at lawful is =
     let o = opens_for config (step config past) (others_due config past) (next_number past) socket at (for_others config past) is in
     subst (OfErrand (λ (errand : Errand). 0 < waits past)) (errand_is config past (NeedsSocket o.errand) o.asked) (asks_after_waits config past lawful)
 
 -- a socket for datagrams that is opened before the first wait is one of them too
-opening : (all : List Forward) (p : Phase) (past : List Entry) (other : Option Call) (socket : ℕ) (at : Endpoint) → IsLeft all p → HasWaited p (waits past) → waits past ≡ 0 → (other ≡ Some (CallUdpOpen socket at) → 0 < waits past)
+opening : (all : List Forward) (p : Phase) (past : List Entry) (other : Option Call) (socket : ℕ) (at : Endpoint) → IsLeft all p → HasWaited p (waits past) → waits past ≡ 0 →
+    (other ≡ Some (CallUdpOpen socket at) → 0 < waits past)
     → unless_due (due_in p past) other ≡ Some (CallUdpOpen socket at) → OpensGiven all Udp at
 opening all (Opening count []) past other socket at left waited early later is = absurd cc
 opening all (Opening count (f ∷ forwards)) past other socket at left waited early later is =
@@ -130,11 +137,14 @@ opening all (Opening count (f ∷ forwards)) past other socket at left waited ea
 opening all Started past other socket at left waited early later is = let more = later is in absurd (omega (arith, early, more))
 opening all Woken past other socket at left waited early later is = absurd cc
 opening all Working past other socket at left waited early later is = absurd (omega (arith, early, waited))
-opening all (Over cause) past other socket at left waited early later is = let more = later (closes_first (first (open_sockets past)) other (CallUdpOpen socket at) (λ s same. cc) is) in absurd (omega (arith, early, more))
+opening all (Over cause) past other socket at left waited early later is = let more = later (closes_first (first (open_sockets past)) other (CallUdpOpen socket at)
+    (λ s same. cc) is) in absurd (omega (arith, early, more))
 
-pub opens_where_given : (config : Config) (past : List Entry) (socket : ℕ) (at : Endpoint) → Lawful config past → waits past ≡ 0 → May config past (CallUdpOpen socket at) → OpensGiven config.forwards Udp at
+pub opens_where_given : (config : Config) (past : List Entry) (socket : ℕ) (at : Endpoint) → Lawful config past → waits past ≡ 0 → May config past (CallUdpOpen socket at) →
+    OpensGiven config.forwards Udp at
 opens_where_given config past socket at lawful early may =
-    opening config.forwards (phase config past) past (unless_due (due_for config (step config past) (next_number past)) (others_due config past)) socket at (are_left config past) (has_waited config past) early
+    opening config.forwards (phase config past) past (unless_due (due_for config (step config past) (next_number past)) (others_due config past)) socket at (are_left config past)
+    (has_waited config past) early
     (asked_later config past socket at lawful) (due_call (due config past) (CallUdpOpen socket at) may.place may.due)
 
 -- ---- and it is closed after the end
@@ -152,8 +162,10 @@ ended_only true least some ended already none is = already refl
 ended_only false least true ended already none is = absurd cc
 ended_only false least false ended already none is = first_of ended least is
 
-pub closes_given_after_the_end : (config : Config) (past : List Entry) (socket : ℕ) → Lawful config past → May config past (CallClose socket) → is_given (kind_for config socket past) ≡ true → is_ended config past ≡ true
+pub closes_given_after_the_end : (config : Config) (past : List Entry) (socket : ℕ) → Lawful config past → May config past (CallClose socket) → is_given
+    (kind_for config socket past) ≡ true → is_ended config past ≡ true
 closes_given_after_the_end config past socket lawful may given =
     ended_only (is_closing config past) (is_least socket (open_sockets past)) (parts config past socket) (is_ended config past) (closing_ended config past lawful)
     (given_stays config past socket (kind_for config socket past) given)
-    (second_of (is_among socket (open_sockets past)) (if is_closing config past then is_least socket (open_sockets past) else parts config past socket || (is_ended config past && is_least socket (open_sockets past))) may.socket)
+    (second_of (is_among socket (open_sockets past)) (if is_closing config past then is_least socket (open_sockets past) else parts config past socket ||
+    (is_ended config past && is_least socket (open_sockets past))) may.socket)

@@ -7,9 +7,12 @@ use Rattle.world_face.specs.declared.FileSize.TheVariants.{Length, Missing, Fail
 use Rattle.world_face.specs.declared.Io.{Io}
 use Rattle.world_face.specs.declared.Io.TheVariants.{Done, End, NotYet, Failed}
 use Rattle.tftp_server.specs.Laws.{octets_done}
-use Rattle.tftp_server.specs.Packets.{Packet, Asks, AsksToWrite, Acknowledges, GivesUp, Unheard, Request, Terms, block_octets, error_octets, file_in, is_name, options_octets, request_in, says, terms_of}
+use Rattle.tftp_server.specs.Packets.{Packet, Asks, AsksToWrite, Acknowledges, GivesUp, Unheard, Request, Terms, block_octets, error_octets, file_in, is_name, options_octets, request_in}
+use Rattle.tftp_server.specs.Packets.{says, terms_of}
 use Rattle.tftp_server.specs.Rows.{AreApart}
-use Rattle.tftp_server.specs.Transfers.{Outcome, Quest, Said, SeeksLength, SeeksOctets, Settled, Sought, Transfer, acknowledged, begins, is_for, leaves, length_came, measured, most_transfers, octets_came, octets_of, reads_on, refuses, requested, requested_file, said_again, seeks_block, sending, sends, taken_in, transfer, with_again, with_room, without, sent_again}
+use Rattle.tftp_server.specs.Transfers.{Outcome, Quest, Said, SeeksLength, SeeksOctets, Settled, Sought, Transfer, acknowledged, begins, is_for, leaves, length_came, measured}
+use Rattle.tftp_server.specs.Transfers.{most_transfers, octets_came, octets_of, reads_on, refuses, requested, requested_file, said_again, seeks_block, sending, sends, taken_in, transfer}
+use Rattle.tftp_server.specs.Transfers.{with_again, with_room, without, sent_again}
 use Rattle.tftp_server.proofs.Choosing.{AllTransfers, all_filtered}
 use Rattle.tftp_server.proofs.Listing.{apart_filter, found_not, none_without}
 use Rattle.slirp_laws.proofs.Bools.{equal}
@@ -93,9 +96,17 @@ module _ (P U : Transfer → Type 0) (L : Sought → Type 0) (B : Transfer → L
   leaves_these ts all apart = record { others = ts; all = all; apart = apart; tells = Nothing refl refl; quest = tt }
 
   refusal : (code : ℕ) (mac : List ℕ) (guest : Endpoint) (ts : List Transfer) → AllTransfers P ts → AreApart ts → Comes P U L B now (refuses code mac guest ts)
-  refusal code mac guest ts all apart = record { others = ts; all = all; apart = apart; tells = AnError (record { mac = mac; guest = guest; octets = error_octets code }) code refl refl refl; quest = tt }
+  refusal code mac guest ts all apart = record {
+    others = ts;
+    all = all;
+    apart = apart;
+    tells = AnError
+        (record { mac = mac; guest = guest; octets = error_octets code }) code refl refl refl;
+    quest = tt;
+  }
 
-  sends_one : (last : Bool) (packet : List ℕ) (t : Transfer) (ts : List Transfer) → AllTransfers P ts → AreApart ts → find (is_for t.guest) ts ≡ None → U (sending now last packet t) → Comes P U L B now (sends now last packet t ts)
+  sends_one : (last : Bool) (packet : List ℕ) (t : Transfer) (ts : List Transfer) → AllTransfers P ts → AreApart ts → find (is_for t.guest) ts ≡ None → U
+      (sending now last packet t) → Comes P U L B now (sends now last packet t ts)
   sends_one last packet t ts all apart fresh is = record {
     others = ts;
     all = all;
@@ -120,14 +131,16 @@ module _ (P U : Transfer → Type 0) (L : Sought → Type 0) (B : Transfer → L
 
     -- ---- of an answer
 
-    begins_it : (n : ℕ) (s : Sought) (terms : Terms) (ts : List Transfer) → AllTransfers P ts → AreApart ts → find (is_for s.guest) ts ≡ None → U (sending now false (options_octets terms) (transfer n s terms)) → B (record (transfer n s terms) { block = 1 }) []
+    begins_it : (n : ℕ) (s : Sought) (terms : Terms) (ts : List Transfer) → AllTransfers P ts → AreApart ts → find (is_for s.guest) ts ≡ None → U
+        (sending now false (options_octets terms) (transfer n s terms)) → B (record (transfer n s terms) { block = 1 }) []
         → Comes P U L B now (begins now n s terms ts)
     begins_it n s terms ts all apart fresh answers first = comes_if (length terms.answered == 0) _ _
         (λ none. block (record (transfer n s terms) { block = 1 }) ts all apart fresh first)
         (λ some. sends_one false (options_octets terms) (transfer n s terms) ts all apart fresh answers)
 
     pub length_comes : (L' : Sought → Type 0) (B' : Transfer → List ℕ → Type 0) (answer : FileSize) (quest : Quest) (ts : List Transfer) → AllTransfers P ts → AreApart ts → OnQuest L' B' ts quest
-        → ((s : Sought) (n : ℕ) (terms : Terms) → L' s → answer ≡ Length n → terms_of n s.options ≡ Some terms → U (sending now false (options_octets terms) (transfer n s terms)) × B (record (transfer n s terms) { block = 1 }) [])
+        → ((s : Sought) (n : ℕ) (terms : Terms) → L' s → answer ≡ Length n → terms_of n s.options ≡ Some terms → U
+        (sending now false (options_octets terms) (transfer n s terms)) × B (record (transfer n s terms) { block = 1 }) [])
         → Comes P U L B now (length_came now answer quest ts)
     length_comes L' B' answer Settled ts all apart on starts = leaves_these ts all apart
     length_comes L' B' answer (SeeksOctets t there) ts all apart on starts = leaves_these ts all apart
@@ -141,7 +154,8 @@ module _ (P U : Transfer → Type 0) (L : Sought → Type 0) (B : Transfer → L
             let both = starts s n terms on.1 refl is in
             begins_it n s terms (with_room ts) (all_room P ts all) (apart_room ts apart) (none_room s.guest ts on.0) both.0 both.1
 
-    pub octets_come : (L' : Sought → Type 0) (B' : Transfer → List ℕ → Type 0) (answer : Io) (octets : List ℕ) (quest : Quest) (ts : List Transfer) → AllTransfers P ts → AreApart ts → OnQuest L' B' ts quest
+    pub octets_come : (L' : Sought → Type 0) (B' : Transfer → List ℕ → Type 0) (answer : Io) (octets : List ℕ) (quest : Quest) (ts : List Transfer) → AllTransfers P ts →
+        AreApart ts → OnQuest L' B' ts quest
         → ((t : Transfer) (there : List ℕ) → quest ≡ SeeksOctets t there → B' t there → B t (there ++ octets_done answer octets))
         → Comes P U L B now (octets_came now answer octets quest ts)
     octets_come L' B' answer octets Settled ts all apart on more = leaves_these ts all apart
@@ -157,19 +171,22 @@ module _ (P U : Transfer → Type 0) (L : Sought → Type 0) (B : Transfer → L
       abbrev AsksWell : Option (List ℕ) → Request → Type 0
       AsksWell folder r = (at : List ℕ) → folder ≡ Some at → is_name r.name ≡ true → L (record { guest = guest; mac = mac; file = file_in at r.name; options = r.options })
 
-      by_name : (r : Request) (ts : List Transfer) (folder : Option (List ℕ)) → AllTransfers P ts → AreApart ts → find (is_for guest) ts ≡ None → AsksWell folder r → Comes P U L B now (requested_file mac guest r ts folder)
+      by_name : (r : Request) (ts : List Transfer) (folder : Option (List ℕ)) → AllTransfers P ts → AreApart ts → find (is_for guest) ts ≡ None → AsksWell folder r →
+          Comes P U L B now (requested_file mac guest r ts folder)
       by_name r ts None all apart fresh asks = refusal 2 mac guest ts all apart
       by_name r ts (Some at) all apart fresh asks = comes_if (is_name r.name) _ _
           (λ taken. record { others = ts; all = all; apart = apart; tells = Nothing refl refl; quest = (fresh, asks at refl taken) })
           (λ other. refusal 2 mac guest ts all apart)
 
-      by_request : (folder : Option (List ℕ)) (o : Option Request) (ts : List Transfer) → AllTransfers P ts → AreApart ts → find (is_for guest) ts ≡ None → ((r : Request) → o ≡ Some r → AsksWell folder r) → Comes P U L B now (requested folder mac guest o ts)
+      by_request : (folder : Option (List ℕ)) (o : Option Request) (ts : List Transfer) → AllTransfers P ts → AreApart ts → find (is_for guest) ts ≡ None →
+          ((r : Request) → o ≡ Some r → AsksWell folder r) → Comes P U L B now (requested folder mac guest o ts)
       by_request folder None ts all apart fresh asks = refusal 4 mac guest ts all apart
       by_request folder (Some r) ts all apart fresh asks = comes_if (says (codes "octet") r.mode) _ _
           (λ octet. by_name r ts folder all apart fresh (asks r refl))
           (λ other. refusal 4 mac guest ts all apart)
 
-      by_acknowledgement : (number : ℕ) (o : Option Transfer) (ts : List Transfer) → AllTransfers P ts → AreApart ts → ((t : Transfer) → o ≡ Some t → number ≡ t.block % 2 ^ 16 → t.is_last ≡ false → B (record t { block = t.block + 1 }) []) → Comes P U L B now (acknowledged now number o ts)
+      by_acknowledgement : (number : ℕ) (o : Option Transfer) (ts : List Transfer) → AllTransfers P ts → AreApart ts → ((t : Transfer) → o ≡ Some t → number ≡ t.block % 2 ^ 16 →
+          t.is_last ≡ false → B (record t { block = t.block + 1 }) []) → Comes P U L B now (acknowledged now number o ts)
       by_acknowledgement number None ts all apart next = leaves_these ts all apart
       by_acknowledgement number (Some t) ts all apart next = comes_if (number == t.block % 2 ^ 16) _ _
           (λ this. comes_if t.is_last _ _ (λ last. leaves_these (without t.guest ts) rest still)
@@ -197,7 +214,8 @@ module _ (P U : Transfer → Type 0) (L : Sought → Type 0) (B : Transfer → L
 -- ---- packets that go again
 
 -- those for a port go again, and the others stay
-pub all_again : (P Q : Transfer → Type 0) (now : ℕ) (guest : Endpoint) (ts : List Transfer) → AllTransfers P ts → ((t : Transfer) → P t → is_for guest t ≡ true → Q (sent_again now t)) → ((t : Transfer) → P t → is_for guest t ≡ false → Q t)
+pub all_again : (P Q : Transfer → Type 0) (now : ℕ) (guest : Endpoint) (ts : List Transfer) → AllTransfers P ts → ((t : Transfer) → P t → is_for guest t ≡ true → Q
+    (sent_again now t)) → ((t : Transfer) → P t → is_for guest t ≡ false → Q t)
     → AllTransfers Q (with_again now guest ts)
 all_again P Q now guest [] all these others = tt
 all_again P Q now guest (t ∷ ts) all these others = (by (is_for guest t) refl, all_again P Q now guest ts all.1 these others)

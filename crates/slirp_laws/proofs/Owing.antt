@@ -1,5 +1,6 @@
 -- What is left to be sent is what is owed for what came last.
-use Rattle.std.proofs.Common.{not, ◌≡◌, ℕ, zero, suc, ◌+◌, ◌-◌, ◌%◌, ◌^◌, ◌<◌, ◌≤◌, ◌==◌, ◌&&◌, ◌||◌, Bool, true, false, List, [], ◌∷◌, drop, length, bytes_eq, Option, Some, None, if◌then◌else◌, ◌⊎◌, inl, inr, refl, sym, ◌∙◌, ap, subst, arith, nat_lt, option_map}
+use Rattle.std.proofs.Common.{not, ◌≡◌, ℕ, zero, suc, ◌+◌, ◌-◌, ◌%◌, ◌^◌, ◌<◌, ◌≤◌, ◌==◌, ◌&&◌, ◌||◌, Bool, true, false, List, [], ◌∷◌, drop, length, bytes_eq, Option, Some, None}
+use Rattle.std.proofs.Common.{if◌then◌else◌, ◌⊎◌, inl, inr, refl, sym, ◌∙◌, ap, subst, arith, nat_lt, option_map}
 use Rattle.std.proofs.lemmas.Bool.Decides.{nat_tests}
 use Rattle.world_face.specs.Journal.{Entry, LinkRead, LinkWrite, Connect, UdpOpen, UdpSend, UdpRecv, FileLen, FileRead, call_of, Accept, Listen}
 use Rattle.world_face.specs.Frames.{goes_out, opens, tail}
@@ -25,7 +26,9 @@ use Rattle.run_laws.specs.Sockets.{next_number, Flow as OfFlow, Kind, Listener a
 use Rattle.run_laws.specs.Guests.{known, with_arrival}
 use Rattle.record_flows.specs.Book.{book}
 use Rattle.record_flows.specs.Segments.{OnTuple, from_guest}
-use Rattle.slirp_laws.specs.Answers.{is_flows, starts, Answer, ArpAnswer, IpAnswer, Serving, again_frames, answers_of, begins_again, ledger, left_by_file, left_by_outcome, may_go_again, reply_on, served_file, serving, told_of_files, datagrams_in, datagrams_out, with_datagrams, frames_for, frames_of, identification, is_first, is_out, is_untold, left, left_after, no_network, owed_for_fate, owed_for_icmp, owed_for_packet, reply_for, reset_for, taken, told_about, unconnected, unsent}
+use Rattle.slirp_laws.specs.Answers.{is_flows, starts, Answer, ArpAnswer, IpAnswer, Serving, again_frames, answers_of, begins_again, ledger, left_by_file, left_by_outcome, may_go_again}
+use Rattle.slirp_laws.specs.Answers.{reply_on, served_file, serving, told_of_files, datagrams_in, datagrams_out, with_datagrams, frames_for, frames_of, identification, is_first, is_out}
+use Rattle.slirp_laws.specs.Answers.{is_untold, left, left_after, no_network, owed_for_fate, owed_for_icmp, owed_for_packet, reply_for, reset_for, taken, told_about, unconnected, unsent}
 use Rattle.slirp_laws.specs.Datagrams.{Errand, Fate, Ignored, Refused, ForLeases, ForFiles, GoesTo, fate, Step, Settled, NeedsSocket, NeedsSending}
 use Rattle.slirp_laws.specs.Asking.{step, step_of}
 use Rattle.slirp_laws.specs.Errands.{errand_after, errand_by_call, errand_left}
@@ -39,7 +42,8 @@ use Rattle.host_policy.specs.declared.Reply.{Reply}
 use Rattle.host_policy.specs.declared.Reply.TheVariants.{Nothing, Datagram as ADatagram, Unreachable}
 use Rattle.slirp_laws.specs.Laws.{May, Lawful, may_begin}
 use Rattle.slirp_laws.specs.Ports.{last_datagram, last_mac, mac_of, opened_for, or_before, mac_for, mac_known, port_for}
-use Rattle.slirp_laws.specs.Said.{AnswersLast, IsRest, Occasion, NoOccasion, Came, Heard, HeardOfName, OfFile, Unsent, Unconnected, by_outcome, by_said, heard_on as heard_of, identification_with, last_occasion, occasion_after, owed_for, refused_or, unsent_or}
+use Rattle.slirp_laws.specs.Said.{AnswersLast, IsRest, Occasion, NoOccasion, Came, Heard, HeardOfName, OfFile, Unsent, Unconnected, by_outcome, by_said, heard_on as heard_of}
+use Rattle.slirp_laws.specs.Said.{identification_with, last_occasion, occasion_after, owed_for, refused_or, unsent_or}
 use Rattle.slirp_laws.specs.Sending.{is_beside}
 use Rattle.slirp_laws.proofs.Bools.{equal_octets, second_of}
 use Rattle.slirp_laws.proofs.Framing.{arp_frame, drop_next, drop_none, first_counts, frames_one, later_counts, part_of_frames}
@@ -111,7 +115,8 @@ one_answer config past (Unconnected on) = omega arith
 
 -- ---- nothing came before the first wait
 
-came_by : (config : Config) (past : List Entry) (o : Option Arrival) (last : Option Datagram) → ((arrival : Arrival) → o ≡ Some arrival → 0 < waits past) → (last ≡ None) ⊎ (0 < waits past) → (or_before (datagram_came o) last ≡ None) ⊎ (0 < waits past)
+came_by : (config : Config) (past : List Entry) (o : Option Arrival) (last : Option Datagram) → ((arrival : Arrival) → o ≡ Some arrival → 0 < waits past) → (last ≡ None) ⊎
+    (0 < waits past) → (or_before (datagram_came o) last ≡ None) ⊎ (0 < waits past)
 came_by config past None last waited before = before
 came_by config past (Some arrival) last waited before = inr (waited arrival refl)
 
@@ -142,12 +147,16 @@ heard_on e past errand (Unconnected on) is = tt
 not_new : (s socket number : ℕ) → (s == number) ≡ true → socket < number → (s == socket) ≡ false
 not_new s socket number new drawn = grind (arith, nat_tests, new, drawn)
 
-port_stays : (config : Config) (e : Entry) (past : List Entry) (socket : ℕ) → May config past (call_of e) → socket < next_number past → opened_for config socket (e ∷ past) ≡ opened_for config socket past
-port_stays config (UdpOpen s at answer) past socket may drawn = ap (λ (b : Bool). if b then port_for config socket past else opened_for config socket past) (not_new s socket (next_number past) may.socket drawn)
+port_stays : (config : Config) (e : Entry) (past : List Entry) (socket : ℕ) → May config past (call_of e) → socket < next_number past → opened_for config socket
+    (e ∷ past) ≡ opened_for config socket past
+port_stays config (UdpOpen s at answer) past socket may drawn = ap (λ (b : Bool). if b then port_for config socket past else opened_for config socket past)
+    (not_new s socket (next_number past) may.socket drawn)
 port_stays config _ past socket may drawn = refl
 
-mac_stays : (config : Config) (e : Entry) (past : List Entry) (socket : ℕ) → May config past (call_of e) → socket < next_number past → errand_left config past ≡ None → mac_of config socket (e ∷ past) ≡ mac_of config socket past
-mac_stays config (UdpOpen s at answer) past socket may drawn settled = ap (λ (b : Bool). if b then last_mac config past else mac_of config socket past) (not_new s socket (next_number past) may.socket drawn)
+mac_stays : (config : Config) (e : Entry) (past : List Entry) (socket : ℕ) → May config past (call_of e) → socket < next_number past → errand_left config past ≡ None →
+    mac_of config socket (e ∷ past) ≡ mac_of config socket past
+mac_stays config (UdpOpen s at answer) past socket may drawn settled = ap (λ (b : Bool). if b then last_mac config past else mac_of config socket past)
+    (not_new s socket (next_number past) may.socket drawn)
 mac_stays config (UdpSend s to octets answer) past socket may drawn settled =
     let asked = sends config past s to octets may in
     let never : Some asked.errand ≡ None = sym (errand_is config past (NeedsSending s asked.errand) asked.asked) ∙ settled in
@@ -167,7 +176,8 @@ known_stays : (config : Config) (e : Entry) (past : List Entry) (port : Option E
 known_stays config e past None same = refl
 known_stays config e past (Some guest) same = ap (λ pairs. option_map (λ (m : Mac). m.0) (learnt_for guest.addr pairs)) same
 
-reach_stays : (config : Config) (e : Entry) (past : List Entry) (socket : ℕ) → May config past (call_of e) → known config (e ∷ past) ≡ known config past → socket < next_number past → errand_left config past ≡ None
+reach_stays : (config : Config) (e : Entry) (past : List Entry) (socket : ℕ) → May config past (call_of e) → known config (e ∷ past) ≡ known config past →
+    socket < next_number past → errand_left config past ≡ None
     → mac_for config socket (e ∷ past) ≡ mac_for config socket past
 reach_stays config e past socket may same drawn settled =
     ap (λ (k : Option Kind). if is_forward k then mac_known config (e ∷ past) (opened_for config socket (e ∷ past)) else mac_of config socket (e ∷ past)) (kind_stays config e past socket may drawn)
@@ -175,7 +185,8 @@ reach_stays config e past socket may same drawn settled =
     (known_stays config e past (opened_for config socket (e ∷ past)) same ∙ ap (mac_known config past) (port_stays config e past socket may drawn))
     ∙ ap (λ (m : Option (List ℕ)). if is_forward (kind_of socket past) then mac_known config past (opened_for config socket past) else m) (mac_stays config e past socket may drawn settled)
 
-owed_stays : (config : Config) (e : Entry) (past : List Entry) (o : Occasion) → May config past (call_of e) → known config (e ∷ past) ≡ known config past → HeardWell (next_number past) (errand_left config past) o → owed_for config (e ∷ past) o ≡ owed_for config past o
+owed_stays : (config : Config) (e : Entry) (past : List Entry) (o : Occasion) → May config past (call_of e) → known config (e ∷ past) ≡ known config past → HeardWell
+    (next_number past) (errand_left config past) o → owed_for config (e ∷ past) o ≡ owed_for config past o
 owed_stays config e past NoOccasion may same well = refl
 owed_stays config e past (Came s stray packet) may same well = refl
 owed_stays config e past (HeardOfName q peer octets) may same well = refl
@@ -210,12 +221,17 @@ unchanged : (config : Config) (e : Entry) (past : List Entry) → May config pas
 unchanged config e past may same is = record {
   owed = (elim is.owed [
     | inl none ↦ inl none
-    | inr some ↦ inr (some.0, some.1 ∙ ap (λ a. drop some.0 (frames_of config (ident_with some.0 (datagrams_out past)) a)) (sym (owed_stays config e past (last_occasion config past) may same is.heard)))
+    | inr some ↦ inr (
+      some.0,
+      some.1 ∙ ap (λ a. drop some.0 (frames_of config (ident_with some.0 (datagrams_out past)) a))
+          (sym (owed_stays config e past (last_occasion config past) may same is.heard)),
+    )
   ]);
   heard = heard_on e past (errand_left config past) (last_occasion config past) is.heard;
 }
 
-by_read : (config : Config) (asked : ℕ) (answer : Io) (octets : List ℕ) (past : List Entry) (o : Option Arrival) → (happens config past (LinkRead asked answer octets)).came ≡ o → May config past (call_of (LinkRead asked answer octets)) → OwingAt config past
+by_read : (config : Config) (asked : ℕ) (answer : Io) (octets : List ℕ) (past : List Entry) (o : Option Arrival) → (happens config past (LinkRead asked answer octets)).came ≡ o →
+    May config past (call_of (LinkRead asked answer octets)) → OwingAt config past
     → Owing config (LinkRead asked answer octets ∷ past) (left_after config past (happens config past (LinkRead asked answer octets)) o (ledger config past)) (datagrams_out past)
     (occasion_after config (LinkRead asked answer octets) past o (last_occasion config past)) (errand_after config (LinkRead asked answer octets) o (errand_left config past))
 by_read config asked answer octets past None none may is = unchanged config (LinkRead asked answer octets) past may (ap (λ o. with_arrival o (known config past)) none) is
@@ -238,7 +254,11 @@ one_went config (suc k) out (IpAnswer to proto from guest body) frame rest fits 
     let ident = (out - 1) % 2 ^ 16 in
     let none = later_counts config ident to proto from guest body frame k fits six (part_of_frames config ident to proto from guest body frame rest (suc k) is) in
     let same : ident ≡ (datagrams_in frame + out - 1) % 2 ^ 16 = ap (λ n. n % 2 ^ 16) (omega (arith, none)) in
-    inr (suc (suc k), sym (drop_next (suc k) (frames_for config ident (IpAnswer to proto from guest body)) rest frame is) ∙ ap (λ i. drop (suc (suc k)) (frames_for config i (IpAnswer to proto from guest body))) same)
+    inr (
+      suc (suc k),
+      sym (drop_next (suc k) (frames_for config ident (IpAnswer to proto from guest body)) rest frame is) ∙ ap
+          (λ i. drop (suc (suc k)) (frames_for config i (IpAnswer to proto from guest body))) same,
+    )
 
 -- what was owed is one answer, where a frame of it is left
 pub record OfOne (config : Config) (answers : List Answer) (k ident : ℕ) (frame : List ℕ) (rest : List (List ℕ)) : Type 0 where
@@ -246,7 +266,8 @@ pub record OfOne (config : Config) (answers : List Answer) (k ident : ℕ) (fram
   pub only : answers ≡ answer ∷ []
   pub is : drop k (frames_for config ident answer) ≡ frame ∷ rest
 
-of_one : (config : Config) (answers : List Answer) (k ident : ℕ) (frame : List ℕ) (rest : List (List ℕ)) → length answers ≤ 1 → drop k (frames_of config ident answers) ≡ frame ∷ rest → OfOne config answers k ident frame rest
+of_one : (config : Config) (answers : List Answer) (k ident : ℕ) (frame : List ℕ) (rest : List (List ℕ)) → length answers ≤ 1 → drop k (frames_of config ident answers) ≡ frame
+    ∷ rest → OfOne config answers k ident frame rest
 of_one config [] k ident frame rest few is = let never : [] ≡ frame ∷ rest = sym (drop_none k) ∙ is in cc
 of_one config (a ∷ []) k ident frame rest few is = record { answer = a; only = refl; is = ap (drop k) (sym (frames_one config ident a)) ∙ is }
 of_one config (a ∷ b ∷ answers) k ident frame rest few is = absurd (omega (arith, few))
@@ -258,7 +279,8 @@ pub out_six : (config : Config) (past : List Entry) (a : Answer) → owed_for co
 out_six config past a is = one_six (owed_for config past (last_occasion config past)) a is (six_owed config past (last_occasion config past) (six_occasion config past))
 
 -- what went is of what was owed
-went : (config : Config) (past : List Entry) (frames : List (List ℕ)) (frame : List ℕ) → 28 ≤ config.mtu → is_first frame frames ≡ true → IsOwed config past frames (datagrams_out past) (last_occasion config past)
+went : (config : Config) (past : List Entry) (frames : List (List ℕ)) (frame : List ℕ) → 28 ≤ config.mtu → is_first frame frames ≡ true → IsOwed config past frames
+    (datagrams_out past) (last_occasion config past)
     → IsOwed config past (drop 1 frames) (datagrams_in frame + datagrams_out past) (last_occasion config past)
 went config past frames frame fits first is =
     let b = begins_with frame frames first in
@@ -284,7 +306,8 @@ no_frame : (frames : List (List ℕ)) → is_out frames ≡ true → frames ≡ 
 no_frame [] is = refl
 no_frame (frame ∷ frames) is = cc
 
-by_either : (config : Config) (past : List Entry) (frame : List ℕ) (first out beside : Bool) → is_first frame (left config past) ≡ first → is_out (left config past) ≡ out → is_beside config past frame ≡ beside
+by_either : (config : Config) (past : List Entry) (frame : List ℕ) (first out beside : Bool) → is_first frame (left config past) ≡ first → is_out (left config past) ≡ out →
+    is_beside config past frame ≡ beside
     → (first || (out && beside)) ≡ true → Begins config past frame
 by_either config past frame true out beside is over why may = Next is
 by_either config past frame false true true is over why may = Beside (no_frame (left config past) over) why
@@ -293,9 +316,11 @@ by_either config past frame false false beside is over why may = cc
 
 begins_so : (config : Config) (past : List Entry) (octets : List ℕ) → tail past ≡ [] → may_begin config past (tail past) octets ≡ true → Begins config past (drop 4 octets)
 begins_so config past octets clear may =
-    by_either config past (drop 4 octets) (is_first (drop 4 octets) (left config past)) (is_out (left config past)) (is_beside config past (drop 4 octets)) refl refl refl (subst (λ t. may_begin config past t octets ≡ true) clear may)
+    by_either config past (drop 4 octets) (is_first (drop 4 octets) (left config past)) (is_out (left config past)) (is_beside config past (drop 4 octets)) refl refl refl
+    (subst (λ t. may_begin config past t octets ≡ true) clear may)
 
-owed_later : (config : Config) (e : Entry) (past : List Entry) (frames : List (List ℕ)) (out : ℕ) → May config past (call_of e) → known config (e ∷ past) ≡ known config past → HeardWell (next_number past) (errand_left config past) (last_occasion config past)
+owed_later : (config : Config) (e : Entry) (past : List Entry) (frames : List (List ℕ)) (out : ℕ) → May config past (call_of e) → known config (e ∷ past) ≡ known config past →
+    HeardWell (next_number past) (errand_left config past) (last_occasion config past)
     → IsOwed config past frames out (last_occasion config past) → IsOwed config (e ∷ past) frames out (last_occasion config past)
 owed_later config e past frames out may same heard is = elim is [
   | inl none ↦ inl none
@@ -303,7 +328,8 @@ owed_later config e past frames out may same heard is = elim is [
 ]
 
 -- a packet of a file that goes again has one answer, of which this frame is the first
-again_went : (config : Config) (later : List Entry) (out : ℕ) (frame : List ℕ) (o : Option Said) (before : Occasion) → 28 ≤ config.mtu → SixSaid o → is_first frame (frames_of config (out % 2 ^ 16) (told_of_files config o)) ≡ true
+again_went : (config : Config) (later : List Entry) (out : ℕ) (frame : List ℕ) (o : Option Said) (before : Occasion) → 28 ≤ config.mtu → SixSaid o → is_first frame
+    (frames_of config (out % 2 ^ 16) (told_of_files config o)) ≡ true
     → IsOwed config later (drop 1 (frames_of config (out % 2 ^ 16) (told_of_files config o))) (datagrams_in frame + out) (by_said o before)
 again_went config later out frame None before fits six first = cc
 again_went config later out frame (Some said) before fits six first =
@@ -328,8 +354,10 @@ module _ (config : Config) (past : List Entry) (octets : List ℕ) (answer : Io)
       (if is_out frames && starts frame again then by_said (may_go_again (serving config past)) (last_occasion config past) else last_occasion config past)
 
   by_again : (frame : List ℕ) (b : Bool) → starts frame again ≡ b
-      → IsOwed config (e ∷ past) (if b then drop 1 again else []) (datagrams_in frame + datagrams_out past) (if b then by_said (may_go_again (serving config past)) (last_occasion config past) else last_occasion config past)
-  by_again frame true first = again_went config (e ∷ past) (datagrams_out past) frame (may_go_again (serving config past)) (last_occasion config past) fits (six_again config past) (second_of (not (is_flows frame)) (is_first frame again) first)
+      → IsOwed config (e ∷ past) (if b then drop 1 again else []) (datagrams_in frame + datagrams_out past) (if b then by_said (may_go_again (serving config past))
+      (last_occasion config past) else last_occasion config past)
+  by_again frame true first = again_went config (e ∷ past) (datagrams_out past) frame (may_go_again (serving config past)) (last_occasion config past) fits (six_again config past)
+      (second_of (not (is_flows frame)) (is_first frame again) first)
   by_again frame false first = inl refl
 
   by_frame : (frame : List ℕ) (frames : List (List ℕ)) → left config past ≡ frames → Begins config past frame → AfterFrame frame frames
@@ -346,12 +374,15 @@ module _ (config : Config) (past : List Entry) (octets : List ℕ) (answer : Io)
   by_none : IsOwed config (e ∷ past) (left config past) (datagrams_out past) (last_occasion config past)
   by_none = (unchanged config e past may refl is).owed
 
-by_write : (config : Config) (past : List Entry) (octets : List ℕ) (answer : Io) (t : List ℕ) → 28 ≤ config.mtu → tail past ≡ t → May config past (call_of (LinkWrite octets answer)) → OwingAt config past
+by_write : (config : Config) (past : List Entry) (octets : List ℕ) (answer : Io) (t : List ℕ) → 28 ≤ config.mtu → tail past ≡ t → May config past
+    (call_of (LinkWrite octets answer)) → OwingAt config past
     → IsOwed config (LinkWrite octets answer ∷ past) (taken (opens (LinkWrite octets answer) t) (again_frames config (identification past) (serving config past)) (left config past))
     (with_datagrams (opens (LinkWrite octets answer) t) (datagrams_out past))
-    (if begins_again config (identification past) (ledger config past) (opens (LinkWrite octets answer) t) then by_said (may_go_again (serving config past)) (last_occasion config past) else last_occasion config past)
+    (if begins_again config (identification past) (ledger config past) (opens (LinkWrite octets answer) t) then by_said (may_go_again (serving config past))
+    (last_occasion config past) else last_occasion config past)
 by_write config past octets answer (x ∷ rest) fits clear may is = by_none config past octets answer fits may is
-by_write config past octets (IoDone n) [] fits clear may is = by_frame config past octets (IoDone n) fits may is (drop 4 octets) (left config past) refl (begins_so config past octets clear may.answered)
+by_write config past octets (IoDone n) [] fits clear may is = by_frame config past octets (IoDone n) fits may is (drop 4 octets) (left config past) refl
+    (begins_so config past octets clear may.answered)
 by_write config past octets End [] fits clear may is = by_none config past octets End fits may is
 by_write config past octets IoNotYet [] fits clear may is = by_none config past octets IoNotYet fits may is
 by_write config past octets IoFailed [] fits clear may is = by_none config past octets IoFailed fits may is
@@ -367,7 +398,8 @@ unsent_well : (number : ℕ) (errand : Option Errand) (last : Option Datagram) (
 unsent_well number errand None o is = is
 unsent_well number errand (Some d) o is = tt
 
-by_open : (config : Config) (past : List Entry) (socket : ℕ) (at : Endpoint) (answer : Made) → May config past (call_of (UdpOpen socket at answer)) → Lawful config past → OwingAt config past → OwingAt config (UdpOpen socket at answer ∷ past)
+by_open : (config : Config) (past : List Entry) (socket : ℕ) (at : Endpoint) (answer : Made) → May config past (call_of (UdpOpen socket at answer)) → Lawful config past →
+    OwingAt config past → OwingAt config (UdpOpen socket at answer ∷ past)
 by_open config past socket at MadeDone may lawful is = unchanged config (UdpOpen socket at MadeDone) past may refl is
 by_open config past socket at MadeFailed may lawful is = record {
   owed = (elim (opened_where config past socket at may) [
@@ -387,14 +419,17 @@ by_open config past socket at MadeFailed may lawful is = record {
     none_yet : waits past ≡ 0 → last_datagram config past ≡ None
     none_yet early = elim (came_after_waits config past lawful) [ inl none ↦ none | inr waited ↦ absurd (omega (arith, early, waited)) ]
 
-    before : waits past ≡ 0 → IsOwed config (UdpOpen socket at MadeFailed ∷ past) (unsent config (identification past) (step config past) (left config past)) (datagrams_out past) (unsent_or (last_datagram config past) (last_occasion config past))
+    before : waits past ≡ 0 → IsOwed config (UdpOpen socket at MadeFailed ∷ past) (unsent config (identification past) (step config past) (left config past)) (datagrams_out past)
+        (unsent_or (last_datagram config past) (last_occasion config past))
     before early =
         let settled = ap (step_of config past) (none_early (waits past) (errand_left config past) early (asks_after_waits config past lawful)) in
-        subst (λ s. IsOwed config (UdpOpen socket at MadeFailed ∷ past) (unsent config (identification past) s (left config past)) (datagrams_out past) (unsent_or (last_datagram config past) (last_occasion config past))) (sym settled)
+        subst (λ s. IsOwed config (UdpOpen socket at MadeFailed ∷ past) (unsent config (identification past) s (left config past)) (datagrams_out past)
+        (unsent_or (last_datagram config past) (last_occasion config past))) (sym settled)
         (subst (λ l. IsOwed config (UdpOpen socket at MadeFailed ∷ past) (left config past) (datagrams_out past) (unsent_or l (last_occasion config past))) (sym (none_yet early))
         (unchanged config (UdpOpen socket at MadeFailed) past may refl is).owed)
 
-by_send : (config : Config) (past : List Entry) (socket : ℕ) (to : Endpoint) (octets : List ℕ) (answer : Sent) → May config past (call_of (UdpSend socket to octets answer)) → OwingAt config past → OwingAt config (UdpSend socket to octets answer ∷ past)
+by_send : (config : Config) (past : List Entry) (socket : ℕ) (to : Endpoint) (octets : List ℕ) (answer : Sent) → May config past (call_of (UdpSend socket to octets answer)) →
+    OwingAt config past → OwingAt config (UdpSend socket to octets answer ∷ past)
 by_send config past socket to octets SentDone may is = unchanged config (UdpSend socket to octets SentDone) past may refl is
 by_send config past socket to octets SentNotYet may is = unchanged config (UdpSend socket to octets SentNotYet) past may refl is
 by_send config past socket to octets SentFailed may is =
@@ -407,10 +442,12 @@ by_send config past socket to octets SentFailed may is =
     }
 
 -- a peer's datagram was received
-by_hearing : (config : Config) (past : List Entry) (socket asked : ℕ) (answer : Got) (octets : List ℕ) → May config past (call_of (UdpRecv socket asked answer octets)) → Lawful config past → OwingAt config past → OwingAt config (UdpRecv socket asked answer octets ∷ past)
+by_hearing : (config : Config) (past : List Entry) (socket asked : ℕ) (answer : Got) (octets : List ℕ) → May config past (call_of (UdpRecv socket asked answer octets)) →
+    Lawful config past → OwingAt config past → OwingAt config (UdpRecv socket asked answer octets ∷ past)
 by_hearing config past socket asked (From peer n) octets may lawful is = by (numbered_question socket (questions config past))
   where
-    by : (o : Option Question) → Owing config (UdpRecv socket asked (From peer n) octets ∷ past) (frames_of config (identification past) (reply_on config past socket peer octets o)) (datagrams_out past) (heard_of socket peer octets o) (errand_left config past)
+    by : (o : Option Question) → Owing config (UdpRecv socket asked (From peer n) octets ∷ past)
+        (frames_of config (identification past) (reply_on config past socket peer octets o)) (datagrams_out past) (heard_of socket peer octets o) (errand_left config past)
     by None = record {
       owed = inr (0, refl);
       heard = (open_below config past lawful socket (hears_on_open config past socket asked may.socket), errand_is config past Settled (hears_settled config past socket asked may));
@@ -420,12 +457,14 @@ by_hearing config past socket asked GotNotYet octets may lawful is = unchanged c
 by_hearing config past socket asked GotFailed octets may lawful is = unchanged config (UdpRecv socket asked GotFailed octets) past may refl is
 
 -- the host refused a connection at once
-by_connecting : (config : Config) (past : List Entry) (socket : ℕ) (to : Endpoint) (answer : Made) → May config past (call_of (Connect socket to answer)) → OwingAt config past → OwingAt config (Connect socket to answer ∷ past)
+by_connecting : (config : Config) (past : List Entry) (socket : ℕ) (to : Endpoint) (answer : Made) → May config past (call_of (Connect socket to answer)) → OwingAt config past →
+    OwingAt config (Connect socket to answer ∷ past)
 by_connecting config past socket to MadeDone may is = unchanged config (Connect socket to MadeDone) past may refl is
 by_connecting config past socket to MadeFailed may is = by_came (book config past).came
   where
     by_came : (o : Option OnTuple)
-        → Owing config (Connect socket to MadeFailed ∷ past) (unconnected config (identification past) o (left config past)) (datagrams_out past) (refused_or o (last_occasion config past)) (errand_left config past)
+        → Owing config (Connect socket to MadeFailed ∷ past) (unconnected config (identification past) o (left config past)) (datagrams_out past)
+        (refused_or o (last_occasion config past)) (errand_left config past)
     by_came None = unchanged config (Connect socket to MadeFailed) past may refl is
     by_came (Some on) = record { owed = inr (0, refl); heard = tt }
 
@@ -436,11 +475,13 @@ said_well number errand true (Some said) before is = tt
 said_well number errand false o before is = is
 
 by_file : (config : Config) (e : Entry) (past : List Entry) (o : Option Outcome) → May config past (call_of e) → known config (e ∷ past) ≡ known config past → OwingAt config past
-    → Owing config (e ∷ past) (left_by_outcome config (identification past) o (left config past)) (datagrams_out past) (by_outcome o (last_occasion config past)) (errand_by_call e (errand_left config past))
+    → Owing config (e ∷ past) (left_by_outcome config (identification past) o (left config past)) (datagrams_out past) (by_outcome o (last_occasion config past))
+    (errand_by_call e (errand_left config past))
 by_file config e past None may same is = unchanged config e past may same is
 by_file config e past (Some o) may same is = by o.told
   where
-    by : (told : Option Said) → Owing config (e ∷ past) (left_by_file config (identification past) told (left config past)) (datagrams_out past) (by_said told (last_occasion config past)) (errand_by_call e (errand_left config past))
+    by : (told : Option Said) → Owing config (e ∷ past) (left_by_file config (identification past) told (left config past)) (datagrams_out past)
+        (by_said told (last_occasion config past)) (errand_by_call e (errand_left config past))
     by None = unchanged config e past may same is
     by (Some said) = record { owed = inr (0, refl); heard = tt }
 
@@ -448,10 +489,12 @@ owing_by : (config : Config) (e : Entry) (past : List Entry) → 28 ≤ config.m
 owing_by config (LinkRead asked answer octets) past fits may lawful is = by_read config asked answer octets past (happens config past (LinkRead asked answer octets)).came refl may is
 owing_by config (LinkWrite octets answer) past fits may lawful is = record {
   owed = by_write config past octets answer (tail past) fits refl may is;
-  heard = said_well (next_number past) (errand_left config past) (begins_again config (identification past) (ledger config past) (goes_out (LinkWrite octets answer) past)) (may_go_again (serving config past)) (last_occasion config past)
+  heard = said_well (next_number past) (errand_left config past) (begins_again config (identification past) (ledger config past) (goes_out (LinkWrite octets answer) past))
+      (may_go_again (serving config past)) (last_occasion config past)
       (unchanged config (LinkWrite octets answer) past may refl is).heard;
 }
-owing_by config (FileLen name answer) past fits may lawful is = by_file config (FileLen name answer) past (by_answer (serving config past).now (FileLen name answer) (serving config past).files) may refl is
+owing_by config (FileLen name answer) past fits may lawful is = by_file config (FileLen name answer) past (by_answer (serving config past).now (FileLen name answer)
+    (serving config past).files) may refl is
 owing_by config (FileRead name place asked answer octets) past fits may lawful is =
     by_file config (FileRead name place asked answer octets) past (by_answer (serving config past).now (FileRead name place asked answer octets) (serving config past).files) may refl is
 owing_by config (Connect socket to answer) past fits may lawful is = by_connecting config past socket to answer may is
@@ -477,7 +520,8 @@ what_is_left config past fits lawful = elim (owing config past fits lawful).owed
 
 -- ---- a frame that goes out
 
-begun : (config : Config) (past : List Entry) (octets : List ℕ) (answer : Io) (t : List ℕ) (frame : List ℕ) → tail past ≡ t → may_begin config past (tail past) octets ≡ true → opens (LinkWrite octets answer) t ≡ Some frame → Begins config past frame
+begun : (config : Config) (past : List Entry) (octets : List ℕ) (answer : Io) (t : List ℕ) (frame : List ℕ) → tail past ≡ t → may_begin config past (tail past) octets ≡ true →
+    opens (LinkWrite octets answer) t ≡ Some frame → Begins config past frame
 begun config past octets answer (x ∷ rest) frame clear may is = cc
 begun config past octets (IoDone n) [] frame clear may is = let this : drop 4 octets ≡ frame = cc in subst (Begins config past) this (begins_so config past octets clear may)
 begun config past octets End [] frame clear may is = cc
@@ -492,7 +536,8 @@ out_by config _ past frame may is = cc
 pub next_left : (config : Config) (past : List Entry) (frame : List ℕ) (rest : List (List ℕ)) → 28 ≤ config.mtu → Lawful config past → left config past ≡ frame ∷ rest → AnswersLast config past frame
 next_left config past frame rest fits lawful is = elim (owing config past fits lawful).owed [
   | inl none ↦ (let never : [] ≡ frame ∷ rest = sym none ∙ is in cc)
-  | inr some ↦ (let o = of_one config (owed_for config past (last_occasion config past)) some.0 (ident_with some.0 (datagrams_out past)) frame rest (one_answer config past (last_occasion config past)) (sym some.1 ∙ is) in
+  | inr some ↦ (let o = of_one config (owed_for config past (last_occasion config past)) some.0 (ident_with some.0 (datagrams_out past)) frame rest
+      (one_answer config past (last_occasion config past)) (sym some.1 ∙ is) in
       record { answer = o.answer; owed = o.only; out = some.0; rest = rest; is = ap (λ i. drop some.0 (frames_for config i o.answer)) (sym (same_ident some.0 past)) ∙ o.is })
 ]
 
@@ -502,7 +547,8 @@ first_answers config past frame fits lawful first =
     next_left config past frame b.0 fits lawful b.1
 
 -- and what is left behind it stays
-taken_first : (config : Config) (past : List Entry) (octets : List ℕ) (answer : Io) (t : List ℕ) (frame : List ℕ) (again : List (List ℕ)) → opens (LinkWrite octets answer) t ≡ Some frame → is_first frame (left config past) ≡ true
+taken_first : (config : Config) (past : List Entry) (octets : List ℕ) (answer : Io) (t : List ℕ) (frame : List ℕ) (again : List (List ℕ)) → opens
+    (LinkWrite octets answer) t ≡ Some frame → is_first frame (left config past) ≡ true
     → left config past ≡ frame ∷ taken (opens (LinkWrite octets answer) t) again (left config past)
 taken_first config past octets answer t frame again out first =
     let b = begins_with frame (left config past) first in
@@ -511,12 +557,15 @@ taken_first config past octets answer t frame again out first =
     ap (λ o. taken o again (left config past)) out ∙ ap (taken (Some frame) again) b.1 ∙ ap (λ (c : Bool). if c then b.0 else frame ∷ b.0) here in
     b.1 ∙ ap (λ l. frame ∷ l) (sym after)
 
-pub others_stay : (config : Config) (e : Entry) (past : List Entry) (frame : List ℕ) → Lawful config (e ∷ past) → goes_out e past ≡ Some frame → is_first frame (left config past) ≡ true → left config past ≡ frame ∷ left config (e ∷ past)
-others_stay config (LinkWrite octets answer) past frame lawful out first = taken_first config past octets answer (tail past) frame (again_frames config (identification past) (serving config past)) out first
+pub others_stay : (config : Config) (e : Entry) (past : List Entry) (frame : List ℕ) → Lawful config (e ∷ past) → goes_out e past ≡ Some frame → is_first frame
+    (left config past) ≡ true → left config past ≡ frame ∷ left config (e ∷ past)
+others_stay config (LinkWrite octets answer) past frame lawful out first = taken_first config past octets answer (tail past) frame
+    (again_frames config (identification past) (serving config past)) out first
 others_stay config _ past frame lawful out first = cc
 
 -- where nothing was left, the others of a packet that goes again are left
-pub none_stays : (config : Config) (e : Entry) (past : List Entry) (frame : List ℕ) → goes_out e past ≡ Some frame → left config past ≡ [] → starts frame (again_frames config (identification past) (serving config past)) ≡ false → left config (e ∷ past) ≡ []
+pub none_stays : (config : Config) (e : Entry) (past : List Entry) (frame : List ℕ) → goes_out e past ≡ Some frame → left config past ≡ [] → starts frame
+    (again_frames config (identification past) (serving config past)) ≡ false → left config (e ∷ past) ≡ []
 none_stays config (LinkWrite octets answer) past frame out none apart =
     let again = again_frames config (identification past) (serving config past) in
     ap (λ o. taken o again (left config past)) out ∙ ap (taken (Some frame) again) none ∙ ap (λ (b : Bool). if b then drop 1 again else []) apart

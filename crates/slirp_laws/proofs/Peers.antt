@@ -19,7 +19,8 @@ use Rattle.flow_laws.specs.Event.{Accepts, Event, At, AsksAddress, Departs, Stor
 use Rattle.flow_laws.specs.Flow.{first_number, is_accepted}
 use Rattle.run_laws.specs.Happenings.{Arrival, happens}
 use Rattle.record_flows.specs.Book.{book, doom, is_refused, joins_for, opens, port_by, port_of, scene, tuple_for, turned, visits_for}
-use Rattle.record_flows.specs.Doings.{Doing, Nothing, Comes, Goes, Seeks, Pauses, Joins, Visits, Calls, Shuts, by_call, comes, doing, doing_by, ended_by, goes, joined, joins, read_by, seeks, visits, written_by}
+use Rattle.record_flows.specs.Doings.{Doing, Nothing, Comes, Goes, Seeks, Pauses, Joins, Visits, Calls, Shuts, by_call, comes, doing, doing_by, ended_by, goes, joined, joins, read_by}
+use Rattle.record_flows.specs.Doings.{seeks, visits, written_by}
 use Rattle.record_flows.specs.Flows.{Book, Flow, Scene, flow_of, is_numbered, is_on, is_strange, is_used, seeks_for, sends, shuts, tell, with_event}
 use Rattle.record_flows.specs.Segments.{OnTuple, asked_in, segment_came, segment_in}
 use Rattle.slirp_laws.specs.Peers.{IsForPeer}
@@ -104,7 +105,8 @@ plain_doing None None e = plain_call e
 keeps_event : (config : Config) (now : ℕ) (e : Event) → IsPlain e → (f : Flow) → Fits config f → Fits config (with_event now e f)
 keeps_event config now e is f fits accepted = fits (sym (is now f.story) ∙ accepted)
 
-keeps_told : (config : Config) (test : Flow → Bool) (change : Flow → Flow) → ((f : Flow) → Fits config f → Fits config (change f)) → (flows : List Flow) → AllFit config flows → AllFit config (tell test change flows)
+keeps_told : (config : Config) (test : Flow → Bool) (change : Flow → Flow) → ((f : Flow) → Fits config f → Fits config (change f)) → (flows : List Flow) → AllFit config flows →
+    AllFit config (tell test change flows)
 keeps_told config test change keeps [] all = tt
 keeps_told config test change keeps (f ∷ flows) all = by (test f) (keeps_told config test change keeps flows all.1)
   where
@@ -156,7 +158,8 @@ keeps_visit config now socket listener peer b all = by (port_of config listener)
     by None is = all
     by (Some guest) is = taken (is_refused config guest peer b) refl
       where
-        taken : (r : Bool) → is_refused config guest peer b ≡ r → AllFit config (if r then doom socket b else opens config now socket (tuple_for config guest peer) (Accepts (first_number now (length b.flows))) b).flows
+        taken : (r : Bool) → is_refused config guest peer b ≡ r → AllFit config (if r then doom socket b else opens config now socket (tuple_for config guest peer)
+            (Accepts (first_number now (length b.flows))) b).flows
         taken true refused = all
         taken false welcome = ((λ accepted. led config listener guest peer is (or_first (is_hidden config peer) (is_used (tuple_for config guest peer) b.flows) welcome)), all)
 

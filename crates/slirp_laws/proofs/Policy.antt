@@ -43,7 +43,8 @@ opens_later config past socket at waited may = elim (opens config past socket at
 ]
 
 -- the socket on which an errand is sent was opened for its port
-port_of : (config : Config) (past : List Entry) (socket : ℕ) (errand : Errand) → Lawful config past → step config past ≡ NeedsSending socket errand → opened_for config socket past ≡ Some errand.datagram.from
+port_of : (config : Config) (past : List Entry) (socket : ℕ) (errand : Errand) → Lawful config past → step config past ≡ NeedsSending socket errand →
+    opened_for config socket past ≡ Some errand.datagram.from
 port_of config past socket errand lawful asked = by (asks_a_name config errand) refl
   where
     by : (b : Bool) → asks_a_name config errand ≡ b → opened_for config socket past ≡ Some errand.datagram.from
@@ -53,7 +54,8 @@ port_of config past socket errand lawful asked = by (asks_a_name config errand) 
       | inr own ↦ found_for config past errand.datagram.from socket own
     ]
 
-pub sends_what_came : (config : Config) (past : List Entry) (socket : ℕ) (to : Endpoint) (octets : List ℕ) → Lawful config past → May config past (CallUdpSend socket to octets) → SendsWhatCame config past socket to octets
+pub sends_what_came : (config : Config) (past : List Entry) (socket : ℕ) (to : Endpoint) (octets : List ℕ) → Lawful config past → May config past (CallUdpSend socket to octets) →
+    SendsWhatCame config past socket to octets
 sends_what_came config past socket to octets lawful may =
     let s = sends config past socket to octets may in
     let asks : Asks config (last_datagram config past) s.errand = errand_asks config past s.errand (errand_is config past (NeedsSending socket s.errand) s.asked) in

@@ -29,7 +29,8 @@ use Rattle.run_laws.specs.Moments.{moment, waits}
 use Rattle.record_flows.specs.Book.{book}
 use Rattle.record_flows.specs.Segments.{OnTuple}
 use Rattle.run_laws.specs.Happenings.{Arrival, arrival_of, happens, datagram_by, datagram_came}
-use Rattle.run_laws.specs.Packets.{Datagram, Packet, Unheard, ArpPacket, Message, DatagramPacket, Segment, datagram_in, datagram_of, may_come, packet_in, packet_of, packet_of_ip, unless_unheard, whole_packet}
+use Rattle.run_laws.specs.Packets.{Datagram, Packet, Unheard, ArpPacket, Message, DatagramPacket, Segment, datagram_in, datagram_of, may_come, packet_in, packet_of, packet_of_ip}
+use Rattle.run_laws.specs.Packets.{unless_unheard, whole_packet}
 use Rattle.slirp_laws.specs.Ports.{last_datagram, last_port, opened_by, opened_for, or_before, given_by, given_port, port_for}
 use Rattle.slirp_laws.specs.Answers.{begins_again, identification, ledger, may_go_again, serving}
 use Rattle.slirp_laws.specs.Names.{questions}
@@ -88,11 +89,14 @@ range_arrived : (config : Config) (mac : List ℕ) (o : Option Ip) → RangeIp o
 range_arrived config mac None is = tt
 range_arrived config mac (Some ip) is = range_ip config mac ip is.0 is.2
 
-range_whole : (config : Config) (now : ℕ) (waiting : List PartSet) (mac octets : List ℕ) (o : Option Ip) → read_ip octets ≡ o → AreOctets octets → OfSets RangePart waiting → RangeIn (option_and_then (whole_packet config now waiting mac octets) o)
+range_whole : (config : Config) (now : ℕ) (waiting : List PartSet) (mac octets : List ℕ) (o : Option Ip) → read_ip octets ≡ o → AreOctets octets → OfSets RangePart waiting →
+    RangeIn (option_and_then (whole_packet config now waiting mac octets) o)
 range_whole config now waiting mac octets None is all kept = tt
-range_whole config now waiting mac octets (Some ip) is all kept = range_arrived config mac (arrived config now waiting octets ip) (arrived_range config now waiting octets ip (ip_range octets ip is all) kept)
+range_whole config now waiting mac octets (Some ip) is all kept = range_arrived config mac (arrived config now waiting octets ip)
+    (arrived_range config now waiting octets ip (ip_range octets ip is all) kept)
 
-range_ether : (config : Config) (now : ℕ) (waiting : List PartSet) (frame : List ℕ) (o : Option Ether) → read_ether frame ≡ o → AreOctets frame → OfSets RangePart waiting → RangeIn (option_and_then (packet_of config now waiting) o)
+range_ether : (config : Config) (now : ℕ) (waiting : List PartSet) (frame : List ℕ) (o : Option Ether) → read_ether frame ≡ o → AreOctets frame → OfSets RangePart waiting → RangeIn
+    (option_and_then (packet_of config now waiting) o)
 range_ether config now waiting frame None is all kept = tt
 range_ether config now waiting frame (Some ether) is all kept =
     range_if (ether.kind == arp_kind) (option_map ArpPacket (read_arp ether.body)) _ (range_arp (read_arp ether.body))
@@ -115,7 +119,8 @@ range_by (ArpPacket arp) last is before = before
 range_by (Message mac ip message) last is before = before
 range_by (Segment mac ip tcp) last is before = before
 
-range_came : (config : Config) (now : ℕ) (waiting : List PartSet) (o : Option (List ℕ)) (last : Option Datagram) → ((frame : List ℕ) → o ≡ Some frame → AreOctets frame) → OfSets RangePart waiting → RangeLast last
+range_came : (config : Config) (now : ℕ) (waiting : List PartSet) (o : Option (List ℕ)) (last : Option Datagram) → ((frame : List ℕ) → o ≡ Some frame → AreOctets frame) →
+    OfSets RangePart waiting → RangeLast last
     → RangeLast (or_before (datagram_came (option_map (arrival_of config now waiting) o)) last)
 range_came config now waiting None last octets kept before = before
 range_came config now waiting (Some frame) last octets kept before = range_by (packet_in config now waiting frame) last (range_packet config now waiting frame (octets frame refl) kept) before
@@ -123,7 +128,8 @@ range_came config now waiting (Some frame) last octets kept before = range_by (p
 range_last : (config : Config) (past : List Entry) → AreAllowed past → RangeLast (last_datagram config past)
 range_last config [] allowed = tt
 range_last config (e ∷ past) allowed =
-    range_came config (moment past) (waiting config past) (arrives e past) (last_datagram config past) (λ frame is. frame_octets e past frame allowed is) (of_young RangePart (moment past) (sets config past) (range_sets config past allowed.1)) (range_last config past allowed.1)
+    range_came config (moment past) (waiting config past) (arrives e past) (last_datagram config past) (λ frame is. frame_octets e past frame allowed is)
+    (of_young RangePart (moment past) (sets config past) (range_sets config past allowed.1)) (range_last config past allowed.1)
 
 abbrev pub RangePort : Option Endpoint → Type 0
 RangePort None = Unit {0}
@@ -158,7 +164,8 @@ range_next config n past ports allowed =
 
 pub range_port : (config : Config) (n : ℕ) (past : List Entry) → HasPorts config → AreAllowed past → RangePort (opened_for config n past)
 range_port config n [] ports allowed = tt
-range_port config n (e ∷ past) ports allowed = range_opened n e (port_for config n past) (opened_for config n past) (range_next config n past ports allowed.1) (range_port config n past ports allowed.1)
+range_port config n (e ∷ past) ports allowed = range_opened n e (port_for config n past) (opened_for config n past) (range_next config n past ports allowed.1)
+    (range_port config n past ports allowed.1)
 
 -- ---- peers
 
@@ -203,7 +210,8 @@ peer_if : (b : Bool) (one other : Occasion) → RangePeer one → RangePeer othe
 peer_if true one other is else_ = is
 peer_if false one other is else_ = else_
 
-peer_by : (config : Config) (e : Entry) (past : List Entry) (last : Option Datagram) (on : Option OnTuple) (o : Occasion) → AreAllowed (e ∷ past) → RangePeer o → RangePeer (by_call config past e last on o)
+peer_by : (config : Config) (e : Entry) (past : List Entry) (last : Option Datagram) (on : Option OnTuple) (o : Occasion) → AreAllowed (e ∷ past) → RangePeer o → RangePeer
+    (by_call config past e last on o)
 peer_by config (Connect socket to answer) past last on o allowed before = peer_joined answer on o before
 peer_by config (UdpOpen socket at answer) past last on o allowed before = peer_made answer last o before
 peer_by config (UdpSend socket to octets answer) past last on o allowed before = peer_sent answer last o before
@@ -213,7 +221,8 @@ peer_by config (UdpRecv socket asked GotFailed octets) past last on o allowed be
 peer_by config (LinkWrite octets answer) past last on o allowed before =
     peer_if (begins_again config (identification past) (ledger config past) (goes_out (LinkWrite octets answer) past)) _ o (peer_said (may_go_again (serving config past)) o before) before
 peer_by config (FileLen name answer) past last on o allowed before = peer_outcome (by_answer (serving config past).now (FileLen name answer) (serving config past).files) o before
-peer_by config (FileRead name place asked answer octets) past last on o allowed before = peer_outcome (by_answer (serving config past).now (FileRead name place asked answer octets) (serving config past).files) o before
+peer_by config (FileRead name place asked answer octets) past last on o allowed before = peer_outcome (by_answer (serving config past).now (FileRead name place asked answer octets)
+    (serving config past).files) o before
 peer_by config _ past last on o allowed before = before
 
 peer_after : (config : Config) (e : Entry) (past : List Entry) (came : Option Arrival) (o : Occasion) → AreAllowed (e ∷ past) → RangePeer o → RangePeer (occasion_after config e past came o)

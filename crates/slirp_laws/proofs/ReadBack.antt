@@ -1,5 +1,6 @@
 -- A reply as it is read has what the peer sent, for the port that asked.
-use Rattle.std.proofs.Common.{◌⊎◌, inl, inr, ◌≡◌, ℕ, ◌+◌, ◌*◌, ◌^◌, ◌<◌, ◌≤◌, ◌==◌, ◌&&◌, not, Bool, true, false, List, [], ◌∷◌, length, take, drop, Option, Some, if◌then◌else◌, refl, sym, ◌∙◌, ap, subst, arith, append-nil}
+use Rattle.std.proofs.Common.{◌⊎◌, inl, inr, ◌≡◌, ℕ, ◌+◌, ◌*◌, ◌^◌, ◌<◌, ◌≤◌, ◌==◌, ◌&&◌, not, Bool, true, false, List, [], ◌∷◌, length, take, drop, Option, Some, if◌then◌else◌, refl, sym}
+use Rattle.std.proofs.Common.{◌∙◌, ap, subst, arith, append-nil}
 use Rattle.std.proofs.lemmas.Bool.Decides.{nat_tests}
 use Rattle.std.proofs.lemmas.List.{take_all}
 use Rattle.world_face.specs.Journal.{Entry, AreAllowed, IsEndpoint}
@@ -30,7 +31,16 @@ same_some o one two is was = let both : Some one ≡ Some two = sym is ∙ was i
 
 -- a datagram of IPv4 that is written is read back
 ip_back : (ident proto from to : ℕ) (body : List ℕ) → ident < 2 ^ 16 → from < 2 ^ 32 → to < 2 ^ 32 → 20 + length body < 2 ^ 16
-    → read_ip (ip_octets ident 0 proto from to body) ≡ Some (record { ident = ident; more = false; place = 0; proto = proto; from = from; to = to; head = summed_head 64 ident 0 proto from to (length body); body = body })
+    → read_ip (ip_octets ident 0 proto from to body) ≡ Some (record {
+      ident = ident;
+      more = false;
+      place = 0;
+      proto = proto;
+      from = from;
+      to = to;
+      head = summed_head 64 ident 0 proto from to (length body);
+      body = body;
+    })
 ip_back ident proto from to body i f t size =
     let now = ip_octets ident 0 proto from to body in
     let long : length now ≡ 20 + length body = omega arith in
@@ -78,7 +88,8 @@ pub record IsReadAs (ip : Ip) (udp : Udp) (source target : ℕ) (sent : Udp) : T
   pub whole : udp ≡ sent
 
 pub datagram_back : (config : Config) (past : List Entry) (frame : List ℕ) (ip : Ip) (udp : Udp) (k : ℕ) (rest : List (List ℕ)) (mac : List ℕ) (from to : ℕ) (sent : Udp)
-    → drop k (frames_for config (identification_with k past) (IpAnswer mac udp_proto from to (udp_octets from to sent))) ≡ frame ∷ rest → from < 2 ^ 32 → to < 2 ^ 32 → sent.from_port < 2 ^ 16 → sent.to_port < 2 ^ 16
+    → drop k (frames_for config (identification_with k past) (IpAnswer mac udp_proto from to (udp_octets from to sent))) ≡ frame ∷ rest → from < 2 ^ 32 → to < 2 ^ 32 →
+    sent.from_port < 2 ^ 16 → sent.to_port < 2 ^ 16
     → 28 ≤ config.mtu → length mac ≡ 6 → Carries frame ip → is_unbroken ip ≡ true → read_udp ip.from ip.to ip.body ≡ Some udp → IsReadAs ip udp from to sent
 datagram_back config past frame ip udp k rest mac from to sent frames one other from_port to_port room six c unbroken is =
     let body = udp_octets from to sent in
@@ -99,11 +110,13 @@ datagram_back config past frame ip udp k rest mac from to sent frames one other 
       whole = same_some (read_udp from to body) udp sent that (udp_back from to sent from_port to_port (omega (arith, long, fits)));
     }
 
-as_read : (config : Config) (past : List Entry) (frame : List ℕ) (ip : Ip) (udp : Udp) (r : RepliesToItsPort config past frame) → IsEndpoint (shown config r.peer) → IsEndpoint r.guest → 28 ≤ config.mtu → length r.mac ≡ 6 → Carries frame ip → is_unbroken ip ≡ true
+as_read : (config : Config) (past : List Entry) (frame : List ℕ) (ip : Ip) (udp : Udp) (r : RepliesToItsPort config past frame) → IsEndpoint (shown config r.peer) →
+    IsEndpoint r.guest → 28 ≤ config.mtu → length r.mac ≡ 6 → Carries frame ip → is_unbroken ip ≡ true
     → read_udp ip.from ip.to ip.body ≡ Some udp → IsReplyToItsPort config past ip udp
 as_read config past frame ip udp r peer_range guest_range room six c unbroken is =
     let reply : Udp = record { from_port = (shown config r.peer).port; to_port = r.guest.port; body = r.octets } in
-    let back = datagram_back config past frame ip udp r.out r.rest r.mac (address (shown config r.peer)) (address r.guest) reply r.is peer_range.0 guest_range.0 peer_range.1 guest_range.1 room six c unbroken is in
+    let back = datagram_back config past frame ip udp r.out r.rest r.mac (address (shown config r.peer))
+    (address r.guest) reply r.is peer_range.0 guest_range.0 peer_range.1 guest_range.1 room six c unbroken is in
     let sent_to : r.guest ≡ endpoint ip.to udp.to_port = λ i. record { addr = record { 0 = sym back.to i }; port = (sym back.whole i).to_port } in
     let sent_from : shown config r.peer ≡ endpoint ip.from udp.from_port = λ i. record { addr = record { 0 = sym back.from i }; port = (sym back.whole i).from_port } in
     record {
@@ -115,11 +128,13 @@ as_read config past frame ip udp r peer_range guest_range room six c unbroken is
       source = sent_from;
     }
 
-pub reply_as_read : (config : Config) (e : Entry) (past : List Entry) (frame : List ℕ) (ip : Ip) (udp : Udp) → 28 ≤ config.mtu → Lawful config (e ∷ past) → AreAllowed past → config.vhost < 2 ^ 32 → HasPorts config → goes_out e past ≡ Some frame
+pub reply_as_read : (config : Config) (e : Entry) (past : List Entry) (frame : List ℕ) (ip : Ip) (udp : Udp) → 28 ≤ config.mtu → Lawful config (e ∷ past) → AreAllowed past →
+    config.vhost < 2 ^ 32 → HasPorts config → goes_out e past ≡ Some frame
     → Carries frame ip → is_unbroken ip ≡ true → ip.proto ≡ udp_proto → read_udp ip.from ip.to ip.body ≡ Some udp
     → IsReplyToItsPort config past ip udp ⊎ (AnswersQuestion config past frame ⊎ IsOfServer config past frame)
 reply_as_read config e past frame ip udp room lawful allowed ours ports out c unbroken proto is = elim (replies config e past frame ip room lawful out c proto) [
-  | inl r ↦ inl (as_read config past frame ip udp r (shown_range config r.peer ours (subst RangePeer r.last (range_peer config past allowed))) (subst RangePort r.port (range_port config r.socket past ports allowed)) room
+  | inl r ↦ inl (as_read config past frame ip udp r (shown_range config r.peer ours (subst RangePeer r.last (range_peer config past allowed)))
+      (subst RangePort r.port (range_port config r.socket past ports allowed)) room
       (subst SixMac r.at (six_mac_for config r.socket past)) c unbroken is)
   | inr other ↦ inr other
 ]

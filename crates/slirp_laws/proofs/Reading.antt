@@ -1,5 +1,6 @@
 -- Our frames, as they are read.
-use Rattle.std.proofs.Common.{◌≡◌, ℕ, ◌+◌, ◌/◌, ◌%◌, ◌^◌, ◌<◌, ◌≤◌, ◌==◌, ◌&&◌, not, nat_le, Bool, true, false, List, [], ◌∷◌, ◌++◌, length, take, drop, filter, find, map, Option, Some, None, Result, Ok, Err, option_map, option_and_then, if◌then◌else◌, refl, sym, ◌∙◌, ap, subst, arith, lit<, zero, suc}
+use Rattle.std.proofs.Common.{◌≡◌, ℕ, ◌+◌, ◌/◌, ◌%◌, ◌^◌, ◌<◌, ◌≤◌, ◌==◌, ◌&&◌, not, nat_le, Bool, true, false, List, [], ◌∷◌, ◌++◌, length, take, drop, filter, find, map, Option, Some}
+use Rattle.std.proofs.Common.{None, Result, Ok, Err, option_map, option_and_then, if◌then◌else◌, refl, sym, ◌∙◌, ap, subst, arith, lit<, zero, suc}
 use Rattle.std.proofs.lemmas.Bool.Decides.{nat_tests}
 use Rattle.std.proofs.lemmas.Nat.{from_be_bytes-to_be_bytes_2}
 use Rattle.std.proofs.lemmas.Option.{cond_some}
@@ -44,24 +45,32 @@ use Rattle.dhcp_server.specs.Serving.{served}
 use Rattle.dns_relay.specs.declared.Question.{Question}
 use Rattle.dns_relay.specs.Questions.{is_answered, moved_last, numbered, without as without_question}
 use Rattle.tftp_server.specs.Asking.{by_answer}
-use Rattle.tftp_server.specs.Packets.{options_octets, Packet as FilePacket, Asks, AsksToWrite, Acknowledges, GivesUp, Unheard as FileUnheard, Request, Terms, is_name, packet_in as file_packet, request_in, terms_of}
-use Rattle.tftp_server.specs.Transfers.{transfer, Files, Outcome, Quest, Said, Settled as NothingSought, SeeksLength, SeeksOctets, Sought, Transfer, acknowledged, are_left, begins, begun, is_for, leaves, length_came, measured, most_transfers, next_again, octets_came, octets_of, refuses, requested, requested_file, said_again, seeks_block, seeks_next, sending, sends, sent_again, settled, taken_in, ticked, ticked_by, told_length, told_octets, with_again, with_room, without}
+use Rattle.tftp_server.specs.Packets.{options_octets, Packet as FilePacket, Asks, AsksToWrite, Acknowledges, GivesUp, Unheard as FileUnheard, Request, Terms, is_name}
+use Rattle.tftp_server.specs.Packets.{packet_in as file_packet, request_in, terms_of}
+use Rattle.tftp_server.specs.Transfers.{transfer, Files, Outcome, Quest, Said, Settled as NothingSought, SeeksLength, SeeksOctets, Sought, Transfer, acknowledged, are_left, begins, begun}
+use Rattle.tftp_server.specs.Transfers.{is_for, leaves, length_came, measured, most_transfers, next_again, octets_came, octets_of, refuses, requested, requested_file, said_again}
+use Rattle.tftp_server.specs.Transfers.{seeks_block, seeks_next, sending, sends, sent_again, settled, taken_in, ticked, ticked_by, told_length, told_octets, with_again, with_room, without}
 use Rattle.run_laws.specs.Fragments.{arrived, waiting}
 use Rattle.run_laws.specs.Happenings.{Happening, arrival_of, datagram_by, datagram_came, happens}
 use Rattle.run_laws.specs.Guests.{known, with_arrival, with_pair}
 use Rattle.run_laws.specs.Moments.{moment}
 use Rattle.run_laws.specs.Sockets.{is_forward, kind_of}
-use Rattle.run_laws.specs.Packets.{Datagram, Packet, Unheard, ArpPacket, Message, DatagramPacket, Segment, Pair, datagram_in, datagram_of, may_come, packet_in, packet_of, packet_of_ip, pair_by, pair_by_arp, pair_by_ip, pair_in, pair_of, unless_unheard, whole_packet}
+use Rattle.run_laws.specs.Packets.{Datagram, Packet, Unheard, ArpPacket, Message, DatagramPacket, Segment, Pair, datagram_in, datagram_of, may_come, packet_in, packet_of, packet_of_ip}
+use Rattle.run_laws.specs.Packets.{pair_by, pair_by_arp, pair_by_ip, pair_in, pair_of, unless_unheard, whole_packet}
 use Rattle.record_flows.specs.Book.{book}
 use Rattle.record_flows.specs.Segments.{OnTuple, from_guest, segment_by, segment_came}
 use Rattle.record_flows.proofs.Newest.{is_newest}
-use Rattle.slirp_laws.specs.Answers.{Answer, ArpAnswer, IpAnswer, Ledger, Serving, again_by_call, answer_of, answers_of, begins_again, begun_by, files_after, files_begun, files_by_call, files_by_fate, files_by_outcome, files_by_packet, files_sent, identification, is_free, ledger, may_go_again, or_begun, served_file, serving, told_of_files, unless_begun, arp_reply, is_untold, no_network, part_frame, owed_for_fate, owed_for_icmp, owed_for_packet, reset_for, told_about, reply_for}
+use Rattle.slirp_laws.specs.Answers.{Answer, ArpAnswer, IpAnswer, Ledger, Serving, again_by_call, answer_of, answers_of, begins_again, begun_by, files_after, files_begun, files_by_call}
+use Rattle.slirp_laws.specs.Answers.{files_by_fate, files_by_outcome, files_by_packet, files_sent, identification, is_free, ledger, may_go_again, or_begun, served_file, serving}
+use Rattle.slirp_laws.specs.Answers.{told_of_files, unless_begun, arp_reply, is_untold, no_network, part_frame, owed_for_fate, owed_for_icmp, owed_for_packet, reset_for, told_about}
+use Rattle.slirp_laws.specs.Answers.{reply_for}
 use Rattle.slirp_laws.specs.Datagrams.{Errand, Fate, Ignored, Refused, ForLeases, ForFiles, GoesTo, asks_a_name, fate}
 use Rattle.slirp_laws.specs.Errands.{errand_left}
 use Rattle.slirp_laws.specs.Leasing.{sending_of}
 use Rattle.slirp_laws.specs.Names.{after_call as question_after, question, questions, with_heard as question_heard, with_opened as question_opened, with_sent as question_sent}
 use Rattle.slirp_laws.specs.Ports.{last_datagram, last_mac, mac_by, mac_of, opened_for, or_before, mac_for, mac_known}
-use Rattle.slirp_laws.specs.Said.{Carries, is_for_server, Occasion, NoOccasion, Came, Heard, HeardOfName, OfFile, Unsent, Unconnected, by_call, by_got, by_joined, by_made, by_outcome, by_said, by_sent, heard_on, last_occasion, occasion_after, owed_for, refused_or, unsent_or}
+use Rattle.slirp_laws.specs.Said.{Carries, is_for_server, Occasion, NoOccasion, Came, Heard, HeardOfName, OfFile, Unsent, Unconnected, by_call, by_got, by_joined, by_made, by_outcome}
+use Rattle.slirp_laws.specs.Said.{by_said, by_sent, heard_on, last_occasion, occasion_after, owed_for, refused_or, unsent_or}
 use Rattle.slirp_laws.proofs.Bools.{first_of}
 use Rattle.slirp_laws.proofs.Spelt.{spelt}
 use Rattle.slirp_laws.proofs.Steps.{errand_asks}
@@ -86,12 +95,19 @@ six_if false one other is else_ = else_
 six_arp : (octets : List ℕ) (o : Option Arp) → read_arp octets ≡ o → SixIn (option_map ArpPacket o)
 six_arp octets None is = tt
 six_arp octets (Some arp) is =
-    let found = cond_some (is_arp octets) (record { is_reply = two_at octets 6 == 2; sender_mac = part octets 8 6; sender = four_at octets 14; target_mac = part octets 18 6; target = four_at octets 24 }) arp is in
+    let found = cond_some (is_arp octets) (record {
+      is_reply = two_at octets 6 == 2;
+      sender_mac = part octets 8 6;
+      sender = four_at octets 14;
+      target_mac = part octets 18 6;
+      target = four_at octets 24;
+    }) arp is in
     let long : nat_le 28 (length octets) ≡ true = first_of _ _ (first_of _ _ (first_of _ _ (first_of _ _ (first_of _ _ found.0)))) in
     let enough : 14 ≤ length octets = grind (arith, nat_tests, long) in
     ap (λ (a : Arp). length a.sender_mac) (sym found.1) ∙ length-part octets 8 6 enough
 
-six_udp : (config : Config) (mac : List ℕ) (ip : Ip) (o : Option Udp) → length mac ≡ 6 → SixIn (option_and_then (λ udp. if may_come config ip udp then Some (DatagramPacket (datagram_of mac ip udp)) else None) o)
+six_udp : (config : Config) (mac : List ℕ) (ip : Ip) (o : Option Udp) → length mac ≡ 6 → SixIn
+    (option_and_then (λ udp. if may_come config ip udp then Some (DatagramPacket (datagram_of mac ip udp)) else None) o)
 six_udp config mac ip None is = tt
 six_udp config mac ip (Some udp) is = six_if (may_come config ip udp) (Some (DatagramPacket (datagram_of mac ip udp))) None is tt
 
@@ -126,7 +142,8 @@ six_ether config now sets frame (Some ether) is =
     let enough : 12 ≤ length frame = (let long = found.0 in grind (arith, nat_tests, long)) in
     let mac : length ether.from ≡ 6 = ap (λ (e : Ether). length e.from) (sym found.1) ∙ length-part frame 6 6 enough in
     six_if (ether.kind == arp_kind) (option_map ArpPacket (read_arp ether.body)) _ (six_arp ether.body (read_arp ether.body) refl)
-    (six_if (ether.kind == ipv4_kind) (option_and_then (whole_packet config now sets ether.from ether.body) (read_ip ether.body)) None (six_whole config now sets ether.from ether.body (read_ip ether.body) mac) tt)
+    (six_if (ether.kind == ipv4_kind) (option_and_then (whole_packet config now sets ether.from ether.body) (read_ip ether.body)) None
+    (six_whole config now sets ether.from ether.body (read_ip ether.body) mac) tt)
 
 six_packet : (config : Config) (now : ℕ) (sets : List PartSet) (frame : List ℕ) → SixPacket (packet_in config now sets frame)
 six_packet config now sets frame = six_ether config now sets frame (read_ether frame) refl
@@ -166,7 +183,8 @@ six_by (ArpPacket arp) last is before = before
 six_by (Message mac ip message) last is before = before
 six_by (Segment mac ip tcp) last is before = before
 
-six_came : (config : Config) (now : ℕ) (sets : List PartSet) (o : Option (List ℕ)) (last : Option Datagram) → SixDatagram last → SixDatagram (or_before (datagram_came (option_map (arrival_of config now sets) o)) last)
+six_came : (config : Config) (now : ℕ) (sets : List PartSet) (o : Option (List ℕ)) (last : Option Datagram) → SixDatagram last → SixDatagram
+    (or_before (datagram_came (option_map (arrival_of config now sets) o)) last)
 six_came config now sets None last before = before
 six_came config now sets (Some frame) last before = six_by (packet_in config now sets frame) last (six_packet config now sets frame) before
 
@@ -254,7 +272,8 @@ six_learnt (Some pair) pairs is before =
     let both : SixPairs ((address, record { 0 = pair.mac }) ∷ rest) = (is, six_filter (λ p. not (has_address address p)) pairs before) in
     six_take 64 ((address, record { 0 = pair.mac }) ∷ rest) both
 
-six_known_by : (config : Config) (now : ℕ) (sets : List PartSet) (o : Option (List ℕ)) (pairs : List (Ip4 × Mac)) → SixPairs pairs → SixPairs (with_arrival (option_map (arrival_of config now sets) o) pairs)
+six_known_by : (config : Config) (now : ℕ) (sets : List PartSet) (o : Option (List ℕ)) (pairs : List (Ip4 × Mac)) → SixPairs pairs → SixPairs
+    (with_arrival (option_map (arrival_of config now sets) o) pairs)
 six_known_by config now sets None pairs before = before
 six_known_by config now sets (Some frame) pairs before = six_learnt (pair_in config frame) pairs (six_pair config frame) before
 
@@ -266,7 +285,8 @@ six_address : (ip : Ip4) (pairs : List (Ip4 × Mac)) → SixPairs pairs → SixM
 six_address ip [] is = tt
 six_address ip (pair ∷ pairs) is = by (has_address ip pair) (six_address ip pairs is.1)
   where
-    by : (b : Bool) → SixMac (option_map (λ (m : Mac). m.0) (learnt_for ip pairs)) → SixMac (option_map (λ (m : Mac). m.0) (option_map (λ (p : Ip4 × Mac). p.1) (if b then Some pair else find (has_address ip) pairs)))
+    by : (b : Bool) → SixMac (option_map (λ (m : Mac). m.0) (learnt_for ip pairs)) → SixMac
+        (option_map (λ (m : Mac). m.0) (option_map (λ (p : Ip4 × Mac). p.1) (if b then Some pair else find (has_address ip) pairs)))
     by true rest = is.0
     by false rest = rest
 
@@ -299,7 +319,8 @@ six_more : (list : List Question) (q : Question) → SixQuestions list → lengt
 six_more [] q is one = (one, tt)
 six_more (x ∷ list) q is one = (is.0, six_more list q is.1 one)
 
-six_moved : (change : Question → Question) (n : ℕ) (list : List Question) → ((q : Question) → length q.mac.0 ≡ 6 → length (change q).mac.0 ≡ 6) → SixQuestions list → SixQuestions (moved_last change n list)
+six_moved : (change : Question → Question) (n : ℕ) (list : List Question) → ((q : Question) → length q.mac.0 ≡ 6 → length (change q).mac.0 ≡ 6) → SixQuestions list → SixQuestions
+    (moved_last change n list)
 six_moved change n [] keeps is = tt
 six_moved change n (q ∷ list) keeps is = by (q.number == n) (six_moved change n list keeps is.1)
   where
@@ -330,7 +351,8 @@ six_errand config past = by (errand_left config past) refl
     by None is = tt
     by (Some errand) is = came (last_datagram config past) errand (errand_asks config past errand is).datagram (six_last config past)
 
-six_asked : (config : Config) (answer : Made) (socket now : ℕ) (o : Option Errand) (list : List Question) → SixErrand o → SixQuestions list → SixQuestions (question_opened config answer socket now o list)
+six_asked : (config : Config) (answer : Made) (socket now : ℕ) (o : Option Errand) (list : List Question) → SixErrand o → SixQuestions list → SixQuestions
+    (question_opened config answer socket now o list)
 six_asked config MadeDone socket now None list one is = is
 six_asked config MadeDone socket now (Some errand) list one is = by (asks_a_name config errand)
   where
@@ -430,14 +452,16 @@ six_client octets m is = by (is_request octets) refl is
         read (options_in octets) (grind (arith, nat_tests, long)) is
     by false request is = cc
 
-six_lease : (config : Config) (now : ℕ) (leases : List Lease) (octets : List ℕ) (o : Option LeaseMessage) → read_message octets ≡ o → AllAnswers SixAnswer (answers_of (sending_of (reply_to config now leases o) (replied_octets config now leases o)))
+six_lease : (config : Config) (now : ℕ) (leases : List Lease) (octets : List ℕ) (o : Option LeaseMessage) → read_message octets ≡ o → AllAnswers SixAnswer
+    (answers_of (sending_of (reply_to config now leases o) (replied_octets config now leases o)))
 six_lease config now leases octets None is = tt
 six_lease config now leases octets (Some m) is = by (is_silence answer) (goes_to_all m answer)
   where
     answer : LeaseAnswer
     answer = (served config now leases (Some m)).answer
 
-    by : (silent all : Bool) → AllAnswers SixAnswer (answers_of (sending_of (if silent then Nothing else (if all then ADatagram (length (reply_octets config m answer)) (endpoint config.vhost 67) (endpoint 0xffffffff 68) (Some everybody)
+    by : (silent all : Bool) → AllAnswers SixAnswer (answers_of (sending_of
+        (if silent then Nothing else (if all then ADatagram (length (reply_octets config m answer)) (endpoint config.vhost 67) (endpoint 0xffffffff 68) (Some everybody)
         else ADatagram (length (reply_octets config m answer)) (endpoint config.vhost 67) (endpoint m.client.0 68) (Some m.mac))) (replied_octets config now leases (Some m))))
     by true all = tt
     by false true = (refl, tt)
@@ -519,11 +543,14 @@ six_seeks now t others one is = six_outcome_if (octets_of t == 0) _ _ (six_sends
 six_next : (now : ℕ) (t : Transfer) (others : List Transfer) → length t.mac ≡ 6 → SixTransfers others → SixOutcome (seeks_next now t others)
 six_next now t others one is = six_seeks now (record t { block = t.block + 1 }) others one is
 
-six_asked_for : (mac : List ℕ) (guest : Endpoint) (r : Request) (others : List Transfer) (folder : Option (List ℕ)) → length mac ≡ 6 → SixTransfers others → SixOutcome (requested_file mac guest r others folder)
+six_asked_for : (mac : List ℕ) (guest : Endpoint) (r : Request) (others : List Transfer) (folder : Option (List ℕ)) → length mac ≡ 6 → SixTransfers others → SixOutcome
+    (requested_file mac guest r others folder)
 six_asked_for mac guest r others None one is = six_refuses 2 mac guest others one is
-six_asked_for mac guest r others (Some folder) one is = six_outcome_if (is_name r.name) _ _ (record { files = record { transfers = is; quest = one }; told = tt }) (six_refuses 2 mac guest others one is)
+six_asked_for mac guest r others (Some folder) one is = six_outcome_if (is_name r.name) _ _ (record { files = record { transfers = is; quest = one }; told = tt })
+    (six_refuses 2 mac guest others one is)
 
-six_requested : (folder : Option (List ℕ)) (mac : List ℕ) (guest : Endpoint) (r : Option Request) (others : List Transfer) → length mac ≡ 6 → SixTransfers others → SixOutcome (requested folder mac guest r others)
+six_requested : (folder : Option (List ℕ)) (mac : List ℕ) (guest : Endpoint) (r : Option Request) (others : List Transfer) → length mac ≡ 6 → SixTransfers others → SixOutcome
+    (requested folder mac guest r others)
 six_requested folder mac guest None others one is = six_refuses 4 mac guest others one is
 six_requested folder mac guest (Some r) others one is = six_outcome_if _ _ _ (six_asked_for mac guest r others folder one is) (six_refuses 4 mac guest others one is)
 
@@ -534,7 +561,8 @@ six_acknowledged now block (Some t) transfers one is =
     (six_outcome_if t.is_last _ _ (six_leaves _ (six_filtered _ transfers is)) (six_next now t (without t.guest transfers) one (six_filtered _ transfers is)))
     (six_leaves transfers is)
 
-six_taken : (folder : Option (List ℕ)) (now : ℕ) (mac : List ℕ) (guest : Endpoint) (p : FilePacket) (transfers : List Transfer) → length mac ≡ 6 → SixTransfers transfers → SixOutcome (taken_in folder now mac guest p transfers)
+six_taken : (folder : Option (List ℕ)) (now : ℕ) (mac : List ℕ) (guest : Endpoint) (p : FilePacket) (transfers : List Transfer) → length mac ≡ 6 → SixTransfers transfers →
+    SixOutcome (taken_in folder now mac guest p transfers)
 six_taken folder now mac guest (Asks texts) transfers one is = six_requested folder mac guest (request_in texts) (without guest transfers) one (six_filtered _ transfers is)
 six_taken folder now mac guest AsksToWrite transfers one is = six_refuses 2 mac guest transfers one is
 six_taken folder now mac guest (Acknowledges block) transfers one is = six_acknowledged now block (find (is_for guest) transfers) transfers (six_found (is_for guest) transfers is) is
@@ -543,7 +571,8 @@ six_taken folder now mac guest FileUnheard transfers one is = six_leaves transfe
 
 six_begins : (now file_length : ℕ) (s : Sought) (terms : Terms) (others : List Transfer) → length s.mac ≡ 6 → SixTransfers others → SixOutcome (begins now file_length s terms others)
 six_begins now file_length s terms others one is =
-    six_outcome_if (length terms.answered == 0) _ _ (six_next now (transfer file_length s terms) others one is) (six_sends now false (options_octets terms) (transfer file_length s terms) others one is)
+    six_outcome_if (length terms.answered == 0) _ _ (six_next now (transfer file_length s terms) others one is)
+    (six_sends now false (options_octets terms) (transfer file_length s terms) others one is)
 
 six_measured : (now file_length : ℕ) (s : Sought) (terms : Option Terms) (others : List Transfer) → length s.mac ≡ 6 → SixTransfers others → SixOutcome (measured now file_length s terms others)
 six_measured now file_length s None others one is = six_refuses 8 s.mac s.guest others one is
@@ -554,7 +583,8 @@ six_told_length now (FileLength n) s others one is = six_measured now n s (terms
 six_told_length now Missing s others one is = six_refuses 1 s.mac s.guest others one is
 six_told_length now SizeFailed s others one is = six_refuses 0 s.mac s.guest others one is
 
-six_told_octets : (now : ℕ) (answer : Io) (octets there : List ℕ) (t : Transfer) (others : List Transfer) → length t.mac ≡ 6 → SixTransfers others → SixOutcome (told_octets now answer octets there t others)
+six_told_octets : (now : ℕ) (answer : Io) (octets there : List ℕ) (t : Transfer) (others : List Transfer) → length t.mac ≡ 6 → SixTransfers others → SixOutcome
+    (told_octets now answer octets there t others)
 six_told_octets now (IoDone n) octets there t others one is =
     six_outcome_if (nat_le (octets_of t) (length (there ++ octets))) _ _ (six_sends now _ _ t others one is) (record { files = record { transfers = is; quest = one }; told = tt })
 six_told_octets now IoEnd octets there t others one is = six_refuses 0 t.mac t.guest others one is
@@ -658,8 +688,11 @@ six_by_packet config s (Segment mac ip tcp) one is = is.files
 six_files_by : (config : Config) (past : List Entry) (h : Happening) (e : Entry) (l : Ledger) → SixServing l.serving → SixFiles (files_by_call config past h e l)
 six_files_by config past h (Wait wants timeout answer ready) l is = record { transfers = six_ticked l.serving.now (is_free l) l.serving.files.transfers is.files.transfers; quest = is.files.quest }
 six_files_by config past h (LinkWrite octets answer) l is = six_sent (begins_again config (identification past) l h.went) l.serving is
-six_files_by config past h (FileLen name answer) l is = six_after_outcome (by_answer l.serving.now (FileLen name answer) l.serving.files) l.serving.files (six_answered l.serving.now (FileLen name answer) l.serving.files is.files) is.files
-six_files_by config past h (FileRead name place asked answer octets) l is = six_after_outcome (by_answer l.serving.now (FileRead name place asked answer octets) l.serving.files) l.serving.files (six_answered l.serving.now (FileRead name place asked answer octets) l.serving.files is.files) is.files
+six_files_by config past h (FileLen name answer) l is = six_after_outcome (by_answer l.serving.now (FileLen name answer) l.serving.files) l.serving.files
+    (six_answered l.serving.now (FileLen name answer) l.serving.files is.files) is.files
+six_files_by config past h (FileRead name place asked answer octets) l is = six_after_outcome
+    (by_answer l.serving.now (FileRead name place asked answer octets) l.serving.files) l.serving.files
+    (six_answered l.serving.now (FileRead name place asked answer octets) l.serving.files is.files) is.files
 six_files_by config past h _ l is = is.files
 
 six_again_by : (config : Config) (past : List Entry) (h : Happening) (e : Entry) (l : Ledger) → SixServing l.serving → SixSaid (again_by_call config past h e l)
@@ -667,20 +700,27 @@ six_again_by config past h (Wait wants timeout answer ready) l is = six_or l.ser
 six_again_by config past h (LinkWrite octets answer) l is = six_unless (begins_again config (identification past) l h.went) l.serving.again is.again
 six_again_by config past h _ l is = is.again
 
-six_files_after : (config : Config) (past : List Entry) (h : Happening) (frame : Option (List ℕ)) (l : Ledger) → SixServing l.serving → SixFiles (files_after config past h (option_map (arrival_of config (moment past) (waiting config past)) frame) l)
+six_files_after : (config : Config) (past : List Entry) (h : Happening) (frame : Option (List ℕ)) (l : Ledger) → SixServing l.serving → SixFiles
+    (files_after config past h (option_map (arrival_of config (moment past) (waiting config past)) frame) l)
 six_files_after config past h None l is = six_files_by config past h h.call l is
-six_files_after config past h (Some frame) l is = six_by_packet config l.serving (packet_in config (moment past) (waiting config past) frame) (six_packet config (moment past) (waiting config past) frame) is
+six_files_after config past h (Some frame) l is = six_by_packet config l.serving (packet_in config (moment past) (waiting config past) frame)
+    (six_packet config (moment past) (waiting config past) frame) is
 
 pub six_serving : (config : Config) (past : List Entry) → SixServing (serving config past)
 six_serving config [] = record { files = record { transfers = tt; quest = tt }; again = tt }
 six_serving config (e ∷ past) =
     let before = six_serving config past in
-    record { files = six_files_after config past (happens config past e) (arrives e past) (ledger config past) before; again = six_again_by config past (happens config past e) e (ledger config past) before }
+    record {
+      files = six_files_after config past (happens config past e) (arrives e past) (ledger config past) before;
+      again = six_again_by config past (happens config past e) e
+          (ledger config past) before;
+    }
 
 pub six_again : (config : Config) (past : List Entry) → SixSaid (may_go_again (serving config past))
 six_again config past =
     let is = six_serving config past in
-    six_or (serving config past).again _ is.again (six_said (next_again (serving config past).now (serving config past).files.transfers) (six_found _ (serving config past).files.transfers is.files.transfers))
+    six_or (serving config past).again _ is.again (six_said (next_again (serving config past).now (serving config past).files.transfers)
+    (six_found _ (serving config past).files.transfers is.files.transfers))
 
 -- ---- of what is owed for a packet
 
@@ -688,7 +728,8 @@ six_fate : (config : Config) (s : Serving) (d : Datagram) (what : Fate) → SixS
 six_fate config s d Ignored serves is = tt
 six_fate config s d Refused serves is = all_six (told_about config _ d) (ours_told config _ d is)
 six_fate config s d ForLeases serves is = six_lease config s.now s.leases d.body (read_message d.body) refl
-six_fate config s d ForFiles serves is = six_told config (served_file config s d).told (six_taken config.tftp_path s.now d.mac d.from (file_packet d.body) s.files.transfers is serves.files.transfers).told
+six_fate config s d ForFiles serves is = six_told config (served_file config s d).told
+    (six_taken config.tftp_path s.now d.mac d.from (file_packet d.body) s.files.transfers is serves.files.transfers).told
 six_fate config s d (GoesTo to) serves is = tt
 
 pub six_owed_for : (config : Config) (s : Serving) (stray : Bool) (packet : Packet) → SixServing s → SixPacket packet → AllAnswers SixAnswer (owed_for_packet config s stray packet)
@@ -781,18 +822,25 @@ six_by_joined : (answer : Made) (on : Option OnTuple) (o : Occasion) → SixOn o
 six_by_joined MadeDone on o is before = before
 six_by_joined MadeFailed on o is before = six_refused on o is before
 
-six_by_call : (config : Config) (past : List Entry) (e : Entry) (last : Option Datagram) (on : Option OnTuple) (o : Occasion) → SixDatagram last → SixOn on → SixOccasion o → SixOccasion (by_call config past e last on o)
+six_by_call : (config : Config) (past : List Entry) (e : Entry) (last : Option Datagram) (on : Option OnTuple) (o : Occasion) → SixDatagram last → SixOn on → SixOccasion o →
+    SixOccasion (by_call config past e last on o)
 six_by_call config past (Connect socket to answer) last on o is one before = six_by_joined answer on o one before
 six_by_call config past (UdpOpen socket at answer) last on o is one before = six_by_made answer last o is before
 six_by_call config past (UdpSend socket to octets answer) last on o is one before = six_by_sent answer last o is before
-six_by_call config past (UdpRecv socket asked answer octets) last on o is one before = six_by_got answer socket octets (numbered socket (questions config past)) o (six_numbered socket (questions config past) (six_questions config past)) before
+six_by_call config past (UdpRecv socket asked answer octets) last on o is one before = six_by_got answer socket octets (numbered socket (questions config past)) o
+    (six_numbered socket (questions config past) (six_questions config past)) before
 six_by_call config past (LinkWrite octets answer) last on o is one before =
-    six_occasion_if (begins_again config (identification past) (ledger config past) (goes_out (LinkWrite octets answer) past)) _ o (six_by_said (may_go_again (serving config past)) o (six_again config past) before) before
-six_by_call config past (FileLen name answer) last on o is one before = six_by_outcome (by_answer (serving config past).now (FileLen name answer) (serving config past).files) o (six_answered (serving config past).now (FileLen name answer) (serving config past).files (six_serving config past).files) before
-six_by_call config past (FileRead name place asked answer octets) last on o is one before = six_by_outcome (by_answer (serving config past).now (FileRead name place asked answer octets) (serving config past).files) o (six_answered (serving config past).now (FileRead name place asked answer octets) (serving config past).files (six_serving config past).files) before
+    six_occasion_if (begins_again config (identification past) (ledger config past) (goes_out (LinkWrite octets answer) past)) _ o
+    (six_by_said (may_go_again (serving config past)) o (six_again config past) before) before
+six_by_call config past (FileLen name answer) last on o is one before = six_by_outcome (by_answer (serving config past).now (FileLen name answer) (serving config past).files) o
+    (six_answered (serving config past).now (FileLen name answer) (serving config past).files (six_serving config past).files) before
+six_by_call config past (FileRead name place asked answer octets) last on o is one before = six_by_outcome
+    (by_answer (serving config past).now (FileRead name place asked answer octets) (serving config past).files) o
+    (six_answered (serving config past).now (FileRead name place asked answer octets) (serving config past).files (six_serving config past).files) before
 six_by_call config past _ last on o is one before = before
 
-six_after : (config : Config) (e : Entry) (past : List Entry) (frame : Option (List ℕ)) (o : Occasion) → SixOccasion o → SixOccasion (occasion_after config e past (option_map (arrival_of config (moment past) (waiting config past)) frame) o)
+six_after : (config : Config) (e : Entry) (past : List Entry) (frame : Option (List ℕ)) (o : Occasion) → SixOccasion o → SixOccasion
+    (occasion_after config e past (option_map (arrival_of config (moment past) (waiting config past)) frame) o)
 six_after config e past None o before = six_by_call config past e (last_datagram config past) (book config past).came o (six_last config past) (six_on config past) before
 six_after config e past (Some frame) o before = (six_serving config past, six_packet config (moment past) (waiting config past) frame)
 
@@ -813,7 +861,8 @@ more_kept : (place : ℕ) (more : Bool) → place < 2 ^ 13 → ((fragment_of mor
 more_kept place true fits = let is : (8192 + place) / 8192 % 2 ≡ 1 = omega arith in ap (λ n. n == 1) is
 more_kept place false fits = let is : (0 + place) / 8192 % 2 ≡ 0 = omega arith in ap (λ n. n == 1) is
 
-reads_ip : (ident place proto from guest : ℕ) (more : Bool) (body : List ℕ) (ip : Ip) → ident < 2 ^ 16 → place < 2 ^ 13 → read_ip (ip_octets ident (fragment_of more place) proto from guest body) ≡ Some ip → ReadsBack ident place proto more ip
+reads_ip : (ident place proto from guest : ℕ) (more : Bool) (body : List ℕ) (ip : Ip) → ident < 2 ^ 16 → place < 2 ^ 13 → read_ip
+    (ip_octets ident (fragment_of more place) proto from guest body) ≡ Some ip → ReadsBack ident place proto more ip
 reads_ip ident place proto from guest more body ip fits within is =
     let octets = ip_octets ident (fragment_of more place) proto from guest body in
     let found = spelt octets ip is in
@@ -826,7 +875,8 @@ reads_ip ident place proto from guest more body ip fits within is =
     }
 
 -- the frame of an answer is read as it was written
-pub framed_ip : (to from body : List ℕ) (kind : ℕ) → length to ≡ 6 → length from ≡ 6 → kind < 2 ^ 16 → read_ether (ether_octets to from kind body) ≡ Some (record { to = to; from = from; kind = kind; body = body })
+pub framed_ip : (to from body : List ℕ) (kind : ℕ) → length to ≡ 6 → length from ≡ 6 → kind < 2 ^ 16 → read_ether (ether_octets to from kind body) ≡ Some
+    (record { to = to; from = from; kind = kind; body = body })
 framed_ip to from body kind to_six from_six fits =
     reads_frame (ether_octets to from kind body) (record { to = to; from = from; kind = kind; body = body }) (record { to = to_six; from = from_six; kind = fits; is = refl })
 
@@ -839,16 +889,19 @@ pub carried_ip : (config : Config) (ident : ℕ) (to : List ℕ) (proto from gue
 carried_ip config ident to proto from guest p ip to_six c =
     let octets = ip_octets ident (fragment_of p.more p.place) proto from guest p.body in
     let ours = framed_ip to (our_mac config.vhost) octets ipv4_kind to_six (our_six config.vhost) (lit< tt) in
-    let same = same_frame (read_ether (ether_octets to (our_mac config.vhost) ipv4_kind octets)) c.ether (record { to = to; from = our_mac config.vhost; kind = ipv4_kind; body = octets }) c.framed ours in
+    let same = same_frame (read_ether (ether_octets to (our_mac config.vhost) ipv4_kind octets)) c.ether
+    (record { to = to; from = our_mac config.vhost; kind = ipv4_kind; body = octets }) c.framed ours in
     ap (λ (e : Ether). read_ip e.body) (sym same) ∙ c.holds
 
-pub reads_part : (config : Config) (ident : ℕ) (to : List ℕ) (proto from guest : ℕ) (p : Part) (ip : Ip) → ident < 2 ^ 16 → p.place < 2 ^ 13 → length to ≡ 6 → Carries (part_frame to (our_mac config.vhost) ident proto from guest p) ip
+pub reads_part : (config : Config) (ident : ℕ) (to : List ℕ) (proto from guest : ℕ) (p : Part) (ip : Ip) → ident < 2 ^ 16 → p.place < 2 ^ 13 → length to ≡ 6 → Carries
+    (part_frame to (our_mac config.vhost) ident proto from guest p) ip
     → ReadsBack ident p.place proto p.more ip
 reads_part config ident to proto from guest p ip fits within to_six c = reads_ip ident p.place proto from guest p.more p.body ip fits within (carried_ip config ident to proto from guest p ip to_six c)
 
 pub no_arp : (to : List ℕ) (arp : Arp) (ip : Ip) → length to ≡ 6 → length arp.sender_mac ≡ 6 → Carries (ether_octets to arp.sender_mac arp_kind (arp_octets arp)) ip → ⊥
 no_arp to arp ip to_six from_six c =
     let ours = framed_ip to arp.sender_mac (arp_octets arp) arp_kind to_six from_six (lit< tt) in
-    let same = same_frame (read_ether (ether_octets to arp.sender_mac arp_kind (arp_octets arp))) c.ether (record { to = to; from = arp.sender_mac; kind = arp_kind; body = arp_octets arp }) c.framed ours in
+    let same = same_frame (read_ether (ether_octets to arp.sender_mac arp_kind (arp_octets arp))) c.ether
+    (record { to = to; from = arp.sender_mac; kind = arp_kind; body = arp_octets arp }) c.framed ours in
     let kinds : 2048 ≡ 2054 = sym c.kind ∙ ap (λ (e : Ether). e.kind) same in
     absurd (omega (arith, kinds))

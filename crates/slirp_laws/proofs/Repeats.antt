@@ -62,18 +62,21 @@ none_like : (guest : Endpoint) (ident : ℕ) (list : List Question) (q : Questio
 none_like guest ident [] q port identifier none = tt
 none_like guest ident (x ∷ list) q port identifier none = by (is_of guest ident x) refl none (λ rest. none_like guest ident list q port identifier rest)
   where
-    by : (b : Bool) → is_of guest ident x ≡ b → option_map (λ (y : Question). y.number) (if b then Some x else find (is_of guest ident) list) ≡ None → (socket_of guest ident list ≡ None → AllQuestions (AreUnlike q) list) → AllQuestions (AreUnlike q) (x ∷ list)
+    by : (b : Bool) → is_of guest ident x ≡ b → option_map (λ (y : Question). y.number) (if b then Some x else find (is_of guest ident) list) ≡ None →
+        (socket_of guest ident list ≡ None → AllQuestions (AreUnlike q) list) → AllQuestions (AreUnlike q) (x ∷ list)
     by true here is rest = absurd cc
     by false other is rest = (
       (λ one two.
-          let of : is_of guest ident x ≡ true = and_both (same_endpoint x.guest guest) (x.ident == ident) (ap (λ g. same_endpoint g guest) (one ∙ port) ∙ same_port guest) (ap (λ i. i == ident) (two ∙ identifier) ∙ same ident) in
+          let of : is_of guest ident x ≡ true = and_both (same_endpoint x.guest guest) (x.ident == ident) (ap (λ g. same_endpoint g guest) (one ∙ port) ∙ same_port guest)
+          (ap (λ i. i == ident) (two ∙ identifier) ∙ same ident) in
           absurd (let never : true ≡ false = sym of ∙ other in cc)),
       rest is,
     )
 
 -- ---- by an entry
 
-opened_differ : (config : Config) (past : List Entry) (socket : ℕ) (at : Endpoint) (answer : Made) (o : Option Errand) → May config past (CallUdpOpen socket at) → Lawful config past → errand_left config past ≡ o → AllDiffer (questions config past)
+opened_differ : (config : Config) (past : List Entry) (socket : ℕ) (at : Endpoint) (answer : Made) (o : Option Errand) → May config past (CallUdpOpen socket at) →
+    Lawful config past → errand_left config past ≡ o → AllDiffer (questions config past)
     → AllDiffer (with_opened config answer socket (moment past) o (questions config past))
 opened_differ config past socket at Done None may lawful left all = all
 opened_differ config past socket at Failed o may lawful left all = all
@@ -81,7 +84,8 @@ opened_differ config past socket at Done (Some errand) may lawful left all = by 
   where
     by : (b : Bool) → asks_a_name config errand ≡ b → AllDiffer (if b then questions config past ++ (question socket errand (moment past) ∷ []) else questions config past)
     by true names = differ_last (questions config past) (question socket errand (moment past)) all
-        (none_like errand.datagram.from (ident_in errand.datagram.body) (questions config past) (question socket errand (moment past)) refl refl (no_socket_yet config past socket at errand may lawful left names))
+        (none_like errand.datagram.from (ident_in errand.datagram.body) (questions config past) (question socket errand (moment past)) refl refl
+        (no_socket_yet config past socket at errand may lawful left names))
     by false names = all
 
 sent_differ : (socket now : ℕ) (o : Option Errand) (list : List Question) → AllDiffer list → AllDiffer (with_sent socket now o list)
@@ -129,10 +133,12 @@ same_number one other guest ident (x ∷ list) all first second = by (one == x.n
         absurd (unlike_none x one guest ident list all.0 is.0 is.1 (record { among = p; idents = first.idents.1 }))
     by false false this that p q more = more (record { among = p; idents = first.idents.1 }) (record { among = q; idents = second.idents.1 })
 
-pub one_socket : (config : Config) (past : List Entry) (one other : ℕ) (guest : Endpoint) (ident : ℕ) → Lawful config past → is_among one (open_sockets past) ≡ true → is_among other (open_sockets past) ≡ true
+pub one_socket : (config : Config) (past : List Entry) (one other : ℕ) (guest : Endpoint) (ident : ℕ) → Lawful config past → is_among one (open_sockets past) ≡ true →
+    is_among other (open_sockets past) ≡ true
     → WasAsked config past one guest ident → WasAsked config past other guest ident → one ≡ other
 one_socket config past one other guest ident lawful first second asked also =
-    same_number one other guest ident (questions config past) (all_differ config past lawful) (kept_asked config past one guest ident lawful first asked) (kept_asked config past other guest ident lawful second also)
+    same_number one other guest ident (questions config past) (all_differ config past lawful) (kept_asked config past one guest ident lawful first asked)
+    (kept_asked config past other guest ident lawful second also)
 
 -- and what was asked on one is one question
 pub one_question : (config : Config) (past : List Entry) (socket : ℕ) (guest other : Endpoint) (ident more : ℕ) → Lawful config past → is_among socket (open_sockets past) ≡ true

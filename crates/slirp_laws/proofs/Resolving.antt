@@ -31,7 +31,8 @@ apart (Some Listener) one other = cc
 apart (Some Flow) one other = cc
 apart None one other = cc
 
-no_forward_for : (config : Config) (past : List Entry) (o : Option Errand) → Lawful config past → errand_left config past ≡ o → is_for_question (Some (datagram_kind_for config (nat_lt 0 (waits past)) o)) ≡ true
+no_forward_for : (config : Config) (past : List Entry) (o : Option Errand) → Lawful config past → errand_left config past ≡ o → is_for_question
+    (Some (datagram_kind_for config (nat_lt 0 (waits past)) o)) ≡ true
     → is_forward (Some (datagram_kind (nat_lt 0 (waits past)))) ≡ false
 no_forward_for config past None lawful left one = absurd (by (nat_lt 0 (waits past)) one)
   where
@@ -40,41 +41,50 @@ no_forward_for config past None lawful left one = absurd (by (nat_lt 0 (waits pa
     by false is = cc
 no_forward_for config past (Some errand) lawful left one = ap (λ (b : Bool). is_forward (Some (datagram_kind b))) (waited_for config past errand left lawful)
 
-either : (b : Bool) (one other before now : Option Kind) → (is_for_question one ≡ true → is_forward other ≡ false) → (is_for_question before ≡ true → is_forward now ≡ false) → is_for_question (if b then one else before) ≡ true → is_forward (if b then other else now) ≡ false
+either : (b : Bool) (one other before now : Option Kind) → (is_for_question one ≡ true → is_forward other ≡ false) → (is_for_question before ≡ true → is_forward now ≡ false) →
+    is_for_question (if b then one else before) ≡ true → is_forward (if b then other else now) ≡ false
 either true one other before now first second is = first is
 either false one other before now first second is = second is
 
 no_forward : (config : Config) (n : ℕ) (past : List Entry) → Lawful config past → is_for_question (kind_for config n past) ≡ true → is_forward (kind_of n past) ≡ false
 no_forward config n (Connect socket to answer ∷ past) lawful = either (socket == n) _ _ (kind_for config n past) (kind_of n past) (λ is. refl) (no_forward config n past lawful.1)
 no_forward config n (Listen socket at answer ∷ past) lawful = either (socket == n) _ _ (kind_for config n past) (kind_of n past) (λ is. refl) (no_forward config n past lawful.1)
-no_forward config n (UdpOpen socket at answer ∷ past) lawful = either (socket == n) _ _ (kind_for config n past) (kind_of n past) (no_forward_for config past (errand_left config past) lawful.1 refl) (no_forward config n past lawful.1)
+no_forward config n (UdpOpen socket at answer ∷ past) lawful = either (socket == n) _ _ (kind_for config n past) (kind_of n past)
+    (no_forward_for config past (errand_left config past) lawful.1 refl) (no_forward config n past lawful.1)
 no_forward config n (Accept listener socket answer ∷ past) lawful = either (socket == n) _ _ (kind_for config n past) (kind_of n past) (λ is. refl) (no_forward config n past lawful.1)
 no_forward config n (_ ∷ past) lawful = no_forward config n past lawful.1
 no_forward config n [] lawful = λ is. refl
 
 -- ---- so what is sent on it is a question
 
-pub names_asked : (config : Config) (past : List Entry) (socket : ℕ) (errand : Errand) → Lawful config past → is_for_question (kind_for config socket past) ≡ true → step config past ≡ NeedsSending socket errand → asks_a_name config errand ≡ true
+pub names_asked : (config : Config) (past : List Entry) (socket : ℕ) (errand : Errand) → Lawful config past → is_for_question (kind_for config socket past) ≡ true →
+    step config past ≡ NeedsSending socket errand → asks_a_name config errand ≡ true
 names_asked config past socket errand lawful one needs = by (asks_a_name config errand) refl
   where
     by : (b : Bool) → asks_a_name config errand ≡ b → b ≡ true
     by true names = refl
     by false other = absurd (elim (opened_for_it config past socket errand other needs) [
-      | inl given ↦ (let is = second_of (is_among socket (open_sockets past)) (is_forward (kind_of socket past)) (sym (among_if (λ s. is_forward (kind_of s past)) socket (open_sockets past)) ∙ (find_some (λ s. is_port errand.datagram.from (opened_for config s past)) (forwards_open past) socket given).1) in
+      | inl given ↦ (let is = second_of (is_among socket (open_sockets past)) (is_forward (kind_of socket past))
+          (sym (among_if (λ s. is_forward (kind_of s past)) socket (open_sockets past)) ∙ (find_some (λ s. is_port errand.datagram.from (opened_for config s past))
+          (forwards_open past) socket given).1) in
           let not = no_forward config socket past lawful one in
           let never : true ≡ false = sym is ∙ not in
           cc)
-      | inr own ↦ (let is = second_of (is_among socket (open_sockets past)) (is_association (kind_for config socket past)) (sym (among_if (λ s. is_association (kind_for config s past)) socket (open_sockets past)) ∙ (find_some (λ s. is_port errand.datagram.from (opened_for config s past)) (associations_open config past) socket own).1) in
+      | inr own ↦ (let is = second_of (is_among socket (open_sockets past)) (is_association (kind_for config socket past))
+          (sym (among_if (λ s. is_association (kind_for config s past)) socket (open_sockets past)) ∙ (find_some (λ s. is_port errand.datagram.from (opened_for config s past))
+          (associations_open config past) socket own).1) in
           apart (kind_for config socket past) one is)
     ])
 
-pub goes_to_resolver : (config : Config) (past : List Entry) (socket : ℕ) (to : Endpoint) (octets : List ℕ) → Lawful config past → May config past (CallUdpSend socket to octets) → is_for_question (kind_for config socket past) ≡ true → config.resolver ≡ Some to
+pub goes_to_resolver : (config : Config) (past : List Entry) (socket : ℕ) (to : Endpoint) (octets : List ℕ) → Lawful config past → May config past (CallUdpSend socket to octets) →
+    is_for_question (kind_for config socket past) ≡ true → config.resolver ≡ Some to
 goes_to_resolver config past socket to octets lawful may one =
     let s = sends config past socket to octets may in
     let asks : Asks config (last_datagram config past) s.errand = errand_asks config past s.errand (errand_is config past (NeedsSending socket s.errand) s.asked) in
     to_resolver config s.errand (names_asked config past socket s.errand lawful one s.asked) asks.goes ∙ ap Some (sym s.target)
 
-pub asks_of_names : (config : Config) (past : List Entry) (socket : ℕ) (to : Endpoint) (octets : List ℕ) → Lawful config past → May config past (CallUdpSend socket to octets) → is_for_question (kind_for config socket past) ≡ true
+pub asks_of_names : (config : Config) (past : List Entry) (socket : ℕ) (to : Endpoint) (octets : List ℕ) → Lawful config past → May config past (CallUdpSend socket to octets) →
+    is_for_question (kind_for config socket past) ≡ true
     → (d : Datagram) × (last_datagram config past ≡ Some d) × (address d.to ≡ config.vnameserver) × (octets ≡ d.body) × (is_question octets ≡ true)
 asks_of_names config past socket to octets lawful may one =
     let s = sends config past socket to octets may in

@@ -265,29 +265,37 @@ reopened_finished = record { ended = refl; none_due = refl; closed = refl }
 -- 59,999 ms after the close the flow rests, and may acknowledge
 speaks_at_59_999 : Lawful alone (LinkWrite (hex "0000003652540012345652550a000202080045000028000300004006acb7c00002070a00020f00500fa00003d092000003ea5010fffffd4e0000") (Done 58) ∷ run (take 31 ended))
 unfolding missing spelling is_too_long spelt_length read_on
-speaks_at_59_999 = is_sound alone (LinkWrite (hex "0000003652540012345652550a000202080045000028000300004006acb7c00002070a00020f00500fa00003d092000003ea5010fffffd4e0000") (Done 58) ∷ run (take 31 ended)) refl
+speaks_at_59_999 = is_sound alone (LinkWrite (hex "0000003652540012345652550a000202080045000028000300004006acb7c00002070a00020f00500fa00003d092000003ea5010fffffd4e0000") (Done 58)
+    ∷ run (take 31 ended)) refl
 
 -- once a turn at 60,000 ms is over it says nothing any more
-silent_after_60_000 : (answer : Io) → Lawful alone (LinkWrite (hex "0000003652540012345652550a000202080045000028000300004006acb7c00002070a00020f00500fa00003d092000003ea5010fffffd4e0000") answer ∷ run (take 35 ended)) → ⊥
+silent_after_60_000 : (answer : Io) → Lawful alone (LinkWrite
+    (hex "0000003652540012345652550a000202080045000028000300004006acb7c00002070a00020f00500fa00003d092000003ea5010fffffd4e0000") answer ∷ run (take 35 ended)) → ⊥
 unfolding missing spelling is_too_long spelt_length read_on
 silent_after_60_000 answer lawful = not_both refl lawful.0.answered
 
 -- a rest that began anew goes on for 60,000 ms more
-speaks_since_renewed : Lawful alone (LinkWrite (hex "0000003652540012345652550a000202080045000028000400004006acb6c00002070a00020f00500fa00003d092000003ea5010fffffd4e0000") (Done 58) ∷ run (take 40 repeated))
+speaks_since_renewed : Lawful alone (LinkWrite (hex "0000003652540012345652550a000202080045000028000400004006acb6c00002070a00020f00500fa00003d092000003ea5010fffffd4e0000")
+    (Done 58) ∷ run (take 40 repeated))
 unfolding missing spelling is_too_long spelt_length read_on
-speaks_since_renewed = is_sound alone (LinkWrite (hex "0000003652540012345652550a000202080045000028000400004006acb6c00002070a00020f00500fa00003d092000003ea5010fffffd4e0000") (Done 58) ∷ run (take 40 repeated)) refl
+speaks_since_renewed = is_sound alone (LinkWrite (hex "0000003652540012345652550a000202080045000028000400004006acb6c00002070a00020f00500fa00003d092000003ea5010fffffd4e0000")
+    (Done 58) ∷ run (take 40 repeated)) refl
 
 -- and no longer
-silent_after_renewed : (answer : Io) → Lawful alone (LinkWrite (hex "0000003652540012345652550a000202080045000028000400004006acb6c00002070a00020f00500fa00003d092000003ea5010fffffd4e0000") answer ∷ run (take 44 repeated)) → ⊥
+silent_after_renewed : (answer : Io) → Lawful alone (LinkWrite
+    (hex "0000003652540012345652550a000202080045000028000400004006acb6c00002070a00020f00500fa00003d092000003ea5010fffffd4e0000") answer ∷ run (take 44 repeated)) → ⊥
 unfolding missing spelling is_too_long spelt_length read_on
 silent_after_renewed answer lawful = not_both refl lawful.0.answered
 
 -- while it rests the second flow acknowledges
-speaks_before_crowded : Lawful pair (LinkWrite (hex "0000003652540012345652550a000202080045000028000600004006acb3c00002080a00020f00500fa00004ca92000003ea5010ffff034d0000") (Done 58) ∷ run (take 57 renewed))
+speaks_before_crowded : Lawful pair (LinkWrite (hex "0000003652540012345652550a000202080045000028000600004006acb3c00002080a00020f00500fa00004ca92000003ea5010ffff034d0000")
+    (Done 58) ∷ run (take 57 renewed))
 unfolding missing spelling is_too_long spelt_length read_on
-speaks_before_crowded = is_sound pair (LinkWrite (hex "0000003652540012345652550a000202080045000028000600004006acb3c00002080a00020f00500fa00004ca92000003ea5010ffff034d0000") (Done 58) ∷ run (take 57 renewed)) refl
+speaks_before_crowded = is_sound pair (LinkWrite (hex "0000003652540012345652550a000202080045000028000600004006acb3c00002080a00020f00500fa00004ca92000003ea5010ffff034d0000")
+    (Done 58) ∷ run (take 57 renewed)) refl
 
 -- once a new flow has its place it says nothing any more
-silent_once_crowded : (answer : Io) → Lawful pair (LinkWrite (hex "0000003652540012345652550a000202080045000028000600004006acb3c00002080a00020f00500fa00004ca92000003ea5010ffff034d0000") answer ∷ run (take 58 crowded)) → ⊥
+silent_once_crowded : (answer : Io) → Lawful pair (LinkWrite (hex
+    "0000003652540012345652550a000202080045000028000600004006acb3c00002080a00020f00500fa00004ca92000003ea5010ffff034d0000") answer ∷ run (take 58 crowded)) → ⊥
 unfolding missing spelling is_too_long spelt_length read_on
 silent_once_crowded answer lawful = not_both refl lawful.0.answered

@@ -1,5 +1,6 @@
 -- A segment of a flow, with its headers, is no longer than the MTU.
-use Rattle.std.proofs.Common.{◌≡◌, ℕ, ◌+◌, ◌-◌, ◌≤◌, ◌&&◌, ◌||◌, not, Bool, true, false, List, [], ◌∷◌, length, drop, MatchBool, Option, Some, None, if◌then◌else◌, refl, ◌∙◌, ap, subst, arith, length-append}
+use Rattle.std.proofs.Common.{◌≡◌, ℕ, ◌+◌, ◌-◌, ◌≤◌, ◌&&◌, ◌||◌, not, Bool, true, false, List, [], ◌∷◌, length, drop, MatchBool, Option, Some, None, if◌then◌else◌, refl, ◌∙◌, ap, subst}
+use Rattle.std.proofs.Common.{arith, length-append}
 use Rattle.world_face.specs.Journal.{Entry, LinkWrite}
 use Rattle.world_face.specs.Frames.{goes_out, opens, tail}
 use Rattle.world_face.specs.declared.Io.{Io}
@@ -57,7 +58,8 @@ module _ (config : Config) (past : Story) (now : ℕ) (on : OnTuple) (may : MayO
   plain : seg.syn ≡ false → 20 + tcp_length (tcp_for on) ≤ config.mtu
   plain not_syn =
       let no_mss : seg.mss ≡ None = may.sends_its_options.0 ∙ ap (λ b. if b && not seg.rst then Some (config.mru - 40) else None) not_syn in
-      let no_scale : seg.scale ≡ None = may.sends_its_options.1 ∙ ap (λ b. if true && b && not seg.rst && (not seg.ack || is_scaled (flow_settings config) past) then Some (least_shift config.ring) else None) not_syn in
+      let no_scale : seg.scale ≡ None = may.sends_its_options.1 ∙ ap (λ b. if true && b && not seg.rst && (not seg.ack || is_scaled (flow_settings config) past) then Some
+      (least_shift config.ring) else None) not_syn in
       let short : length (mss_octets seg.mss) ≡ 0 = ap (λ o. length (mss_octets o)) no_mss in
       let short_scale : length (scale_octets seg.scale) ≡ 0 = ap (λ o. length (scale_octets o)) no_scale in
       omega (arith, room, few, short, short_scale)
@@ -87,13 +89,15 @@ module _ (config : Config) (past : List Entry) (frame : List ℕ) where
   may_begin (LinkWrite octets answer) lawful out = may_on octets answer (tail past) out lawful.0.flows.touches
   may_begin _ lawful out = cc
 
-  of_owner : (f : IsOfFlow config past frame) → MaySendOn (flow_settings config) (moment past) (book config past).flows (segment_in frame) → MayOfOne (flow_settings config) f.flow.story (moment past) (Send f.on.segment)
+  of_owner : (f : IsOfFlow config past frame) → MaySendOn (flow_settings config) (moment past) (book config past).flows (segment_in frame) → MayOfOne
+      (flow_settings config) f.flow.story (moment past) (Send f.on.segment)
   of_owner f may =
       let sends = subst (MaySendOn (flow_settings config) (moment past) (book config past).flows) f.carried may in
       let own = subst (MaySend (flow_settings config) (moment past) f.on.segment) f.owner sends in
       subst (λ b. MatchBool b (Unit {0}) (MayOfOne (flow_settings config) f.flow.story (moment past) (Send f.on.segment))) f.own own
 
-pub fits_mtu : (config : Config) (e : Entry) (past : List Entry) (frame : List ℕ) (ip : Ip) (on : OnTuple) → 48 ≤ config.mtu → Lawful config (e ∷ past) → goes_out e past ≡ Some frame → left config past ≡ [] → Carries frame ip → segment_in frame ≡ Some on
+pub fits_mtu : (config : Config) (e : Entry) (past : List Entry) (frame : List ℕ) (ip : Ip) (on : OnTuple) → 48 ≤ config.mtu → Lawful config (e ∷ past) →
+    goes_out e past ≡ Some frame → left config past ≡ [] → Carries frame ip → segment_in frame ≡ Some on
     → 20 + length ip.body ≤ config.mtu
 fits_mtu config e past frame ip on room lawful out nothing c carried =
     let f = is_of_flow config e past frame ip on lawful out nothing c carried in

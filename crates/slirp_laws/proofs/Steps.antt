@@ -15,7 +15,8 @@ use Rattle.dns_relay.specs.Questions.{ident_in, is_question, socket_of as questi
 use Rattle.slirp_laws.specs.Asking.{is_full, step, step_of, step_on, yields, step_at}
 use Rattle.slirp_laws.specs.Errands.{errand_after, errand_by_call, errand_left}
 use Rattle.slirp_laws.specs.Names.{questions, step_to_names, with_socket, without_socket}
-use Rattle.slirp_laws.specs.Datagrams.{Fate, Ignored, Refused, ForLeases, ForFiles, GoesTo, asks_a_name, fate, fate_by, is_to_names, Errand, errand_of, errand_by, errand_by_packet, Step, Settled, NeedsRoom, NeedsSocket, NeedsSending}
+use Rattle.slirp_laws.specs.Datagrams.{Fate, Ignored, Refused, ForLeases, ForFiles, GoesTo, asks_a_name, fate, fate_by, is_to_names, Errand, errand_of, errand_by, errand_by_packet, Step}
+use Rattle.slirp_laws.specs.Datagrams.{Settled, NeedsRoom, NeedsSocket, NeedsSending}
 use Rattle.slirp_laws.specs.Ports.{or_before, last_datagram, longest_unused, socket_for, forward_for}
 
 -- ---- an errand is that of the datagram that came last
@@ -72,7 +73,8 @@ by_packet config before (ArpPacket arp) = tt
 by_packet config before (Message mac ip message) = tt
 by_packet config before (Segment mac ip tcp) = tt
 
-by_arrival : (config : Config) (e : Entry) (o : Option Arrival) (before : Option Errand) (last : Option Datagram) → AsksFor config last before → AsksFor config (or_before (datagram_came o) last) (errand_after config e o before)
+by_arrival : (config : Config) (e : Entry) (o : Option Arrival) (before : Option Errand) (last : Option Datagram) → AsksFor config last before → AsksFor config
+    (or_before (datagram_came o) last) (errand_after config e o before)
 by_arrival config e None before last is = by_call (Asks config last) e before is
 by_arrival config e (Some arrival) before last is = by_packet config last arrival.packet
 
@@ -117,7 +119,8 @@ on_either config (Some forward) own past errand = refl
 on_either config None own past errand = on_socket config own past errand
 
 by_name : (config : Config) (past : List Entry) (errand : Errand) (name : Bool)
-    → errand_in (if name then step_to_names (questions config past) errand else step_at config (forward_for config errand.datagram.from past) (socket_for config errand.datagram.from past) past errand) ≡ Some errand
+    → errand_in (if name then step_to_names (questions config past) errand else step_at config (forward_for config errand.datagram.from past)
+    (socket_for config errand.datagram.from past) past errand) ≡ Some errand
 by_name config past errand true = on_question _ (questions config past) errand
 by_name config past errand false = on_either config (forward_for config errand.datagram.from past) (socket_for config errand.datagram.from past) past errand
 
@@ -133,12 +136,15 @@ pub step_is_of : (config : Config) (past : List Entry) (errand : Errand) → ask
     → step config past ≡ step_at config (forward_for config errand.datagram.from past) (socket_for config errand.datagram.from past) past errand
 step_is_of config past errand other is =
     ap (step_of config past) is
-    ∙ ap (λ (b : Bool). if b then step_to_names (questions config past) errand else step_at config (forward_for config errand.datagram.from past) (socket_for config errand.datagram.from past) past errand) other
+    ∙ ap (λ (b : Bool). if b then step_to_names (questions config past) errand else step_at config (forward_for config errand.datagram.from past)
+    (socket_for config errand.datagram.from past) past errand) other
 
-pub step_to_name : (config : Config) (past : List Entry) (errand : Errand) → asks_a_name config errand ≡ true → errand_left config past ≡ Some errand → step config past ≡ step_to_names (questions config past) errand
+pub step_to_name : (config : Config) (past : List Entry) (errand : Errand) → asks_a_name config errand ≡ true → errand_left config past ≡ Some errand →
+    step config past ≡ step_to_names (questions config past) errand
 step_to_name config past errand name is =
     ap (step_of config past) is
-    ∙ ap (λ (b : Bool). if b then step_to_names (questions config past) errand else step_at config (forward_for config errand.datagram.from past) (socket_for config errand.datagram.from past) past errand) name
+    ∙ ap (λ (b : Bool). if b then step_to_names (questions config past) errand else step_at config (forward_for config errand.datagram.from past)
+    (socket_for config errand.datagram.from past) past errand) name
 
 no_socket : (config : Config) (o : Option ℕ) (past : List Entry) (errand : Errand) → step_on config o past errand ≡ NeedsSocket errand → o ≡ None
 no_socket config None past errand is = refl
@@ -148,7 +154,8 @@ this_socket : (config : Config) (o : Option ℕ) (past : List Entry) (errand : E
     → step_on config o past errand ≡ NeedsSending socket errand → o ≡ Some socket
 this_socket config (Some s) past errand full oldest socket f l is = (let same : s ≡ socket = cc in ap Some same)
 this_socket config None past errand full oldest socket f l is =
-    absurd (never full oldest (sym (ap (λ (b : Bool). if b then yields (longest_unused config past) errand else NeedsSocket errand) f ∙ ap (λ o. if full then yields o errand else NeedsSocket errand) l) ∙ is))
+    absurd (never full oldest (sym (ap (λ (b : Bool). if b then yields (longest_unused config past) errand else NeedsSocket errand) f ∙ ap
+    (λ o. if full then yields o errand else NeedsSocket errand) l) ∙ is))
   where
     never : (full : Bool) (oldest : Option ℕ) → (if full then yields oldest errand else NeedsSocket errand) ≡ NeedsSending socket errand → ⊥
     never true None is = cc
@@ -159,7 +166,8 @@ not_given : (config : Config) (forward own : Option ℕ) (past : List Entry) (er
 not_given config None own past errand is = no_socket config own past errand is
 not_given config (Some forward) own past errand is = cc
 
-given_or_own : (config : Config) (forward own : Option ℕ) (past : List Entry) (errand : Errand) (socket : ℕ) → step_at config forward own past errand ≡ NeedsSending socket errand → (forward ≡ Some socket) ⊎ (own ≡ Some socket)
+given_or_own : (config : Config) (forward own : Option ℕ) (past : List Entry) (errand : Errand) (socket : ℕ) → step_at config forward own past errand ≡ NeedsSending socket errand →
+    (forward ≡ Some socket) ⊎ (own ≡ Some socket)
 given_or_own config None own past errand socket is = inr (this_socket config own past errand (is_full config past) (longest_unused config past) socket refl refl is)
 given_or_own config (Some forward) own past errand socket is = inl (let same : forward ≡ socket = cc in ap Some same)
 
@@ -219,7 +227,8 @@ goes_by_policy config d to is =
     let second = if (d.to.port == 69) && (address d.to == config.vhost) then ForFiles else third in
     passed_or ((d.to.port == 69) && (address d.to == config.vhost)) ForFiles third to (λ never. cc)
     (passed_or ((d.to.port == 67) && ((address d.to == config.vhost) || (address d.to == 0xffffffff))) (if config.no_dhcp then Ignored else ForLeases) second to (no_lease config.no_dhcp to)
-    (passed_or (d.from.port == 0) Ignored (if (d.to.port == 67) && ((address d.to == config.vhost) || (address d.to == 0xffffffff)) then (if config.no_dhcp then Ignored else ForLeases) else second) to (λ never. cc) is))
+    (passed_or (d.from.port == 0) Ignored (if (d.to.port == 67) && ((address d.to == config.vhost) || (address d.to == 0xffffffff)) then
+    (if config.no_dhcp then Ignored else ForLeases) else second) to (λ never. cc) is))
 
 pub goes_to_target : (config : Config) (d : Datagram) (to : Endpoint) → fate config d ≡ GoesTo to → target config ByUdp d.to ≡ Go to
 goes_to_target config d to is = goes_by config d (target config ByUdp d.to) to (goes_by_policy config d to is)

@@ -1,5 +1,6 @@
 -- Of the frames of answers only those of resets are read as segments.
-use Rattle.std.proofs.Common.{◌≡◌, ℕ, ◌+◌, ◌-◌, ◌^◌, ◌<◌, ◌≤◌, ◌==◌, ◌&&◌, not, Bool, true, false, List, [], ◌∷◌, length, take, drop, Option, Some, None, option_and_then, Result, Ok, Err, if◌then◌else◌, refl, sym, ◌∙◌, ap, subst, arith}
+use Rattle.std.proofs.Common.{◌≡◌, ℕ, ◌+◌, ◌-◌, ◌^◌, ◌<◌, ◌≤◌, ◌==◌, ◌&&◌, not, Bool, true, false, List, [], ◌∷◌, length, take, drop, Option, Some, None, option_and_then, Result, Ok, Err}
+use Rattle.std.proofs.Common.{if◌then◌else◌, refl, sym, ◌∙◌, ap, subst, arith}
 use Rattle.std.proofs.lemmas.List.{take_all}
 use Rattle.std.proofs.lemmas.Nat.{from_be_bytes-to_be_bytes_2}
 use Rattle.std.specs.Result.{result_ok}
@@ -23,7 +24,8 @@ use Rattle.run_laws.specs.Packets.{Datagram, Packet, Unheard, ArpPacket, Message
 use Rattle.slirp_laws.specs.Leasing.{Sending, lease_reply}
 use Rattle.tftp_server.specs.Transfers.{Said}
 use Rattle.dns_relay.specs.Questions.{is_answered}
-use Rattle.slirp_laws.specs.Answers.{Serving, answers_of, served_file, told_of_files, Answer, ArpAnswer, IpAnswer, arp_reply, frames_for, is_untold, left, no_network, owed_for_fate, owed_for_icmp, owed_for_packet, part_frame, reply_for, reset_for, told_about, uncut}
+use Rattle.slirp_laws.specs.Answers.{Serving, answers_of, served_file, told_of_files, Answer, ArpAnswer, IpAnswer, arp_reply, frames_for, is_untold, left, no_network, owed_for_fate}
+use Rattle.slirp_laws.specs.Answers.{owed_for_icmp, owed_for_packet, part_frame, reply_for, reset_for, told_about, uncut}
 use Rattle.slirp_laws.specs.Datagrams.{Fate, Ignored, Refused, ForLeases, ForFiles, GoesTo, fate}
 use Rattle.slirp_laws.specs.Laws.{Lawful}
 use Rattle.slirp_laws.specs.Ports.{opened_for, mac_for}
@@ -104,12 +106,14 @@ one_reset answers a is all = (subst (AllAnswers IsReset) is all).0
 -- ---- what is read of them
 
 -- a frame in which a segment is read carries a datagram
-of_datagram : (frame : List ℕ) (on : OnTuple) (ether : Ether) (o : Option Ip) → read_ether frame ≡ Some ether → (ether.kind == ipv4_kind) ≡ true → read_ip ether.body ≡ o → option_and_then (went_by ether.to) o ≡ Some on
+of_datagram : (frame : List ℕ) (on : OnTuple) (ether : Ether) (o : Option Ip) → read_ether frame ≡ Some ether → (ether.kind == ipv4_kind) ≡ true → read_ip ether.body ≡ o →
+    option_and_then (went_by ether.to) o ≡ Some on
     → (ip : Ip) × Carries frame ip
 of_datagram frame on ether None framed kind holds is = cc
 of_datagram frame on ether (Some ip) framed kind holds is = (ip, record { ether = ether; framed = framed; kind = equal ether.kind ipv4_kind kind; holds = holds })
 
-of_kind : (frame : List ℕ) (on : OnTuple) (ether : Ether) (b : Bool) → read_ether frame ≡ Some ether → (ether.kind == ipv4_kind) ≡ b → (if b then option_and_then (went_by ether.to) (read_ip ether.body) else None) ≡ Some on
+of_kind : (frame : List ℕ) (on : OnTuple) (ether : Ether) (b : Bool) → read_ether frame ≡ Some ether → (ether.kind == ipv4_kind) ≡ b →
+    (if b then option_and_then (went_by ether.to) (read_ip ether.body) else None) ≡ Some on
     → (ip : Ip) × Carries frame ip
 of_kind frame on ether true framed kind is = of_datagram frame on ether (read_ip ether.body) framed kind refl is
 of_kind frame on ether false framed kind is = cc
@@ -179,7 +183,8 @@ of_answer config past (IpAnswer to proto from guest body) k frame rest ip tcp fi
     ap (has RST) flags ∙ reset_flags from guest w.0 w.1
 
 -- the first frame that is left, where a segment is read in it, is a reset
-pub left_resets : (config : Config) (past : List Entry) (frame : List ℕ) (rest : List (List ℕ)) (on : OnTuple) → 28 ≤ config.mtu → Lawful config past → left config past ≡ frame ∷ rest → segment_in frame ≡ Some on → on.segment.rst ≡ true
+pub left_resets : (config : Config) (past : List Entry) (frame : List ℕ) (rest : List (List ℕ)) (on : OnTuple) → 28 ≤ config.mtu → Lawful config past → left config past ≡ frame
+    ∷ rest → segment_in frame ≡ Some on → on.segment.rst ≡ true
 left_resets config past frame rest on fits lawful is read =
     let a = next_left config past frame rest fits lawful is in
     let carried = carries_one frame on read in

@@ -65,11 +65,13 @@ order_on e past (q ∷ list) unused is = (after_on e past q.number list unused.0
 
 -- ---- one more, and one less
 
-after_last : (past : List Entry) (n : ℕ) (list : List Question) (q : Question) → AllUsedAfter past n (numbers list) → last_use n past < last_use q.number past → AllUsedAfter past n (numbers (list ++ (q ∷ [])))
+after_last : (past : List Entry) (n : ℕ) (list : List Question) (q : Question) → AllUsedAfter past n (numbers list) → last_use n past < last_use q.number past → AllUsedAfter past n
+    (numbers (list ++ (q ∷ [])))
 after_last past n [] q is last = (last, tt)
 after_last past n (x ∷ list) q is last = (is.0, after_last past n list q is.1 last)
 
-order_last : (past : List Entry) (list : List Question) (q : Question) → AreByLastUse past (numbers list) → AllQuestions (λ x. last_use x.number past < last_use q.number past) list → AreByLastUse past (numbers (list ++ (q ∷ [])))
+order_last : (past : List Entry) (list : List Question) (q : Question) → AreByLastUse past (numbers list) → AllQuestions
+    (λ x. last_use x.number past < last_use q.number past) list → AreByLastUse past (numbers (list ++ (q ∷ [])))
 order_last past [] q is all = (tt, tt)
 order_last past (x ∷ list) q is all = (after_last past x.number list q is.0 all.0, order_last past list q is.1 all.1)
 
@@ -118,26 +120,30 @@ module _ (e : Entry) (past : List Entry) (change : Question → Question) (socke
   used_moved [] all is = tt
   used_moved (q ∷ list) all is = by (q.number == socket) refl (used_moved list all.1 is.1)
     where
-      by : (b : Bool) → (q.number == socket) ≡ b → AllQuestions (IsUsed (e ∷ past)) (moved_last change socket list) → AllQuestions (IsUsed (e ∷ past)) (if b then list ++ (change q ∷ []) else q ∷ moved_last change socket list)
+      by : (b : Bool) → (q.number == socket) ≡ b → AllQuestions (IsUsed (e ∷ past)) (moved_last change socket list) → AllQuestions (IsUsed (e ∷ past))
+          (if b then list ++ (change q ∷ []) else q ∷ moved_last change socket list)
       by true here rest =
           let this = equal q.number socket here in
           all_last (IsUsed (e ∷ past)) list (change q) (all_used_on e past list (rest_unused q list this is.0) all.1) (u.changed q this)
       by false other rest = (used_on e past q (u.others q.number other) all.0, rest)
 
   -- each was used before this entry
-  sooner : (list : List Question) (q : Question) → q.number ≡ socket → AreUnused e list → AllQuestions (IsUsed past) list → AllQuestions (λ x. last_use x.number (e ∷ past) < last_use (change q).number (e ∷ past)) list
+  sooner : (list : List Question) (q : Question) → q.number ≡ socket → AreUnused e list → AllQuestions (IsUsed past) list → AllQuestions
+      (λ x. last_use x.number (e ∷ past) < last_use (change q).number (e ∷ past)) list
   sooner [] q this unused all = tt
   sooner (x ∷ list) q this unused all = (
     (let before = all.0.placed in let same = use_unused e past x.number unused.0 in let now = last_of q this in omega (arith, before, same, now)),
     sooner list q this unused.1 all.1,
   )
 
-  after_moved : (n : ℕ) (list : List Question) → is_used_by n e ≡ false → last_use n past < length past → AllQuestions (IsUsed past) list → AreByLastUse past (numbers list) → AllUsedAfter past n (numbers list)
+  after_moved : (n : ℕ) (list : List Question) → is_used_by n e ≡ false → last_use n past < length past → AllQuestions (IsUsed past) list → AreByLastUse past (numbers list) →
+      AllUsedAfter past n (numbers list)
       → AllUsedAfter (e ∷ past) n (numbers (moved_last change socket list))
   after_moved n [] one placed all order is = tt
   after_moved n (q ∷ list) one placed all order is = by (q.number == socket) refl (after_moved n list one placed all.1 order.1 is.1)
     where
-      by : (b : Bool) → (q.number == socket) ≡ b → AllUsedAfter (e ∷ past) n (numbers (moved_last change socket list)) → AllUsedAfter (e ∷ past) n (numbers (if b then list ++ (change q ∷ []) else q ∷ moved_last change socket list))
+      by : (b : Bool) → (q.number == socket) ≡ b → AllUsedAfter (e ∷ past) n (numbers (moved_last change socket list)) → AllUsedAfter (e ∷ past) n
+          (numbers (if b then list ++ (change q ∷ []) else q ∷ moved_last change socket list))
       by true here rest =
           let this = equal q.number socket here in
           let same = use_unused e past n one in
@@ -152,7 +158,8 @@ module _ (e : Entry) (past : List Entry) (change : Question → Question) (socke
   order_moved [] all is = tt
   order_moved (q ∷ list) all is = by (q.number == socket) refl (order_moved list all.1 is.1)
     where
-      by : (b : Bool) → (q.number == socket) ≡ b → AreByLastUse (e ∷ past) (numbers (moved_last change socket list)) → AreByLastUse (e ∷ past) (numbers (if b then list ++ (change q ∷ []) else q ∷ moved_last change socket list))
+      by : (b : Bool) → (q.number == socket) ≡ b → AreByLastUse (e ∷ past) (numbers (moved_last change socket list)) → AreByLastUse (e ∷ past)
+          (numbers (if b then list ++ (change q ∷ []) else q ∷ moved_last change socket list))
       by true here rest =
           let this = equal q.number socket here in
           let unused = rest_unused q list this is.0 in
@@ -167,7 +174,8 @@ pub record AreWaiting (config : Config) (past : List Entry) (list : List Questio
   pub order : AreByLastUse past (numbers list)
 
 abbrev IsCarried : Config → Entry → List Entry → Type 0
-IsCarried config e past = (n : ℕ) → (is_among n (open_sockets (e ∷ past)) && is_for_question (kind_for config n (e ∷ past))) ≡ (is_among n (open_sockets past) && is_for_question (kind_for config n past))
+IsCarried config e past = (n : ℕ) → (is_among n (open_sockets (e ∷ past)) && is_for_question (kind_for config n (e ∷ past))) ≡ (is_among n (open_sockets past) && is_for_question
+    (kind_for config n past))
 
 quiet : (config : Config) (e : Entry) (past : List Entry) (list : List Question) → AreUnused e list → IsCarried config e past → AreWaiting config past list → AreWaiting config (e ∷ past) list
 quiet config e past list unused carried w = record {
@@ -180,7 +188,8 @@ none_used : (e : Entry) (list : List Question) → ((n : ℕ) → is_used_by n e
 none_used e [] none = tt
 none_used e (q ∷ list) none = (none q.number, none_used e list none)
 
-silent : (config : Config) (e : Entry) (past : List Entry) (list : List Question) → ((n : ℕ) → is_used_by n e ≡ false) → IsCarried config e past → AreWaiting config past list → AreWaiting config (e ∷ past) list
+silent : (config : Config) (e : Entry) (past : List Entry) (list : List Question) → ((n : ℕ) → is_used_by n e ≡ false) → IsCarried config e past → AreWaiting config past list →
+    AreWaiting config (e ∷ past) list
 silent config e past list none carried w = quiet config e past list (none_used e list none) carried w
 
 -- a socket is opened, for a question or another datagram
@@ -235,7 +244,8 @@ module _ (config : Config) (past : List Entry) (socket : ℕ) (at : Endpoint) (n
     name_waits errand one =
         let unused = unused_below Done list kept in
         record {
-          those = λ n. fresh_one is_for_question n socket (open_sockets past) kind (kind_for config n past) one ∙ ap (λ b. b || (n == socket)) (w.those n) ∙ sym (numbers_last n list (question socket errand (moment past)));
+          those = λ n. fresh_one is_for_question n socket (open_sockets past) kind (kind_for config n past) one ∙ ap (λ b. b || (n == socket)) (w.those n) ∙ sym
+              (numbers_last n list (question socket errand (moment past)));
           used = all_last (IsUsed (UdpOpen socket at Done ∷ past)) list (question socket errand (moment past)) (all_used_on (UdpOpen socket at Done) past list unused w.used) (used_new errand);
           order = order_last (UdpOpen socket at Done ∷ past) list (question socket errand (moment past)) (order_on (UdpOpen socket at Done) past list unused w.order) (sooner_new list unused w.used);
         }
@@ -250,7 +260,8 @@ module _ (config : Config) (past : List Entry) (socket : ℕ) (at : Endpoint) (n
         by false name = other_waits Done (kind_is errand false left name)
 
 -- a socket is used
-moved_waits : (config : Config) (e : Entry) (past : List Entry) (change : Question → Question) (socket : ℕ) (list : List Question) → Use e past change socket → IsCarried config e past → AreWaiting config past list → AreWaiting config (e ∷ past) (moved_last change socket list)
+moved_waits : (config : Config) (e : Entry) (past : List Entry) (change : Question → Question) (socket : ℕ) (list : List Question) → Use e past change socket →
+    IsCarried config e past → AreWaiting config past list → AreWaiting config (e ∷ past) (moved_last change socket list)
 moved_waits config e past change socket list u carried w = record {
   those = λ n. carried n ∙ w.those n ∙ sym (numbers_moved change u.number n socket list);
   used = used_moved e past change socket u list w.used w.order;
@@ -260,13 +271,15 @@ moved_waits config e past change socket list u carried w = record {
 this_one : (socket n : ℕ) → n ≡ socket → (socket == n) ≡ true
 this_one socket n is = ap (λ m. socket == m) is ∙ same socket
 
-send_use : (past : List Entry) (socket : ℕ) (to : Endpoint) (octets : List ℕ) (answer : Sent) (errand : Errand) → Use (UdpSend socket to octets answer) past (asked_from (record { 0 = errand.datagram.mac }) (moment past)) socket
+send_use : (past : List Entry) (socket : ℕ) (to : Endpoint) (octets : List ℕ) (answer : Sent) (errand : Errand) → Use (UdpSend socket to octets answer) past
+    (asked_from (record { 0 = errand.datagram.mac }) (moment past)) socket
 send_use past socket to octets answer errand = record {
   number = λ q. refl;
   last = ap (λ (b : Bool). if b then length past else last_use socket past) (same socket);
   changed = λ q this. record {
     used = ap (λ (b : Bool). if b then moment past else used_at q.number past) (this_one socket q.number this);
-    placed = (let now : last_use q.number (UdpSend socket to octets answer ∷ past) ≡ length past = ap (λ (b : Bool). if b then length past else last_use q.number past) (this_one socket q.number this) in omega (arith, now));
+    placed = (let now : last_use q.number (UdpSend socket to octets answer ∷ past) ≡ length past = ap (λ (b : Bool). if b then length past else last_use q.number past)
+        (this_one socket q.number this) in omega (arith, now));
   };
   others = λ n other. turned n socket false other;
 }
@@ -280,12 +293,14 @@ hear_use past socket asked peer count octets = record {
   last = ap (λ (b : Bool). if b then length past else last_use socket past) (and_true (socket == socket) ∙ same socket);
   changed = λ q this. record {
     used = ap (λ (b : Bool). if b then moment past else used_at q.number past) (and_true (socket == q.number) ∙ this_one socket q.number this);
-    placed = (let now : last_use q.number (UdpRecv socket asked (From peer count) octets ∷ past) ≡ length past = ap (λ (b : Bool). if b then length past else last_use q.number past) (and_true (socket == q.number) ∙ this_one socket q.number this) in omega (arith, now));
+    placed = (let now : last_use q.number (UdpRecv socket asked (From peer count) octets ∷ past) ≡ length past = ap
+        (λ (b : Bool). if b then length past else last_use q.number past) (and_true (socket == q.number) ∙ this_one socket q.number this) in omega (arith, now));
   };
   others = λ n other. and_none (socket == n) (turned n socket false other);
 }
 
-heard_waits : (config : Config) (past : List Entry) (socket asked : ℕ) (answer : Got) (octets : List ℕ) (list : List Question) → AreWaiting config past list → AreWaiting config (UdpRecv socket asked answer octets ∷ past) (with_heard answer socket (moment past) list)
+heard_waits : (config : Config) (past : List Entry) (socket asked : ℕ) (answer : Got) (octets : List ℕ) (list : List Question) → AreWaiting config past list → AreWaiting config
+    (UdpRecv socket asked answer octets ∷ past) (with_heard answer socket (moment past) list)
 heard_waits config past socket asked (From peer count) octets list w =
     moved_waits config (UdpRecv socket asked (From peer count) octets) past (heard_at (moment past)) socket list (hear_use past socket asked peer count octets) (λ n. refl) w
 heard_waits config past socket asked GotNotYet octets list w = silent config (UdpRecv socket asked GotNotYet octets) past list (λ n. and_false (socket == n)) (λ n. refl) w
@@ -303,7 +318,8 @@ closed_waits config past socket list w = record {
 }
 
 -- a peer was accepted, or none came
-peer_waits : (config : Config) (past : List Entry) (listener socket : ℕ) (answer : Accepted) (list : List Question) → is_among socket (open_sockets past) ≡ false → AreWaiting config past list → AreWaiting config (Accept listener socket answer ∷ past) list
+peer_waits : (config : Config) (past : List Entry) (listener socket : ℕ) (answer : Accepted) (list : List Question) → is_among socket (open_sockets past) ≡ false →
+    AreWaiting config past list → AreWaiting config (Accept listener socket answer ∷ past) list
 peer_waits config past listener socket (FromPeer peer) list new w =
     silent config (Accept listener socket (FromPeer peer)) past list (λ n. refl) (λ n. fresh_other is_for_question Done n socket (open_sockets past) (Some OfFlow) (kind_for config n past) new refl) w
 peer_waits config past listener socket NoPeer list new w =
@@ -314,11 +330,14 @@ peer_waits config past listener socket AcceptFailed list new w =
 is_new : (config : Config) (past : List Entry) (socket : ℕ) → (socket == next_number past) ≡ true → Lawful config past → is_among socket (open_sockets past) ≡ false
 is_new config past socket number lawful = ap (λ n. is_among n (open_sockets past)) (equal socket (next_number past) number) ∙ next_is_new config past lawful
 
-waits_by : (config : Config) (e : Entry) (past : List Entry) → May config past (call_of e) → Lawful config past → AreWaiting config past (questions config past) → AreWaiting config (e ∷ past) (questions config (e ∷ past))
+waits_by : (config : Config) (e : Entry) (past : List Entry) → May config past (call_of e) → Lawful config past → AreWaiting config past (questions config past) → AreWaiting config
+    (e ∷ past) (questions config (e ∷ past))
 waits_by config (Connect socket to answer) past may lawful w =
-    silent config (Connect socket to answer) past (questions config past) (λ n. refl) (λ n. fresh_other is_for_question answer n socket (open_sockets past) (Some OfFlow) (kind_for config n past) (is_new config past socket may.socket lawful) refl) w
+    silent config (Connect socket to answer) past (questions config past) (λ n. refl) (λ n. fresh_other is_for_question answer n socket (open_sockets past) (Some OfFlow)
+    (kind_for config n past) (is_new config past socket may.socket lawful) refl) w
 waits_by config (Listen socket at answer) past may lawful w =
-    silent config (Listen socket at answer) past (questions config past) (λ n. refl) (λ n. fresh_other is_for_question answer n socket (open_sockets past) (Some OfListener) (kind_for config n past) (is_new config past socket may.socket lawful) refl) w
+    silent config (Listen socket at answer) past (questions config past) (λ n. refl) (λ n. fresh_other is_for_question answer n socket (open_sockets past) (Some OfListener)
+    (kind_for config n past) (is_new config past socket may.socket lawful) refl) w
 waits_by config (Accept listener socket answer) past may lawful w =
     peer_waits config past listener socket answer (questions config past) (is_new config past socket (peer_next config past listener socket answer may) lawful) w
 waits_by config (UdpOpen socket at answer) past may lawful w =
@@ -327,7 +346,8 @@ waits_by config (UdpSend socket to octets answer) past may lawful w =
     let s = sends config past socket to octets may in
     let left = errand_is config past (NeedsSending socket s.errand) s.asked in
     subst (λ o. AreWaiting config (UdpSend socket to octets answer ∷ past) (with_sent socket (moment past) o (questions config past))) (sym left)
-    (moved_waits config (UdpSend socket to octets answer) past (asked_from (record { 0 = s.errand.datagram.mac }) (moment past)) socket (questions config past) (send_use past socket to octets answer s.errand) (λ n. refl) w)
+    (moved_waits config (UdpSend socket to octets answer) past (asked_from (record { 0 = s.errand.datagram.mac }) (moment past)) socket (questions config past)
+    (send_use past socket to octets answer s.errand) (λ n. refl) w)
 waits_by config (UdpRecv socket asked answer octets) past may lawful w = heard_waits config past socket asked answer octets (questions config past) w
 waits_by config (Close socket) past may lawful w = closed_waits config past socket (questions config past) w
 waits_by config e past may lawful w = silent config e past (questions config past) (λ n. refl) (λ n. refl) w

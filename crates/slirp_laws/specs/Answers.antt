@@ -1,5 +1,6 @@
 -- What is owed to a guest for the frame or datagram that came last, and what of it isn't out yet.
-use Rattle.std.specs.Prelude.{ℕ, ◌+◌, ◌%◌, ◌^◌, ◌==◌, ◌&&◌, ◌||◌, not, nat_le, Bool, true, false, is_some, List, [], ◌∷◌, ◌++◌, drop, length, map, bytes_eq, Option, Some, None, option_map, if◌then◌else◌}
+use Rattle.std.specs.Prelude.{ℕ, ◌+◌, ◌%◌, ◌^◌, ◌==◌, ◌&&◌, ◌||◌, not, nat_le, Bool, true, false, is_some, List, [], ◌∷◌, ◌++◌, drop, length, map, bytes_eq, Option, Some, None, option_map}
+use Rattle.std.specs.Prelude.{if◌then◌else◌}
 use Rattle.world_face.specs.Frames.{goes_out}
 use Rattle.world_face.specs.Journal.{Entry, Wait, LinkWrite, Connect, UdpOpen, UdpSend, UdpRecv, FileLen, FileRead}
 use Rattle.world_face.specs.declared.Made.{Made}
@@ -141,7 +142,8 @@ nobody = 0 ∷ 0 ∷ 0 ∷ 0 ∷ 0 ∷ 0 ∷ []
 abbrev pub request : Config → ℕ → Arp
 request config guest = record { is_reply = false; sender_mac = our_mac config.vhost; sender = config.vhost; target_mac = nobody; target = guest }
 
--- What a peer's datagram owes: its payload, whole, to the port of a guest for which the socket was opened, at this hardware address. Where that isn't known the guest is asked for it in place of the datagram. Nothing where the peer isn't shown.
+-- What a peer's datagram owes: its payload, whole, to the port of a guest for which the socket was opened, at this hardware address. Where that isn't known the
+-- guest is asked for it in place of the datagram. Nothing where the peer isn't shown.
 abbrev pub asks_for : Config → Endpoint → Endpoint → List Answer
 asks_for config peer guest = if is_hidden config peer then [] else ArpAnswer everyone (request config (address guest)) ∷ []
 
@@ -293,7 +295,8 @@ left_by_call config past h (UdpOpen socket at answer) l = unless_made answer (un
 left_by_call config past h (UdpSend socket to octets answer) l = unless_sent answer (unsent config (identification past) (step config past) l.left) l.left
 left_by_call config past h (UdpRecv socket asked answer octets) l = left_by_got config past socket answer octets l.left
 left_by_call config past h (FileLen name answer) l = left_by_outcome config (identification past) (by_answer l.serving.now (FileLen name answer) l.serving.files) l.left
-left_by_call config past h (FileRead name place asked answer octets) l = left_by_outcome config (identification past) (by_answer l.serving.now (FileRead name place asked answer octets) l.serving.files) l.left
+left_by_call config past h (FileRead name place asked answer octets) l = left_by_outcome config (identification past)
+    (by_answer l.serving.now (FileRead name place asked answer octets) l.serving.files) l.left
 left_by_call config past h _ l = l.left
 
 -- the frames that are owed for the frame or datagram that came last and aren't out; a datagram has the identification that was the next one when it came to be owed

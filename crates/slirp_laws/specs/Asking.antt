@@ -8,7 +8,8 @@ use Rattle.slirp_laws.specs.Errands.{errand_left}
 use Rattle.slirp_laws.specs.Names.{questions, step_to_names}
 use Rattle.slirp_laws.specs.Ports.{associations_open, forward_for, longest_unused, socket_for}
 
--- It is sent on the first port of the host that is given to its port; where none is, on the socket that was opened for it. Where there is none a socket is opened; and before, where as many are open as may be, the longest unused of them is closed.
+-- It is sent on the first port of the host that is given to its port; where none is, on the socket that was opened for it. Where there is none a socket is
+-- opened; and before, where as many are open as may be, the longest unused of them is closed.
 abbrev pub yields : Option ℕ → Errand → Step
 yields None errand = NeedsSocket errand
 yields (Some oldest) errand = NeedsRoom oldest errand

@@ -173,7 +173,8 @@ abbrev pub AreInTime : (timeout made : ℕ) → List ℕ → Type 0
 AreInTime timeout made [] = Unit {0}
 AreInTime timeout made (now ∷ moments) = (or_made made moments + timeout ≤ now) × AreInTime timeout made moments
 
--- A packet that an entry sends on its way again is that of an open transfer, as an entry of the record told it for a transfer that was open from then on; since then, and by this entry, it was sent on its way again at most five times, each no earlier than the timeout of the transfer after the one before.
+-- A packet that an entry sends on its way again is that of an open transfer, as an entry of the record told it for a transfer that was open from then on; since
+-- then, and by this entry, it was sent on its way again at most five times, each no earlier than the timeout of the transfer after the one before.
 pub record IsAsTold (config : Config) (e : Entry) (past : List Entry) (said : Said) : Type 0 where
   pub transfer : Transfer
   pub found : find (is_for said.guest) (serving config past).files.transfers ≡ Some transfer
@@ -226,9 +227,11 @@ pub record HasBegun (config : Config) (past : List Entry) (said : Said) : Type 0
   pub record_is : past ≡ later ++ (writer ∷ before)
   pub goes : goes_by config before writer ≡ Some said
 
--- A frame that goes out by an entry is one of the server of files: of its answer to the datagram that came last; of what it told for what was read last; of a packet that began to go again, of which others are out; or the first one of a packet that goes again.
+-- A frame that goes out by an entry is one of the server of files: of its answer to the datagram that came last; of what it told for what was read last; of a
+-- packet that began to go again, of which others are out; or the first one of a packet that goes again.
 pub data IsOfFiles (config : Config) (e : Entry) (past : List Entry) (frame : List ℕ) : Type 0 where
-  Answers : (s : Serving) (stray : Bool) (d : Datagram) (said : Said) → last_occasion config past ≡ Came s stray (DatagramPacket d) → fate config d ≡ ForFiles → WasTold config past said → IsPartOf config past frame said → IsOfFiles config e past frame
+  Answers : (s : Serving) (stray : Bool) (d : Datagram) (said : Said) → last_occasion config past ≡ Came s stray (DatagramPacket d) → fate config d ≡ ForFiles →
+      WasTold config past said → IsPartOf config past frame said → IsOfFiles config e past frame
   TellsRead : (said : Said) → last_occasion config past ≡ OfFile said → WasTold config past said → IsPartOf config past frame said → IsOfFiles config e past frame
   GoesOn : (said : Said) → last_occasion config past ≡ OfFile said → HasBegun config past said → IsPartOf config past frame said → IsOfFiles config e past frame
   GoesAgain : (said : Said) → goes_by config past e ≡ Some said → IsPartOf config past frame said → IsOfFiles config e past frame

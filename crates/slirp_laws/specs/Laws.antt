@@ -2,7 +2,8 @@
 use Rattle.std.specs.Prelude.{◌≡◌, ℕ, ◌+◌, ◌==◌, ◌&&◌, ◌||◌, not, nat_le, nat_lt, Bool, true, false, is_some, List, [], ◌∷◌, drop, MatchOption, Option, Some, None, if◌then◌else◌}
 use Rattle.poll_list.specs.Listing.{reads, writes}
 use Rattle.poll_list.specs.declared.Who.TheVariants.{Link, Listener as AListener, Tcp, Udp}
-use Rattle.world_face.specs.Journal.{Entry, Call, Follows, Close, TcpWrite, CallNow, CallWait, CallLinkOpen, CallLinkRead, CallLinkWrite, CallConnect, CallConnected, CallListen, CallAccept, CallTcpRead, CallTcpWrite, CallTcpEnd, CallClose, CallUdpOpen, CallUdpSend, CallUdpRecv, CallFileLen, CallFileRead}
+use Rattle.world_face.specs.Journal.{Entry, Call, Follows, Close, TcpWrite, CallNow, CallWait, CallLinkOpen, CallLinkRead, CallLinkWrite, CallConnect, CallConnected, CallListen}
+use Rattle.world_face.specs.Journal.{CallAccept, CallTcpRead, CallTcpWrite, CallTcpEnd, CallClose, CallUdpOpen, CallUdpSend, CallUdpRecv, CallFileLen, CallFileRead}
 use Rattle.world_face.specs.Frames.{MayFrame, tail}
 use Rattle.world_face.specs.Limits.{most_to_udp}
 use Rattle.host_policy.specs.Addresses.{Config}
@@ -24,7 +25,9 @@ use Rattle.slirp_laws.specs.Datagrams.{Step, NeedsRoom, asks_a_name, due_for}
 use Rattle.slirp_laws.specs.Ports.{used_at}
 use Rattle.slirp_laws.specs.Sending.{is_explained}
 
--- What a call does: it asks the clock, waits, reads of the link or writes to it; opens a socket, sends a datagram on one, asks for one; connects to the host, accepts a peer, asks whether a connection is there, writes to it, ends that, reads from it; closes a socket; or asks for the length or octets of a file. The link isn't opened by these calls.
+-- What a call does: it asks the clock, waits, reads of the link or writes to it; opens a socket, sends a datagram on one, asks for one; connects to the host,
+-- accepts a peer, asks whether a connection is there, writes to it, ends that, reads from it; closes a socket; or asks for the length or octets of a file. The
+-- link isn't opened by these calls.
 pub data Deed : Type 0 where
   Asks : Deed
   Waits : Deed
@@ -87,7 +90,8 @@ due config past =
 abbrev pub MayDue : Config → List Entry → Call → Type 0
 MayDue config past call = MatchOption (due config past) (Unit {0}) (λ d. call ≡ d)
 
--- The shape of a run. The clock is asked, sockets are opened, connect, and send datagrams only where that is due. A turn begins with a wait, of which there are only so many; the other calls come after it.
+-- The shape of a run. The clock is asked, sockets are opened, connect, and send datagrams only where that is due. A turn begins with a wait, of which there are
+-- only so many; the other calls come after it.
 abbrev pub has_place : Config → List Entry → Deed → Bool
 has_place config past Asks = is_some (due config past)
 has_place config past Waits = may_turn (phase config past) && nat_lt (waits past) config.turns
@@ -119,7 +123,8 @@ name_gives_way config socket _ = false
 abbrev pub is_unused : ℕ → List Entry → Bool
 is_unused socket past = nat_le (used_at socket past + idle_life) (moment past)
 
--- A flow has a cause of its own to be closed: both ends passed, a call on its socket failed, its guest isn't found or acknowledges nothing, the host doesn't connect, or the guest's reset came directly before. A peer that was refused has no flow.
+-- A flow has a cause of its own to be closed: both ends passed, a call on its socket failed, its guest isn't found or acknowledges nothing, the host doesn't
+-- connect, or the guest's reset came directly before. A peer that was refused has no flow.
 abbrev pub may_leave : Scene → Book → ℕ → Option AFlow → Bool
 may_leave at b socket None = is_it socket b.doomed
 may_leave at b socket (Some f) =
@@ -134,7 +139,8 @@ leaves config past socket = may_leave (scene config past) (book config past) soc
 abbrev pub is_just_answered : Config → List Entry → ℕ → Bool
 is_just_answered config past socket = is_it socket (answered config past)
 
--- Why a socket may be closed before the end, by its kind: an association, or one of a question, gives way as the longest unused of its kind, or its idle life is over; that of a question also where the answer came; a flow has its cause.
+-- Why a socket may be closed before the end, by its kind: an association, or one of a question, gives way as the longest unused of its kind, or its idle life
+-- is over; that of a question also where the answer came; a flow has its cause.
 abbrev pub may_part : Config → List Entry → ℕ → Option Kind → Bool
 may_part config past socket None = false
 may_part config past socket (Some Association) = gives_way config socket (step config past) || is_unused socket past
@@ -210,7 +216,8 @@ has_just_written socket [] = false
 has_just_written socket (TcpWrite s octets answer ∷ past) = s == socket
 has_just_written socket (_ ∷ past) = false
 
--- Frames and datagrams are read, peers accepted, and connections asked, written to and read only where the last wait wanted and reported it, in the order of its list, and once for each report. A connection is ended for a report, or directly after what was written for one.
+-- Frames and datagrams are read, peers accepted, and connections asked, written to and read only where the last wait wanted and reported it, in the order of
+-- its list, and once for each report. A connection is ended for a report, or directly after what was written for one.
 abbrev pub is_served : List Entry → Deed → Bool
 is_served past Asks = true
 is_served past Waits = true

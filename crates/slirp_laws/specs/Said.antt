@@ -35,7 +35,8 @@ use Rattle.run_laws.specs.Moments.{moment}
 use Rattle.run_laws.specs.Packets.{Datagram, DatagramPacket, Packet}
 use Rattle.slirp_laws.specs.Datagrams.{Fate, ForLeases, ForFiles, fate}
 use Rattle.run_laws.specs.Sockets.{Kind, Association as OfAssociation, DnsSocket, Forward as OfForward, Listener as OfListener, Flow as OfFlow, is_among}
-use Rattle.slirp_laws.specs.Answers.{Answer, IpAnswer, Serving, begins_again, ledger, may_go_again, name_reply, serving, told_of_files, datagrams_out, frames_for, frames_of, identification, is_first, left, no_network, owed_for_packet, reply_for, reset_for, strays, told_about}
+use Rattle.slirp_laws.specs.Answers.{Answer, IpAnswer, Serving, begins_again, ledger, may_go_again, name_reply, serving, told_of_files, datagrams_out, frames_for, frames_of}
+use Rattle.slirp_laws.specs.Answers.{identification, is_first, left, no_network, owed_for_packet, reply_for, reset_for, strays, told_about}
 use Rattle.slirp_laws.specs.Ports.{associations_open, last_datagram, last_use, mac_for, mac_of, opened_for, used_at}
 use Rattle.slirp_laws.specs.Sending.{is_well_sent, may_ask, speaks_yet}
 
@@ -66,7 +67,9 @@ is_for_server ForLeases = true
 is_for_server ForFiles = true
 is_for_server _ = false
 
--- What came last that an answer may be owed for: a packet of the guests, a segment among them that is no flow's or not; or a peer's datagram, on a socket; or word that the datagram of a guest that came last could get no socket, or couldn't be sent; or that the host refused the connection for which the segment asked that came last.
+-- What came last that an answer may be owed for: a packet of the guests, a segment among them that is no flow's or not; or a peer's datagram, on a socket; or
+-- word that the datagram of a guest that came last could get no socket, or couldn't be sent; or that the host refused the connection for which the segment
+-- asked that came last.
 pub data Occasion : Type 0 where
   NoOccasion : Occasion
   Came : Serving → (stray : Bool) → Packet → Occasion
@@ -160,7 +163,9 @@ pub record AnswersLast (config : Config) (past : List Entry) (frame : List ℕ) 
   pub rest : List (List ℕ)
   pub is : drop out (frames_for config (identification_with out past) answer) ≡ frame ∷ rest
 
--- A frame is a flow's own: nothing is left of the answer to what came last; the frame carries a segment between the two ends of the flow, which was opened last on these, and answers no stray segment, nor speaks where the flow was closed and its rest is over, but for its reset; it is exactly the frame of that segment, in a whole datagram with the next identification, and goes to a hardware address from which the flow's guest was learnt.
+-- A frame is a flow's own: nothing is left of the answer to what came last; the frame carries a segment between the two ends of the flow, which was opened last
+-- on these, and answers no stray segment, nor speaks where the flow was closed and its rest is over, but for its reset; it is exactly the frame of that
+-- segment, in a whole datagram with the next identification, and goes to a hardware address from which the flow's guest was learnt.
 pub record IsOfFlow (config : Config) (past : List Entry) (frame : List ℕ) : Type 0 where
   pub nothing : left config past ≡ []
   pub on : OnTuple
@@ -227,7 +232,8 @@ pub record RepliesToItsPort (config : Config) (past : List Entry) (frame : List 
       (udp_octets (address (shown config peer)) (address guest) (record { from_port = (shown config peer).port; to_port = guest.port; body = octets }))))
       ≡ frame ∷ rest
 
--- A frame is one of the answer to a question to the name server, to the port that asked it, and from port 53 of the name server: what was received last came on the socket of that question, from the resolver, and has its identifier. So many frames of it are out.
+-- A frame is one of the answer to a question to the name server, to the port that asked it, and from port 53 of the name server: what was received last came on
+-- the socket of that question, from the resolver, and has its identifier. So many frames of it are out.
 pub record AnswersQuestion (config : Config) (past : List Entry) (frame : List ℕ) : Type 0 where
   pub question : Question
   pub peer : Endpoint
@@ -238,7 +244,8 @@ pub record AnswersQuestion (config : Config) (past : List Entry) (frame : List �
   pub rest : List (List ℕ)
   pub is : drop out (frames_of config (identification_with out past) (name_reply config question peer octets)) ≡ frame ∷ rest
 
--- A frame is one of what a server of ours says: a reply to a client's message or to a packet for the server of files, which came last; what was made by an answer of a file; or a packet that goes again.
+-- A frame is one of what a server of ours says: a reply to a client's message or to a packet for the server of files, which came last; what was made by an
+-- answer of a file; or a packet that goes again.
 pub data IsOfServer (config : Config) (past : List Entry) (frame : List ℕ) : Type 0 where
   ForPacket : (s : Serving) (stray : Bool) (d : Datagram) → last_occasion config past ≡ Came s stray (DatagramPacket d) → is_for_server (fate config d) ≡ true → IsOfServer config past frame
   ByFile : (said : Said) → last_occasion config past ≡ OfFile said → IsOfServer config past frame

@@ -1,4 +1,5 @@
--- Why a frame may go out: it is owed for what came last; or where nothing is left of that, a flow sends it, it asks for the hardware address of a flow's guest, or it is of a file's packet that goes again.
+-- Why a frame may go out: it is owed for what came last; or where nothing is left of that, a flow sends it, it asks for the hardware address of a flow's guest,
+-- or it is of a file's packet that goes again.
 use Rattle.std.specs.Prelude.{ℕ, ◌+◌, ◌*◌, ◌==◌, ◌&&◌, ◌||◌, not, nat_lt, Bool, true, false, List, [], ◌∷◌, length, filter, bytes_eq, Option, Some, None, is_some, option_and_then, if◌then◌else◌}
 use Rattle.std.specs.List.{list_any}
 use Rattle.net_octets.specs.Kinds.{arp_kind, ipv4_kind}

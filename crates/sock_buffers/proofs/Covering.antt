@@ -14,7 +14,8 @@ pub covers-past : (count : ℕ) (rs : List KeptRange) (place : ℕ) → covers (
 covers-past count [] place = refl
 covers-past count (r ∷ rs) place = by_test (covers-past count rs place) (nat_le r.end count) refl
   where
-    by_test : covers (past count rs) place ≡ covers rs (count + place) → (b : Bool) → nat_le r.end count ≡ b → covers (if b then past count rs else range (r.start - count) (r.end - count) ∷ past count rs) place ≡ covers (r ∷ rs) (count + place)
+    by_test : covers (past count rs) place ≡ covers rs (count + place) → (b : Bool) → nat_le r.end count ≡ b → covers (if b then past count rs else range (r.start - count)
+        (r.end - count) ∷ past count rs) place ≡ covers (r ∷ rs) (count + place)
     by_test rest true is = rest ∙ ap (λ (t : Bool). t || covers rs (count + place)) (sym (passed count place r.start r.end is))
     by_test rest false is = (λ i. shifted count place r.start r.end i || rest i)
 
@@ -22,7 +23,8 @@ pub span-past : (count : ℕ) (rs : List KeptRange) → span (past count rs) ≡
 span-past count [] = omega arith
 span-past count (r ∷ rs) = by_test (span-past count rs) (nat_le r.end count) refl
   where
-    by_test : span (past count rs) ≡ span rs - count → (b : Bool) → nat_le r.end count ≡ b → span (if b then past count rs else range (r.start - count) (r.end - count) ∷ past count rs) ≡ max r.end (span rs) - count
+    by_test : span (past count rs) ≡ span rs - count → (b : Bool) → nat_le r.end count ≡ b → span (if b then past count rs else range (r.start - count) (r.end - count)
+        ∷ past count rs) ≡ max r.end (span rs) - count
     by_test rest true is = let less : r.end ≤ count = grind (arith, nat_tests) in omega arith
     by_test rest false is = omega arith
 
@@ -34,7 +36,8 @@ pub apart_past : (count from : ℕ) (rs : List KeptRange) → AreApart from rs �
 apart_past count from [] apart = tt
 apart_past count from (r ∷ rs) apart = by_test (apart_past count (r.end + 1) rs apart.2) (nat_le r.end count) refl
   where
-    by_test : AreApart (r.end + 1 - count) (past count rs) → (b : Bool) → nat_le r.end count ≡ b → AreApart (from - count) (if b then past count rs else range (r.start - count) (r.end - count) ∷ past count rs)
+    by_test : AreApart (r.end + 1 - count) (past count rs) → (b : Bool) → nat_le r.end count ≡ b → AreApart (from - count) (if b then past count rs else range (r.start - count)
+        (r.end - count) ∷ past count rs)
     by_test rest true is = apart_less (r.end + 1 - count) (from - count) (past count rs) (omega (arith, apart.0, apart.1)) rest
     by_test rest false is =
         let more : count < r.end = grind (arith, nat_tests) in
@@ -123,7 +126,8 @@ pub span-with_range : (rs : List KeptRange) (new : KeptRange) → span (with_ran
 span-with_range [] new = refl
 span-with_range (r ∷ rs) new = by_tests (λ n. span-with_range rs n) (nat_lt new.end r.start) (nat_lt r.end new.start)
   where
-    by_tests : ((n : KeptRange) → span (with_range rs n) ≡ max n.end (span rs)) → (b c : Bool) → span (if b then new ∷ r ∷ rs else (if c then r ∷ with_range rs new else with_range rs (hull r new))) ≡ max new.end (max r.end (span rs))
+    by_tests : ((n : KeptRange) → span (with_range rs n) ≡ max n.end (span rs)) → (b c : Bool) → span
+        (if b then new ∷ r ∷ rs else (if c then r ∷ with_range rs new else with_range rs (hull r new))) ≡ max new.end (max r.end (span rs))
     by_tests rest true c = refl
     by_tests rest false true = let more = rest new in omega arith
     by_tests rest false false = let more = rest (hull r new) in omega arith

@@ -1,5 +1,6 @@
 -- The kept octets, place by place.
-use Rattle.std.proofs.Common.{◌≡◌, ℕ, suc, zero, ◌+◌, ◌-◌, ◌<◌, ◌≤◌, Bool, true, false, ◌&&◌, ◌||◌, not, nat_lt, nat_le, nat_eq, List, [], ◌∷◌, ◌++◌, length, take, drop, take-add, Option, None, Some, min, max, if◌then◌else◌, IsSome, ◌↔◌, subst, rules, arith, refl, sym, ap, ◌∙◌, set, drop-drop, length-drop, length-take, length-append, add-one}
+use Rattle.std.proofs.Common.{◌≡◌, ℕ, suc, zero, ◌+◌, ◌-◌, ◌<◌, ◌≤◌, Bool, true, false, ◌&&◌, ◌||◌, not, nat_lt, nat_le, nat_eq, List, [], ◌∷◌, ◌++◌, length, take, drop, take-add, Option}
+use Rattle.std.proofs.Common.{None, Some, min, max, if◌then◌else◌, IsSome, ◌↔◌, subst, rules, arith, refl, sym, ap, ◌∙◌, set, drop-drop, length-drop, length-take, length-append, add-one}
 use Rattle.std.specs.List.{slice_get}
 use Rattle.std.proofs.lemmas.Bool.Decides.{nat_tests}
 use Rattle.std.proofs.lemmas.Option.{slice_get_past}
@@ -226,7 +227,8 @@ joins rs held written size items long apart =
     let within = first_within rs in
     let more : take (held + n) items ≡ take held items ++ first_octets (masked rs 0 (drop held items)) n =
     take-add held n items ∙ ap (λ (l : List ℕ). take held items ++ l)
-    (sym (first_octets-masked rs 0 (drop held items) n (omega (arith, length-drop held items)) (λ place less. let none : 0 + place ≡ place = omega arith in rw none (first_are_covered rs place less)))) in
+    (sym (first_octets-masked rs 0 (drop held items) n (omega (arith, length-drop held items)) (λ place less. let none : 0 + place ≡ place = omega arith in rw none
+    (first_are_covered rs place less)))) in
     let rest = kept_past rs held n items items (omega arith) (λ place _. refl) in
     (λ i. upward (more i) written size (past n rs) (rest i))
 
@@ -265,7 +267,8 @@ takes_all rs held written size count items octets long count_is beyond =
     let one : masked [] 0 (drop (held + count) (take held items ++ take count octets)) ≡ [] =
     none_left _ (length-masked [] 0 (drop (held + count) (take held items ++ take count octets)) ∙ length-drop (held + count) (take held items ++ take count octets) ∙ omega arith) in
     let two : drop (length (fitting (seen held written size rs items) octets)) (masked rs 0 (drop held items)) ≡ [] =
-    none_left _ (length-drop (length (fitting (seen held written size rs items) octets)) (masked rs 0 (drop held items)) ∙ omega (arith, length-masked rs 0 (drop held items), length-drop held items)) in
+    none_left _ (length-drop (length (fitting (seen held written size rs items) octets)) (masked rs 0 (drop held items)) ∙ omega
+    (arith, length-masked rs 0 (drop held items), length-drop held items)) in
     (λ i. upward (held_is i) written size (ranges_are i) ((one ∙ sym two) i))
 
 -- the octets written over the first places past the held ones
@@ -283,7 +286,8 @@ over_front held count octets items after within long same each =
         → slice_get (take (held + count) after) place ≡ slice_get (take held items ++ take count octets) place
     by_test place size_of front false c out is =
         slice_get_past (take (held + count) after) place (let beyond : held + count ≤ place = grind (arith, nat_tests) in omega (arith, length-take (held + count) after))
-        ∙ sym (slice_get_past (take held items ++ take count octets) place (let beyond : held + count ≤ place = grind (arith, nat_tests) in omega (arith, length-append (take held items) (take count octets))))
+        ∙ sym (slice_get_past (take held items ++ take count octets) place (let beyond : held + count ≤ place = grind (arith, nat_tests) in omega
+        (arith, length-append (take held items) (take count octets))))
     by_test place size_of front true true in_ is =
         let low : place < held = grind (arith, nat_tests) in
         slice_get-take (held + count) after place (omega arith) ∙ each place ∙ written_before [] held 0 (length (take count octets)) (take count octets) items place (omega arith)
@@ -369,7 +373,8 @@ keeps rs held written size ahead count items reached after octets long count_is 
     let counted : length (within u ahead octets) ≡ count = ap length fit ∙ size_of in
     let range_is : range_of u ahead octets ≡ range ahead (ahead + count) = ap (λ k. range ahead (ahead + k)) counted in
     let first : nat_eq (length (within u ahead octets)) 0 ≡ false = grind (arith, nat_tests) in
-    let ranges_few : nat_lt 32 (length (with_range rs (range_of u ahead octets))) ≡ false = ap (λ r. nat_lt 32 (length (with_range rs r))) range_is ∙ not_more (length (with_range rs (range ahead (ahead + count)))) few in
+    let ranges_few : nat_lt 32 (length (with_range rs (range_of u ahead octets))) ≡ false = ap (λ r. nat_lt 32 (length (with_range rs r))) range_is ∙ not_more
+    (length (with_range rs (range ahead (ahead + count)))) few in
     let kept_some : keeps_none u ahead octets ≡ false = (λ i. first i || ranges_few i) in
     let unchanged : (place : ℕ) → place < length items → slice_get reached place ≡ slice_get items place =
     λ place less. sym (slice_get-take (length items) reached place less) ∙ ap (λ (l : List ℕ). slice_get l place) front_is in
@@ -390,10 +395,12 @@ keeps rs held written size ahead count items reached after octets long count_is 
     not_more : (n : ℕ) → (32 < n → ⊥) → nat_lt 32 n ≡ false
     not_more n few = grind (arith, nat_tests)
 
-    placed : (rs : List KeptRange) (xs : List ℕ) (place : ℕ) → (if covers rs (0 + place) then slice_get (drop held xs) place else None) ≡ (if covers rs place then slice_get xs (held + place) else None)
+    placed : (rs : List KeptRange) (xs : List ℕ) (place : ℕ) → (if covers rs (0 + place) then slice_get (drop held xs) place else None) ≡
+        (if covers rs place then slice_get xs (held + place) else None)
     placed rs xs place = let none : 0 + place ≡ place = omega arith in rw none (ap (λ o. if covers rs place then o else None) (slice_get-drop held xs place (held + place) refl))
 
-    held_at : (place : ℕ) → ((place : ℕ) → place < length items → slice_get reached place ≡ slice_get items place) → (b : Bool) → nat_lt place held ≡ b → slice_get (take held after) place ≡ slice_get (take held items) place
+    held_at : (place : ℕ) → ((place : ℕ) → place < length items → slice_get reached place ≡ slice_get items place) → (b : Bool) → nat_lt place held ≡ b → slice_get
+        (take held after) place ≡ slice_get (take held items) place
     held_at place unchanged true is =
         let low : place < held = grind (arith, nat_tests) in
         slice_get-take held after place low ∙ each place ∙ written_before rs held ahead (length (take count octets)) (take count octets) reached place (omega arith)

@@ -135,6 +135,7 @@ impl Up {
         if count == 0 {
             return 0;
         }
+        // for the prover: what is held fits the ring.
         prove!(self.held <= self.ring.len());
         self.held += count;
         self.ranges = past_first(&self.ranges, count);
@@ -165,6 +166,7 @@ impl Up {
         ensures held { result ≡ length self.now.held }
         ensures within { result ≤ self.now.size }
     {
+        // for the prover: what is held fits the ring.
         prove!(self.held <= self.ring.len());
         self.held
     }

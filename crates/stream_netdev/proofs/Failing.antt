@@ -29,5 +29,6 @@ failed_of IoFailed is = refl
 some_write_failed : (octets : List ℕ) (made : List Entry) → Writes OfferFailed octets made → 0 < failures link_failed made
 some_write_failed octets made (answer, is, was) = subst (λ m. 0 < failures link_failed m) (sym is) (some_failed link_failed (LinkWrite octets answer) [] (failed_of answer was))
 
-pub write_rose : (a b : Telling) (result : Offered) (octets : List ℕ) (P : List Entry → Type 0) → Makes a b (λ made. Writes result octets made × P made) → result ≡ OfferFailed → Rose a.faults.link b.faults.link
+pub write_rose : (a b : Telling) (result : Offered) (octets : List ℕ) (P : List Entry → Type 0) → Makes a b (λ made. Writes result octets made × P made) → result ≡ OfferFailed →
+    Rose a.faults.link b.faults.link
 write_rose a b result octets P makes is = link_rose a.faults b.faults makes.made makes.counted (some_write_failed octets makes.made (subst (λ r. Writes r octets makes.made) is makes.holds.0))

@@ -64,7 +64,8 @@ module _ (a b c : Telling) (link : LinkState) (octets new : List ℕ) (answer : 
     (so_far : Makes a b (λ made. (past : List Entry) → Keeps link past → Middle link made past octets))
     (read : (got : List ℕ) × Answers b c (LinkRead (missing octets) answer got) × (new ≡ octets ++ got)) where
   pub a_read : Makes a c (λ made. IsLast answer made × ((past : List Entry) → Keeps link past → Read link answer made past new))
-  a_read = makes_next a b c (LinkRead (missing octets) answer read.0) (λ made. (past : List Entry) → Keeps link past → Middle link made past octets) (λ made. IsLast answer made × ((past : List Entry) → Keeps link past → Read link answer made past new))
+  a_read = makes_next a b c (LinkRead (missing octets) answer read.0) (λ made. (past : List Entry) → Keeps link past → Middle link made past octets)
+      (λ made. IsLast answer made × ((past : List Entry) → Keeps link past → Read link answer made past new))
       so_far read.1 (λ made holds allowed. (refl, λ past keeps. one_more link made past octets read.0 new answer (holds past keeps) read.2))
 
   -- where nothing was read
@@ -76,8 +77,15 @@ module _ (a b c : Telling) (link : LinkState) (octets new : List ℕ) (answer : 
       empty (x ∷ got) is = absurd (omega arith)
 
 -- the reads so far, where no frame is whole
-pub read_middle : (link : LinkState) (answer : Io) (made past : List Entry) (octets : List ℕ) → IsDone answer → is_whole octets ≡ false → read_ending answer octets ≡ None → Read link answer made past octets → Middle link made past octets
-read_middle link answer made past octets done open_end goes_on r = record { framed = r.framed; partly = r.partly ∙ ap (λ b. cond b [] octets) open_end; rest = r.rest; blocked = r.blocked; pieces = r.pieces done open_end goes_on }
+pub read_middle : (link : LinkState) (answer : Io) (made past : List Entry) (octets : List ℕ) → IsDone answer → is_whole octets ≡ false → read_ending answer octets ≡ None →
+    Read link answer made past octets → Middle link made past octets
+read_middle link answer made past octets done open_end goes_on r = record {
+  framed = r.framed;
+  partly = r.partly ∙ ap (λ b. cond b [] octets) open_end;
+  rest = r.rest;
+  blocked = r.blocked;
+  pieces = r.pieces done open_end goes_on;
+}
 
 -- what is kept where no frame is whole, and where one is
 pub read_open : (old link : LinkState) (answer : Io) (made past : List Entry) → link.whole ≡ false → (link.tail ≡ old.tail) × (link.blocked ≡ old.blocked) → is_whole link.octets ≡ false
@@ -97,10 +105,12 @@ unfinished_of octets some = grind (arith, nat_tests)
 
 -- an answer that hands over no frame
 pub no_frame : (a c : Telling) (old link : LinkState) (answer : Io) (result : Arrived) → link.whole ≡ false → (link.tail ≡ old.tail) × (link.blocked ≡ old.blocked) → is_whole link.octets ≡ false
-    → hands result link ≡ None → ending_of result ≡ read_ending answer link.octets → Tells result answer → Makes a c (λ made. IsLast answer made × ((past : List Entry) → Keeps old past → Read old answer made past link.octets))
+    → hands result link ≡ None → ending_of result ≡ read_ending answer link.octets → Tells result answer → Makes a c
+    (λ made. IsLast answer made × ((past : List Entry) → Keeps old past → Read old answer made past link.octets))
     → Makes a c (λ made. EndsBy result made × ((past : List Entry) → Keeps old past → Keeps link (made ++ past) × ReadsFrame result link made past))
 no_frame a c old link answer result begun same unfinished none last tells read =
-    makes_as a c (λ made. IsLast answer made × ((past : List Entry) → Keeps old past → Read old answer made past link.octets)) (λ made. EndsBy result made × ((past : List Entry) → Keeps old past → Keeps link (made ++ past) × ReadsFrame result link made past)) read (λ made holds. (
+    makes_as a c (λ made. IsLast answer made × ((past : List Entry) → Keeps old past → Read old answer made past link.octets))
+    (λ made. EndsBy result made × ((past : List Entry) → Keeps old past → Keeps link (made ++ past) × ReadsFrame result link made past)) read (λ made holds. (
       ends_by result answer made tells holds.0,
       λ past keeps.
           let r = holds.1 past keeps in
@@ -116,7 +126,8 @@ pub ends_long : (n length : ℕ) (octets : List ℕ) → is_too_long octets ≡ 
 ends_long n length octets long is = ap (λ k. Some (LongFrame k)) is ∙ sym (ap (λ b. cond b (Some (LongFrame (spelt_length octets))) None) long)
 
 -- what is kept where a frame is whole
-pub read_whole : (old link : LinkState) (answer : Io) (made past : List Entry) (octets : List ℕ) → is_whole octets ≡ true → read_ending answer octets ≡ None → link.octets ≡ octets → link.whole ≡ true → link.tail ≡ old.tail → link.blocked ≡ old.blocked
+pub read_whole : (old link : LinkState) (answer : Io) (made past : List Entry) (octets : List ℕ) → is_whole octets ≡ true → read_ending answer octets ≡ None →
+    link.octets ≡ octets → link.whole ≡ true → link.tail ≡ old.tail → link.blocked ≡ old.blocked
     → Read old answer made past octets → Keeps link (made ++ past) × ReadsFrame Frame link made past
 read_whole old link answer made past octets whole on same is rest blocked r = (
   record {

@@ -32,7 +32,8 @@ left_after NotYet octets = refl
 left_after Failed octets = refl
 
 -- a write of a rest
-pub after_rest : (old new : LinkState) (answer : Io) (past : List Entry) → 0 < length old.tail → old.blocked ≡ false → Allowed (LinkWrite old.tail answer) → new.tail ≡ drop (count_of answer) old.tail → new.blocked ≡ nat_lt (count_of answer) (length old.tail) → under_way new ≡ under_way old
+pub after_rest : (old new : LinkState) (answer : Io) (past : List Entry) → 0 < length old.tail → old.blocked ≡ false → Allowed (LinkWrite old.tail answer) → new.tail ≡ drop
+    (count_of answer) old.tail → new.blocked ≡ nat_lt (count_of answer) (length old.tail) → under_way new ≡ under_way old
     → Keeps old past → Keeps new (LinkWrite old.tail answer ∷ past)
 after_rest old new answer past some free allowed rest blocked same keeps = record {
   framed = ((may old.tail some (tail past) keeps.rest, keeps.blocked ∙ free), keeps.framed);
@@ -56,7 +57,8 @@ spelled : (frame : List ℕ) → length frame ≤ 1514 → MayOffer [] (spelling
 unfolding spelling
 spelled frame fits = (refl, omega (arith, fits))
 
-pub after_frame : (old new : LinkState) (frame : List ℕ) (answer : Io) (past : List Entry) → length frame ≤ 1514 → old.tail ≡ [] → old.blocked ≡ false → new.tail ≡ rest_after answer (spelling frame) [] → new.blocked ≡ nat_lt (count_of answer) (length (spelling frame)) → under_way new ≡ under_way old
+pub after_frame : (old new : LinkState) (frame : List ℕ) (answer : Io) (past : List Entry) → length frame ≤ 1514 → old.tail ≡ [] → old.blocked ≡ false →
+    new.tail ≡ rest_after answer (spelling frame) [] → new.blocked ≡ nat_lt (count_of answer) (length (spelling frame)) → under_way new ≡ under_way old
     → Keeps old past → Keeps new (LinkWrite (spelling frame) answer ∷ past)
 after_frame old new frame answer past fits none free rest blocked same keeps =
     let no_tail : tail past ≡ [] = keeps.rest ∙ none in
@@ -77,7 +79,8 @@ taken_all n m is = grind (arith, nat_tests)
 some_left : (m : ℕ) → 0 < m → nat_lt 0 m ≡ true
 some_left m some = grind (arith, nat_tests)
 
-pub settles : (new : LinkState) (answer : Io) (octets : List ℕ) (result : Offered) → 0 < length octets → Allowed (LinkWrite octets answer) → new.blocked ≡ nat_lt (count_of answer) (length octets) → new.tail ≡ left (offered answer) (drop (count_of answer) octets) → result ≡ offered answer → Settles result new
+pub settles : (new : LinkState) (answer : Io) (octets : List ℕ) (result : Offered) → 0 < length octets → Allowed (LinkWrite octets answer) → new.blocked ≡ nat_lt (count_of answer)
+    (length octets) → new.tail ≡ left (offered answer) (drop (count_of answer) octets) → result ≡ offered answer → Settles result new
 settles new answer octets result some allowed blocked rest is = subst (λ r. Settles r new) (sym is) (by_answer answer allowed.0 blocked rest)
   where
     by_answer : (a : Io) → MayWrite (length octets) a → new.blocked ≡ nat_lt (count_of a) (length octets) → new.tail ≡ left (offered a) (drop (count_of a) octets) → Settles (offered a) new
@@ -86,7 +89,8 @@ settles new answer octets result some allowed blocked rest is = subst (λ r. Set
     by_answer NotYet may b r = b ∙ some_left (length octets) some
     by_answer Failed may b r = tt
 
-pub settles_rest : (new : LinkState) (answer : Io) (octets : List ℕ) (result : Offered) → 0 < length octets → Allowed (LinkWrite octets answer) → new.blocked ≡ nat_lt (count_of answer) (length octets) → new.tail ≡ drop (count_of answer) octets → result ≡ offered answer → Settles result new
+pub settles_rest : (new : LinkState) (answer : Io) (octets : List ℕ) (result : Offered) → 0 < length octets → Allowed (LinkWrite octets answer) → new.blocked ≡ nat_lt
+    (count_of answer) (length octets) → new.tail ≡ drop (count_of answer) octets → result ≡ offered answer → Settles result new
 settles_rest new answer octets result some allowed blocked rest is = subst (λ r. Settles r new) (sym is) (by_answer answer allowed.0 blocked rest)
   where
     by_answer : (a : Io) → MayWrite (length octets) a → new.blocked ≡ nat_lt (count_of a) (length octets) → new.tail ≡ drop (count_of a) octets → Settles (offered a) new

@@ -19,26 +19,37 @@ use std::alloc::Global;
 use std::marker::Model;
 use world_face::{Io, MOST_TO_LINK, World};
 
-/// The longest frame.
+/// The octets of the longest frame that is taken from the guest.
 const LIMIT: u32 = 69632;
 
 /// Room for it and its length.
 const ROOM: usize = 69636;
 
+/// What a read of the link came to.
 #[derive(Clone, Copy, Debug, PartialEq, Eq)]
 pub enum Arrived {
+    /// A frame stands in the buffer, whole.
     Frame,
+    /// No whole frame is there yet.
     NotYet,
+    /// The guest's side ended between two frames.
     End,
+    /// It ended inside a frame or a length, of which so many octets had come.
     Cut(usize),
+    /// A length of over 69,632 octets came, this one.
     TooLong(u32),
+    /// The link failed.
     Failed,
 }
 
+/// What offering a frame to the link came to.
 #[derive(Clone, Copy, Debug, PartialEq, Eq)]
 pub enum Offered {
+    /// All of it is out, or what is left of it stands in the buffer and goes before the next one.
     Taken,
+    /// Nothing of it was taken: the link takes no more for now.
     Blocked,
+    /// The link failed.
     Failed,
 }
 
@@ -59,6 +70,8 @@ enum Look {
     TooLong(u32),
 }
 
+/// A link that carries frames over a stream of octets, each behind its length in four octets, the most significant first: the
+/// frame that is coming, and what is left of the one that goes out.
 #[derive(Drop)]
 pub struct Link {
     buffer: Vec<u8>,

@@ -28,7 +28,8 @@ pub kept_on : {old between new : Option (List ℕ)} {a b c : ℕ} {lines lines_n
     → IsKept old between a b lines made failed → (failed_new ≡ false → failed ≡ false) → (failed_new ≡ false → added lines_new new ≡ added (lines ++ line_text e) between)
     → (failed_new ≡ true → failed ≡ false → Rose b c) → b ≤ c → more ≡ e ∷ made → IsKept old new a c lines_new more failed_new
 kept_on {old} {between} {new} {a} {b} {c} {lines} {lines_new} {e} {made} {more} {failed} {failed_new} so_far before kept rose later is = record {
-  put = λ fine. kept fine ∙ sym (added_twice lines (line_text e) between) ∙ ap (λ held. added (line_text e) held) (so_far.put (before fine)) ∙ added_twice (text made) (line_text e) old ∙ ap (λ made. added (text made) old) (sym is);
+  put = λ fine. kept fine ∙ sym (added_twice lines (line_text e) between) ∙ ap (λ held. added (line_text e) held) (so_far.put (before fine)) ∙ added_twice (text made)
+      (line_text e) old ∙ ap (λ made. added (text made) old) (sym is);
   fault = λ fails. failed_by failed a b c so_far.fault (rose fails) so_far.later later;
   later = omega (arith, so_far.later, later);
 }

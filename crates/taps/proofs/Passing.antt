@@ -14,7 +14,8 @@ passed_on began old new e made more so_far answers is =
 pub passed_as : {began old new : Telling} {e noted : Entry} {made more : List Entry} → ArePassed began old made → Answers old new e → more ≡ noted ∷ made → noted ≡ e → ArePassed began new more
 passed_as {began} {old} {new} {e} {noted} {made} {more} so_far answers is same = passed_on began old new e made more so_far answers (is ∙ ap (λ e. e ∷ made) same)
 
-pub passed_after : {began old new : Telling} {e noted : Entry} {made same_made more : List Entry} → ArePassed began old made → Answers old new e → more ≡ noted ∷ same_made → same_made ≡ made → noted ≡ e → ArePassed began new more
+pub passed_after : {began old new : Telling} {e noted : Entry} {made same_made more : List Entry} → ArePassed began old made → Answers old new e → more ≡ noted ∷ same_made →
+    same_made ≡ made → noted ≡ e → ArePassed began new more
 passed_after {noted} so_far answers is as_before same = passed_as so_far answers (is ∙ ap (λ l. noted ∷ l) as_before) same
 
 -- calls from the beginning on are just those that are told

@@ -19,8 +19,9 @@ const FILE_HEAD: &[u8] = &[
     0xa1, 0xb2, 0xc3, 0xd4, 0, 2, 0, 4, 0, 0, 0, 0, 0, 0, 0, 0, 0, 1, 0x10, 0, 0, 0, 0, 1,
 ];
 
-/// Puts the frames of the link into a sink, as a file of classic pcap: its head at the beginning, then each frame that arrives or goes out, whole and once, with the moment in force. A frame
-/// that comes in pieces is put as its last octet is read, and one that goes out as its first octet is taken. Where the sink doesn't take some of it, nothing is put behind that.
+/// Puts the frames of the link into a sink, as a file of classic pcap: its head at the beginning, then each frame that arrives or goes out, whole and
+/// once, with the moment in force. A frame that comes in pieces is put as its last octet is read, and one that goes out as its first octet is taken.
+/// Where the sink doesn't take some of it, nothing is put behind that.
 #[derive(Drop)]
 pub struct Capture<K: Sink> {
     out: K,
@@ -83,6 +84,7 @@ impl<K: Sink> Capture<K> {
         ensures made { result.made ≡ [] }
         ensures source { result.source ≡ beginning (K.faults out) (K.holds out) }
     {
+        // for the prover: the sink as it is before the head is put, which has no octets.
         let began = Snapshot::of(&out);
         let mut out = out;
         let failed = put_head(&mut out);
@@ -95,7 +97,8 @@ impl<K: Sink> Capture<K> {
         }
     }
 
-    /// Whether the sink failed to take some of it. It has only where the count of its faults rose since the head was put, if each frame was of a length that may be.
+    /// Whether the sink failed to take some of it. It has only where the count of its faults rose since the head was put, if each frame was of a
+    /// length that may be.
     pub fn failed(&self) -> bool
         ensures value { result ≡ self.now.failed }
         ensures rose { (old : Option (List ℕ)) (faults : ℕ) → self.now.source ≡ beginning faults old → result ≡ true → Fits self.now.made
@@ -128,6 +131,7 @@ impl<K: Sink> Book for Capture<K> {
 
     fn note(&mut self, line: &LineView<'_>) {
         self.failed = note_unless(self.failed, line, &mut self.framing, &mut self.out);
+        // for the prover: the calls so far, which have no octets.
         self.journal = self.journal.then(line);
     }
 

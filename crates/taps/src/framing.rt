@@ -17,7 +17,8 @@ const LIMIT: usize = 69_632;
 
 const ROOM: usize = 69_636;
 
-/// What is under way on the link: the octets of a length or frame that isn't whole, how many are left of the frame that went out last, and the moment in force. Its memory is taken at opening.
+/// What is under way on the link: the octets of a length or frame that isn't whole, how many are left of the frame that went out last, and the moment
+/// in force. Its memory is taken at opening.
 #[derive(Drop)]
 pub struct Framing {
     octets: Vec<u8>,
@@ -203,7 +204,8 @@ impl Framing {
         Ok(())
     }
 
-    // Takes one call more, with its answer, and puts the frame that arrives or goes out by it.
+    /// Takes one call more, with its answer, and puts the frame that arrives or goes out by it. Err where a frame is too long, or the sink refuses
+    /// it.
     pub(crate) fn note<K: Sink>(&mut self, line: &LineView<'_>, out: &mut K) -> Result<(), Failed>
         ensures tracks { (past : List Entry) → Tracks self.old past → IsOk result → Tracks self.new (viewed line.now ∷ past) }
         ensures put { (past : List Entry) → Tracks self.old past → IsOk result → K.holds out.new ≡ added (entry_text (viewed line.now) past) (K.holds out.old) }

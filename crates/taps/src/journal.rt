@@ -7,7 +7,8 @@ ghost use Rattle.replay.specs.Views.{viewed};
 use replay::LineView;
 use std::marker::Model;
 
-// A list of calls with their answers, newest first, which only clauses read: it has no octets. What it says is tied to the World by `Record` and to the sink by `Book`.
+/// A list of calls with their answers, newest first, which only clauses read: it has no octets. What it says is tied to the World by `Tap` and to
+/// the sink by each `Book`.
 #[derive(Drop)]
 pub(crate) struct Journal {
     pub ghost entries: { List Entry },
@@ -18,14 +19,14 @@ impl Model for Journal {
 }
 
 impl Journal {
-    // No call yet.
+    /// A list with no call.
     pub(crate) fn new() -> Journal
         ensures { result.entries ≡ [] }
     {
         Journal {}
     }
 
-    // One call more.
+    /// The list with one call more.
     pub(crate) fn then(&self, _line: &LineView<'_>) -> Journal
         ensures { result.entries ≡ viewed _line.now ∷ self.now.entries }
     {

@@ -49,7 +49,7 @@ impl Lines {
         self.whole.put(self.line.octets()).is_ok()
     }
 
-    // Puts all that wait, by one put.
+    /// Puts all that wait, by one put. Err where the sink refuses them.
     pub(crate) fn flush<K: Sink>(&mut self, out: &mut K) -> Result<(), Failed>
         ensures puts { Puts (K.holds out.old) (K.holds out.new) (K.faults out.old) (K.faults out.new) self.old result }
         ensures none { IsOk result → self.new ≡ [] }
@@ -62,7 +62,8 @@ impl Lines {
         Ok(())
     }
 
-    // Takes a line behind the others. Where there is no room the others are put first, and a line for which there is none then is put itself.
+    /// Takes a line behind the others. Where there is no room the others are put first, and a line for which there is none then is put itself. Err
+    /// where the sink refuses some.
     pub(crate) fn keep<K: Sink>(&mut self, line: &LineView<'_>, out: &mut K) -> Result<(), Failed>
         ensures kept { IsOk result → added self.new (K.holds out.new) ≡ added (self.old ++ line_text (viewed line.now)) (K.holds out.old) }
         ensures fault { IsErr result → Rose (K.faults out.old) (K.faults out.new) }

@@ -10,7 +10,7 @@ use world_face::{Failed, NoMemory, Sink};
 // Room for more than the longest line, which is a wait for 5,155 wants that reports as many.
 const ROOM: usize = 524_288;
 
-// A sink with a fixed room, all of it taken at opening.
+/// A sink with room for 524,288 octets, all of it taken at opening.
 #[derive(Drop)]
 pub(crate) struct Page {
     octets: Vec<u8>,
@@ -25,6 +25,7 @@ impl Model for Page {
 }
 
 impl Page {
+    /// An empty page. Err where there is no memory for it.
     pub(crate) fn open(alloc: Global) -> Result<Page, NoMemory>
         ensures { IfOk result (λ page. page ≡ []) }
     {
@@ -34,12 +35,14 @@ impl Page {
         Ok(Page { octets })
     }
 
+    /// The octets that were put since it was emptied last.
     pub(crate) fn octets(&self) -> &[u8]
         ensures { result.now ≡ self.now }
     {
         self.octets.as_slice()
     }
 
+    /// Forgets what was put.
     pub(crate) fn empty(&mut self)
         ensures { self.new ≡ [] }
     {

@@ -13,7 +13,8 @@ use std::marker::Model;
 use std::snapshot::Snapshot;
 use world_face::Sink;
 
-/// Puts the line of each call with its answer into a sink, as `replay` prints it, so that what the sink gets is a schedule by which the run can be made again. Lines wait in a buffer until a wait comes,
+/// Puts the line of each call with its answer into a sink, as `replay` prints it, so that what the sink gets is a schedule by which the run can be made again.
+/// Lines wait in a buffer until a wait comes,
 /// and are put whole. Where the sink doesn't take some, nothing is put behind them.
 #[derive(Drop)]
 pub struct Record<K: Sink> {
@@ -71,6 +72,7 @@ impl<K: Sink> Record<K> {
         requires { lines ≡ [] }
         ensures { result ≡ record { out = out; source = beginning (K.faults out) (K.holds out); made = []; failed = false } }
     {
+        // for the prover: the sink as it is before the first line, which has no octets.
         let began = Snapshot::of(&out);
         Record {
             out,
@@ -118,6 +120,7 @@ impl<K: Sink> Book for Record<K> {
 
     fn note(&mut self, line: &LineView<'_>) {
         self.failed = keep_unless(self.failed, line, &mut self.lines, &mut self.out);
+        // for the prover: the calls so far, which have no octets.
         self.journal = self.journal.then(line);
     }
 

@@ -36,8 +36,8 @@ pub trait Book {
 
 /// A World over another, of which it passes every call on. Behind each answer its book takes the call with that answer; before a wait the book is told so.
 ///
-/// It tells every call that is made on it, whatever the World below tells: so what is proved of a run on a World that tells its calls holds of a run on any World through it, and of what the book made
-/// of the calls. It owns both while it stands, and `into_parts` gives them back.
+/// It tells every call that is made on it, whatever the World below tells: so what is proved of a run on a World that tells its calls holds of a run
+/// on any World through it, and of what the book made of the calls. It owns both while it stands, and `into_parts` gives them back.
 #[derive(Drop)]
 pub struct Tap<W: World, B: Book> {
     world: W,
@@ -64,6 +64,7 @@ impl<W: World, B: Book> Tap<W, B> {
         requires { B.made book ≡ [] }
         ensures { result ≡ record { world = world; began = world; book = book } }
     {
+        // for the prover: the World as it is before the first call, which has no octets.
         let began = Snapshot::of(&world);
         Tap { world, began, book }
     }

@@ -1,5 +1,6 @@
 -- No flow rests twice: the numbers of the flows that rest by a lawful record differ.
-use Rattle.std.proofs.Common.{refl, ◌≡◌, ℕ, ◌+◌, ◌==◌, ◌||◌, not, nat_le, Bool, true, false, cond, List, [], ◌∷◌, ◌++◌, drop, filter, length, map, Contains, zero, suc, Option, Some, None, is_some, option_map, if◌then◌else◌, ap, sym, ◌∙◌, subst, arith}
+use Rattle.std.proofs.Common.{refl, ◌≡◌, ℕ, ◌+◌, ◌==◌, ◌||◌, not, nat_le, Bool, true, false, cond, List, [], ◌∷◌, ◌++◌, drop, filter, length, map, Contains, zero, suc, Option, Some, None}
+use Rattle.std.proofs.Common.{is_some, option_map, if◌then◌else◌, ap, sym, ◌∙◌, subst, arith}
 use Rattle.std.proofs.lemmas.Bool.Decides.{nat_tests}
 use Rattle.net_octets.specs.declared.Endpoint.{Endpoint}
 use Rattle.world_face.specs.Journal.{Entry}
@@ -8,7 +9,8 @@ use Rattle.flow_laws.specs.Event.{Accepts, Connects, Segment, Story}
 use Rattle.flow_laws.specs.Close.{ends_rest, owes_reset, renews, rests_since}
 use Rattle.flow_laws.specs.Flow.{first_number, is_closed}
 use Rattle.flow_laws.specs.Lawful.{IsLawful}
-use Rattle.record_flows.specs.Book.{after_close, after_segment, book, doom, is_refused, is_young, joins_for, make_room, opens, port_of, rest, scene, story_in, tuple_for, turned, visits_for, with_room, without}
+use Rattle.record_flows.specs.Book.{after_close, after_segment, book, doom, is_refused, is_young, joins_for, make_room, opens, port_of, rest, scene, story_in, tuple_for, turned}
+use Rattle.record_flows.specs.Book.{visits_for, with_room, without}
 use Rattle.record_flows.specs.Doings.{Doing, Nothing, Comes, Goes, Seeks, Pauses, Joins, Visits, Calls, Shuts, doing}
 use Rattle.record_flows.specs.Flows.{Book, Flow, Rest, Scene, flow_of, is_numbered, owner, rests_among, shuts, tell, used}
 use Rattle.record_flows.specs.Laws.{flow_settings}
@@ -176,7 +178,8 @@ module _ (config : Config) (sc : Scene) (b : Book) (once : Once (numbers b.rests
       by_test true = once_more f.number sc.moment b.rests once (awake f refl)
       by_test false = once
 
-  turned_once : (d : Doing) → ((socket : ℕ) (f : Flow) → d ≡ Shuts socket → flow_of socket (turned config sc d b).flows ≡ Some f → is_among f.number (numbers b.rests) ≡ false) → Once (numbers (turned config sc d b).rests)
+  turned_once : (d : Doing) → ((socket : ℕ) (f : Flow) → d ≡ Shuts socket → flow_of socket (turned config sc d b).flows ≡ Some f → is_among f.number (numbers b.rests) ≡ false) →
+      Once (numbers (turned config sc d b).rests)
   turned_once Nothing awake = once
   turned_once (Comes on) awake = heard on.segment (owner on.tuple b.flows)
   turned_once (Goes on) awake = once
@@ -215,13 +218,16 @@ module _ (config : Config) (e : Entry) (past : List Entry) (lawful : Lawful conf
 
       by : (o : Option Flow) → flow_of socket b.flows ≡ o → is_among f.number (numbers b.rests) ≡ false
       by None was = absurd (none_flow f (sym (told ∙ ap (option_map change) was) ∙ found))
-      by (Some g) was = not_true (is_among f.number (numbers b.rests)) (λ among. rest_begun config (flow_settings config) past socket g (are_kept config past (keeps_flows config past lawful.1)).differ was lawful_g (subst (λ n. has n b.rests ≡ true) (ap (λ (x : Flow). x.number) (sym same)) (among_has f.number b.rests among)) open_g)
+      by (Some g) was = not_true (is_among f.number (numbers b.rests)) (λ among. rest_begun config (flow_settings config) past socket g
+          (are_kept config past (keeps_flows config past lawful.1)).differ was lawful_g (subst (λ n. has n b.rests ≡ true) (ap (λ (x : Flow). x.number) (sym same))
+          (among_has f.number b.rests among)) open_g)
         where
           same : change g ≡ f
           same = some_flow (change g) f (sym (told ∙ ap (option_map change) was) ∙ found)
 
           said : IsLawful (flow_settings config) (change g).story
-          said = subst (λ (o : Option Flow). IsLawful (flow_settings config) (story_in o)) (told ∙ ap (option_map change) was) (is_lawful config (e ∷ past) socket (keeps_flows config (e ∷ past) lawful))
+          said = subst (λ (o : Option Flow). IsLawful (flow_settings config) (story_in o)) (told ∙ ap (option_map change) was)
+              (is_lawful config (e ∷ past) socket (keeps_flows config (e ∷ past) lawful))
 
           lawful_g : IsLawful (flow_settings config) g.story
           lawful_g = said.1

@@ -1,6 +1,8 @@
 -- How often guests were asked for, where the calls on flows' sockets go on, and where a flow begins.
-use Rattle.std.proofs.Common.{refl, ◌≡◌, ℕ, ◌≤◌, ◌==◌, ◌&&◌, ◌||◌, Bool, true, false, cond, List, [], ◌∷◌, ◌++◌, map, set, slice_get, Option, Some, None, if◌then◌else◌, inl, inr, ap, sym, ◌∙◌, subst, arith}
-use Rattle.world_face.specs.Journal.{Entry, Now, Wait, LinkOpen, LinkRead, LinkWrite, Connect, Connected, Listen, Accept, TcpRead, TcpWrite, TcpEnd, Close, UdpOpen, UdpSend, UdpRecv, FileLen, FileRead}
+use Rattle.std.proofs.Common.{refl, ◌≡◌, ℕ, ◌≤◌, ◌==◌, ◌&&◌, ◌||◌, Bool, true, false, cond, List, [], ◌∷◌, ◌++◌, map, set, slice_get, Option, Some, None, if◌then◌else◌, inl, inr, ap, sym}
+use Rattle.std.proofs.Common.{◌∙◌, subst, arith}
+use Rattle.world_face.specs.Journal.{Entry, Now, Wait, LinkOpen, LinkRead, LinkWrite, Connect, Connected, Listen, Accept, TcpRead, TcpWrite, TcpEnd, Close, UdpOpen, UdpSend, UdpRecv}
+use Rattle.world_face.specs.Journal.{FileLen, FileRead}
 use Rattle.world_face.specs.Frames.{opens, tail}
 use Rattle.world_face.specs.declared.Accepted.{Accepted}
 use Rattle.world_face.specs.declared.Accepted.TheVariants.{From, NotYet as NotYetAccepted, Failed as AcceptFailed}
@@ -16,7 +18,8 @@ use Rattle.run_laws.specs.Sockets.{is_among}
 use Rattle.flow_laws.specs.Event.{Arrives, At, Departs, Segment, Story}
 use Rattle.flow_laws.specs.Flow.{is_accepted}
 use Rattle.record_flows.specs.Book.{book, scene, turned}
-use Rattle.record_flows.specs.Doings.{Doing, Nothing, Comes, Goes, Seeks, Pauses, Joins, Visits, Calls, Shuts, by_call, comes, doing, doing_by, ended_by, goes, joined, joins, read_by, seeks, visits, written_by}
+use Rattle.record_flows.specs.Doings.{Doing, Nothing, Comes, Goes, Seeks, Pauses, Joins, Visits, Calls, Shuts, by_call, comes, doing, doing_by, ended_by, goes, joined, joins, read_by}
+use Rattle.record_flows.specs.Doings.{seeks, visits, written_by}
 use Rattle.record_flows.specs.Flows.{Book, Flow, Scene, flow_of, is_on, is_numbered, is_strange, sends, shuts, tell, with_event}
 use Rattle.record_flows.specs.Segments.{OnTuple, asked_in, segment_came, segment_in}
 use Rattle.flows_follow.specs.Only.{AreOf, IsOf}
@@ -167,23 +170,28 @@ module _ (guest : ℕ) where
       by false = (refl, refl)
 
   -- by what happens to one flow the same flows were accepted
-  turned_numbers : (config : Config) (sc : Scene) (b : Book) (number : ℕ) (d : Doing) → IsOf number b d → KeepsKind d → accepted_numbers guest (turned config sc d b).flows ≡ accepted_numbers guest b.flows
+  turned_numbers : (config : Config) (sc : Scene) (b : Book) (number : ℕ) (d : Doing) → IsOf number b d → KeepsKind d → accepted_numbers guest
+      (turned config sc d b).flows ≡ accepted_numbers guest b.flows
   turned_numbers config sc b number Nothing of keeps = refl
   turned_numbers config sc b number (Comes on) of keeps = told_numbers (is_on on.tuple) (with_event sc.moment (Arrives on.segment)) (λ f. refl) (λ f. refl) b.flows
-  turned_numbers config sc b number (Goes on) of keeps = told_numbers (is_on on.tuple) (sends sc.moment on.segment) (λ f. (sent_is sc.moment on.segment f).0) (λ f. (sent_is sc.moment on.segment f).1) b.flows
+  turned_numbers config sc b number (Goes on) of keeps = told_numbers (is_on on.tuple) (sends sc.moment on.segment) (λ f. (sent_is sc.moment on.segment f).0)
+      (λ f. (sent_is sc.moment on.segment f).1) b.flows
   turned_numbers config sc b number (Seeks seeked) of keeps = absurd of
   turned_numbers config sc b number Pauses of keeps = absurd of
   turned_numbers config sc b number (Joins socket) of keeps = absurd of
   turned_numbers config sc b number (Visits listener socket peer) of keeps = absurd of
-  turned_numbers config sc b number (Calls socket e) of keeps = told_numbers (is_numbered socket) (with_event sc.moment e) (λ f. refl) (λ f. ap (λ b. b && (address f.tuple.guest == guest)) (keeps sc.moment f.story)) b.flows
+  turned_numbers config sc b number (Calls socket e) of keeps = told_numbers (is_numbered socket) (with_event sc.moment e) (λ f. refl)
+      (λ f. ap (λ b. b && (address f.tuple.guest == guest)) (keeps sc.moment f.story)) b.flows
   turned_numbers config sc b number (Shuts socket) of keeps = told_numbers (is_numbered socket) (shuts sc b.came) (λ f. refl) (λ f. refl) b.flows
 
   -- After what is about one flow, or about none, the same flows were accepted.
-  pub numbers_stay : (config : Config) (number : ℕ) (past made : List Entry) → AreOf config number past made → accepted_numbers guest (book config (made ++ past)).flows ≡ accepted_numbers guest (book config past).flows
+  pub numbers_stay : (config : Config) (number : ℕ) (past made : List Entry) → AreOf config number past made → accepted_numbers guest
+      (book config (made ++ past)).flows ≡ accepted_numbers guest (book config past).flows
   numbers_stay config number past [] of = refl
   numbers_stay config number past (e ∷ made) of =
       let before = made ++ past in
-      turned_numbers config (scene config before) (book config before) number (doing config before e) of.0 (doing_keeps (happens config before e).came (happens config before e).went (happens config before e).call)
+      turned_numbers config (scene config before) (book config before) number (doing config before e) of.0
+      (doing_keeps (happens config before e).came (happens config before e).went (happens config before e).call)
       ∙ numbers_stay config number past made of.1
 
 -- ---- the count goes on
@@ -197,7 +205,8 @@ asked_then config past later parts new silent same from a = record {
   asks = a.asks;
   few = a.few;
   own = λ k q here. let old = from k q here in let own = a.own old.1 old.0 old.2 in let more = old.4 in let number = ap a.asks old.3 in omega (arith, own, more, number);
-  counted = λ guest. subst (λ ns. times guest (requests config later) ≤ sum_of a.asks ns) (sym (same guest)) (subst (λ l. times guest l ≤ sum_of a.asks (accepted_numbers guest (book config past).flows)) (sym silent) (a.counted guest));
+  counted = λ guest. subst (λ ns. times guest (requests config later) ≤ sum_of a.asks ns) (sym (same guest))
+      (subst (λ l. times guest l ≤ sum_of a.asks (accepted_numbers guest (book config past).flows)) (sym silent) (a.counted guest));
 }
 
 -- By calls on a flow's socket.
@@ -208,7 +217,8 @@ asked_by_calls config number past made parts new of none from =
     asked_then config past (made ++ past) parts new (requests_stay config past made none) (λ guest. numbers_stay guest config number past made of) from
 
 -- the flow of one slot has changed, and asked no less
-pub asked_from : (parts : List (Option Splice)) (k : ℕ) (p : Splice) (x : Option Splice) → slice_get parts k ≡ Some (Some p) → ((q : Splice) → x ≡ Some q → (number_of q ≡ number_of p) × (p.asked ≤ q.asked))
+pub asked_from : (parts : List (Option Splice)) (k : ℕ) (p : Splice) (x : Option Splice) → slice_get parts k ≡ Some (Some p) →
+    ((q : Splice) → x ≡ Some q → (number_of q ≡ number_of p) × (p.asked ≤ q.asked))
     → (j : ℕ) (q : Splice) → slice_get (set parts k x) j ≡ Some (Some q) → (r : Splice) × (i : ℕ) × (slice_get parts i ≡ Some (Some r)) × (number_of q ≡ number_of r) × (r.asked ≤ q.asked)
 asked_from parts k p x at one j q here = elim (same_or_not j k) [
   | inl at_k ↦
@@ -231,7 +241,8 @@ pub fresh_number : (guest n : ℕ) (flows : List Flow) → flow_of n flows ≡ N
 fresh_number guest n [] none = refl
 fresh_number guest n (f ∷ flows) none = by (f.number == n) refl none (λ rest. fresh_number guest n flows rest)
   where
-    by : (b : Bool) → (f.number == n) ≡ b → cond b (Some f) (flow_of n flows) ≡ None → (flow_of n flows ≡ None → is_among n (accepted_numbers guest flows) ≡ false) → is_among n (accepted_numbers guest (f ∷ flows)) ≡ false
+    by : (b : Bool) → (f.number == n) ≡ b → cond b (Some f) (flow_of n flows) ≡ None → (flow_of n flows ≡ None → is_among n (accepted_numbers guest flows) ≡ false) → is_among n
+        (accepted_numbers guest (f ∷ flows)) ≡ false
     by true it none rest = absurd (none_some (sym none))
     by false other none rest = ap (is_among n) (split guest f flows) ∙ by_test (is_for guest f)
       where

@@ -44,11 +44,13 @@ connecting_before : (beats past : Story) → is_connecting (beats ++ past) ≡ t
 connecting_before [] past is = is
 connecting_before (b ∷ beats) past is =
     connecting_before beats past
-    (none_stays (is_accepted (beats ++ past)) (has_connected (beats ++ past)) (is_closed (beats ++ past)) (is_accepted (b ∷ (beats ++ past))) (has_connected (b ∷ (beats ++ past))) (is_closed (b ∷ (beats ++ past)))
+    (none_stays (is_accepted (beats ++ past)) (has_connected (beats ++ past)) (is_closed (beats ++ past)) (is_accepted (b ∷ (beats ++ past))) (has_connected (b ∷ (beats ++ past)))
+    (is_closed (b ∷ (beats ++ past)))
     (accepted_stays b (beats ++ past)) (connected_stays b (beats ++ past)) (closed_stays b (beats ++ past)) is)
 
 -- of a flow that was pumped
-pub connects_yet : (now first last : ℕ) (told : Option Mac) (p q : Splice) (made : List Entry) → Sends p q first last now made → IsPumped told p q → (is_open p ≡ false → is_open q ≡ false) → ConnectsYet now p q
+pub connects_yet : (now first last : ℕ) (told : Option Mac) (p q : Splice) (made : List Entry) → Sends p q first last now made → IsPumped told p q →
+    (is_open p ≡ false → is_open q ≡ false) → ConnectsYet now p q
 connects_yet now first last told p q made sends pumped shut has low is_open_then connects = by (is_open p) refl
   where
     serves : Serves has.settings q false false false first now has.story made
@@ -71,7 +73,8 @@ connects_yet now first last told p q made sends pumped shut has low is_open_then
 abbrev pub HaveStoriesBy : (now : ℕ) → List (Option Splice) → Type 0
 HaveStoriesBy now parts = (k : ℕ) (p : Splice) → slice_get parts k ≡ Some (Some p) → (has : HasStory p) × (has.at ≤ now)
 
-pub have_stories_by : (config : Config) (now : ℕ) (aged : Bool) (task : Option Call) (state : FlowsState Splice) (past : List Entry) → CoreHolds config now aged task state past → HaveStoriesBy now state.slots
+pub have_stories_by : (config : Config) (now : ℕ) (aged : Bool) (task : Option Call) (state : FlowsState Splice) (past : List Entry) → CoreHolds config now aged task state past →
+    HaveStoriesBy now state.slots
 have_stories_by config now aged task state past holds k p here =
     let seat = holds.seats.seated k p here in
     (record { settings = flow_settings config; story = seat.0.story; at = now; follows = seat.4 }, omega arith)
@@ -80,7 +83,8 @@ pub connect_same : (parts : List (Option Splice)) → ConnectYet parts parts
 connect_same parts k q is connects = record { part = q; at = is; connects = connects; same = refl }
 
 -- the flow of a slot that was marked is pumped
-pub connect_next : (now : ℕ) (owing : List (Option ℕ)) (old parts new : List (Option Splice)) (k n : ℕ) (p : Splice) → slice_get owing k ≡ Some (Some n) → slice_get parts k ≡ Some (Some p) → StandYet owing old parts
+pub connect_next : (now : ℕ) (owing : List (Option ℕ)) (old parts new : List (Option Splice)) (k n : ℕ) (p : Splice) → slice_get owing k ≡ Some (Some n) → slice_get parts k ≡ Some
+    (Some p) → StandYet owing old parts
     → ((x : Option Splice) × (new ≡ set parts k x) × ((q : Splice) → x ≡ Some q → ConnectsYet now p q)) → HaveStoriesBy now old → ConnectYet old parts → ConnectYet old new
 connect_next now owing old parts new k n p mark at stand change stories yet = λ j q is connects. each j q (subst (λ (l : List (Option Splice)). IsOpenAt l j q) change.1 is) connects
   where

@@ -1,5 +1,6 @@
 -- What stands at a place of the sockets whose numbers rise, and what is left without it.
-use Rattle.std.proofs.Common.{◌≡◌, ℕ, zero, suc, ◌<◌, ◌≤◌, ◌==◌, not, nat_lt, leb, Bool, cond, true, false, List, [], ◌∷◌, length, get_or, Option, None, Some, Result, Ok, Err, Less, Equal, Greater, IfNone, IfSome, is_some, Bor, inl, inr, refl, sym, ap, subst, ◌∙◌, arith}
+use Rattle.std.proofs.Common.{◌≡◌, ℕ, zero, suc, ◌<◌, ◌≤◌, ◌==◌, not, nat_lt, leb, Bool, cond, true, false, List, [], ◌∷◌, length, get_or, Option, None, Some, Result, Ok, Err, Less, Equal}
+use Rattle.std.proofs.Common.{Greater, IfNone, IfSome, is_some, Bor, inl, inr, refl, sym, ap, subst, ◌∙◌, arith}
 use Rattle.std.specs.Prelude.{slice_get, find}
 use Rattle.std.specs.List.{remove}
 use Rattle.std.specs.List.Sorted.{IsBinarySearchResult, IsNonDecreasingBy, IsPartitionPoint, IsSearchInRange}
@@ -103,7 +104,8 @@ module _ (n : ℕ) (rows : List Numbered) (rise : Rise rows) where
   searched (Err i) few point = (tt, apart i (point tests_rise))
 
 -- the first whose number is above
-pub first_is : (n : ℕ) (rows : List Numbered) (i : ℕ) → i ≤ length rows → IsPartitionPoint (λ (r : Numbered). leb r.number n ≡ true) (λ (r : Numbered). leb r.number n ≡ false) rows i → slice_get rows i ≡ after (Some n) rows
+pub first_is : (n : ℕ) (rows : List Numbered) (i : ℕ) → i ≤ length rows → IsPartitionPoint (λ (r : Numbered). leb r.number n ≡ true)
+    (λ (r : Numbered). leb r.number n ≡ false) rows i → slice_get rows i ≡ after (Some n) rows
 first_is n [] i within point = refl
 first_is n (r ∷ rows) zero within point = sym (ap (next_or r n rows) (higher r.number n (point.1 0 r (omega arith) (omega arith))))
 first_is n (r ∷ rows) (suc i) within point =
@@ -111,6 +113,7 @@ first_is n (r ∷ rows) (suc i) within point =
     ∙ sym (ap (next_or r n rows) (no_higher r.number n (point.0 0 r (omega arith) (omega arith))))
 
 -- the one at a place, where there is one
-pub read_at : (rows : List Numbered) (i : ℕ) (read : Option (Bor Numbered)) → is_some read ≡ nat_lt i (length rows) → IfSome read (λ r. r.now ≡ get_or rows i r.now) → option_copied read ≡ slice_get rows i
+pub read_at : (rows : List Numbered) (i : ℕ) (read : Option (Bor Numbered)) → is_some read ≡ nat_lt i (length rows) → IfSome read (λ r. r.now ≡ get_or rows i r.now) →
+    option_copied read ≡ slice_get rows i
 read_at rows i None past here = sym (slice_get_past rows i (grind (arith, nat_tests, past)))
 read_at rows i (Some r) within here = sym (slice_get_read rows (length rows) i r.now refl (grind (arith, nat_tests, within)) here)

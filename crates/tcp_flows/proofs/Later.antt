@@ -1,5 +1,6 @@
 -- The earliest of the moments after one at which flows are to be looked at, one flow after another.
-use Rattle.std.proofs.Common.{◌≡◌, ℕ, zero, suc, ◌+◌, ◌<◌, ◌≤◌, Bool, true, false, min, nat_le, nat_lt, List, [], ◌∷◌, ◌++◌, get_or, length, map, take, slice_get, Option, Some, None, ◌⊎◌, inl, inr, if◌then◌else◌, refl, sym, ◌∙◌, ap, subst, arith}
+use Rattle.std.proofs.Common.{◌≡◌, ℕ, zero, suc, ◌+◌, ◌<◌, ◌≤◌, Bool, true, false, min, nat_le, nat_lt, List, [], ◌∷◌, ◌++◌, get_or, length, map, take, slice_get, Option, Some, None, ◌⊎◌}
+use Rattle.std.proofs.Common.{inl, inr, if◌then◌else◌, refl, sym, ◌∙◌, ap, subst, arith}
 use Rattle.std.proofs.lemmas.Bool.Decides.{nat_tests}
 use Rattle.std.proofs.lemmas.List.{map-append, take_more}
 use Rattle.flow_splice.specs.Splice.{Splice}

@@ -1,5 +1,6 @@
 -- Flows are told the hardware addresses of their guests.
-use Rattle.std.proofs.Common.{refl, ◌≡◌, ℕ, zero, suc, ◌+◌, ◌<◌, ◌≤◌, not, Bool, true, false, List, [], ◌∷◌, length, map, set, Some, None, Option, is_some, option_map, if◌then◌else◌, get_or, slice_get, inl, inr, ap, sym, ◌∙◌, subst, arith}
+use Rattle.std.proofs.Common.{refl, ◌≡◌, ℕ, zero, suc, ◌+◌, ◌<◌, ◌≤◌, not, Bool, true, false, List, [], ◌∷◌, length, map, set, Some, None, Option, is_some, option_map, if◌then◌else◌}
+use Rattle.std.proofs.Common.{get_or, slice_get, inl, inr, ap, sym, ◌∙◌, subst, arith}
 use Rattle.std.proofs.lemmas.List.{length-map, map-set}
 use Rattle.std.proofs.lemmas.Option.{slice_get_within}
 use Rattle.net_octets.specs.declared.Endpoint.{Endpoint}
@@ -187,7 +188,8 @@ module _ (guests : List (Ip4 × Mac)) (old new : List (Option Splice)) (are : Ha
   pub learnt_in_time : (now n : ℕ) → IsInTime now old n → IsInTime now new n
   learnt_in_time now n early k q at named =
       let had = are.only k q at.here in
-      subst (λ c. IsAhead c now) (sym (ap (λ (x : Splice). x.conn) had.2 ∙ learnt_keeps (λ (x : Splice). x.conn) (λ x m. refl) guests had.0)) (early k had.0 (learnt_open k q at) (learnt_number k q at ∙ named))
+      subst (λ c. IsAhead c now) (sym (ap (λ (x : Splice). x.conn) had.2 ∙ learnt_keeps (λ (x : Splice). x.conn) (λ x m. refl) guests had.0))
+      (early k had.0 (learnt_open k q at) (learnt_number k q at ∙ named))
 
   pub learnt_calm : (n : ℕ) → OwesNoAck old n → OwesNoAck new n
   learnt_calm n calm k q at named =
@@ -196,7 +198,8 @@ module _ (guests : List (Ip4 × Mac)) (old new : List (Option Splice)) (are : Ha
 
 -- ---- the flow of a slot has changed, and knows its guest's address as before
 
-pub told_changed : (guests : List (Ip4 × Mac)) (parts : List Splice) (seen : List (Option Splice)) → map part_of parts ≡ seen → (k : ℕ) (p q : Splice) → slice_get parts k ≡ Some p → (p.place ≡ Empty → ⊥)
+pub told_changed : (guests : List (Ip4 × Mac)) (parts : List Splice) (seen : List (Option Splice)) → map part_of parts ≡ seen → (k : ℕ) (p q : Splice) →
+    slice_get parts k ≡ Some p → (p.place ≡ Empty → ⊥)
     → q.face.guest.addr ≡ p.face.guest.addr → (q.mac ≡ None → p.mac ≡ None) → AreTold guests seen → AreTold guests (map part_of (set parts k q))
 told_changed guests parts seen are k p q at some addr mac told =
     each_then parts seen are k q p at (λ i r. r.mac ≡ None → learnt_for r.face.guest.addr guests ≡ None) told
@@ -204,8 +207,10 @@ told_changed guests parts seen are k p q at some addr mac told =
 
 -- ---- one slot, in the record
 
-module _ (guests : List (Ip4 × Mac)) (table : Flows) (parts : List Splice) (opened : ℕ) (old new : Kept) (old_is : old.flows ≡ flows_of table parts opened) (slots_are : table.slots ≡ map slot_of parts) (kept : AreKept table.slots table.rest_order)
-    (k : ℕ) (p q : Splice) (at : slice_get parts k ≡ Some p) (seeks : is_seeking p ≡ true) (q_is : q ≡ learnt p (learnt_for p.face.guest.addr guests)) (new_is : new.flows ≡ flows_of table (set parts k q) opened)
+module _ (guests : List (Ip4 × Mac)) (table : Flows) (parts : List Splice) (opened : ℕ) (old new : Kept) (old_is : old.flows ≡ flows_of table parts opened)
+    (slots_are : table.slots ≡ map slot_of parts) (kept : AreKept table.slots table.rest_order)
+    (k : ℕ) (p q : Splice) (at : slice_get parts k ≡ Some p) (seeks : is_seeking p ≡ true) (q_is : q ≡ learnt p (learnt_for p.face.guest.addr guests))
+    (new_is : new.flows ≡ flows_of table (set parts k q) opened)
     (settings : (config : Config) → IsFor config old → IsFor config new) where
   some : p.place ≡ Empty → ⊥
   some = (seeking_is p seeks).0
@@ -218,7 +223,8 @@ module _ (guests : List (Ip4 × Mac)) (table : Flows) (parts : List Splice) (ope
   learns_of config now aged past known_is between = record {
     holds = subst (λ s. CoreHolds config now aged None s past) (sym new_is) (by (learnt_for p.face.guest.addr guests) refl);
     asked = subst (λ (s : FlowsState Splice). AreAsked config s.slots past) (sym new_is)
-        (asked_then config past past (map part_of parts) (map part_of (set parts k q)) refl (λ guest. refl) (kept_asked parts k p q at some (ap number_of q_is) (let same = ap (λ (x : Splice). x.asked) q_is in omega (arith, same)))
+        (asked_then config past past (map part_of parts) (map part_of (set parts k q)) refl (λ guest. refl) (kept_asked parts k p q at some (ap number_of q_is)
+        (let same = ap (λ (x : Splice). x.asked) q_is in omega (arith, same)))
         (subst (λ (s : FlowsState Splice). AreAsked config s.slots past) old_is between.asked));
     settings = settings config between.settings;
     lawful = between.lawful;
@@ -234,9 +240,11 @@ module _ (guests : List (Ip4 × Mac)) (table : Flows) (parts : List Splice) (ope
 
       -- one that rests knows its guest
       used : is_in_use f.story ≡ true
-      used = by_place p.place refl (slot_is config now aged None table parts opened past holds slots_are kept k p at some) (followed config now aged None table parts opened past holds slots_are kept k p at some)
+      used = by_place p.place refl (slot_is config now aged None table parts opened past holds slots_are kept k p at some)
+          (followed config now aged None table parts opened past holds slots_are kept k p at some)
         where
-          by_place : (x : Place) → p.place ≡ x → IsSlotOf (rests_at aged config past) f (slot_at x (ends_of p.face)) → FollowsAt p.place p.shut (flow_settings config) p f.story now → is_in_use f.story ≡ true
+          by_place : (x : Place) → p.place ≡ x → IsSlotOf (rests_at aged config past) f (slot_at x (ends_of p.face)) → FollowsAt p.place p.shut
+              (flow_settings config) p f.story now → is_in_use f.story ≡ true
           by_place Empty here of_it follows = absurd (some here)
           by_place InUse here of_it follows = of_it.1
           by_place (Resting since) here of_it follows = absurd ((subst (λ x. FollowsAt x p.shut (flow_settings config) p f.story now) here follows).known unknown)
@@ -253,7 +261,8 @@ module _ (guests : List (Ip4 × Mac)) (table : Flows) (parts : List Splice) (ope
           subst (λ l. CoreHolds config now aged None (record { table = table; slots = l; opened = opened }) past) (sym (parts_then (Some m) is))
           (core_told config now aged None (flows_of table parts opened) past holds k p f m (part_here config now aged None table parts opened past holds slots_are kept k p at some)
           (was config now aged None table parts opened past holds slots_are kept k p at some) used
-          (ap (λ (t : Tuple). learnt_for t.guest.addr (known config past)) (ends config now aged None table parts opened past holds slots_are kept k p at some) ∙ ap (learnt_for p.face.guest.addr) known_is ∙ is))
+          (ap (λ (t : Tuple). learnt_for t.guest.addr (known config past)) (ends config now aged None table parts opened past holds slots_are kept k p at some) ∙ ap
+          (learnt_for p.face.guest.addr) known_is ∙ is))
 
 -- what a slot's flow is, that seeks and was told, as the calls tell it
 pub record IsToldAt (guests : List (Ip4 × Mac)) (parts : List Splice) (k : ℕ) (q : Splice) (place : Place) (was_open : Bool) : Type 0 where
@@ -302,7 +311,8 @@ pub record HaveLearntBelow (guests : List (Ip4 × Mac)) (bound : ℕ) (old new :
 pub learnt_none_yet : (guests : List (Ip4 × Mac)) (parts : List (Option Splice)) → HaveLearntBelow guests 0 parts parts
 learnt_none_yet guests parts = record { below = λ k less. absurd (omega (arith, less)); rest = λ k most. refl }
 
-pub learnt_next : (guests : List (Ip4 × Mac)) (bound : ℕ) (old mid new : List (Option Splice)) (x : Option Splice) → slice_get mid bound ≡ Some x → new ≡ set mid bound (option_map (learnt_from guests) x)
+pub learnt_next : (guests : List (Ip4 × Mac)) (bound : ℕ) (old mid new : List (Option Splice)) (x : Option Splice) → slice_get mid bound ≡ Some x → new ≡ set mid bound
+    (option_map (learnt_from guests) x)
     → HaveLearntBelow guests bound old mid → HaveLearntBelow guests (bound + 1) old new
 learnt_next guests bound old mid new x at is are = subst (HaveLearntBelow guests (bound + 1) old) (sym is) (record {
   below = λ k less. elim (same_or_not k bound) [
@@ -323,7 +333,8 @@ learnt_whole guests bound old new few many are = record {
   only = λ k q here. let within = slice_get_within new k (Some q) here in by k q (slice_get old k) refl (sym (are.below k (omega (arith, within, many))) ∙ here);
 }
   where
-    by : (k : ℕ) (q : Splice) (o : Option (Option Splice)) → slice_get old k ≡ o → option_map (option_map (learnt_from guests)) o ≡ Some (Some q) → (p : Splice) × (slice_get old k ≡ Some (Some p)) × (q ≡ learnt_from guests p)
+    by : (k : ℕ) (q : Splice) (o : Option (Option Splice)) → slice_get old k ≡ o → option_map (option_map (learnt_from guests)) o ≡ Some (Some q) → (p : Splice) ×
+        (slice_get old k ≡ Some (Some p)) × (q ≡ learnt_from guests p)
     by k q None at is = absurd (none_some is)
     by k q (Some None) at is = absurd (none_some (some_same None (Some q) is))
     by k q (Some (Some p)) at is = (p, at, sym (some_same (learnt_from guests p) q (some_same (Some (learnt_from guests p)) (Some q) is)))

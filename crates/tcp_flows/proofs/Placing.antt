@@ -1,5 +1,6 @@
 -- Wants by rising number, with others for one of the numbers.
-use Rattle.std.proofs.Common.{refl, ◌≡◌, ℕ, zero, suc, ◌+◌, ◌<◌, ◌≤◌, ◌==◌, nat_lt, Bool, true, false, List, [], ◌∷◌, ◌++◌, length, set, get_or, Some, None, Option, Result, Ok, Err, is_ok, slice_get, ◌⊎◌, inl, inr, ap, sym, ◌∙◌, subst, arith, if◌then◌else◌}
+use Rattle.std.proofs.Common.{refl, ◌≡◌, ℕ, zero, suc, ◌+◌, ◌<◌, ◌≤◌, ◌==◌, nat_lt, Bool, true, false, List, [], ◌∷◌, ◌++◌, length, set, get_or, Some, None, Option, Result, Ok, Err, is_ok}
+use Rattle.std.proofs.Common.{slice_get, ◌⊎◌, inl, inr, ap, sym, ◌∙◌, subst, arith, if◌then◌else◌}
 use Rattle.std.specs.Prelude.{Contains, IsOk}
 use Rattle.std.specs.List.{insert, remove}
 use Rattle.std.specs.List.Sorted.{IsNonDecreasingBy}
@@ -119,7 +120,11 @@ put_in n (y ∷ wants) zero x fits place none = sym (in_front n (x ∷ []) y wan
     higher a most other = grind (arith, nat_tests, most, other)
 put_in n (y ∷ wants) (suc i) x fits place none =
     ap (λ (l : List Want). y ∷ l)
-    (put_in n wants i x (omega (arith, fits)) (λ k d from less. place.0 (suc k) d (omega arith) (omega (arith, less)), λ k d from few. place.1 (suc k) d (omega (arith, from)) (omega (arith, few))) none)
+    (put_in n wants i x (omega (arith, fits)) (
+      λ k d from less. place.0 (suc k) d (omega arith) (omega (arith, less)),
+      λ k d from few. place.1 (suc k) d (omega (arith, from))
+          (omega (arith, few)),
+    ) none)
     ∙ sym (behind n (x ∷ []) y wants (is_below (number_in y) n (place.0 0 y (omega arith) (omega arith))))
 
 -- or nothing is
@@ -132,7 +137,11 @@ left_so n (y ∷ wants) zero fits place none = sym (in_front n [] y wants (highe
     higher a most other = grind (arith, nat_tests, most, other)
 left_so n (y ∷ wants) (suc i) fits place none =
     ap (λ (l : List Want). y ∷ l)
-    (left_so n wants i (omega (arith, fits)) (λ k d from less. place.0 (suc k) d (omega arith) (omega (arith, less)), λ k d from few. place.1 (suc k) d (omega (arith, from)) (omega (arith, few))) none)
+    (left_so n wants i (omega (arith, fits)) (
+      λ k d from less. place.0 (suc k) d (omega arith) (omega (arith, less)),
+      λ k d from few. place.1 (suc k) d (omega (arith, from))
+          (omega (arith, few)),
+    ) none)
     ∙ sym (behind n [] y wants (is_below (number_in y) n (place.0 0 y (omega arith) (omega arith))))
 
 -- ---- the numbers rise then too
@@ -213,7 +222,11 @@ has_yet n these (w ∷ wants) x other has = elim (compared (number_in w) n) [
 ]
   where
     lower : (Contains wants x → Contains (with_wants n these wants) x) → (x ≡ w) ⊎ Contains wants x → Contains (w ∷ with_wants n these wants) x
-    lower rest either = elim either [ inl one ↦ subst (Contains (w ∷ with_wants n these wants)) (sym one) (first_has w (with_wants n these wants)) | inr more ↦ rest_has w (with_wants n these wants) x (rest more) ]
+    lower rest either = elim either [
+      | inl one ↦ subst (Contains (w ∷ with_wants n these wants)) (sym one) (first_has w (with_wants n these wants))
+      | inr more ↦ rest_has w
+          (with_wants n these wants) x (rest more)
+    ]
 
     same : number_in w ≡ n → (x ≡ w) ⊎ Contains wants x → Contains (these ++ wants) x
     same is either = elim either [ inl one ↦ absurd (other (ap number_in one ∙ is)) | inr more ↦ Contains-append_right these wants x more ]
@@ -233,7 +246,8 @@ has_only n these (w ∷ wants) x order has = elim (compared (number_in w) n) [
     apart_over : (a : ℕ) → n < a → a ≡ n → ⊥
     apart_over a less is = omega (arith, less, is)
 
-    lower : number_in w < n → (Contains (with_wants n these wants) x → Contains these x ⊎ (Contains wants x × (number_in x ≡ n → ⊥))) → (x ≡ w) ⊎ Contains (with_wants n these wants) x → Contains these x ⊎ (Contains (w ∷ wants) x × (number_in x ≡ n → ⊥))
+    lower : number_in w < n → (Contains (with_wants n these wants) x → Contains these x ⊎ (Contains wants x × (number_in x ≡ n → ⊥))) → (x ≡ w) ⊎ Contains
+        (with_wants n these wants) x → Contains these x ⊎ (Contains (w ∷ wants) x × (number_in x ≡ n → ⊥))
     lower is rest either = elim either [
       | inl one ↦ inr (subst (Contains (w ∷ wants)) (sym one) (first_has w wants), apart (number_in x) (subst (λ (y : Want). number_in y < n) (sym one) is))
       | inr more ↦ elim (rest more) [ inl here ↦ inl here | inr there ↦ inr (rest_has w wants x there.0, there.1) ]
@@ -284,7 +298,8 @@ long_one n these (x ∷ wants) w order has is = elim (compared (number_in x) n) 
     apart : (a : ℕ) → a < n → a ≡ n → ⊥
     apart a less same = omega (arith, less, same)
 
-    lower : number_in x < n → (Contains wants w → length (with_wants n these wants) + 1 ≡ length wants + length these) → (w ≡ x) ⊎ Contains wants w → length (x ∷ with_wants n these wants) + 1 ≡ length (x ∷ wants) + length these
+    lower : number_in x < n → (Contains wants w → length (with_wants n these wants) + 1 ≡ length wants + length these) → (w ≡ x) ⊎ Contains wants w → length
+        (x ∷ with_wants n these wants) + 1 ≡ length (x ∷ wants) + length these
     lower less rest either = elim either [
       | inl one ↦ absurd (apart (number_in x) less (sym (ap number_in one) ∙ is))
       | inr more ↦ then_is (length (with_wants n these wants)) (length wants) (length these) (rest more)
@@ -309,7 +324,8 @@ long_none n these [] none = same (length these)
     same : (n : ℕ) → n ≡ 0 + n
     same n = omega arith
 long_none n these (x ∷ wants) none = elim (compared (number_in x) n) [
-  | Lower less ↦ ap length (behind n these x wants less) ∙ then_is (length (with_wants n these wants)) (length wants) (length these) (long_none n these wants (λ w has. none w (rest_has x wants w has)))
+  | Lower less ↦ ap length (behind n these x wants less) ∙ then_is (length (with_wants n these wants)) (length wants) (length these)
+      (long_none n these wants (λ w has. none w (rest_has x wants w has)))
   | Same same ↦ absurd (none x (first_has x wants) same)
   | Higher more ↦ ap length (in_front n these x wants more) ∙ long_append these (x ∷ wants) ∙ turned (length these) (length (x ∷ wants))
 ]

@@ -111,7 +111,8 @@ none_closed (_ ∷ made) is = absurd cc
 
 -- each part has its number then, and asked no less
 pub kept_asked : (parts : List Splice) (k : ℕ) (p q : Splice) → slice_get parts k ≡ Some p → (p.place ≡ Empty → ⊥) → number_of q ≡ number_of p → p.asked ≤ q.asked
-    → (j : ℕ) (r : Splice) → slice_get (map part_of (set parts k q)) j ≡ Some (Some r) → (s : Splice) × (i : ℕ) × (slice_get (map part_of parts) i ≡ Some (Some s)) × (number_of r ≡ number_of s) × (s.asked ≤ r.asked)
+    → (j : ℕ) (r : Splice) → slice_get (map part_of (set parts k q)) j ≡ Some (Some r) → (s : Splice) × (i : ℕ) × (slice_get (map part_of parts) i ≡ Some (Some s)) ×
+    (number_of r ≡ number_of s) × (s.asked ≤ r.asked)
 kept_asked parts k p q at some number more j r here =
     asked_from (map part_of parts) k p (part_of q) (get_map part_of parts k p at ∙ ap Some (part_is p some))
     (λ s is. let one = part_back q.place q s is in (ap number_of (sym one) ∙ number, subst (λ (x : Splice). p.asked ≤ x.asked) one more)) j r
@@ -133,7 +134,8 @@ came_silent config (LinkWrite octets answer) past on is = absurd (went_not octet
 came_silent config _ past on is = refl
 
 -- it asks for nobody
-pub came_asked : (config : Config) (e : Entry) (past : List Entry) (on : OnTuple) → doing config past e ≡ Comes on → (parts : List (Option Splice)) → AreAsked config parts past → AreAsked config parts (e ∷ past)
+pub came_asked : (config : Config) (e : Entry) (past : List Entry) (on : OnTuple) → doing config past e ≡ Comes on → (parts : List (Option Splice)) → AreAsked config parts past →
+    AreAsked config parts (e ∷ past)
 came_asked config e past on comes parts =
     asked_then config past (e ∷ past) parts parts (came_silent config e past on comes)
     (λ guest.
@@ -142,7 +144,8 @@ came_asked config e past on comes parts =
 
 -- ---- segments go out
 
-asks_nobody : (frames : List (List ℕ)) (octets : List ℕ) (answer : Io) (rest : List ℕ) (asked : List ℕ) → asked_in (drop 4 octets) ≡ None → requests_by frames (opens (LinkWrite octets answer) rest) asked ≡ asked
+asks_nobody : (frames : List (List ℕ)) (octets : List ℕ) (answer : Io) (rest : List ℕ) (asked : List ℕ) → asked_in (drop 4 octets) ≡ None → requests_by frames
+    (opens (LinkWrite octets answer) rest) asked ≡ asked
 asks_nobody frames octets answer (x ∷ rest) asked none = refl
 asks_nobody frames octets (Done n) [] asked none = ap (λ o. asked_beside (is_first (drop 4 octets) frames) o asked) none
 asks_nobody frames octets End [] asked none = refl

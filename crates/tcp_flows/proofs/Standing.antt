@@ -63,7 +63,8 @@ module _ (p q : Splice) (same : same_ways (waits_of p) (waits_of q) ≡ true) wh
 
 -- ---- the flow of a slot is another
 
-module _ (parts : List Splice) (wants : List Want) (are : AreStanding parts wants) (k : ℕ) (p q : Splice) (at : slice_get parts k ≡ Some p) (number : is_wanted p ≡ true → number_of p ≡ number_of q) where
+module _ (parts : List Splice) (wants : List Want) (are : AreStanding parts wants) (k : ℕ) (p q : Splice) (at : slice_get parts k ≡ Some p)
+    (number : is_wanted p ≡ true → number_of p ≡ number_of q) where
   abbrev after : List Splice
   after = set parts k q
 
@@ -136,7 +137,8 @@ module _ (parts : List Splice) (wants : List Want) (are : AreStanding parts want
         | inl at_k ↦
             let one = here_then j r at_k here in
             let now = sym (ap is_wanted one) ∙ is in
-            subst (Contains (with_wants n these wants)) (sym (ap want_of one)) (has_these n these wants (want_of q) (subst (λ l. Contains l (want_of q)) (sym (its_want now)) (first_has (want_of q) [])))
+            subst (Contains (with_wants n these wants)) (sym (ap want_of one))
+            (has_these n these wants (want_of q) (subst (λ l. Contains l (want_of q)) (sym (its_want now)) (first_has (want_of q) [])))
         | inr other ↦
             let was = sym (get_set_other parts k j q (differ j k other)) ∙ here in
             has_yet n these wants (want_of r) (λ same. differ j k other (apart j r was is same)) (are.all j r was is)

@@ -76,16 +76,20 @@ module _ (config : Config) (number : ℕ) where
           closed : (b : Bool) → is_closed f.story ≡ b → b ≡ true
           closed true is = refl
           closed false is =
-              never_false (sym (first_of (is_among number (open_sockets (Close number ∷ past))) (is_flow (kind_of number (Close number ∷ past))) (open_has_socket config (Close number ∷ past) number f lawful found is)) ∙ shut)
+              never_false (sym (first_of (is_among number (open_sockets (Close number ∷ past))) (is_flow (kind_of number (Close number ∷ past)))
+              (open_has_socket config (Close number ∷ past) number f lawful found is)) ∙ shut)
 
-  at_call : (e : Entry) (past : List Entry) → reads_or_shuts e ≡ true → IsOf number (book config past) (doing config past e) → Lawful config (e ∷ past) → waits (e ∷ past) ≡ waits past → is_left_to_read config (e ∷ past) (OnTcp number) ≡ false
-  at_call (TcpRead socket asked answer octets) past is of lawful as_often = read_since config (TcpRead socket asked answer octets ∷ []) past (OnTcp number) as_often (or_left (number == socket) false (it_is socket of))
+  at_call : (e : Entry) (past : List Entry) → reads_or_shuts e ≡ true → IsOf number (book config past) (doing config past e) → Lawful config (e ∷ past) → waits
+      (e ∷ past) ≡ waits past → is_left_to_read config (e ∷ past) (OnTcp number) ≡ false
+  at_call (TcpRead socket asked answer octets) past is of lawful as_often = read_since config (TcpRead socket asked answer octets ∷ []) past (OnTcp number) as_often
+      (or_left (number == socket) false (it_is socket of))
   at_call (Close socket) past is of lawful as_often =
       unread config (Close socket ∷ past) (OnTcp number)
       (subst (λ n. is_read config (Close n ∷ past) (OnTcp number) ≡ false) (sym of) (gone past (subst (λ n. Lawful config (Close n ∷ past)) of lawful)))
   at_call _ past is of lawful as_often = absurd cc
 
-  read_or_shut : (past made : List Entry) → AreOf config number past made → Lawful config (made ++ past) → waits (made ++ past) ≡ waits past → some_is reads_or_shuts made ≡ true → is_left_to_read config (made ++ past) (OnTcp number) ≡ false
+  read_or_shut : (past made : List Entry) → AreOf config number past made → Lawful config (made ++ past) → waits (made ++ past) ≡ waits past → some_is reads_or_shuts made ≡ true →
+      is_left_to_read config (made ++ past) (OnTcp number) ≡ false
   read_or_shut past [] of lawful as_often is = absurd cc
   read_or_shut past (e ∷ made) of lawful as_often is = by (reads_or_shuts e) refl is (read_or_shut past made of.1 lawful.1 before)
     where
@@ -143,8 +147,10 @@ module _ (config : Config) (now : ℕ) (aged : Bool) (task : Option Call) (state
             at : (b : Bool) → is_closed f.story ≡ b → waits_to_read (flow_settings config) f.story ≡ false
             at true closed = closed_unread _ (is_closed f.story) _ _ closed
             at false open_yet =
-                let part = placed number_of (Following config now) state.table state.slots (next_number past) (book config past).flows (rests_at aged config past) holds.seats n f found (in_use (is_closed f.story) (owes_reset f.story) open_yet) in
-                (wants_are (flow_settings config) part.part f.story now (sizes part.slot part.part part.here) part.follows).0 ∙ shut_neither (is_open part.part) _ (unopen part.slot part.part part.here part.numbered)
+                let part = placed number_of (Following config now) state.table state.slots (next_number past) (book config past).flows
+                (rests_at aged config past) holds.seats n f found (in_use (is_closed f.story) (owes_reset f.story) open_yet) in
+                (wants_are (flow_settings config) part.part f.story now (sizes part.slot part.part part.here) part.follows).0 ∙ shut_neither (is_open part.part) _
+                (unopen part.slot part.part part.here part.numbered)
 
     pub none_written : is_written config past (OnTcp n) ≡ false
     none_written = by (flow_of n (book config past).flows) refl
@@ -160,15 +166,19 @@ module _ (config : Config) (now : ℕ) (aged : Bool) (task : Option Call) (state
             at : (b : Bool) → is_closed f.story ≡ b → must_wait_to_write f.story ≡ false
             at true closed = closed_unwritten (is_closed f.story) _ closed
             at false open_yet =
-                let part = placed number_of (Following config now) state.table state.slots (next_number past) (book config past).flows (rests_at aged config past) holds.seats n f found (in_use (is_closed f.story) (owes_reset f.story) open_yet) in
-                unless (must_wait_to_write f.story) (λ must. never_false (sym ((wants_are (flow_settings config) part.part f.story now (sizes part.slot part.part part.here) part.follows).1 must) ∙ shut_neither (is_open part.part) _ (unopen part.slot part.part part.here part.numbered)))
+                let part = placed number_of (Following config now) state.table state.slots (next_number past) (book config past).flows
+                (rests_at aged config past) holds.seats n f found (in_use (is_closed f.story) (owes_reset f.story) open_yet) in
+                unless (must_wait_to_write f.story) (λ must. never_false (sym
+                ((wants_are (flow_settings config) part.part f.story now (sizes part.slot part.part part.here) part.follows).1 must) ∙ shut_neither (is_open part.part) _
+                (unopen part.slot part.part part.here part.numbered)))
 
     pub none_told : (read write : Bool) → IsTold config n read write past
     none_told read write = record { reading = λ is. unread config past (OnTcp n) none_read; writing = λ is. unwritten config past (OnTcp n) none_written }
 
   -- ---- the flow was told
 
-  pub told_now : (k : ℕ) (p : Splice) (read write : Bool) (made : List Entry) → slice_get state.slots k ≡ Some (Some p) → ServesReport read write p made → AreOf config (number_of p) past made → Lawful config (made ++ past)
+  pub told_now : (k : ℕ) (p : Splice) (read write : Bool) (made : List Entry) → slice_get state.slots k ≡ Some (Some p) → ServesReport read write p made → AreOf config
+      (number_of p) past made → Lawful config (made ++ past)
       → waits (made ++ past) ≡ waits past → IsTold config (number_of p) read write (made ++ past)
   told_now k p read write made at serves of lawful as_often = record { reading = λ is. by_read (reads p) refl is; writing = λ is. by_write (is_written config past (OnTcp (number_of p))) refl is }
     where
@@ -177,5 +187,6 @@ module _ (config : Config) (now : ℕ) (aged : Bool) (task : Option Call) (state
       by_read false unwaited is = reading_on config made past (OnTcp (number_of p)) as_often (unread config past (OnTcp (number_of p)) (reads_as k p at ∙ unwaited))
 
       by_write : (b : Bool) → is_written config past (OnTcp (number_of p)) ≡ b → write ≡ true → is_left_to_write config (made ++ past) (OnTcp (number_of p)) ≡ false
-      by_write true waited is = write_since config made past (OnTcp (number_of p)) as_often (write_served config (number_of p) (is_connects p.conn.stage) past made of (serves.writing is (writes_as k p at waited)))
+      by_write true waited is = write_since config made past (OnTcp (number_of p)) as_often (write_served config (number_of p) (is_connects p.conn.stage) past made of
+          (serves.writing is (writes_as k p at waited)))
       by_write false unwaited is = writing_on config made past (OnTcp (number_of p)) as_often (unwritten config past (OnTcp (number_of p)) unwaited)

@@ -54,7 +54,8 @@ module _ (slots : List Slot) (t : Tuple) where
 
 -- ---- in the record
 
-module _ (config : Config) (now : ℕ) (aged : Bool) (task : Option Call) (state : FlowsState Splice) (past : List Entry) (holds : CoreHolds config now aged task state past) (sizes : length state.slots ≡ length state.table.slots) (t : Tuple) where
+module _ (config : Config) (now : ℕ) (aged : Bool) (task : Option Call) (state : FlowsState Splice) (past : List Entry) (holds : CoreHolds config now aged task state past)
+    (sizes : length state.slots ≡ length state.table.slots) (t : Tuple) where
   pub none_recorded : ((k : ℕ) → HasTuple state.table.slots k t → ⊥) → is_used t (book config past).flows ≡ false
   none_recorded none = none_used number_of (Following config now) state.table state.slots (next_number past) (book config past).flows (rests_at aged config past) holds.seats sizes t none
 

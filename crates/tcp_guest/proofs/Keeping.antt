@@ -89,7 +89,8 @@ greeted_sound c seg opening s = record {
 pub established_sound : (c : Connection) → IsSound c → IsSound (established c)
 established_sound c s = sound_past (established c) refl (first_if c.congestion _ c.transmission c.ours s.first s.first) s.few
 
-pub acknowledged_sound : (c : Connection) (down : Downward) (seg : Tcp) (window : ℕ) (bare : Bool) (now : ℕ) → is_opening c.stage ≡ false → IsSound c → IsSound (acknowledged c down seg window bare now)
+pub acknowledged_sound : (c : Connection) (down : Downward) (seg : Tcp) (window : ℕ) (bare : Bool) (now : ℕ) → is_opening c.stage ≡ false → IsSound c → IsSound
+    (acknowledged c down seg window bare now)
 acknowledged_sound c down seg window bare now past s =
     sound_past (acknowledged c down seg window bare now) past
     (first_acked c.transmission (without (octets_acked (seen_of c.transmission down seg.ack)) down) (record { 0 = seg.seq }) window bare now (seen_of c.transmission down seg.ack) ∙ s.first) s.few
@@ -273,11 +274,13 @@ gone_has what c up down now is h feeds = record {
 
 -- ---- the timer
 
-again_by : (b : Bool) (c : Connection) → is_opening c.stage ≡ b → IsSound c → IsSound (if b then record c { syn = resend_expired c.syn; syn_owed = true } else record c { transmission = after_expired c.transmission })
+again_by : (b : Bool) (c : Connection) → is_opening c.stage ≡ b → IsSound c → IsSound
+    (if b then record c { syn = resend_expired c.syn; syn_owed = true } else record c { transmission = after_expired c.transmission })
 again_by true c is s = record { first = s.first; few = s.few; untaken = s.untaken; unended = s.unended; unsent = s.unsent; unanswered = s.unanswered; alone = s.alone }
 again_by false c is s = sound_past (record c { transmission = after_expired c.transmission }) is (first_expired c.transmission ∙ s.first) s.few
 
-again_received : (b : Bool) (c x y : Connection) → x.received ≡ c.received → x.ring ≡ c.ring → y.received ≡ c.received → y.ring ≡ c.ring → ((if b then x else y).received ≡ c.received) × ((if b then x else y).ring ≡ c.ring)
+again_received : (b : Bool) (c x y : Connection) → x.received ≡ c.received → x.ring ≡ c.ring → y.received ≡ c.received → y.ring ≡ c.ring →
+    ((if b then x else y).received ≡ c.received) × ((if b then x else y).ring ≡ c.ring)
 again_received true c x y xr xs yr ys = (xr, xs)
 again_received false c x y xr xs yr ys = (yr, ys)
 

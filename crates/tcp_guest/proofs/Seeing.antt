@@ -1,5 +1,6 @@
 -- What an acknowledgement is, and what is taken of a segment, by numbers alone.
-use Rattle.std.proofs.Common.{◌≡◌, ℕ, ◌+◌, ◌^◌, ◌<◌, ◌≤◌, ◌↔◌, Bool, true, false, not, ◌&&◌, ◌||◌, nat_lt, nat_eq, IsTrue, length, pos, ◌-ℤ◌, ◌<ℤ◌, ◌+ℤ◌, ◌⊎◌, inl, inr, refl, sym, ap, ◌∙◌, arith, if◌then◌else◌}
+use Rattle.std.proofs.Common.{◌≡◌, ℕ, ◌+◌, ◌^◌, ◌<◌, ◌≤◌, ◌↔◌, Bool, true, false, not, ◌&&◌, ◌||◌, nat_lt, nat_eq, IsTrue, length, pos, ◌-ℤ◌, ◌<ℤ◌, ◌+ℤ◌, ◌⊎◌, inl, inr, refl, sym, ap, ◌∙◌}
+use Rattle.std.proofs.Common.{arith, if◌then◌else◌}
 use Rattle.std.proofs.lemmas.Int.{ints}
 use Rattle.std.proofs.lemmas.Bool.Decides.{nat_tests}
 use Rattle.seq_space.specs.Places.{shifted_place}
@@ -26,14 +27,16 @@ same_is true b c d m n is near same = cc
 same_is false true c d m n is near same = cc
 same_is false false false d m n is near same = cc
 
-fin_is : (a b c d : Bool) (m n k : ℕ) → a ≡ false → b ≡ false → c ≡ false → d ≡ true → k ≡ m → FinToo k ≡ (if a then Old else (if b then TooFar else (if c then Same else (if d then FinToo m else Forward n))))
+fin_is : (a b c d : Bool) (m n k : ℕ) → a ≡ false → b ≡ false → c ≡ false → d ≡ true → k ≡ m → FinToo k ≡
+    (if a then Old else (if b then TooFar else (if c then Same else (if d then FinToo m else Forward n))))
 fin_is false false false true m n k is near other last count = ap FinToo count
 fin_is true b c d m n k is near other last count = cc
 fin_is false true c d m n k is near other last count = cc
 fin_is false false true d m n k is near other last count = cc
 fin_is false false false false m n k is near other last count = cc
 
-forward_is : (a b c d : Bool) (m n k : ℕ) → a ≡ false → b ≡ false → c ≡ false → d ≡ false → k ≡ n → Forward k ≡ (if a then Old else (if b then TooFar else (if c then Same else (if d then FinToo m else Forward n))))
+forward_is : (a b c d : Bool) (m n k : ℕ) → a ≡ false → b ≡ false → c ≡ false → d ≡ false → k ≡ n → Forward k ≡
+    (if a then Old else (if b then TooFar else (if c then Same else (if d then FinToo m else Forward n))))
 forward_is false false false false m n k is near other last count = ap Forward count
 forward_is true b c d m n k is near other last count = cc
 forward_is false true c d m n k is near other last count = cc
@@ -64,13 +67,15 @@ seen_by t down p (Forward n) order is =
     let some = is.0 in
     let of_stream = is.2 in
     let of_sent = is.3 in
-    forward_is _ _ _ _ _ _ n (not_less_is p (t.acked + 2 ^ 31) (omega (arith, at))) (not_less_is (t.sent + 2 ^ 31) p (omega (arith, at, of_sent))) (not_equal_is (t.acked + 2 ^ 31) p (omega (arith, at, some)))
+    forward_is _ _ _ _ _ _ n (not_less_is p (t.acked + 2 ^ 31) (omega (arith, at))) (not_less_is (t.sent + 2 ^ 31) p (omega (arith, at, of_sent)))
+    (not_equal_is (t.acked + 2 ^ 31) p (omega (arith, at, some)))
     (not_less_is (octets_read down + 2 ^ 31) p (omega (arith, at, of_stream))) (omega (arith, at))
 seen_by t down p (FinToo n) order is =
     let at : p ≡ t.sent + 2 ^ 31 = omega (arith, ints, is.0) in
     let all = is.1 in
     let octets = is.2 in
-    fin_is _ _ _ _ _ _ n (not_less_is p (t.acked + 2 ^ 31) (omega (arith, at, order))) (not_less_is (t.sent + 2 ^ 31) p (omega (arith, at))) (not_equal_is (t.acked + 2 ^ 31) p (omega (arith, at, all)))
+    fin_is _ _ _ _ _ _ n (not_less_is p (t.acked + 2 ^ 31) (omega (arith, at, order))) (not_less_is (t.sent + 2 ^ 31) p (omega (arith, at)))
+    (not_equal_is (t.acked + 2 ^ 31) p (omega (arith, at, all)))
     (less_is (octets_read down + 2 ^ 31) p (omega (arith, at, all, octets))) (omega (arith, octets))
 seen_by t down p TooFar order is =
     let at : t.sent + 2 ^ 31 < p = omega (arith, ints, is) in

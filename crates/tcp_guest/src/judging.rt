@@ -1,7 +1,8 @@
 // What a segment is (RFC 9293, 3.10.7).
 ghost use Rattle.std.specs.Prelude.{◌≡◌, ◌-◌, ◌/◌, ◌<◌, ◌&&◌};
 ghost use Rattle.tcp_segment.specs.Tcp.{tcp_of};
-ghost use Rattle.tcp_guest.specs.Checks.{is_ack, acknowledges_syn as acknowledges_syn_by, is_in_window as in_window_by, is_next as is_next_by, is_same_syn as same_syn_by, verdict_answering, verdict_calling, verdict_early, verdict_of, verdict_synchronized};
+ghost use Rattle.tcp_guest.specs.Checks.{is_ack, acknowledges_syn as acknowledges_syn_by, is_in_window as in_window_by, is_next as is_next_by, is_same_syn as same_syn_by};
+ghost use Rattle.tcp_guest.specs.Checks.{verdict_answering, verdict_calling, verdict_early, verdict_of, verdict_synchronized};
 ghost use Rattle.tcp_guest.specs.Connection.{has_gone};
 
 use crate::{Conn, Stage, Verdict};

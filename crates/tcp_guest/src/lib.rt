@@ -12,7 +12,8 @@
 //! (`HasBuffers`).
 #![tactic(auto)]
 
-ghost use Rattle.std.specs.Prelude.{◌≡◌, ℕ, ◌+◌, ◌-◌, ◌*◌, ◌/◌, ◌^◌, ◌<◌, ◌≤◌, ◌↔◌, ◌||◌, ◌++◌, if◌then◌else◌, [], length, take, drop, min, not, IsTrue, IfSome, None, Some, Option, is_some, true, false};
+ghost use Rattle.std.specs.Prelude.{◌≡◌, ℕ, ◌+◌, ◌-◌, ◌*◌, ◌/◌, ◌^◌, ◌<◌, ◌≤◌, ◌↔◌, ◌||◌, ◌++◌, if◌then◌else◌, [], length, take, drop, min, not, IsTrue, IfSome, None, Some, Option};
+ghost use Rattle.std.specs.Prelude.{is_some, true, false};
 ghost use Rattle.sock_buffers.specs.Downward.{Downward, downward};
 ghost use Rattle.sock_buffers.specs.Upward.{Upward, empty};
 ghost use Rattle.tcp_receive.specs.Coming.{Comes};
@@ -528,7 +529,7 @@ impl Conn {
         }
     }
 
-    /// The state.
+    /// The state of RFC 9293, 3.3.2, as the stage and the two ends tell it; TIME-WAIT is a rest without a socket.
     pub fn state(&self) -> State
         ensures { result ≡ state_of self.now }
     {
@@ -583,7 +584,7 @@ pub fn buffers_stay_while_octets_are_written()
         }) down }
 {}
 
-/// An acknowledgement alone.
+/// A segment that acknowledges and carries nothing else, where one is owed.
 fn ack_if(owed: bool) -> Option<Owed>
     ensures { result ≡ ack_if owed }
 {

@@ -9,7 +9,9 @@ ghost use Rattle.tcp_transmit.specs.Acks.{octets_acked, without};
 ghost use Rattle.tcp_transmit.specs.Transmission.{Feeds, is_sent, octets_read};
 ghost use Rattle.tcp_guest.specs.Checks.{is_ack, acknowledges_syn as acknowledges_syn_by};
 ghost use Rattle.tcp_guest.specs.Connection.{HasBuffers, IsSound, closes_first as closes_first_by, has_gone_again, is_answering, is_opening, is_synchronized, shift_of, state_between};
-ghost use Rattle.tcp_guest.specs.Segments.{acknowledged, arrived, change_heeding, confirmed, congested, down_heeding, down_welcoming, established, greeted, heard, heeded, is_bare as is_bare_by, is_done as is_done_by, is_fin_too as is_fin_too_by, is_past, is_too_far as is_too_far_by, mss_of, opened, seen_of, settled, settling, up_heeding, welcomed};
+ghost use Rattle.tcp_guest.specs.Segments.{acknowledged, arrived, change_heeding, confirmed, congested, down_heeding, down_welcoming, established, greeted, heard, heeded};
+ghost use Rattle.tcp_guest.specs.Segments.{is_bare as is_bare_by, is_done as is_done_by, is_fin_too as is_fin_too_by, is_past, is_too_far as is_too_far_by, mss_of, opened, seen_of};
+ghost use Rattle.tcp_guest.specs.Segments.{settled, settling, up_heeding, welcomed};
 ghost use Rattle.tcp_guest.specs.Windows.{window_in as window_in_by};
 
 use crate::{Change, Conn, Stage, State};

@@ -1,5 +1,6 @@
 -- Where each octet that is held or kept comes from.
-use Rattle.std.proofs.Common.{◌≡◌, ℕ, suc, zero, ◌+◌, ◌-◌, ◌<◌, ◌≤◌, Bool, true, false, ◌⊎◌, inl, inr, nat_lt, nat_le, List, [], ◌∷◌, ◌++◌, length, take, drop, Option, None, Some, if◌then◌else◌, ℤ, pos, negsuc, arith, refl, sym, ap, ◌∙◌, subst, length-append, length-take}
+use Rattle.std.proofs.Common.{◌≡◌, ℕ, suc, zero, ◌+◌, ◌-◌, ◌<◌, ◌≤◌, Bool, true, false, ◌⊎◌, inl, inr, nat_lt, nat_le, List, [], ◌∷◌, ◌++◌, length, take, drop, Option, None, Some}
+use Rattle.std.proofs.Common.{if◌then◌else◌, ℤ, pos, negsuc, arith, refl, sym, ap, ◌∙◌, subst, length-append, length-take}
 use Rattle.std.specs.List.{slice_get}
 use Rattle.std.proofs.lemmas.Int.{ints}
 use Rattle.std.proofs.lemmas.Bool.Decides.{nat_tests}
@@ -52,7 +53,11 @@ keep_kept u ahead octets k x is = by_test (keeps_none u ahead octets) is
     by_more (inl old) = inl old
     by_more (inr new) = inr (more _ (from_more ahead (within u ahead octets) k x (nat_le ahead k) refl new))
 
-    by_test : (b : Bool) → KeepsAt (if b then u else record u { ranges = with_range u.ranges (range_of u ahead octets); kept = octets_with u.kept ahead (within u ahead octets) }).kept k x → KeepsAt u.kept k x ⊎ IsMore ahead octets k x
+    by_test : (b : Bool) → KeepsAt (if b then u else record u {
+      ranges = with_range u.ranges (range_of u ahead octets);
+      kept = octets_with u.kept ahead
+          (within u ahead octets);
+    }).kept k x → KeepsAt u.kept k x ⊎ IsMore ahead octets k x
     by_test true old = inl old
     by_test false new =
         by_more (kept_or_more (octet_at u.kept k) (more_at ahead (within u ahead octets) k) x (sym (octet_at-octets_with u.kept ahead (within u ahead octets) k) ∙ new))

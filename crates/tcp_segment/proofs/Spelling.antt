@@ -1,5 +1,6 @@
 -- The grammar of segments and the reading function say the same.
-use Rattle.std.proofs.Common.{◌≡◌, ℕ, ◌+◌, ◌-◌, ◌*◌, ◌/◌, ◌%◌, ◌<◌, ◌≤◌, ◌||◌, not, nat_lt, Bool, true, false, cond, List, ◌∷◌, ◌++◌, length, take, drop, Option, Some, Result, Ok, Err, MatchResult, refl, sym, ◌∙◌, ap, subst, arith, append_assoc, length-append}
+use Rattle.std.proofs.Common.{◌≡◌, ℕ, ◌+◌, ◌-◌, ◌*◌, ◌/◌, ◌%◌, ◌<◌, ◌≤◌, ◌||◌, not, nat_lt, Bool, true, false, cond, List, ◌∷◌, ◌++◌, length, take, drop, Option, Some, Result, Ok, Err}
+use Rattle.std.proofs.Common.{MatchResult, refl, sym, ◌∙◌, ap, subst, arith, append_assoc, length-append}
 use Rattle.std.specs.Result.{result_ok}
 use Rattle.std.proofs.lemmas.List.{take_at, drop_at, drop-drop, drop_more}
 use Rattle.std.proofs.lemmas.Bool.Decides.{nat_tests}
@@ -13,10 +14,12 @@ use Rattle.tlv_table.specs.Reading.{Found, reading}
 use Rattle.tlv_table.proofs.Laws.{list_read, read_list}
 use Rattle.tcp_segment.specs.declared.Options.{Options}
 use Rattle.tcp_segment.specs.declared.TcpView.{TcpView}
-use Rattle.tcp_segment.specs.Tcp.{Tcp, IsTcp, tcp_form, tcp_rows, mss_in, scale_in, options_in, segment_with, summed, head_length, head_reading, options_found, options_reading, fields_of, ◌>>=◌, tcp_reading, read_tcp, tcp_of}
+use Rattle.tcp_segment.specs.Tcp.{Tcp, IsTcp, tcp_form, tcp_rows, mss_in, scale_in, options_in, segment_with, summed, head_length, head_reading, options_found, options_reading, fields_of}
+use Rattle.tcp_segment.specs.Tcp.{◌>>=◌, tcp_reading, read_tcp, tcp_of}
 
 -- a segment by the parts of its reading
-read_by : (from to : ℕ) (octets : List ℕ) (head : ℕ) (said : Options) → head_reading from to octets ≡ Ok head → options_reading (part octets 20 (head - 20)) ≡ Ok said → tcp_reading from to octets ≡ Ok (fields_of octets head said)
+read_by : (from to : ℕ) (octets : List ℕ) (head : ℕ) (said : Options) → head_reading from to octets ≡ Ok head → options_reading (part octets 20 (head - 20)) ≡ Ok said →
+    tcp_reading from to octets ≡ Ok (fields_of octets head said)
 read_by from to octets head said head_is said_is =
     ap (λ r. r >>= λ h. options_reading (part octets 20 (h - 20)) >>= λ m. Ok (fields_of octets h m)) head_is
     ∙ ap (λ r. r >>= λ m. Ok (fields_of octets head m)) said_is
@@ -24,7 +27,8 @@ read_by from to octets head said head_is said_is =
 -- the tests of a header, by its lengths and its sum
 abbrev head_by : (n h : ℕ) (s : Bool) → Result ℕ Fault
 head_by n h s =
-    cond (nat_lt n 20) (Err (record { kind = Short; at = n })) (cond (nat_lt h 20 || nat_lt n h) (Err (record { kind = BadLength; at = 12 })) (cond (not s) (Err (record { kind = BadSum; at = 16 })) (Ok h)))
+    cond (nat_lt n 20) (Err (record { kind = Short; at = n })) (cond (nat_lt h 20 || nat_lt n h) (Err (record { kind = BadLength; at = 12 }))
+    (cond (not s) (Err (record { kind = BadSum; at = 16 })) (Ok h)))
 
 head_passes : (n h : ℕ) (s : Bool) → 20 ≤ h → h ≤ n → s ≡ true
     → head_by n h s ≡ Ok h
@@ -34,7 +38,8 @@ head_passes n h s enough within is =
     rw (long, fits, is) refl
 
 tcp_same : (a b c d e f g h i j k l : ℕ) (m n q r : Option ℕ) (o p : List ℕ) → a ≡ b → c ≡ d → e ≡ f → g ≡ h → i ≡ j → k ≡ l → m ≡ n → q ≡ r → o ≡ p
-    → ◌≡◌ {A = Tcp} (record { from_port = a; to_port = c; seq = e; ack = g; flags = i; window = k; mss = m; scale = q; body = o }) (record { from_port = b; to_port = d; seq = f; ack = h; flags = j; window = l; mss = n; scale = r; body = p })
+    → ◌≡◌ {A = Tcp} (record { from_port = a; to_port = c; seq = e; ack = g; flags = i; window = k; mss = m; scale = q; body = o })
+    (record { from_port = b; to_port = d; seq = f; ack = h; flags = j; window = l; mss = n; scale = r; body = p })
 tcp_same a b c d e f g h i j k l m n q r o p ab cd ef gh ij kl mn qr op = cc
 
 pub length-segment : (words reserved sum urgent : ℕ) (options : List ℕ) (tcp : Tcp) → length (segment_with words reserved sum urgent options tcp) ≡ 20 + length options + length tcp.body
@@ -47,9 +52,11 @@ reads from to octets tcp g =
     let size : length written ≡ 20 + length g.options + length tcp.body = length-segment g.words g.reserved g.sum g.urgent g.options tcp in
     let head : head_length written ≡ 4 * g.words = ap (λ n. 4 * n) (quotient g.words g.reserved g.reserved_fits) in
     let holds : sum_ok (summed from to written) ≡ true = sym (ap (λ o. sum_ok (summed from to o)) g.is) ∙ g.holds in
-    let passes : head_reading from to written ≡ Ok (4 * g.words) = head_passes (length written) (head_length written) (sum_ok (summed from to written)) (omega (arith, head)) (omega (arith, head, size)) holds ∙ ap Ok head in
+    let passes : head_reading from to written ≡ Ok (4 * g.words) = head_passes (length written) (head_length written) (sum_ok (summed from to written)) (omega (arith, head))
+    (omega (arith, head, size)) holds ∙ ap Ok head in
     let options_are : part written 20 (4 * g.words - 20) ≡ g.options = take_at g.options tcp.body (4 * g.words - 20) (omega arith) in
-    let said_is : options_reading (part written 20 (4 * g.words - 20)) ≡ Ok (options_in g.found) = ap options_reading options_are ∙ ap options_found (list_read tcp_form tcp_rows g.options g.found g.lists) in
+    let said_is : options_reading (part written 20 (4 * g.words - 20)) ≡ Ok (options_in g.found) = ap options_reading options_are ∙ ap options_found
+    (list_read tcp_form tcp_rows g.options g.found g.lists) in
     let body_is : drop (4 * g.words) written ≡ tcp.body =
     ap (λ n. drop n written) (sym g.options_size) ∙ sym (drop-drop (length g.options) 20 written) ∙ drop_at g.options tcp.body (length g.options) refl in
     ap (tcp_reading from to) g.is ∙ read_by from to written (4 * g.words) (options_in g.found) passes said_is
@@ -83,7 +90,8 @@ head_found n h s head is =
     record { enough = grind (arith, nat_tests, passed.0); within = grind (arith, nat_tests, passed.0); holds = passed.1; is = passed.2 }
   where
     by_tests : (b c s : Bool)
-        → ◌≡◌ {A = Result ℕ Fault} (cond {A = Result ℕ Fault} b (Err (record { kind = Short; at = n })) (cond {A = Result ℕ Fault} c (Err (record { kind = BadLength; at = 12 })) (cond {A = Result ℕ Fault} (not s) (Err (record { kind = BadSum; at = 16 })) (Ok h)))) (Ok head) → (c ≡ false) × (s ≡ true) × (h ≡ head)
+        → ◌≡◌ {A = Result ℕ Fault} (cond {A = Result ℕ Fault} b (Err (record { kind = Short; at = n })) (cond {A = Result ℕ Fault} c (Err (record { kind = BadLength; at = 12 }))
+        (cond {A = Result ℕ Fault} (not s) (Err (record { kind = BadSum; at = 16 })) (Ok h)))) (Ok head) → (c ≡ false) × (s ≡ true) × (h ≡ head)
     by_tests true c s e = cc
     by_tests false true s e = cc
     by_tests false false false e = cc
@@ -171,7 +179,8 @@ spelled from to octets tcp fits is =
     same x y e = cc
 
 -- the same of an answer
-pub packet_found : (from to : ℕ) (octets : List ℕ) → IsOctets octets → (r : Result TcpView Fault) → MatchResult r (λ v. tcp_reading from to octets ≡ Ok (tcp_of v)) (λ fault. tcp_reading from to octets ≡ Err fault)
+pub packet_found : (from to : ℕ) (octets : List ℕ) → IsOctets octets → (r : Result TcpView Fault) → MatchResult r (λ v. tcp_reading from to octets ≡ Ok (tcp_of v))
+    (λ fault. tcp_reading from to octets ≡ Err fault)
     → MatchResult r (λ v. IsTcp from to octets (tcp_of v)) (λ _. (tcp : Tcp) → IsTcp from to octets tcp → ⊥)
 packet_found from to octets fits (Ok v) is = spelled from to octets (tcp_of v) fits is
 packet_found from to octets fits (Err fault) is = λ tcp g. apart fault tcp (sym is ∙ reads from to octets tcp g)

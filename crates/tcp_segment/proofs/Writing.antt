@@ -22,7 +22,8 @@ summed-segment from to words sum options tcp fits =
     ap (λ n. before_sum from to tcp_proto n + word_sum (segment_with words 0 sum 0 options tcp)) (length-segment words 0 sum 0 options tcp ∙ sym (length-segment words 0 0 0 options tcp))
     ∙ omega (arith, word_sum-segment words 0 sum 0 options tcp fits)
 
-written_with : (from to words : ℕ) (options : List ℕ) (found : List Found) (tcp : Tcp) → Fits tcp → (5 ≤ words) × (words < 16) → 20 + length options ≡ 4 * words → IsListOf tcp_form tcp_rows options found → tcp.mss ≡ mss_in found → tcp.scale ≡ scale_in found
+written_with : (from to words : ℕ) (options : List ℕ) (found : List Found) (tcp : Tcp) → Fits tcp → (5 ≤ words) × (words < 16) → 20 + length options ≡ 4 * words →
+    IsListOf tcp_form tcp_rows options found → tcp.mss ≡ mss_in found → tcp.scale ≡ scale_in found
     → IsTcp from to (segment_with words 0 (checksum (summed from to (segment_with words 0 0 0 options tcp))) 0 options tcp) tcp
 written_with from to words options found tcp fits words_fit size lists mss scale =
     let start = summed from to (segment_with words 0 0 0 options tcp) in
@@ -61,7 +62,8 @@ by_options from to tcp (Some mss) None mss_is scale_is fits small =
 by_options from to tcp None (Some shift) mss_is scale_is fits small =
     written_with from to 6 (1 ∷ 3 ∷ 3 ∷ shift ∷ []) (record { code = 3; place = 1; body = shift ∷ [] } ∷ []) tcp fits (omega arith, omega arith) refl (scale_alone shift) mss_is scale_is
 by_options from to tcp (Some mss) (Some shift) mss_is scale_is fits small =
-    written_with from to 7 (2 ∷ 4 ∷ two mss ++ 1 ∷ 3 ∷ 3 ∷ shift ∷ []) (record { code = 2; place = 0; body = two mss } ∷ record { code = 3; place = 5; body = shift ∷ [] } ∷ []) tcp fits (omega arith, omega arith) refl (mss_and_scale mss shift)
+    written_with from to 7 (2 ∷ 4 ∷ two mss ++ 1 ∷ 3 ∷ 3 ∷ shift ∷ []) (record { code = 2; place = 0; body = two mss } ∷ record { code = 3; place = 5; body = shift ∷ [] }
+    ∷ []) tcp fits (omega arith, omega arith) refl (mss_and_scale mss shift)
     (mss_is ∙ ap Some (sym (from_be_bytes-to_be_bytes_2 mss small))) scale_is
 
 -- a segment that we write

@@ -4,7 +4,8 @@
 ghost use Rattle.std.specs.Prelude.{◌≡◌, ℕ, List, [], None, Some, Ok, Err, ◌+◌, ◌-◌, ◌*◌, ◌/◌, ◌≤◌, ◌<◌, ◌^◌, ◌↔◌, ◌++◌, ◌∷◌, length, take, drop, IsOk, IfOk, IfSome, OnErr, MatchResult};
 ghost use Rattle.std.specs.Result.{result_err};
 ghost use Rattle.net_octets.specs.Octets.{IsOctets, two};
-ghost use Rattle.tcp_segment.specs.Tcp.{Tcp, Fits, IsTcp, has, head_length, head_reading, options_reading, fields_of, tcp_reading, read_tcp, tcp_fault, mss_octets, scale_octets, words_of as words_by, numbers_of, head_octets, tcp_length, tcp_with, tcp_octets, tcp_of};
+ghost use Rattle.tcp_segment.specs.Tcp.{Tcp, Fits, IsTcp, has, head_length, head_reading, options_reading, fields_of, tcp_reading, read_tcp, tcp_fault, mss_octets, scale_octets};
+ghost use Rattle.tcp_segment.specs.Tcp.{words_of as words_by, numbers_of, head_octets, tcp_length, tcp_with, tcp_octets, tcp_of};
 
 use byteorder::{BigEndian, ByteOrder};
 use net_octets::{Fault, FaultKind, Ip4, NoRoom, TCP_PROTO, checksum_after, pseudo};

@@ -1,5 +1,6 @@
 -- The buffer stays that of its connection.
-use Rattle.std.proofs.Common.{◌≡◌, ℕ, ◌+◌, ◌*◌, ◌^◌, ◌<◌, ◌≤◌, List, ◌++◌, length, Bool, true, false, ◌&&◌, ◌||◌, ◌⊎◌, inl, inr, IsSome, nat_lt, nat_eq, Option, None, Some, min, max, if◌then◌else◌, arith, refl, subst, sym, ap, ◌∙◌, ℤ, length-append, length-drop}
+use Rattle.std.proofs.Common.{◌≡◌, ℕ, ◌+◌, ◌*◌, ◌^◌, ◌<◌, ◌≤◌, List, ◌++◌, length, Bool, true, false, ◌&&◌, ◌||◌, ◌⊎◌, inl, inr, IsSome, nat_lt, nat_eq, Option, None, Some, min, max}
+use Rattle.std.proofs.Common.{if◌then◌else◌, arith, refl, subst, sym, ap, ◌∙◌, ℤ, length-append, length-drop}
 use Rattle.std.proofs.lemmas.Bool.Decides.{nat_tests}
 use Rattle.cwnd.specs.Congestion.{Congestion, after_expiry, growth, half_of}
 use Rattle.retransmit.specs.Resending.{IsSteady, Resending, after_answered, after_moved, after_start, after_stop, begun, due_by, expired_by, is_expired, is_off, set_unless_running}
@@ -10,7 +11,8 @@ use Rattle.retransmit.specs.declared.Timer.TheVariants.{Off, Since, Expired}
 use Rattle.retransmit.proofs.Steady.{steady_answered, steady_expired, steady_moved, steady_sent, steady_start, steady_stop}
 use Rattle.sock_buffers.specs.Downward.{Downward}
 use Rattle.seq_space.specs.declared.Seq.{Seq}
-use Rattle.tcp_transmit.specs.Acks.{IsSeenAs, acknowledged, after_ack, congested, congested_by, cwnd_acked, cwnd_after, is_acceptable, is_duplicate, is_last_window, is_newer, is_same, is_third, moved, octets_acked, opened, owes_again, windowed, without}
+use Rattle.tcp_transmit.specs.Acks.{IsSeenAs, acknowledged, after_ack, congested, congested_by, cwnd_acked, cwnd_after, is_acceptable, is_duplicate, is_last_window, is_newer, is_same}
+use Rattle.tcp_transmit.specs.Acks.{is_third, moved, octets_acked, opened, owes_again, windowed, without}
 use Rattle.tcp_transmit.specs.Pieces.{end_of, next, numbers, piece_owed}
 use Rattle.tcp_transmit.specs.Timing.{after_expired, after_sent, cwnd_expired, goes_again, is_given_up, round_trip, timed_out, watched, watched_over}
 use Rattle.tcp_transmit.specs.Transmission.{Feeds, IsOfSegments, IsSentOf, IsSound, Transmission, edge_of, end_places, flight, is_closed, octets_read, places}
@@ -237,7 +239,11 @@ record Steps (t u : Transmission) : Type 0 where
 segments_after : (c : Congestion) (mss flight octets : ℕ) (duplicate : Bool) → mss ≤ 1460 → IsOfSegments (Some c) mss → IsOfSegments (Some (cwnd_after c duplicate flight octets)) mss
 segments_after c mss flight octets true most segments = by_tests (nat_lt c.duplicates 2) (nat_eq c.duplicates 2)
   where
-    by_tests : (a b : Bool) → IsOfSegments (Some (if a then record c { duplicates = c.duplicates + 1 } else (if b then record { mss = c.mss; window = min (2 ^ 30) (half_of c flight + 3 * c.mss); threshold = half_of c flight; duplicates = 3 } else record c { window = min (2 ^ 30) (c.window + c.mss) }))) mss
+    by_tests : (a b : Bool) → IsOfSegments (Some (if a then record c { duplicates = c.duplicates + 1 } else
+        (if b then record { mss = c.mss; window = min (2 ^ 30) (half_of c flight + 3 * c.mss); threshold = half_of c flight; duplicates = 3 } else record c {
+          window = min (2 ^ 30)
+              (c.window + c.mss);
+        }))) mss
     by_tests true b = segments
     by_tests false true = (segments.0, omega (arith, segments.0, segments.1), omega (arith, segments.0))
     by_tests false false = (segments.0, omega (arith, segments.0, segments.1), segments.2)
@@ -480,7 +486,9 @@ watched_steady u unsent now on waits = by_test (nat_lt u.acked u.sent) refl
     closed_on true false x y = cc y
     closed_on false b x y = cc x
 
-    by_test : (b : Bool) → nat_lt u.acked u.sent ≡ b → (if b then u else record u { resend = if is_closed u && unsent then after_start u.resend now else after_stop u.resend }).resend.timer ≡ u.resend.timer
+    by_test : (b : Bool) → nat_lt u.acked u.sent ≡ b → (if b then u else record u {
+      resend = if is_closed u && unsent then after_start u.resend now else after_stop u.resend;
+    }).resend.timer ≡ u.resend.timer
     by_test true is = refl
     by_test false is = closed_on (is_closed u) unsent (waits is).0 (waits is).1
 
@@ -511,7 +519,8 @@ same_steady t down after seq window bare now feeds read on left =
     closed u unsent rests left = by_test (nat_lt u.acked u.sent) refl left
       where
         by_test : (b : Bool) → nat_lt u.acked u.sent ≡ b
-            → (((if b then u else record u { resend = if is_closed u && unsent then after_start u.resend now else after_stop u.resend }).acked < (if b then u else record u { resend = if is_closed u && unsent then after_start u.resend now else after_stop u.resend }).sent)
+            → (((if b then u else record u { resend = if is_closed u && unsent then after_start u.resend now else after_stop u.resend }).acked <
+            (if b then u else record u { resend = if is_closed u && unsent then after_start u.resend now else after_stop u.resend }).sent)
             ⊎ (is_closed (if b then u else record u { resend = if is_closed u && unsent then after_start u.resend now else after_stop u.resend }) ≡ true)) → is_closed u ≡ true
         by_test true is left = cc (is, rests)
         by_test false is (inl under) = absurd (grind (arith, nat_tests))

@@ -167,7 +167,8 @@ next_none t down feeds none =
     chosen (is_owed_again t) (nat_lt t.acked t.sent) (oldest t down) (probe t down) (fresh t down)
     (λ p. numbers p ≡ 0 → OwesNothing t down)
     (λ _ under none. absurd (oldest_some t.end t.mss t.acked t.sent (octets_read down) (oldest_length t down) refl (some_mss t feeds.sound) feeds.all (grind (arith, nat_tests)) none))
-    (λ expired not_under none. absurd (probe_some t.end (nat_lt t.sent (octets_read down)) t.sent (octets_read down) refl feeds.all (feeds.rests (grind (arith, nat_tests)) (not_off t.resend.timer (expired_at_rest t feeds.sound expired not_under))).1 none))
+    (λ expired not_under none. absurd (probe_some t.end (nat_lt t.sent (octets_read down)) t.sent (octets_read down) refl feeds.all
+    (feeds.rests (grind (arith, nat_tests)) (not_off t.resend.timer (expired_at_rest t feeds.sound expired not_under))).1 none))
     (λ on none. (on, fresh_none t.end t.mss t.sent (octets_read down) (reach t) (fresh_length t down) refl (some_mss t feeds.sound) feeds.all none))
     none
 

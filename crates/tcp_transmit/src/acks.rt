@@ -1,7 +1,8 @@
 // What an acknowledgement of the guest is, and what it changes (RFC 9293, 3.10.7.4).
 ghost use Rattle.std.specs.Prelude.{◌≡◌, ℤ, ◌^◌, ◌<◌, ◌≤◌, ◌⊎◌, pos, IsSome, true};
 ghost use Rattle.retransmit.specs.Resending.{due_of};
-ghost use Rattle.tcp_transmit.specs.Acks.{IsSeenAs, acknowledged, after_ack, congested_by, cwnd_acked, is_acceptable, is_duplicate as is_duplicate_by, is_last_window as is_last_window_by, is_newer as newer_by, is_same as is_same_as, moved, octets_acked, opened, place_acked, windowed, without};
+ghost use Rattle.tcp_transmit.specs.Acks.{IsSeenAs, acknowledged, after_ack, congested_by, cwnd_acked, is_acceptable, is_duplicate as is_duplicate_by, is_last_window as is_last_window_by};
+ghost use Rattle.tcp_transmit.specs.Acks.{is_newer as newer_by, is_same as is_same_as, moved, octets_acked, opened, place_acked, windowed, without};
 ghost use Rattle.tcp_transmit.specs.Transmission.{Feeds, is_closed, octets_read};
 
 use crate::timing::{round_trip, timed_past};

@@ -170,6 +170,7 @@ impl Transmit {
         ensures congested { self.new ≡ record self.old { cwnd = Some cwnd } }
         ensures feeds { (down : Downward) → Feeds self.old down → Feeds self.new down }
     {
+        // for the prover: a congestion window is never 0.
         prove!(cwnd.window() > 0);
         self.cwnd = Some(cwnd);
     }

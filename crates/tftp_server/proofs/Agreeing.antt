@@ -1,5 +1,6 @@
 -- Options that are answered, each once.
-use Rattle.std.proofs.Common.{◌≡◌, ℕ, ◌≤◌, ◌<◌, ◌*◌, ◌&&◌, ◌||◌, nat_le, min, codes, bytes_eq, Bool, true, false, cond, List, [], ◌∷◌, ◌++◌, length, map, Option, Some, None, option_map, is_some, refl, sym, ◌∙◌, ap, arith}
+use Rattle.std.proofs.Common.{◌≡◌, ℕ, ◌≤◌, ◌<◌, ◌*◌, ◌&&◌, ◌||◌, nat_le, min, codes, bytes_eq, Bool, true, false, cond, List, [], ◌∷◌, ◌++◌, length, map, Option, Some, None, option_map}
+use Rattle.std.proofs.Common.{is_some, refl, sym, ◌∙◌, ap, arith}
 use Rattle.std.specs.List.{list_all, list_any}
 use Rattle.std.proofs.lemmas.Bool.Decides.{nat_tests}
 use Rattle.std.proofs.lemmas.List.{length-append, map-append}
@@ -61,7 +62,8 @@ shown size timeout items = record { size = size; timeout = timeout; answered = m
 abbrev pub answer : Known → ℕ → Answer
 answer option number = record { option = option; number = number }
 
-pub not_among : (option : Known) (size timeout : ℕ) (items : List Answer) (terms : Terms) → shown size timeout items ≡ terms → has_answered (name_of option) terms ≡ false → is_among option items ≡ false
+pub not_among : (option : Known) (size timeout : ℕ) (items : List Answer) (terms : Terms) → shown size timeout items ≡ terms → has_answered (name_of option) terms ≡ false →
+    is_among option items ≡ false
 not_among option size timeout items terms view has = sym (among_map (name_of option) items) ∙ ap (λ (t : Terms). has_answered (name_of option) t) view ∙ has
 
 -- a number that was read lies in its range

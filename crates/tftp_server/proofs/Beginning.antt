@@ -31,7 +31,10 @@ no_folder f (Some x) is = cc
 pub unnamed : (mac : List ℕ) (guest : Endpoint) (r : Request) (ts : List Transfer) (folder : Option (List ℕ)) → is_name r.name ≡ false → requested_file mac guest r ts folder ≡ refuses 2 mac guest ts
 unnamed mac guest r ts None is = refl
 unnamed mac guest r ts (Some folder) is =
-    ap (λ b. cond b (record { files = record { transfers = ts; quest = SeeksLength (record { guest = guest; mac = mac; file = file_in folder r.name; options = r.options }) }; told = None }) (refuses 2 mac guest ts)) is
+    ap (λ b. cond b (record {
+      files = record { transfers = ts; quest = SeeksLength (record { guest = guest; mac = mac; file = file_in folder r.name; options = r.options }) };
+      told = None;
+    }) (refuses 2 mac guest ts)) is
 
 pub not_taken : (name : List ℕ) → None ≡ name_taken name → is_name name ≡ false
 not_taken name is = by (is_name name) is

@@ -38,7 +38,8 @@ joined p q a b same (inl is) = inl (same ∙ is)
 joined p q a b same (inr is) = inr (same ∙ is)
 
 asks_more : (now : ℕ) (t : Transfer) (others : List Transfer) (made : List Entry) (e : Entry) (o : Outcome) (b : Bool) → AreReadsOf t made
-    → o ≡ cond b (sends_block now (octets_read made) t others) (seeking t (octets_read made) others) → call_for o.files.quest ≡ Some (call_of e) → Stands now t others (e ∷ made) (or_outcome (by_answer now e o.files) o)
+    → o ≡ cond b (sends_block now (octets_read made) t others) (seeking t (octets_read made) others) → call_for o.files.quest ≡ Some (call_of e) → Stands now t others (e ∷ made)
+    (or_outcome (by_answer now e o.files) o)
 asks_more now t others made e o true reads is asked = let none : call_for o.files.quest ≡ None = ap (λ (p : Outcome). call_for p.files.quest) is in cc
 asks_more now t others made e o false reads is asked =
     let there = octets_read made in
@@ -52,10 +53,12 @@ asks_more now t others made e o false reads is asked =
     subst (λ (x : Entry). Stands now t others (x ∷ made) (or_outcome (by_answer now x o.files) o)) (sym r.is)
     (record {
       reads = (refl, refl, refl, reads);
-      comes = joined (or_outcome (by_answer now entry o.files) o) (told_octets now r.answer r.octets there t others) (reads_on now (there ++ octets_done r.answer r.octets) t others) (refuses 0 t.mac t.guest others) later (told_is now r.answer r.octets there t others);
+      comes = joined (or_outcome (by_answer now entry o.files) o) (told_octets now r.answer r.octets there t others)
+          (reads_on now (there ++ octets_done r.answer r.octets) t others) (refuses 0 t.mac t.guest others) later (told_is now r.answer r.octets there t others);
     })
 
-pub stands : (now : ℕ) (t : Transfer) (others : List Transfer) (made : List Entry) → AreAskedFor now (seeks_block now t others) made → Stands now t others made (after_calls now made (seeks_block now t others))
+pub stands : (now : ℕ) (t : Transfer) (others : List Transfer) (made : List Entry) → AreAskedFor now (seeks_block now t others) made → Stands now t others made
+    (after_calls now made (seeks_block now t others))
 stands now t others [] asked = record { reads = tt; comes = inl (from_none now t others) }
 stands now t others (e ∷ made) asked =
     let before = stands now t others made asked.1 in
@@ -66,7 +69,8 @@ stands now t others (e ∷ made) asked =
     by o reads (inl is) asked = asks_more now t others made e o (nat_le (octets_of t) (length (octets_read made))) reads is asked
     by o reads (inr is) asked = let none : call_for o.files.quest ≡ None = ap (λ (p : Outcome). call_for p.files.quest) is in cc
 
-settled_is : (now : ℕ) (t : Transfer) (others : List Transfer) (there : List ℕ) (o : Outcome) (b : Bool) → o ≡ cond b (sends_block now there t others) (seeking t there others) → o.files.quest ≡ Settled
+settled_is : (now : ℕ) (t : Transfer) (others : List Transfer) (there : List ℕ) (o : Outcome) (b : Bool) → o ≡ cond b (sends_block now there t others) (seeking t there others) →
+    o.files.quest ≡ Settled
     → o.told ≡ Some (record { mac = t.mac; guest = t.guest; octets = block_octets (t.block % 2 ^ 16) there })
 settled_is now t others there o true is settled = ap (λ (p : Outcome). p.told) is
 settled_is now t others there o false is settled = let seeks : o.files.quest ≡ SeeksOctets t there = ap (λ (p : Outcome). p.files.quest) is in cc

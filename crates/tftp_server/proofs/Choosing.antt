@@ -57,8 +57,13 @@ only_one p (u ∷ transfers) t apart is = by (p u) refl is (λ later. only_one p
         let no : false ≡ true = sym (all_found (λ v. is_for t.guest v ≡ false) p transfers t all is).0 ∙ same_refl t.guest in
         cc
 
-    by : (b : Bool) → p u ≡ b → (if b then Some u else find p transfers) ≡ Some t → (find p transfers ≡ Some t → AllTransfers (λ v. is_for t.guest v ≡ true → p v ≡ true) transfers) → AllTransfers (λ v. is_for t.guest v ≡ true → p v ≡ true) (u ∷ transfers)
-    by true here is later = let same : u ≡ t = cc in (λ one. here, all_so (λ v. is_for u.guest v ≡ false) (λ v. is_for t.guest v ≡ true → p v ≡ true) transfers (λ v other. never v other same) (none_all (is_for u.guest) transfers apart.0))
+    by : (b : Bool) → p u ≡ b → (if b then Some u else find p transfers) ≡ Some t →
+        (find p transfers ≡ Some t → AllTransfers (λ v. is_for t.guest v ≡ true → p v ≡ true) transfers) → AllTransfers (λ v. is_for t.guest v ≡ true → p v ≡ true) (u ∷ transfers)
+    by true here is later = let same : u ≡ t = cc in (
+      λ one. here,
+      all_so (λ v. is_for u.guest v ≡ false) (λ v. is_for t.guest v ≡ true → p v ≡ true) transfers
+          (λ v other. never v other same) (none_all (is_for u.guest) transfers apart.0),
+    )
     by false other is later = (λ one. absurd (clash is one), later is)
 
 pub all_of : (P : Transfer → Type 0) (transfers : List Transfer) → All P transfers → AllTransfers P transfers

@@ -1,5 +1,6 @@
 -- Texts that are cut off one after another.
-use Rattle.std.proofs.Common.{◌≡◌, ℕ, suc, ◌+◌, ◌==◌, not, Bool, true, false, cond, ltb, List, [], ◌∷◌, ◌++◌, length, take, drop, position, Option, Some, None, is_some, unwrap_or, option_map, refl, sym, ◌∙◌, ap, arith, append_assoc, append-nil}
+use Rattle.std.proofs.Common.{◌≡◌, ℕ, suc, ◌+◌, ◌==◌, not, Bool, true, false, cond, ltb, List, [], ◌∷◌, ◌++◌, length, take, drop, position, Option, Some, None, is_some, unwrap_or}
+use Rattle.std.proofs.Common.{option_map, refl, sym, ◌∙◌, ap, arith, append_assoc, append-nil}
 use Rattle.std.specs.List.{position_or_len}
 use Rattle.std.specs.Option.{option_and_then}
 use Rattle.std.proofs.lemmas.Bool.Decides.{nat_tests}
@@ -90,7 +91,8 @@ pairs_after xs (Some p) = option_map (λ (pairs : List (List ℕ × List ℕ)). 
 pub pairs_by : (xs : List ℕ) → pairs_in xs ≡ pairs_after xs (first_pair xs)
 pairs_by xs = ap (option_and_then pairs_of) (texts_by [] xs) ∙ by xs (cut 0 xs) refl
   where
-    paired : (a b : List ℕ) (t : Option (List (List ℕ))) → option_and_then pairs_of (option_map (λ texts. a ∷ texts) (option_map (λ texts. b ∷ texts) t)) ≡ option_map (λ (pairs : List (List ℕ × List ℕ)). (a, b) ∷ pairs) (option_and_then pairs_of t)
+    paired : (a b : List ℕ) (t : Option (List (List ℕ))) → option_and_then pairs_of (option_map (λ texts. a ∷ texts) (option_map (λ texts. b ∷ texts) t)) ≡ option_map
+        (λ (pairs : List (List ℕ × List ℕ)). (a, b) ∷ pairs) (option_and_then pairs_of t)
     paired a b None = refl
     paired a b (Some texts) = refl
 

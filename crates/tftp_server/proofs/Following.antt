@@ -1,5 +1,6 @@
 -- A block goes out only after the acknowledgement of the one before.
-use Rattle.std.proofs.Common.{◌≡◌, ℕ, ◌+◌, ◌%◌, ◌^◌, ◌⊎◌, inl, inr, nat_eq, nat_le, not, codes, Bool, true, false, cond, All, Contains, List, [], ◌∷◌, ◌++◌, length, drop, filter, find, Option, Some, None, refl, sym, ◌∙◌, ap, subst, arith}
+use Rattle.std.proofs.Common.{◌≡◌, ℕ, ◌+◌, ◌%◌, ◌^◌, ◌⊎◌, inl, inr, nat_eq, nat_le, not, codes, Bool, true, false, cond, All, Contains, List, [], ◌∷◌, ◌++◌, length, drop, filter, find}
+use Rattle.std.proofs.Common.{Option, Some, None, refl, sym, ◌∙◌, ap, subst, arith}
 use Rattle.std.proofs.lemmas.Bool.Decides.{nat_tests}
 use Rattle.std.proofs.lemmas.List.Elements.{All-cons, All-drop, All-head, All-push, All-tail, Contains-get_or}
 use Rattle.net_octets.specs.declared.Endpoint.{Endpoint}
@@ -9,7 +10,9 @@ use Rattle.world_face.specs.declared.FileSize.TheVariants.{Length, Missing, Fail
 use Rattle.world_face.specs.declared.Io.{Io}
 use Rattle.world_face.specs.declared.Io.TheVariants.{Done, End, NotYet, Failed}
 use Rattle.tftp_server.specs.Packets.{Packet, Asks, AsksToWrite, Acknowledges, GivesUp, Unheard, Request, Terms, file_in, is_name, options_octets, packet_in, request_in, says, terms_of}
-use Rattle.tftp_server.specs.Transfers.{Outcome, Quest, Said, SeeksLength, SeeksOctets, Settled, Sought, Transfer, acknowledged, begins, came, is_for, leaves, length_came, measured, octets_came, octets_of, reads_on, refuses, requested, requested_file, seeks_block, seeks_next, sending, sends, sends_block, settled, taken_in, transfer, with_room, without}
+use Rattle.tftp_server.specs.Transfers.{Outcome, Quest, Said, SeeksLength, SeeksOctets, Settled, Sought, Transfer, acknowledged, begins, came, is_for, leaves, length_came, measured}
+use Rattle.tftp_server.specs.Transfers.{octets_came, octets_of, reads_on, refuses, requested, requested_file, seeks_block, seeks_next, sending, sends, sends_block, settled, taken_in}
+use Rattle.tftp_server.specs.Transfers.{transfer, with_room, without}
 use Rattle.tftp_server.specs.Asking.{IsServed, after_calls, by_answer, or_outcome}
 use Rattle.tftp_server.specs.Laws.{IsBegun, IsNext}
 
@@ -77,7 +80,8 @@ module _ (now : ℕ) (old : List Transfer) (guest : Endpoint) (octets : List ℕ
   good_begins texts asked size s terms ts all = by (nat_eq (length terms.answered) 0)
     where
       by : (b : Bool) → IsGood (cond b (seeks_next now (transfer size s terms) ts) (sends now false (options_octets terms) (transfer size s terms) ts))
-      by true = let next : Transfer = record (transfer size s terms) { block = (transfer size s terms).block + 1 } in good_block next ts all (inr (record { texts = texts; asked = asked; block_is = omega arith }))
+      by true = let next : Transfer = record (transfer size s terms) { block = (transfer size s terms).block + 1 } in good_block next ts all
+          (inr (record { texts = texts; asked = asked; block_is = omega arith }))
       by false = good_sends _ _ (transfer size s terms) ts all (inr (record { texts = texts; asked = asked; block_is = omega arith }))
 
   good_measured : (texts : List ℕ) → packet_in octets ≡ Asks texts → (size : ℕ) (s : Sought) (terms : Option Terms) (ts : List Transfer) → All Kept ts → IsGood (measured now size s terms ts)
@@ -112,16 +116,25 @@ module _ (now : ℕ) (old : List Transfer) (guest : Endpoint) (octets : List ℕ
   all_kept : All Kept old
   all_kept k d within = inl (Contains-get_or old k d within)
 
-  good_file : (mac : List ℕ) (r : Request) (texts : List ℕ) (ts : List Transfer) (folder : Option (List ℕ)) → packet_in octets ≡ Asks texts → All Kept ts → IsGood (requested_file mac guest r ts folder)
+  good_file : (mac : List ℕ) (r : Request) (texts : List ℕ) (ts : List Transfer) (folder : Option (List ℕ)) → packet_in octets ≡ Asks texts → All Kept ts → IsGood
+      (requested_file mac guest r ts folder)
   good_file mac r texts ts None asked all = good_refusal 2 mac guest ts all
   good_file mac r texts ts (Some folder) asked all = by (is_name r.name)
     where
       by : (b : Bool)
-          → IsGood (cond b (record { files = record { transfers = ts; quest = SeeksLength (record { guest = guest; mac = mac; file = file_in folder r.name; options = r.options }) }; told = None }) (refuses 2 mac guest ts))
+          → IsGood (cond b (record {
+            files = record {
+              transfers = ts;
+              quest = SeeksLength
+                  (record { guest = guest; mac = mac; file = file_in folder r.name; options = r.options });
+            };
+            told = None;
+          }) (refuses 2 mac guest ts))
       by true = record { list = all; quest = (texts, asked) }
       by false = good_refusal 2 mac guest ts all
 
-  good_request : (mac : List ℕ) (r : Option Request) (texts : List ℕ) (ts : List Transfer) (folder : Option (List ℕ)) → packet_in octets ≡ Asks texts → All Kept ts → IsGood (requested folder mac guest r ts)
+  good_request : (mac : List ℕ) (r : Option Request) (texts : List ℕ) (ts : List Transfer) (folder : Option (List ℕ)) → packet_in octets ≡ Asks texts → All Kept ts → IsGood
+      (requested folder mac guest r ts)
   good_request mac None texts ts folder asked all = good_refusal 4 mac guest ts all
   good_request mac (Some r) texts ts folder asked all = by (says (codes "octet") r.mode)
     where
@@ -154,6 +167,7 @@ module _ (now : ℕ) (old : List Transfer) (guest : Endpoint) (octets : List ℕ
   good_packet folder mac GivesUp is = good_leaves (without guest old) (all_filter Kept (λ u. not (is_for guest u)) old all_kept)
   good_packet folder mac Unheard is = good_leaves old all_kept
 
-  pub follows : (folder : Option (List ℕ)) (mac : List ℕ) (new : List Transfer) (told : Option Said) (made : List Entry) → IsServed now (came folder now mac guest octets (settled old)) new told made → All Kept new
+  pub follows : (folder : Option (List ℕ)) (mac : List ℕ) (new : List Transfer) (told : Option Said) (made : List Entry) → IsServed now
+      (came folder now mac guest octets (settled old)) new told made → All Kept new
   follows folder mac new told made served =
       subst (λ (ts : List Transfer). All Kept ts) (sym served.transfers) (good_calls made (came folder now mac guest octets (settled old)) (good_packet folder mac (packet_in octets) refl)).list

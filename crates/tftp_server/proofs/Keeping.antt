@@ -1,5 +1,6 @@
 -- Rows, and the transfers that they stand for.
-use Rattle.std.proofs.Common.{◌≡◌, ℕ, zero, suc, ◌%◌, ◌<◌, ◌&&◌, nat_eq, nat_le, nat_lt, Bool, true, false, cond, List, [], ◌∷◌, ◌++◌, length, map, find, position, take, drop, get_or, set, Option, Some, None, option_map, refl, sym, ◌∙◌, ap, subst, arith}
+use Rattle.std.proofs.Common.{◌≡◌, ℕ, zero, suc, ◌%◌, ◌<◌, ◌&&◌, nat_eq, nat_le, nat_lt, Bool, true, false, cond, List, [], ◌∷◌, ◌++◌, length, map, find, position, take, drop, get_or, set}
+use Rattle.std.proofs.Common.{Option, Some, None, option_map, refl, sym, ◌∙◌, ap, subst, arith}
 use Rattle.std.proofs.lemmas.Bool.Decides.{nat_tests}
 use Rattle.std.proofs.lemmas.List.{get_or-map, length-map, map-append, map-set, take-map}
 use Rattle.std.proofs.lemmas.List.Quantifiers.{position-Some}
@@ -74,7 +75,8 @@ is_due_at now rows i d is = few (get_or rows i d).again (both (nat_le (get_or ro
     few : (n : ℕ) → nat_lt n 5 ≡ true → n < 5
     few n is = grind (arith, nat_tests)
 
-pub again_is : (now : ℕ) (folder : Option (List ℕ)) (rows : List Row) (i : ℕ) (d : Row) (e : Transfer) (r : Row) → i < length rows → transfer_of folder r ≡ sent_again now (transfer_of folder (get_or rows i d))
+pub again_is : (now : ℕ) (folder : Option (List ℕ)) (rows : List Row) (i : ℕ) (d : Row) (e : Transfer) (r : Row) → i < length rows → transfer_of folder r ≡ sent_again now
+    (transfer_of folder (get_or rows i d))
     → transfers_of folder (set rows i r) ≡ set (transfers_of folder rows) i (sent_again now (get_or (transfers_of folder rows) i e))
 again_is now folder rows i d e r within is =
     map-set (transfer_of folder) rows i r ∙ ap (set (transfers_of folder rows) i) (is ∙ ap (sent_again now) (sym (get_or-map (transfer_of folder) rows i d e within)))

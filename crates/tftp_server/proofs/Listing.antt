@@ -1,5 +1,6 @@
 -- Lists of transfers of which no two are for one port of a guest.
-use Rattle.std.proofs.Common.{◌≡◌, ℕ, zero, suc, ◌<◌, ◌&&◌, nat_eq, ltb, not, Bool, true, false, cond, List, [], ◌∷◌, ◌++◌, length, map, filter, find, position, take, drop, get_or, set, slice_get, Some, None, option_map, refl, sym, ◌∙◌, ap, subst, arith}
+use Rattle.std.proofs.Common.{◌≡◌, ℕ, zero, suc, ◌<◌, ◌&&◌, nat_eq, ltb, not, Bool, true, false, cond, List, [], ◌∷◌, ◌++◌, length, map, filter, find, position, take, drop, get_or, set}
+use Rattle.std.proofs.Common.{slice_get, Some, None, option_map, refl, sym, ◌∙◌, ap, subst, arith}
 use Rattle.std.specs.List.{position_or_len}
 use Rattle.std.proofs.lemmas.Bool.Decides.{nat_tests}
 use Rattle.std.proofs.lemmas.List.Folds.{find_at}
@@ -117,7 +118,8 @@ module _ {X Y : Type 0} (f : X → Y) where
   filter_map_is p [] = refl
   filter_map_is p (x ∷ xs) = by (p (f x)) (filter_map_is p xs)
     where
-      by : (b : Bool) → filter p (map f xs) ≡ map f (filter (λ x. p (f x)) xs) → cond b (f x ∷ filter p (map f xs)) (filter p (map f xs)) ≡ map f (cond b (x ∷ filter (λ x. p (f x)) xs) (filter (λ x. p (f x)) xs))
+      by : (b : Bool) → filter p (map f xs) ≡ map f (filter (λ x. p (f x)) xs) → cond b (f x ∷ filter p (map f xs)) (filter p (map f xs)) ≡ map f
+          (cond b (x ∷ filter (λ x. p (f x)) xs) (filter (λ x. p (f x)) xs))
       by true is = ap (λ (ys : List Y). f x ∷ ys) is
       by false is = is
 

@@ -43,7 +43,8 @@ after_one : (now : ℕ) (t : Transfer) (others : List Transfer) (there octets : 
 after_one now t others there octets answer place asked made is = ap (λ (o : Outcome). or_outcome (by_answer now (FileRead t.file place asked answer octets) o.files) o) is
 
 asked_one : (now : ℕ) (t : Transfer) (others : List Transfer) (there octets : List ℕ) (answer : Io) (place asked : ℕ) (made : List Entry)
-    → after_calls now made (seeks_block now t others) ≡ seeking t there others → place ≡ place_of t + length there → asked ≡ octets_of t - length there → AreAskedFor now (seeks_block now t others) made
+    → after_calls now made (seeks_block now t others) ≡ seeking t there others → place ≡ place_of t + length there → asked ≡ octets_of t - length there → AreAskedFor now
+    (seeks_block now t others) made
     → AreAskedFor now (seeks_block now t others) (FileRead t.file place asked answer octets ∷ made)
 asked_one now t others there octets answer place asked made is at count before =
     let call : call_for (after_calls now made (seeks_block now t others)).files.quest ≡ Some (CallFileRead t.file place asked) =
@@ -73,7 +74,8 @@ refused_if End other = tt
 refused_if NotYet other = tt
 refused_if Failed other = tt
 
-refused_octets : (now : ℕ) (answer : Io) (octets there : List ℕ) (t : Transfer) (others : List Transfer) → IsRefused answer → told_octets now answer octets there t others ≡ refuses 0 t.mac t.guest others
+refused_octets : (now : ℕ) (answer : Io) (octets there : List ℕ) (t : Transfer) (others : List Transfer) → IsRefused answer →
+    told_octets now answer octets there t others ≡ refuses 0 t.mac t.guest others
 refused_octets now (Done n) octets there t others refuses_it = absurd refuses_it
 refused_octets now End octets there t others refuses_it = refl
 refused_octets now NotYet octets there t others refuses_it = refl
@@ -92,7 +94,8 @@ read_none a b c now t others file there octets block answer place asked refuses_
       comes = after_one now t others there octets answer place asked made is ∙ refused_octets now answer octets there t others refuses_it;
     })
 
-pub read_all : (a b : Telling) (now : ℕ) (t : Transfer) (others : List Transfer) (block : List ℕ) → octets_of t ≤ length block → Makes a b (ReadsOn now t others block) → Makes a b (ReadsBlock now t others true block)
+pub read_all : (a b : Telling) (now : ℕ) (t : Transfer) (others : List Transfer) (block : List ℕ) → octets_of t ≤ length block → Makes a b (ReadsOn now t others block) → Makes a b
+    (ReadsBlock now t others true block)
 read_all a b now t others block all so_far =
     makes_as a b (ReadsOn now t others block) (ReadsBlock now t others true block) so_far
     (λ made reads. record { asked = reads.asked; comes = reads.comes ∙ whole now block t others all })

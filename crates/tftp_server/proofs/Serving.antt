@@ -11,7 +11,8 @@ use Rattle.tftp_server.specs.Blocks.{ReadsBlock}
 pub at_once : (now : ℕ) (o : Outcome) (new : List Transfer) (told : Option Said) → o.files.quest ≡ Settled → new ≡ o.files.transfers → told ≡ o.told → IsServed now o new told []
 at_once now o new told settled transfers tells = record { asked = tt; settled = settled; transfers = transfers; tells = tells }
 
-pub makes_at_once : (a : Telling) (now : ℕ) (o : Outcome) (new : List Transfer) (told : Option Said) → o.files.quest ≡ Settled → new ≡ o.files.transfers → told ≡ o.told → Makes a a (IsServed now o new told)
+pub makes_at_once : (a : Telling) (now : ℕ) (o : Outcome) (new : List Transfer) (told : Option Said) → o.files.quest ≡ Settled → new ≡ o.files.transfers → told ≡ o.told → Makes a a
+    (IsServed now o new told)
 makes_at_once a now o new told settled transfers tells = makes_none a (IsServed now o new told) (at_once now o new told settled transfers tells)
 
 -- some calls, and then some more

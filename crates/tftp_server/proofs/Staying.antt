@@ -4,7 +4,8 @@ use Rattle.std.specs.List.{list_all}
 use Rattle.std.proofs.lemmas.List.Elements.{All-cons, All-nil}
 use Rattle.net_octets.specs.declared.Endpoint.{Endpoint}
 use Rattle.tftp_server.specs.Packets.{Packet, Asks, AsksToWrite, Acknowledges, GivesUp, Unheard, Request, file_in, is_name, is_part, parts_from, request_in, says}
-use Rattle.tftp_server.specs.Transfers.{SeeksLength, SeeksOctets, Sought, Transfer, acknowledged, is_for, leaves, octets_of, refuses, requested, requested_file, seeks_next, sends_block, taken_in, without}
+use Rattle.tftp_server.specs.Transfers.{SeeksLength, SeeksOctets, Sought, Transfer, acknowledged, is_for, leaves, octets_of, refuses, requested, requested_file, seeks_next, sends_block}
+use Rattle.tftp_server.specs.Transfers.{taken_in, without}
 use Rattle.tftp_server.specs.Laws.{IsBelow, IsInFolder}
 use Rattle.tftp_server.proofs.Naming.{both, is_taken}
 
@@ -26,7 +27,10 @@ parts_below name is = all_below (parts_from [] name) (is_taken name is).parts
 
 module _ (mac : List ℕ) (guest : Endpoint) (s : Sought) where
   by_name : (r : Request) (ts : List Transfer) (folder : List ℕ) (b : Bool) → is_name r.name ≡ b
-      → (cond b (record { files = record { transfers = ts; quest = SeeksLength (record { guest = guest; mac = mac; file = file_in folder r.name; options = r.options }) }; told = None }) (refuses 2 mac guest ts)).files.quest
+      → (cond b (record {
+        files = record { transfers = ts; quest = SeeksLength (record { guest = guest; mac = mac; file = file_in folder r.name; options = r.options }) };
+        told = None;
+      }) (refuses 2 mac guest ts)).files.quest
       ≡ SeeksLength s → IsInFolder (Some folder) s.file
   by_name r ts folder true e is =
       let same : record { guest = guest; mac = mac; file = file_in folder r.name; options = r.options } ≡ s = cc in
@@ -37,7 +41,8 @@ module _ (mac : List ℕ) (guest : Endpoint) (s : Sought) where
   by_folder r ts None is = cc
   by_folder r ts (Some folder) is = by_name r ts folder (is_name r.name) refl is
 
-  by_mode : (r : Request) (ts : List Transfer) (folder : Option (List ℕ)) (b : Bool) → (cond b (requested_file mac guest r ts folder) (refuses 4 mac guest ts)).files.quest ≡ SeeksLength s → IsInFolder folder s.file
+  by_mode : (r : Request) (ts : List Transfer) (folder : Option (List ℕ)) (b : Bool) →
+      (cond b (requested_file mac guest r ts folder) (refuses 4 mac guest ts)).files.quest ≡ SeeksLength s → IsInFolder folder s.file
   by_mode r ts folder true is = by_folder r ts folder is
   by_mode r ts folder false is = cc
 
@@ -45,7 +50,8 @@ module _ (mac : List ℕ) (guest : Endpoint) (s : Sought) where
   by_request None ts folder is = cc
   by_request (Some r) ts folder is = by_mode r ts folder (says (codes "octet") r.mode) is
 
-  by_block : (now : ℕ) (t : Transfer) (others : List Transfer) (b : Bool) → (cond b (sends_block now [] t others) (record { files = record { transfers = others; quest = SeeksOctets t [] }; told = None })).files.quest ≡ SeeksLength s → ⊥
+  by_block : (now : ℕ) (t : Transfer) (others : List Transfer) (b : Bool) →
+      (cond b (sends_block now [] t others) (record { files = record { transfers = others; quest = SeeksOctets t [] }; told = None })).files.quest ≡ SeeksLength s → ⊥
   by_block now t others true is = cc
   by_block now t others false is = cc
 

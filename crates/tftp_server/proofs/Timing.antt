@@ -1,5 +1,6 @@
 -- The earliest moment after another, and what a tick leaves.
-use Rattle.std.proofs.Common.{◌≡◌, ℕ, zero, suc, ◌+◌, ◌<◌, ◌≤◌, nat_le, nat_lt, not, ◌||◌, Bool, true, false, cond, Any, List, [], ◌∷◌, ◌++◌, length, find, take, drop, get_or, set, Option, Some, None, option_map, refl, sym, ◌∙◌, ap, subst, arith}
+use Rattle.std.proofs.Common.{◌≡◌, ℕ, zero, suc, ◌+◌, ◌<◌, ◌≤◌, nat_le, nat_lt, not, ◌||◌, Bool, true, false, cond, Any, List, [], ◌∷◌, ◌++◌, length, find, take, drop, get_or, set, Option}
+use Rattle.std.proofs.Common.{Some, None, option_map, refl, sym, ◌∙◌, ap, subst, arith}
 use Rattle.std.proofs.lemmas.Bool.Decides.{nat_tests}
 use Rattle.std.proofs.lemmas.List.{length-append, map-append, take-append-le, take_all, take_more}
 use Rattle.std.proofs.lemmas.List.Elements.{All-push, All-weaker}
@@ -44,7 +45,8 @@ next_more now ts t (Some at) is = by (nat_le t.due now) refl
           later,
           Any-push (λ (u : Transfer). u.due ≡ t.due) ts t refl,
           All-push (λ (u : Transfer). now < u.due → t.due ≤ u.due) ts t
-              (All-weaker (λ (u : Transfer). now < u.due → at ≤ u.due) (λ (u : Transfer). now < u.due → t.due ≤ u.due) (λ u least after. let low : at ≤ u.due = least after in omega (arith, low, first)) ts is.2) (λ after. omega arith),
+              (All-weaker (λ (u : Transfer). now < u.due → at ≤ u.due) (λ (u : Transfer). now < u.due → t.due ≤ u.due) (λ u least after. let low : at ≤ u.due = least after in omega
+              (arith, low, first)) ts is.2) (λ after. omega arith),
         )
 
     by : (b : Bool) → nat_le t.due now ≡ b → IsNextDue now (ts ++ (t ∷ [])) (cond b (Some at) (cond (nat_le at t.due) (Some at) (Some t.due)))
@@ -54,7 +56,8 @@ next_more now ts t (Some at) is = by (nat_le t.due now) refl
     by false e = after_it (nat_le at t.due) refl (grind (arith, nat_tests, e))
 
 -- one row more
-pub rows_more : (folder : Option (List ℕ)) (rows : List Row) (i : ℕ) (r : Row) → i < length rows → r ≡ get_or rows i r → transfers_of folder (take (i + 1) rows) ≡ transfers_of folder (take i rows) ++ (transfer_of folder r ∷ [])
+pub rows_more : (folder : Option (List ℕ)) (rows : List Row) (i : ℕ) (r : Row) → i < length rows → r ≡ get_or rows i r → transfers_of folder
+    (take (i + 1) rows) ≡ transfers_of folder (take i rows) ++ (transfer_of folder r ∷ [])
 rows_more folder rows i r within at =
     ap (transfers_of folder) (take_more rows i r within ∙ ap (λ (x : Row). take i rows ++ (x ∷ [])) (sym at)) ∙ map-append (transfer_of folder) (take i rows) (r ∷ [])
 

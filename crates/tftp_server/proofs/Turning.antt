@@ -18,7 +18,8 @@ pub left_twice : (now : ℕ) (ts : List Transfer) → are_left now (are_left now
 left_twice now [] = refl
 left_twice now (t ∷ ts) = by (is_left now t) refl (left_twice now ts)
   where
-    by : (b : Bool) → is_left now t ≡ b → are_left now (are_left now ts) ≡ are_left now ts → are_left now (cond b (t ∷ are_left now ts) (are_left now ts)) ≡ cond b (t ∷ are_left now ts) (are_left now ts)
+    by : (b : Bool) → is_left now t ≡ b → are_left now (are_left now ts) ≡ are_left now ts → are_left now (cond b (t ∷ are_left now ts) (are_left now ts)) ≡ cond b
+        (t ∷ are_left now ts) (are_left now ts)
     by true here rest = ap (λ (b : Bool). cond b (t ∷ are_left now (are_left now ts)) (are_left now (are_left now ts))) here ∙ ap (λ (l : List Transfer). t ∷ l) rest
     by false here rest = rest
 
@@ -52,7 +53,8 @@ stays now t waits goes = ap (λ (b : Bool). not b || nat_lt (t.again + 1) 5) (la
     later : (timeout : ℕ) → 1000 ≤ timeout → nat_le (now + timeout) now ≡ false
     later timeout waits = grind (arith, nat_tests, waits)
 
-left_after : (now : ℕ) (t : Transfer) (ts : List Transfer) → AllTransfers (IfThere (λ u. WaitsWell u.timeout) (goes_again now) t) ts → are_left now (with_again now t.guest ts) ≡ with_again now t.guest (are_left now ts)
+left_after : (now : ℕ) (t : Transfer) (ts : List Transfer) → AllTransfers (IfThere (λ u. WaitsWell u.timeout) (goes_again now) t) ts → are_left now
+    (with_again now t.guest ts) ≡ with_again now t.guest (are_left now ts)
 left_after now t [] all = refl
 left_after now t (u ∷ ts) all = by (is_for t.guest u) refl (is_left now u) refl (left_after now t ts all.1)
   where
@@ -73,10 +75,12 @@ left_after now t (u ∷ ts) all = by (is_for t.guest u) refl (is_left now u) ref
         ap (λ (c : Bool). cond c (cond b (sent_again now u) u ∷ are_left now (with_again now t.guest ts)) (are_left now (with_again now t.guest ts))) (same b here ∙ gone) ∙ rest
 
 -- a packet goes again: it is the same whether those that are over are gone before or after
-pub left_again : (now : ℕ) (t : Transfer) (ts : List Transfer) → AreApart ts → AllTransfers (λ u. WaitsWell u.timeout) ts → next_again now ts ≡ Some t → are_left now (with_again now t.guest ts) ≡ with_again now t.guest (are_left now ts)
+pub left_again : (now : ℕ) (t : Transfer) (ts : List Transfer) → AreApart ts → AllTransfers (λ u. WaitsWell u.timeout) ts → next_again now ts ≡ Some t → are_left now
+    (with_again now t.guest ts) ≡ with_again now t.guest (are_left now ts)
 left_again now t ts apart timed found = left_after now t ts (if_there (λ u. WaitsWell u.timeout) (goes_again now) ts t timed apart found)
 
-pub ticked_some : (now : ℕ) (t : Transfer) (ts : List Transfer) → AreApart ts → AllTransfers (λ u. WaitsWell u.timeout) ts → next_again now ts ≡ Some t → ticked now true ts ≡ are_left now (with_again now t.guest ts)
+pub ticked_some : (now : ℕ) (t : Transfer) (ts : List Transfer) → AreApart ts → AllTransfers (λ u. WaitsWell u.timeout) ts → next_again now ts ≡ Some t →
+    ticked now true ts ≡ are_left now (with_again now t.guest ts)
 ticked_some now t ts apart timed found = ap (ticked_by now (are_left now ts)) found ∙ sym (left_again now t ts apart timed found)
 
 -- ---- one is due fewer after each that goes
@@ -111,7 +115,8 @@ due_left now (t ∷ ts) = by (is_left now t) refl (goes_again now t) refl (due_l
     by true left b goes rest = ap (λ (c : Bool). length (cond c (t ∷ filter (goes_again now) (are_left now ts)) (filter (goes_again now) (are_left now ts)))) goes ∙ counts b rest
       where
         counts : (b : Bool) → due_count now (are_left now ts) ≡ due_count now ts
-            → length (cond b (t ∷ filter (goes_again now) (are_left now ts)) (filter (goes_again now) (are_left now ts))) ≡ length (cond b (t ∷ filter (goes_again now) ts) (filter (goes_again now) ts))
+            → length (cond b (t ∷ filter (goes_again now) (are_left now ts)) (filter (goes_again now) (are_left now ts))) ≡ length
+            (cond b (t ∷ filter (goes_again now) ts) (filter (goes_again now) ts))
         counts true rest = omega (arith, rest)
         counts false rest = rest
     by false gone true goes rest = let never : is_left now t ≡ true = stays_left now t goes in let no : false ≡ true = sym gone ∙ never in cc
@@ -128,14 +133,17 @@ gone now t waits = ap (λ (b : Bool). b && nat_lt (t.again + 1) 5) (later t.time
 others_due : (now : ℕ) (guest : Endpoint) (ts : List Transfer) → AllTransfers (λ u. is_for guest u ≡ false) ts → due_count now (with_again now guest ts) ≡ due_count now ts
 others_due now guest [] all = refl
 others_due now guest (u ∷ ts) all =
-    ap (λ (b : Bool). length (cond (goes_again now (cond b (sent_again now u) u)) (cond b (sent_again now u) u ∷ filter (goes_again now) (with_again now guest ts)) (filter (goes_again now) (with_again now guest ts)))) all.0
+    ap (λ (b : Bool). length (cond (goes_again now (cond b (sent_again now u) u)) (cond b (sent_again now u) u ∷ filter (goes_again now) (with_again now guest ts))
+    (filter (goes_again now) (with_again now guest ts)))) all.0
     ∙ by (goes_again now u) (others_due now guest ts all.1)
   where
-    by : (b : Bool) → due_count now (with_again now guest ts) ≡ due_count now ts → length (cond b (u ∷ filter (goes_again now) (with_again now guest ts)) (filter (goes_again now) (with_again now guest ts))) ≡ length (cond b (u ∷ filter (goes_again now) ts) (filter (goes_again now) ts))
+    by : (b : Bool) → due_count now (with_again now guest ts) ≡ due_count now ts → length (cond b (u ∷ filter (goes_again now) (with_again now guest ts))
+        (filter (goes_again now) (with_again now guest ts))) ≡ length (cond b (u ∷ filter (goes_again now) ts) (filter (goes_again now) ts))
     by true rest = omega (arith, rest)
     by false rest = rest
 
-pub one_fewer : (now : ℕ) (t : Transfer) (ts : List Transfer) → AllTransfers (λ u. WaitsWell u.timeout) ts → AreApart ts → next_again now ts ≡ Some t → due_count now (with_again now t.guest ts) + 1 ≡ due_count now ts
+pub one_fewer : (now : ℕ) (t : Transfer) (ts : List Transfer) → AllTransfers (λ u. WaitsWell u.timeout) ts → AreApart ts → next_again now ts ≡ Some t → due_count now
+    (with_again now t.guest ts) + 1 ≡ due_count now ts
 one_fewer now t [] timed apart is = cc
 one_fewer now t (u ∷ ts) timed apart is = by (goes_again now u) refl is (λ found. one_fewer now t ts timed.1 apart.1 found)
   where
@@ -151,7 +159,8 @@ one_fewer now t (u ∷ ts) timed apart is = by (goes_again now u) refl is (λ fo
         ap (λ (b : Bool). length (cond b (v ∷ filter (goes_again now) ts) (filter (goes_again now) ts))) goes ∙ omega arith in
         omega (arith, rest, after, before)
 
-    later : goes_again now u ≡ false → find (goes_again now) ts ≡ Some t → due_count now (with_again now t.guest ts) + 1 ≡ due_count now ts → due_count now (with_again now t.guest (u ∷ ts)) + 1 ≡ due_count now (u ∷ ts)
+    later : goes_again now u ≡ false → find (goes_again now) ts ≡ Some t → due_count now (with_again now t.guest ts) + 1 ≡ due_count now ts → due_count now
+        (with_again now t.guest (u ∷ ts)) + 1 ≡ due_count now (u ∷ ts)
     later other found rest =
         let apart_from : is_for t.guest u ≡ false = not_for (is_for t.guest u) refl in
         let after : due_count now (with_again now t.guest (u ∷ ts)) ≡ due_count now (with_again now t.guest ts) =
@@ -168,7 +177,8 @@ one_fewer now t (u ∷ ts) timed apart is = by (goes_again now u) refl is (λ fo
             let no : false ≡ true = sym never ∙ ap (λ (g : Endpoint). same_endpoint t.guest g) same ∙ same_refl t.guest in
             cc
 
-    by : (b : Bool) → goes_again now u ≡ b → cond b (Some u) (find (goes_again now) ts) ≡ Some t → (find (goes_again now) ts ≡ Some t → due_count now (with_again now t.guest ts) + 1 ≡ due_count now ts) → due_count now (with_again now t.guest (u ∷ ts)) + 1 ≡ due_count now (u ∷ ts)
+    by : (b : Bool) → goes_again now u ≡ b → cond b (Some u) (find (goes_again now) ts) ≡ Some t → (find (goes_again now) ts ≡ Some t → due_count now
+        (with_again now t.guest ts) + 1 ≡ due_count now ts) → due_count now (with_again now t.guest (u ∷ ts)) + 1 ≡ due_count now (u ∷ ts)
     by true goes is rest = let same : u ≡ t = cc in here u same goes timed.0.0 apart.0
     by false other is rest = later other is (rest is)
 
@@ -176,6 +186,7 @@ one_fewer now t (u ∷ ts) timed apart is = by (goes_again now u) refl is (λ fo
 pub fewer_due : (now : ℕ) (t : Transfer) (ts : List Transfer) → AreSound ts → next_again now ts ≡ Some t → due_count now (ticked now true ts) + 1 ≡ due_count now ts
 fewer_due now t ts sound found =
     let timed = all_of (λ u. WaitsWell u.timeout) ts sound.timed in
-    let after : due_count now (ticked now true ts) ≡ due_count now (with_again now t.guest ts) = ap (due_count now) (ticked_some now t ts sound.apart timed found) ∙ due_left now (with_again now t.guest ts) in
+    let after : due_count now (ticked now true ts) ≡ due_count now (with_again now t.guest ts) = ap (due_count now) (ticked_some now t ts sound.apart timed found) ∙ due_left now
+    (with_again now t.guest ts) in
     let fewer = one_fewer now t ts timed sound.apart found in
     omega (arith, after, fewer)

@@ -35,7 +35,8 @@ timed_well terms None range = tt
 timed_well terms (Some n) range = let within = range n refl in (omega (arith, within.0), omega (arith, within.1))
 
 option_well : (size : ℕ) (option : List ℕ × List ℕ) (terms : Terms) → WaitsWell terms.timeout → OfSome (with_option size option terms)
-option_well size option terms is = by (has_answered (map small option.0) terms) (bytes_eq (map small option.0) (codes "blksize")) (bytes_eq (map small option.0) (codes "timeout")) (bytes_eq (map small option.0) (codes "tsize"))
+option_well size option terms is = by (has_answered (map small option.0) terms) (bytes_eq (map small option.0) (codes "blksize")) (bytes_eq (map small option.0) (codes "timeout"))
+    (bytes_eq (map small option.0) (codes "tsize"))
   where
     by : (a b c d : Bool)
         → OfSome (cond a None (cond b (option_map (with_size terms) (number_in 8 65464 option.1))

@@ -18,7 +18,8 @@ pub one_more : (items : List Answer) (i : ℕ) (d : Answer) (old new : List ℕ)
 one_more items i d old new within was is =
     let before = take i items in
     let a = get_or items i d in
-    let next : map answered_pair (take (i + 1) items) ≡ map answered_pair before ++ (answered_pair a ∷ []) = ap (map answered_pair) (take_more items i d within) ∙ map-append answered_pair before (a ∷ []) in
+    let next : map answered_pair (take (i + 1) items) ≡ map answered_pair before ++ (answered_pair a ∷ []) = ap (map answered_pair) (take_more items i d within)
+    ∙ map-append answered_pair before (a ∷ []) in
     is ∙ ap (λ (xs : List ℕ). xs ++ answered_octets (answered_pair a ∷ [])) was
     ∙ append_assoc (two 6) (answered_octets (map answered_pair before)) (answered_octets (answered_pair a ∷ []))
     ∙ sym (ap (λ (xs : List ℕ). two 6 ++ xs) (ap answered_octets next ∙ answered-append (map answered_pair before) (answered_pair a ∷ [])))

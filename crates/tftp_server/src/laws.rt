@@ -14,7 +14,8 @@ pub fn names_stay_in_the_folder()
         → (came folder now mac guest octets (settled old)).files.quest ≡ SeeksLength s → IsInFolder folder s.file }
 {}
 
-/// A block goes out only after the acknowledgement of the one before: a transfer after a packet was there before it, or it is the next block of the one whose last block the packet acknowledged, or it begins because the packet asked for a file (RFC 1350, 2).
+/// A block goes out only after the acknowledgement of the one before: a transfer after a packet was there before it, or it is the next block of the one whose
+/// last block the packet acknowledged, or it begins because the packet asked for a file (RFC 1350, 2).
 pub fn a_block_is_told_after_the_acknowledgement_of_the_one_before()
     ensures { (folder : Option (List ℕ)) (now : ℕ) (mac : List ℕ) (guest : Endpoint) (octets : List ℕ) (old new : List Transfer) (told : Option Said)
         (made : List Entry)

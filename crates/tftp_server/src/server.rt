@@ -43,7 +43,8 @@ struct Asker {
 }
 
 impl Tftp {
-    /// A packet of a guest's port came from this hardware address. The calls on files that it asks for are made, until it asks for none, and what the guest is told stands at the front of `into`, which has room for 1,472 octets.
+    /// A packet of a guest's port came from this hardware address. The calls on files that it asks for are made, until it asks for none, and what the guest is
+    /// told stands at the front of `into`, which has room for 1,472 octets.
     pub fn packet<W: World>(
         &mut self,
         world: &mut W,
@@ -63,6 +64,7 @@ impl Tftp {
     {
         let asker = Asker { guest: from, mac };
         let reply = self.take_in(world, now, asker, body, into);
+        // for the prover: with the rows lent once more, what they hold is known here.
         let _few = &self.rows;
         reply
     }

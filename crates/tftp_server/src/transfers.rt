@@ -61,7 +61,8 @@ impl Tftp {
         }
     }
 
-    /// The packet of the longest unused transfer that is due to go again goes again: it is counted, and stands at the front of `into`, which has room for 1,472 octets. Nothing exactly where none is due. Ask where nothing else is left to be sent.
+    /// The packet of the longest unused transfer that is due to go again goes again: it is counted, and stands at the front of `into`, which has room for 1,472
+    /// octets. Nothing exactly where none is due. Ask where nothing else is left to be sent.
     pub fn next_again(&mut self, now: u64, into: &mut [u8]) -> Reply
         requires moment { now ≤ 2 ^ 62 }
         requires room { 1472 ≤ length into.old }

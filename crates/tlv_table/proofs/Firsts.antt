@@ -1,5 +1,6 @@
 -- The first option of a code, in what is read.
-use Rattle.std.proofs.Common.{◌≡◌, ◌⊎◌, inl, inr, ℕ, zero, suc, ◌+◌, ◌-◌, ◌≤◌, ◌==◌, nat_lt, Bool, true, false, ◌||◌, cond, List, [], ◌∷◌, ◌++◌, length, take, drop, get_or, Option, Some, None, find, option_map, Result, Ok, Err, is_ok, refl, sym, ◌∙◌, ap, subst, arith, append_assoc, append-nil}
+use Rattle.std.proofs.Common.{◌≡◌, ◌⊎◌, inl, inr, ℕ, zero, suc, ◌+◌, ◌-◌, ◌≤◌, ◌==◌, nat_lt, Bool, true, false, ◌||◌, cond, List, [], ◌∷◌, ◌++◌, length, take, drop, get_or, Option, Some}
+use Rattle.std.proofs.Common.{None, find, option_map, Result, Ok, Err, is_ok, refl, sym, ◌∙◌, ap, subst, arith, append_assoc, append-nil}
 use Rattle.std.proofs.lemmas.Bool.{false≢true}
 use Rattle.std.proofs.lemmas.Bool.Decides.{nat_tests}
 use Rattle.tlv_table.specs.declared.Form.{Form}
@@ -87,7 +88,8 @@ step_keeps : (form : Form) (rows : List Row) (found : List Found) (place code : 
 unfolding Keeps
 step_keeps form rows found place code rest =
     cond_keeps (code == form.end) found (Ends (Ok found)) (cond (code == form.pad) (Goes found 0) (option_step rows found code place (body_in form place rest))) refl
-    (cond_keeps (code == form.pad) found (Goes found 0) (option_step rows found code place (body_in form place rest)) ([], sym (append-nil found)) (option_keeps rows found code place (body_in form place rest)))
+    (cond_keeps (code == form.pad) found (Goes found 0) (option_step rows found code place (body_in form place rest)) ([], sym (append-nil found))
+    (option_keeps rows found code place (body_in form place rest)))
 
 follow_keeps : (found pairs : List Found) (s : Step) (go_on : List Found → ℕ → Result (List Found) TlvFault) → Keeps found s
     → ((more : List Found) (skip : ℕ) → go_on more skip ≡ Ok pairs → (later : List Found) × (pairs ≡ more ++ later))
@@ -106,7 +108,8 @@ follow_keeps found pairs (Goes more skip) go_on keeps then is =
     (keeps.0 ++ rest.0, rest.1 ∙ ap (λ m. m ++ rest.0) keeps.1 ∙ append_assoc found keeps.0 rest.0)
 
 -- reading on keeps what is found
-pub reading_keeps : (form : Form) (rows : List Row) (found pairs : List Found) (place skip : ℕ) (octets : List ℕ) → read_on form rows found place skip octets ≡ Ok pairs → (later : List Found) × (pairs ≡ found ++ later)
+pub reading_keeps : (form : Form) (rows : List Row) (found pairs : List Found) (place skip : ℕ) (octets : List ℕ) → read_on form rows found place skip octets ≡ Ok pairs →
+    (later : List Found) × (pairs ≡ found ++ later)
 unfolding read_on
 reading_keeps form rows found pairs place skip [] is = ([], sym (append-nil found ∙ at_last form.end_needed is))
   where
@@ -148,7 +151,8 @@ taken_lacks rows code found new unknown none =
     both true b no_a no_b = cc
     both false b no_a no_b = no_b
 
-option_lacks : (rows : List Row) (code : ℕ) (found : List Found) (front place : ℕ) (b : Result (List ℕ) TlvFault) → row_of rows code ≡ None → has_code code found ≡ false → Lacks code found (option_step rows found front place b)
+option_lacks : (rows : List Row) (code : ℕ) (found : List Found) (front place : ℕ) (b : Result (List ℕ) TlvFault) → row_of rows code ≡ None → has_code code found ≡ false →
+    Lacks code found (option_step rows found front place b)
 unfolding Lacks
 option_lacks rows code found front place (Ok body) unknown none = taken_lacks rows code found (record { code = front; place = place; body = body }) unknown none
 option_lacks rows code found front place (Err fault) unknown none = tt
@@ -178,7 +182,8 @@ reading_lacks form rows code found pairs place skip [] unknown none is = sym (ap
 reading_lacks form rows code found pairs place zero (front ∷ rest) unknown none is =
     follow_lacks code found pairs (step form rows found place front rest) (λ more skip. read_on form rows more (place + 1) skip rest)
     (cond_lacks (front == form.end) code found (Ends (Ok found)) (cond (front == form.pad) (Goes found 0) (option_step rows found front place (body_in form place rest))) none
-    (cond_lacks (front == form.pad) code found (Goes found 0) (option_step rows found front place (body_in form place rest)) none (option_lacks rows code found front place (body_in form place rest) unknown none)))
+    (cond_lacks (front == form.pad) code found (Goes found 0) (option_step rows found front place (body_in form place rest)) none
+    (option_lacks rows code found front place (body_in form place rest) unknown none)))
     (λ more skip lacks. reading_lacks form rows code more pairs (place + 1) skip rest unknown lacks) is
 reading_lacks form rows code found pairs place (suc skip) (octet ∷ rest) unknown none is = reading_lacks form rows code found pairs (place + 1) skip rest unknown none is
 
@@ -198,7 +203,8 @@ no_body_anywhere form p q [] fault is = (Cut q, refl)
 no_body_anywhere form p q (size ∷ rest) fault is =
     moved (nat_lt size (head_counted form)) (nat_lt (length rest) (size - head_counted form)) (take (size - head_counted form) rest) is
   where
-    moved : (few less : Bool) (part : List ℕ) → cond few (Err (BadLength p)) (cond less (Err (Cut p)) (Ok part)) ≡ Err fault → (other : TlvFault) × (cond few (Err (BadLength q)) (cond less (Err (Cut q)) (Ok part)) ≡ Err other)
+    moved : (few less : Bool) (part : List ℕ) → cond few (Err (BadLength p)) (cond less (Err (Cut p)) (Ok part)) ≡ Err fault → (other : TlvFault) ×
+        (cond few (Err (BadLength q)) (cond less (Err (Cut q)) (Ok part)) ≡ Err other)
     moved true less part is = (BadLength q, refl)
     moved false true part is = (Cut q, refl)
     moved false false part is = cc
@@ -209,7 +215,8 @@ front_option place octets body = record { code = get_or octets 0 0; place = plac
 
 -- the first option of a code
 pub this_is_first : (form : Form) (rows : List Row) (found : List Found) (place : ℕ) (octets body : List ℕ) (code : ℕ) (row : Row) → 1 ≤ length octets
-    → (get_or octets 0 0 ≡ form.end → ⊥) → (get_or octets 0 0 ≡ form.pad → ⊥) → body_in form place (drop 1 octets) ≡ Ok body → get_or octets 0 0 ≡ code → row_of rows code ≡ Some row → has_code code found ≡ false
+    → (get_or octets 0 0 ≡ form.end → ⊥) → (get_or octets 0 0 ≡ form.pad → ⊥) → body_in form place (drop 1 octets) ≡ Ok body → get_or octets 0 0 ≡ code →
+    row_of rows code ≡ Some row → has_code code found ≡ false
     → (r : Result (List Found) TlvFault) → read_on form rows found place 0 octets ≡ r → is_ok r ≡ true → first_body code (found_in r) ≡ Some body
 this_is_first form rows found place octets body code row some no_end no_pad is front known none r reads right =
     by_judge (judged row (has_code (get_or octets 0 0) found) (length body) place) refl
@@ -220,11 +227,14 @@ this_is_first form rows found place octets body code row some no_end no_pad is f
     by_judge : (o : Option TlvFault) → judged row (has_code (get_or octets 0 0) found) (length body) place ≡ o → first_body code (found_in r) ≡ Some body
     by_judge None judged_is =
         let pairs = found_in r in
-        let goes = goes_on form rows found (found ++ (front_option place octets body) ∷ []) place octets body some no_end no_pad is (ap (λ o. taken o found (front_option place octets body)) row_is ∙ ap (λ o. ends_or_goes o found (front_option place octets body)) judged_is) in
-        let kept = reading_keeps form rows (found ++ (front_option place octets body) ∷ []) pairs (place + 2 + length body) 0 (drop (1 + length body) (drop 1 octets)) (sym goes ∙ reads ∙ ok_is r right) in
+        let goes = goes_on form rows found (found ++ (front_option place octets body) ∷ []) place octets body some no_end no_pad is
+        (ap (λ o. taken o found (front_option place octets body)) row_is ∙ ap (λ o. ends_or_goes o found (front_option place octets body)) judged_is) in
+        let kept = reading_keeps form rows (found ++ (front_option place octets body) ∷ []) pairs (place + 2 + length body) 0 (drop (1 + length body) (drop 1 octets))
+        (sym goes ∙ reads ∙ ok_is r right) in
         ap (first_body code) kept.1 ∙ this_first code found kept.0 (front_option place octets body) none front
     by_judge (Some fault) judged_is =
-        absurd (not_err r fault right (sym reads ∙ fails_in_row form rows found place octets body fault some no_end no_pad is (ap (λ o. taken o found (front_option place octets body)) row_is ∙ ap (λ o. ends_or_goes o found (front_option place octets body)) judged_is)))
+        absurd (not_err r fault right (sym reads ∙ fails_in_row form rows found place octets body fault some no_end no_pad is
+        (ap (λ o. taken o found (front_option place octets body)) row_is ∙ ap (λ o. ends_or_goes o found (front_option place octets body)) judged_is)))
 
 -- an option of another code
 pub passes_on : (form : Form) (rows : List Row) (found : List Found) (place : ℕ) (octets body : List ℕ) (code : ℕ) → 1 ≤ length octets

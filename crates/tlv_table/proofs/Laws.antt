@@ -1,5 +1,7 @@
 -- What the grammar says is what is read.
-use Rattle.std.proofs.Common.{◌≡◌, ◌≢◌, ◌⊎◌, inl, inr, ℕ, zero, suc, ◌+◌, ◌-◌, ◌<◌, ◌≤◌, ◌==◌, nat_lt, nat_le, Bool, true, false, not, ◌&&◌, cond, List, [], ◌∷◌, ◌++◌, length, take, drop, Option, Some, None, option_map, find, Result, Ok, Err, IfSome, IfOk, IfErr, refl, sym, ◌∙◌, ap, subst, arith, append_assoc, append-nil, length-append, length-take, length-drop, min}
+use Rattle.std.proofs.Common.{◌≡◌, ◌≢◌, ◌⊎◌, inl, inr, ℕ, zero, suc, ◌+◌, ◌-◌, ◌<◌, ◌≤◌, ◌==◌, nat_lt, nat_le, Bool, true, false, not, ◌&&◌, cond, List, [], ◌∷◌, ◌++◌, length, take, drop}
+use Rattle.std.proofs.Common.{Option, Some, None, option_map, find, Result, Ok, Err, IfSome, IfOk, IfErr, refl, sym, ◌∙◌, ap, subst, arith, append_assoc, append-nil, length-append}
+use Rattle.std.proofs.Common.{length-take, length-drop, min}
 use Rattle.std.specs.List.{AllByRecursion}
 use Rattle.std.proofs.lemmas.Bool.{cases_lt, false≢true}
 use Rattle.std.proofs.lemmas.Bool.Decides.{nat_tests}
@@ -16,7 +18,8 @@ use Rattle.tlv_table.proofs.Walks.{at_end, at_pad, at_none, goes_on, fails_in_bo
 -- a body with its length before it is read as it is
 body_written : (form : Form) (place : ℕ) (body rest : List ℕ) → body_in form place ((head_counted form + length body) ∷ (body ++ rest)) ≡ Ok body
 body_written form place body rest =
-    chosen (nat_lt (head_counted form + length body) (head_counted form)) (nat_lt (length (body ++ rest)) (head_counted form + length body - head_counted form)) (take (head_counted form + length body - head_counted form) (body ++ rest))
+    chosen (nat_lt (head_counted form + length body) (head_counted form)) (nat_lt (length (body ++ rest)) (head_counted form + length body - head_counted form))
+    (take (head_counted form + length body - head_counted form) (body ++ rest))
     (grind (arith, nat_tests)) (fits (length (body ++ rest)) (head_counted form + length body - head_counted form) (omega (arith, length-append body rest)))
     (ap (λ n. take n (body ++ rest)) (all (head_counted form) (length body)) ∙ taken_all body)
   where
@@ -62,7 +65,8 @@ right_row row again size place range once =
     fresh true false once = once refl
 
 -- one option is taken, as the grammar finds it
-taken_right : (rows : List Row) (o : Option Row) (before after : List Found) (new : Found) → row_of rows new.code ≡ o → IfSome o (λ row. (row.least ≤ length new.body) × (length new.body ≤ row.greatest))
+taken_right : (rows : List Row) (o : Option Row) (before after : List Found) (new : Found) → row_of rows new.code ≡ o → IfSome o
+    (λ row. (row.least ≤ length new.body) × (length new.body ≤ row.greatest))
     → IsOnce rows before (with_known o new after)
     → (more : List Found) × (taken o before new ≡ Goes more (1 + length new.body)) × IsOnce rows more after × (before ++ with_known o new after ≡ more ++ after)
 taken_right rows None before after new is range once = (before, refl, once, refl)
@@ -71,7 +75,8 @@ taken_right rows (Some row) before after new is range once =
     (before ++ new ∷ [], ap (λ o. ends_or_goes o before new) (right_row row (has_code new.code before) (length new.body) new.place range fresh), once.1, sym (append_assoc before (new ∷ []) after))
 
 -- reading goes on after items that are right
-after_items : (form : Form) (rows : List Row) (before : List Found) (place : ℕ) (items : List Item) (rest : List ℕ) → AllByRecursion (IsItem form rows) items → IsOnce rows before (found_of rows place items)
+after_items : (form : Form) (rows : List Row) (before : List Found) (place : ℕ) (items : List Item) (rest : List ℕ) → AllByRecursion (IsItem form rows) items → IsOnce rows before
+    (found_of rows place items)
     → read_on form rows before place 0 (octets_of form items ++ rest) ≡ read_on form rows (before ++ found_of rows place items) (place + length (octets_of form items)) 0 rest
 after_items form rows before place [] rest each once =
     ap (λ f. read_on form rows f place 0 rest) (sym (append-nil before)) ∙ ap (λ p. read_on form rows (before ++ []) p 0 rest) (omega arith)
@@ -81,7 +86,8 @@ after_items form rows before place (Pad ∷ items) rest each once =
     ∙ ap (λ p. read_on form rows (before ++ found_of rows (place + 1) items) p 0 rest) (omega arith)
 after_items form rows before place (Field code body ∷ items) rest each once =
     let tail = octets_of form items ++ rest in
-    let octets_are : octets_of form (Field code body ∷ items) ++ rest ≡ code ∷ (head_counted form + length body) ∷ (body ++ tail) = ap (λ l. code ∷ (head_counted form + length body) ∷ l) (append_assoc body (octets_of form items) rest) in
+    let octets_are : octets_of form (Field code body ∷ items) ++ rest ≡ code ∷ (head_counted form + length body) ∷ (body ++ tail) = ap
+    (λ l. code ∷ (head_counted form + length body) ∷ l) (append_assoc body (octets_of form items) rest) in
     let step = taken_right rows (row_of rows code) before (found_of rows (place + 2 + length body) items) (record { code = code; place = place; body = body }) refl each.0.range once in
     ap (read_on form rows before place 0) octets_are
     ∙ goes_on form rows before step.0 place (code ∷ (head_counted form + length body) ∷ (body ++ tail)) body (omega arith) each.0.no_end each.0.no_pad (body_written form place body tail) step.1
@@ -122,7 +128,11 @@ wrong_row row found code place size fault wrong =
     comes_again false repeats is isnt = cc
 
     not_in : (size < row.least) ⊎ (row.greatest < size) → in_range row size ≡ false
-    not_in outside = elim outside [ inl low ↦ first (nat_le row.least size) (nat_le size row.greatest) (over row.least size low) | inr high ↦ second (nat_le row.least size) (nat_le size row.greatest) (over size row.greatest high) ]
+    not_in outside = elim outside [
+      | inl low ↦ first (nat_le row.least size) (nat_le size row.greatest) (over row.least size low)
+      | inr high ↦ second (nat_le row.least size)
+          (nat_le size row.greatest) (over size row.greatest high)
+    ]
       where
         over : (a b : ℕ) → b < a → nat_le a b ≡ false
         over a b h = grind (arith, nat_tests)
@@ -147,14 +157,16 @@ wrong_row row found code place size fault wrong =
 
 few_octets : (form : Form) (place size : ℕ) (rest : List ℕ) → size < head_counted form → body_in form place (size ∷ rest) ≡ Err (faults.BadLength place)
 few_octets form place size rest few =
-    ap (λ b. cond b (Err (faults.BadLength place)) (cond (nat_lt (length rest) (size - head_counted form)) (Err (faults.Cut place)) (Ok (take (size - head_counted form) rest)))) (less size (head_counted form) few)
+    ap (λ b. cond b (Err (faults.BadLength place)) (cond (nat_lt (length rest) (size - head_counted form)) (Err (faults.Cut place)) (Ok (take (size - head_counted form) rest))))
+    (less size (head_counted form) few)
   where
     less : (a b : ℕ) → a < b → nat_lt a b ≡ true
     less a b h = grind (arith, nat_tests)
 
 cut_short : (form : Form) (place size : ℕ) (rest : List ℕ) → head_counted form + length rest < size → body_in form place (size ∷ rest) ≡ Err (faults.Cut place)
 cut_short form place size rest cut =
-    ap (λ b. cond b (Err (faults.BadLength place)) (cond (nat_lt (length rest) (size - head_counted form)) (Err (faults.Cut place)) (Ok (take (size - head_counted form) rest)))) (more size (head_counted form) (omega arith))
+    ap (λ b. cond b (Err (faults.BadLength place)) (cond (nat_lt (length rest) (size - head_counted form)) (Err (faults.Cut place)) (Ok (take (size - head_counted form) rest))))
+    (more size (head_counted form) (omega arith))
     ∙ ap (λ b. cond b (Err (faults.Cut place)) (Ok (take (size - head_counted form) rest))) (less (length rest) (size - head_counted form) (omega arith))
   where
     less : (a b : ℕ) → a < b → nat_lt a b ≡ true
@@ -165,7 +177,8 @@ cut_short form place size rest cut =
 
 body_whole : (form : Form) (place size count : ℕ) (rest : List ℕ) → count ≤ length rest → size ≡ head_counted form + count → body_in form place (size ∷ rest) ≡ Ok (take count rest)
 body_whole form place size count rest there is =
-    ap (λ b. cond b (Err (faults.BadLength place)) (cond (nat_lt (length rest) (size - head_counted form)) (Err (faults.Cut place)) (Ok (take (size - head_counted form) rest)))) (more size (head_counted form) (omega arith))
+    ap (λ b. cond b (Err (faults.BadLength place)) (cond (nat_lt (length rest) (size - head_counted form)) (Err (faults.Cut place)) (Ok (take (size - head_counted form) rest))))
+    (more size (head_counted form) (omega arith))
     ∙ ap (λ b. cond b (Err (faults.Cut place)) (Ok (take (size - head_counted form) rest))) (more (length rest) (size - head_counted form) (omega arith))
     ∙ ap (λ n. Ok (take n rest)) (left size (head_counted form) count is)
   where
@@ -176,7 +189,8 @@ body_whole form place size count rest there is =
     left a h n e = omega arith
 
 -- the fault that the grammar says
-fault_here : (form : Form) (rows : List Row) (found : List Found) (place : ℕ) (rest : List ℕ) (fault : TlvFault) → IsFault form rows found place rest fault → read_on form rows found place 0 rest ≡ Err fault
+fault_here : (form : Form) (rows : List Row) (found : List Found) (place : ℕ) (rest : List ℕ) (fault : TlvFault) → IsFault form rows found place rest fault →
+    read_on form rows found place 0 rest ≡ Err fault
 fault_here form rows found place [] fault is =
     at_none form rows found place [] (omega arith) ∙ ap (λ b. cond b (Err faults.NoEnd) (Ok found)) is.0 ∙ ap Err (sym is.1)
 fault_here form rows found place (code ∷ []) fault is =
@@ -212,7 +226,8 @@ record Parsed (form : Form) (rows : List Row) (before : List Found) (place : ℕ
   stops : Ends form rest ⊎ ((fault : TlvFault) × IsFault form rows (before ++ found_of rows place items) (place + length (octets_of form items)) rest fault)
 
 -- nothing is right any more
-stopped : (form : Form) (rows : List Row) (before : List Found) (place : ℕ) (octets : List ℕ) → Ends form octets ⊎ ((fault : TlvFault) × IsFault form rows before place octets fault) → Parsed form rows before place octets
+stopped : (form : Form) (rows : List Row) (before : List Found) (place : ℕ) (octets : List ℕ) → Ends form octets ⊎
+    ((fault : TlvFault) × IsFault form rows before place octets fault) → Parsed form rows before place octets
 stopped form rows before place octets stops = record {
   items = [];
   rest = octets;
@@ -221,14 +236,19 @@ stopped form rows before place octets stops = record {
   once = tt;
   stops = elim stops [
     | inl ends ↦ inl ends
-    | inr faulty ↦ inr (faulty.0, subst (λ f. IsFault form rows f (place + 0) octets faulty.0) (sym (append-nil before)) (subst (λ p. IsFault form rows before p octets faulty.0) (start place) faulty.1))
+    | inr faulty ↦ inr (
+      faulty.0,
+      subst (λ f. IsFault form rows f (place + 0) octets faulty.0) (sym (append-nil before)) (subst (λ p. IsFault form rows before p octets faulty.0)
+          (start place) faulty.1),
+    )
   ];
 }
   where
     start : (n : ℕ) → n ≡ n + 0
     start n = omega arith
 
-parsed_pad : (form : Form) (rows : List Row) (before : List Found) (place code : ℕ) (tail : List ℕ) → code ≢ form.end → code ≡ form.pad → Parsed form rows before (place + 1) tail → Parsed form rows before place (code ∷ tail)
+parsed_pad : (form : Form) (rows : List Row) (before : List Found) (place code : ℕ) (tail : List ℕ) → code ≢ form.end → code ≡ form.pad → Parsed form rows before (place + 1) tail →
+    Parsed form rows before place (code ∷ tail)
 parsed_pad form rows before place code tail no_end is p = record {
   items = Pad ∷ p.items;
   rest = p.rest;
@@ -255,14 +275,17 @@ parsed_field form rows o before more place code body tail row_is no_end no_pad r
   rest = p.rest;
   is = ap (λ l. code ∷ (head_counted form + length body) ∷ l) (ap (λ l. body ++ l) p.is ∙ sym (append_assoc body (octets_of form p.items) p.rest));
   each = (record { no_end = no_end; no_pad = no_pad; range = subst (λ q. IfSome q (λ row. (row.least ≤ length body) × (length body ≤ row.greatest))) (sym row_is) range }, p.each);
-  once = subst (λ q. IsOnce rows before (with_known q (record { code = code; place = place; body = body }) (found_of rows (place + 2 + length body) p.items))) (sym row_is) (once (found_of rows (place + 2 + length body) p.items) p.once);
+  once = subst (λ q. IsOnce rows before (with_known q (record { code = code; place = place; body = body }) (found_of rows (place + 2 + length body) p.items))) (sym row_is)
+      (once (found_of rows (place + 2 + length body) p.items) p.once);
   stops = elim p.stops [
     | inl ends ↦ inl ends
     | inr faulty ↦ inr (
       faulty.0,
       subst (λ f. IsFault form rows f (place + length (octets_of form (Field code body ∷ p.items))) p.rest faulty.0)
-          (found (found_of rows (place + 2 + length body) p.items) ∙ ap (λ q. before ++ with_known q (record { code = code; place = place; body = body }) (found_of rows (place + 2 + length body) p.items)) (sym row_is))
-          (subst (λ n. IsFault form rows (more ++ found_of rows (place + 2 + length body) p.items) n p.rest faulty.0) (next place (length body) (length (octets_of form p.items)) ∙ ap (λ n. place + suc (suc n)) (sym (length-append body (octets_of form p.items)))) faulty.1),
+          (found (found_of rows (place + 2 + length body) p.items) ∙ ap (λ q. before ++ with_known q (record { code = code; place = place; body = body })
+          (found_of rows (place + 2 + length body) p.items)) (sym row_is))
+          (subst (λ n. IsFault form rows (more ++ found_of rows (place + 2 + length body) p.items) n p.rest faulty.0) (next place (length body) (length (octets_of form p.items))
+          ∙ ap (λ n. place + suc (suc n)) (sym (length-append body (octets_of form p.items)))) faulty.1),
     )
   ];
 }
@@ -297,7 +320,8 @@ same_octets form code count rest there =
     ap (λ n. code ∷ (head_counted form + n) ∷ (take count rest ++ drop count rest)) (length-take count rest ∙ least count (length rest) there)
     ∙ ap (λ l. code ∷ (head_counted form + count) ∷ l) (take-append-drop count rest)
 
-parsed_body : (form : Form) (rows : List Row) (o : Option Row) (before : List Found) (place code count : ℕ) (rest : List ℕ) → row_of rows code ≡ o → code ≢ form.end → code ≢ form.pad → count ≤ length rest
+parsed_body : (form : Form) (rows : List Row) (o : Option Row) (before : List Found) (place code count : ℕ) (rest : List ℕ) → row_of rows code ≡ o → code ≢ form.end →
+    code ≢ form.pad → count ≤ length rest
     → ((more : List Found) → Parsed form rows more (place + 2 + length (take count rest)) (drop count rest)) → Parsed form rows before place (code ∷ (head_counted form + count) ∷ rest)
 parsed_body form rows None before place code count rest row_is no_end no_pad there go_on =
     subst (λ l. Parsed form rows before place l) (same_octets form code count rest there)
@@ -352,7 +376,8 @@ parsed (suc n) form rows before place (code ∷ rest) short =
     same_or_not : (a b : ℕ) → (a ≡ b) ⊎ (a ≢ b)
     same_or_not a b = grind (arith, nat_tests)
 
-from_start : (form : Form) (rows : List Row) (found : List Found) (place : ℕ) (rest : List ℕ) (fault : TlvFault) → IsFault form rows ([] ++ found) (0 + place) rest fault → IsFault form rows found place rest fault
+from_start : (form : Form) (rows : List Row) (found : List Found) (place : ℕ) (rest : List ℕ) (fault : TlvFault) → IsFault form rows ([] ++ found) (0 + place) rest fault →
+    IsFault form rows found place rest fault
 from_start form rows found place rest fault is = subst (λ p. IsFault form rows found p rest fault) (zero_first place) is
   where
     zero_first : (n : ℕ) → 0 + n ≡ n
@@ -371,7 +396,8 @@ read_list form rows octets found reads =
           let g : IsListOf form rows octets (found_of rows 0 p.items) = record { items = p.items; rest = p.rest; begins = begins; ends = ends; found_is = refl } in
           record { items = p.items; rest = p.rest; begins = begins; ends = ends; found_is = same found (found_of rows 0 p.items) (sym reads ∙ list_read form rows octets (found_of rows 0 p.items) g) }
       | inr faulty ↦
-          absurd (apart found faulty.0 (sym reads ∙ no_list_read form rows octets faulty.0 (record { items = p.items; rest = p.rest; begins = begins; fault_is = from_start form rows (found_of rows 0 p.items) (length (octets_of form p.items)) p.rest faulty.0 faulty.1 })))
+          absurd (apart found faulty.0 (sym reads ∙ no_list_read form rows octets faulty.0
+          (record { items = p.items; rest = p.rest; begins = begins; fault_is = from_start form rows (found_of rows 0 p.items) (length (octets_of form p.items)) p.rest faulty.0 faulty.1 })))
     ]
   where
     same : (x y : List Found) → ◌≡◌ {A = Result (List Found) TlvFault} (Ok x) (Ok y) → x ≡ y
@@ -387,14 +413,23 @@ read_no_list form rows octets fault reads =
     let begins : BeginsWith form rows octets p.items p.rest = record { each = p.each; once = p.once; is = p.is } in
     elim p.stops [
       | inl ends ↦
-          absurd (apart (found_of rows 0 p.items) fault (sym (list_read form rows octets (found_of rows 0 p.items) (record { items = p.items; rest = p.rest; begins = begins; ends = ends; found_is = refl })) ∙ reads))
+          absurd (apart (found_of rows 0 p.items) fault (sym (list_read form rows octets (found_of rows 0 p.items)
+          (record { items = p.items; rest = p.rest; begins = begins; ends = ends; found_is = refl })) ∙ reads))
       | inr faulty ↦
-          let g : IsNoList form rows octets faulty.0 = record { items = p.items; rest = p.rest; begins = begins; fault_is = from_start form rows (found_of rows 0 p.items) (length (octets_of form p.items)) p.rest faulty.0 faulty.1 } in
+          let g : IsNoList form rows octets faulty.0 = record {
+            items = p.items;
+            rest = p.rest;
+            begins = begins;
+            fault_is = from_start form rows (found_of rows 0 p.items)
+                (length (octets_of form p.items)) p.rest faulty.0 faulty.1;
+          } in
           record {
             items = p.items;
             rest = p.rest;
             begins = begins;
-            fault_is = subst (λ f. IsFault form rows (found_of rows 0 p.items) (length (octets_of form p.items)) p.rest f) (same faulty.0 fault (sym (no_list_read form rows octets faulty.0 g) ∙ reads)) (from_start form rows (found_of rows 0 p.items) (length (octets_of form p.items)) p.rest faulty.0 faulty.1);
+            fault_is = subst (λ f. IsFault form rows (found_of rows 0 p.items) (length (octets_of form p.items)) p.rest f)
+                (same faulty.0 fault (sym (no_list_read form rows octets faulty.0 g) ∙ reads)) (from_start form rows (found_of rows 0 p.items)
+                (length (octets_of form p.items)) p.rest faulty.0 faulty.1);
           }
     ]
   where
@@ -428,12 +463,14 @@ first_of code new after body is = by_test (new.code == code) refl is
         same x y e = cc
     by_test false t h = inr h
 
-ranged : (form : Form) (rows : List Row) (code : ℕ) (row : Row) (c : ℕ) (b body : List ℕ) → row_of rows code ≡ Some row → c ≡ code → b ≡ body → IsField form rows c b → (row.least ≤ length body) × (length body ≤ row.greatest)
+ranged : (form : Form) (rows : List Row) (code : ℕ) (row : Row) (c : ℕ) (b body : List ℕ) → row_of rows code ≡ Some row → c ≡ code → b ≡ body → IsField form rows c b →
+    (row.least ≤ length body) × (length body ≤ row.greatest)
 ranged form rows code row c b body row_is same is field =
     subst (λ l. (row.least ≤ length l) × (length l ≤ row.greatest)) is
     (subst (λ o. IfSome o (λ r. (r.least ≤ length b) × (length b ≤ r.greatest))) (ap (row_of rows) same ∙ row_is) field.range)
 
-first_of_known : (form : Form) (rows : List Row) (code : ℕ) (row : Row) (body : List ℕ) → row_of rows code ≡ Some row → (o : Option Row) (new : Found) (after : List Found) → IsField form rows new.code new.body
+first_of_known : (form : Form) (rows : List Row) (code : ℕ) (row : Row) (body : List ℕ) → row_of rows code ≡ Some row → (o : Option Row) (new : Found) (after : List Found) →
+    IsField form rows new.code new.body
     → (first_body code after ≡ Some body → (row.least ≤ length body) × (length body ≤ row.greatest))
     → first_body code (with_known o new after) ≡ Some body → (row.least ≤ length body) × (length body ≤ row.greatest)
 first_of_known form rows code row body row_is None new after field later is = later is
@@ -455,7 +492,8 @@ first_of_items form rows code row body row_is place (Field c b ∷ items) each i
     (first_of_items form rows code row body row_is (place + 2 + length b) items each.1) is
 
 -- the first body of a code is in the range of the code's row
-pub first_in_range : (form : Form) (rows : List Row) (octets : List ℕ) (found : List Found) (code : ℕ) (row : Row) (body : List ℕ) → IsListOf form rows octets found → row_of rows code ≡ Some row → first_body code found ≡ Some body
+pub first_in_range : (form : Form) (rows : List Row) (octets : List ℕ) (found : List Found) (code : ℕ) (row : Row) (body : List ℕ) → IsListOf form rows octets found →
+    row_of rows code ≡ Some row → first_body code found ≡ Some body
     → (row.least ≤ length body) × (length body ≤ row.greatest)
 first_in_range form rows octets found code row body g row_is first =
     first_of_items form rows code row body row_is 0 g.items g.begins.each (sym (ap (first_body code) g.found_is) ∙ first)

@@ -1,5 +1,6 @@
 -- The marks of a table's rows, and the codes that were found.
-use Rattle.std.proofs.Common.{◌≡◌, ◌≢◌, ◌⊎◌, inl, inr, ℕ, zero, suc, ◌+◌, ◌<◌, ◌≤◌, ◌==◌, nat_lt, Bool, true, false, ◌||◌, cond, List, [], ◌∷◌, ◌++◌, length, get_or, set, Option, Some, None, position, slice_get, Err, refl, sym, ◌∙◌, ap, subst, arith, get_or-set_other, get_or-set_same, replicate}
+use Rattle.std.proofs.Common.{◌≡◌, ◌≢◌, ◌⊎◌, inl, inr, ℕ, zero, suc, ◌+◌, ◌<◌, ◌≤◌, ◌==◌, nat_lt, Bool, true, false, ◌||◌, cond, List, [], ◌∷◌, ◌++◌, length, get_or, set, Option, Some}
+use Rattle.std.proofs.Common.{None, position, slice_get, Err, refl, sym, ◌∙◌, ap, subst, arith, get_or-set_other, get_or-set_same, replicate}
 use Rattle.std.specs.List.{position_or_len}
 use Rattle.std.proofs.lemmas.Bool.Decides.{nat_tests}
 use Rattle.std.proofs.lemmas.List.Folds.{find_at}
@@ -68,7 +69,8 @@ agrees_more rows marks found new i at there size agrees code within =
           ap (λ k. get_or (set marks i true) k false) here ∙ get_or-set_same marks i true false (omega arith)
           ∙ sym (has_code-push code found new ∙ or_true (has_code code found) (new.code == code) same.1)
       | inr other ↦
-          let apart : place_of rows code ≢ i = λ same. other.0 (codes_same new.code code (sym (ap (place_of rows) refl) ∙ sym at ∙ sym same) (at_place new.code (subst (λ k. k < length rows) at there)) (at_place code within)) in
+          let apart : place_of rows code ≢ i = λ same. other.0 (codes_same new.code code (sym (ap (place_of rows) refl) ∙ sym at ∙ sym same)
+          (at_place new.code (subst (λ k. k < length rows) at there)) (at_place code within)) in
           get_or-set_other marks i (place_of rows code) true false apart ∙ agrees code within
           ∙ sym (has_code-push code found new ∙ or_none (has_code code found) (new.code == code) other.1)
     ]
@@ -91,7 +93,8 @@ pub takes_unknown : (rows : List Row) (marks : List Bool) (found : List Found) (
 takes_unknown rows marks found new is agrees = (found, agrees, ap (λ o. taken o found new) (unknown rows new.code is))
 
 -- an option that is right
-pub takes_known : (rows : List Row) (marks : List Bool) (found : List Found) (new : Found) (i : ℕ) → Some i ≡ position (λ (row : Row). row.code == new.code) rows → length marks ≡ length rows → Agrees rows marks found
+pub takes_known : (rows : List Row) (marks : List Bool) (found : List Found) (new : Found) (i : ℕ) → Some i ≡ position (λ (row : Row). row.code == new.code) rows →
+    length marks ≡ length rows → Agrees rows marks found
     → judged (get_or rows i blank) (get_or marks i false) (length new.body) new.place ≡ None
     → (more : List Found) × Agrees rows (set marks i true) more × (taken (row_of rows new.code) found new ≡ Goes more (1 + length new.body))
 takes_known rows marks found new i is size agrees right =
@@ -103,7 +106,8 @@ takes_known rows marks found new i is size agrees right =
     )
 
 -- an option that is wrong
-pub takes_wrong : (rows : List Row) (marks : List Bool) (found : List Found) (new : Found) (i : ℕ) (fault : TlvFault) → Some i ≡ position (λ (row : Row). row.code == new.code) rows → Agrees rows marks found
+pub takes_wrong : (rows : List Row) (marks : List Bool) (found : List Found) (new : Found) (i : ℕ) (fault : TlvFault) → Some i ≡ position
+    (λ (row : Row). row.code == new.code) rows → Agrees rows marks found
     → judged (get_or rows i blank) (get_or marks i false) (length new.body) new.place ≡ Some fault
     → taken (row_of rows new.code) found new ≡ Ends (Err fault)
 takes_wrong rows marks found new i fault is agrees wrong =

@@ -1,5 +1,6 @@
 -- Options that are put one after another are read again.
-use Rattle.std.proofs.Common.{◌≡◌, ◌≢◌, ℕ, ◌+◌, ◌≤◌, ◌<◌, ◌==◌, nat_lt, nat_le, Bool, true, false, not, ◌&&◌, ◌||◌, if◌then◌else◌, List, [], ◌∷◌, ◌++◌, length, map, Option, Some, None, find, refl, sym, ◌∙◌, ap, subst, arith, append_assoc, Ok}
+use Rattle.std.proofs.Common.{◌≡◌, ◌≢◌, ℕ, ◌+◌, ◌≤◌, ◌<◌, ◌==◌, nat_lt, nat_le, Bool, true, false, not, ◌&&◌, ◌||◌, if◌then◌else◌, List, [], ◌∷◌, ◌++◌, length, map, Option, Some, None}
+use Rattle.std.proofs.Common.{find, refl, sym, ◌∙◌, ap, subst, arith, append_assoc, Ok}
 use Rattle.std.specs.Prelude.{IfSome, IsSomeAnd, ⊤}
 use Rattle.std.specs.List.{list_any, AllByRecursion}
 use Rattle.std.proofs.lemmas.Bool.{false≢true}
@@ -35,7 +36,8 @@ row_codes form (r ∷ rs) code row rows is =
     same : (a b c : ℕ) → (a == b) ≡ true → (a == c) ≡ false → (b == c) ≡ false
     same a b c ab ac = grind (arith, nat_tests)
 
-    here : (b : Bool) → (r.code == code) ≡ b → (if b then Some r else row_of rs code) ≡ Some row → (r.code == form.end) ≡ false → (r.code == form.pad) ≡ false → (row_of rs code ≡ Some row → ((code == form.end) ≡ false) × ((code == form.pad) ≡ false)) → ((code == form.end) ≡ false) × ((code == form.pad) ≡ false)
+    here : (b : Bool) → (r.code == code) ≡ b → (if b then Some r else row_of rs code) ≡ Some row → (r.code == form.end) ≡ false → (r.code == form.pad) ≡ false →
+        (row_of rs code ≡ Some row → ((code == form.end) ≡ false) × ((code == form.pad) ≡ false)) → ((code == form.end) ≡ false) × ((code == form.pad) ≡ false)
     here true test is no_end no_pad rest = (same r.code code form.end test no_end, same r.code code form.pad test no_pad)
     here false test is no_end no_pad rest = rest is
 
@@ -43,7 +45,8 @@ differ : (a b : ℕ) → (a == b) ≡ false → a ≢ b
 differ a b test is = grind (arith, nat_tests)
 
 -- an option that can be put is right by itself
-is_field : (form : Form) (rows : List Row) (code : ℕ) (body : List ℕ) (o : Option Row) → are_rows form rows ≡ true → row_of rows code ≡ o → IsSomeAnd o (λ row. (row.least ≤ length body) × (length body ≤ row.greatest)) → IsField form rows code body
+is_field : (form : Form) (rows : List Row) (code : ℕ) (body : List ℕ) (o : Option Row) → are_rows form rows ≡ true → row_of rows code ≡ o → IsSomeAnd o
+    (λ row. (row.least ≤ length body) × (length body ≤ row.greatest)) → IsField form rows code body
 is_field form rows code body None good is known = absurd known
 is_field form rows code body (Some row) good is known =
     let codes = row_codes form rows code row good is in
@@ -53,16 +56,19 @@ is_field form rows code body (Some row) good is known =
       range = subst (λ o. IfSome o (λ row. (row.least ≤ length body) × (length body ≤ row.greatest))) (sym is) known;
     }
 
-are_items : (form : Form) (rows : List Row) (pairs : List (ℕ × List ℕ)) → are_rows form rows ≡ true → AllByRecursion (λ (p : ℕ × List ℕ). CanPut form rows p.0 p.1) pairs → AllByRecursion (IsItem form rows) (items_of pairs)
+are_items : (form : Form) (rows : List Row) (pairs : List (ℕ × List ℕ)) → are_rows form rows ≡ true → AllByRecursion (λ (p : ℕ × List ℕ). CanPut form rows p.0 p.1) pairs →
+    AllByRecursion (IsItem form rows) (items_of pairs)
 are_items form rows [] good each = tt
 are_items form rows (p ∷ pairs) good each = (is_field form rows p.0 p.1 (row_of rows p.0) good refl each.0.known, are_items form rows pairs good each.1)
 
 -- what is found is all that was put
-all_found : (form : Form) (rows : List Row) (place : ℕ) (pairs : List (ℕ × List ℕ)) → AllByRecursion (λ (p : ℕ × List ℕ). CanPut form rows p.0 p.1) pairs → pairs_of (found_of rows place (items_of pairs)) ≡ pairs
+all_found : (form : Form) (rows : List Row) (place : ℕ) (pairs : List (ℕ × List ℕ)) → AllByRecursion (λ (p : ℕ × List ℕ). CanPut form rows p.0 p.1) pairs → pairs_of
+    (found_of rows place (items_of pairs)) ≡ pairs
 all_found form rows place [] each = refl
 all_found form rows place (p ∷ pairs) each = known (row_of rows p.0) (found_of rows (place + 2 + length p.1) (items_of pairs)) each.0.known (all_found form rows (place + 2 + length p.1) pairs each.1)
   where
-    known : (o : Option Row) (rest : List Found) → IsSomeAnd o (λ row. (row.least ≤ length p.1) × (length p.1 ≤ row.greatest)) → pairs_of rest ≡ pairs → pairs_of (with_known o (record { code = p.0; place = place; body = p.1 }) rest) ≡ p ∷ pairs
+    known : (o : Option Row) (rest : List Found) → IsSomeAnd o (λ row. (row.least ≤ length p.1) × (length p.1 ≤ row.greatest)) → pairs_of rest ≡ pairs → pairs_of
+        (with_known o (record { code = p.0; place = place; body = p.1 }) rest) ≡ p ∷ pairs
     known None rest range is = absurd range
     known (Some row) rest range is = ap (λ (ps : List (ℕ × List ℕ)). p ∷ ps) is
 
@@ -75,7 +81,8 @@ map_append [] ys = refl
 map_append (x ∷ xs) ys = ap (λ (ps : List (ℕ × List ℕ)). (x.code, x.body) ∷ ps) (map_append xs ys)
 
 -- none that may not repeat is found twice
-found_once : (form : Form) (rows : List Row) (place : ℕ) (before : List Found) (pairs : List (ℕ × List ℕ)) → AllByRecursion (λ (p : ℕ × List ℕ). CanPut form rows p.0 p.1) pairs → IsNoneAgain rows (pairs_of before) pairs → IsOnce rows before (found_of rows place (items_of pairs))
+found_once : (form : Form) (rows : List Row) (place : ℕ) (before : List Found) (pairs : List (ℕ × List ℕ)) → AllByRecursion (λ (p : ℕ × List ℕ). CanPut form rows p.0 p.1) pairs →
+    IsNoneAgain rows (pairs_of before) pairs → IsOnce rows before (found_of rows place (items_of pairs))
 found_once form rows place before [] each once = tt
 found_once form rows place before (p ∷ pairs) each once =
     let new : Found = record { code = p.0; place = place; body = p.1 } in

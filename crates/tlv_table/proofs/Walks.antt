@@ -1,5 +1,6 @@
 -- Reading on, step by step.
-use Rattle.std.proofs.Common.{◌≡◌, ℕ, zero, suc, ◌+◌, ◌-◌, ◌<◌, ◌≤◌, ◌==◌, nat_lt, Bool, true, false, cond, List, [], ◌∷◌, length, take, drop, get_or, Ok, Err, refl, sym, ◌∙◌, ap, arith, length-take, length-drop}
+use Rattle.std.proofs.Common.{◌≡◌, ℕ, zero, suc, ◌+◌, ◌-◌, ◌<◌, ◌≤◌, ◌==◌, nat_lt, Bool, true, false, cond, List, [], ◌∷◌, length, take, drop, get_or, Ok, Err, refl, sym, ◌∙◌, ap, arith}
+use Rattle.std.proofs.Common.{length-take, length-drop}
 use Rattle.std.proofs.lemmas.List.{take_all}
 use Rattle.std.proofs.lemmas.Bool.Decides.{nat_tests}
 use Rattle.tlv_table.specs.declared.Form.{Form}
@@ -34,7 +35,8 @@ pub at_end : (form : Form) (rows : List Row) (found : List Found) (place : ℕ) 
 unfolding read_on
 at_end form rows found place [] some is = absurd (omega arith)
 at_end form rows found place (code ∷ rest) some is =
-    ap (λ t. follow (cond t (Ends (Ok found)) (cond (code == form.pad) (Goes found 0) (option_step rows found code place (body_in form place rest)))) (λ more skip. read_on form rows more (place + 1) skip rest)) (same_eqb code form.end is)
+    ap (λ t. follow (cond t (Ends (Ok found)) (cond (code == form.pad) (Goes found 0) (option_step rows found code place (body_in form place rest))))
+    (λ more skip. read_on form rows more (place + 1) skip rest)) (same_eqb code form.end is)
 
 -- a pad
 pub at_pad : (form : Form) (rows : List Row) (found : List Found) (place : ℕ) (octets : List ℕ) → 1 ≤ length octets → (get_or octets 0 0 ≡ form.end → ⊥) → get_or octets 0 0 ≡ form.pad
@@ -42,17 +44,21 @@ pub at_pad : (form : Form) (rows : List Row) (found : List Found) (place : ℕ) 
 unfolding read_on
 at_pad form rows found place [] some isnt is = absurd (omega arith)
 at_pad form rows found place (code ∷ rest) some isnt is =
-    ap (λ t. follow (cond t (Ends (Ok found)) (cond (code == form.pad) (Goes found 0) (option_step rows found code place (body_in form place rest)))) (λ more skip. read_on form rows more (place + 1) skip rest)) (other_eqb code form.end isnt)
+    ap (λ t. follow (cond t (Ends (Ok found)) (cond (code == form.pad) (Goes found 0) (option_step rows found code place (body_in form place rest))))
+    (λ more skip. read_on form rows more (place + 1) skip rest)) (other_eqb code form.end isnt)
     ∙ ap (λ t. follow (cond t (Goes found 0) (option_step rows found code place (body_in form place rest))) (λ more skip. read_on form rows more (place + 1) skip rest)) (same_eqb code form.pad is)
 
 -- an option
 pub at_option : (form : Form) (rows : List Row) (found : List Found) (place : ℕ) (octets : List ℕ) → 1 ≤ length octets → (get_or octets 0 0 ≡ form.end → ⊥) → (get_or octets 0 0 ≡ form.pad → ⊥)
-    → read_on form rows found place 0 octets ≡ follow (option_step rows found (get_or octets 0 0) place (body_in form place (drop 1 octets))) (λ more skip. read_on form rows more (place + 1) skip (drop 1 octets))
+    → read_on form rows found place 0 octets ≡ follow (option_step rows found (get_or octets 0 0) place (body_in form place (drop 1 octets)))
+    (λ more skip. read_on form rows more (place + 1) skip (drop 1 octets))
 unfolding read_on
 at_option form rows found place [] some no_end no_pad = absurd (omega arith)
 at_option form rows found place (code ∷ rest) some no_end no_pad =
-    ap (λ t. follow (cond t (Ends (Ok found)) (cond (code == form.pad) (Goes found 0) (option_step rows found code place (body_in form place rest)))) (λ more skip. read_on form rows more (place + 1) skip rest)) (other_eqb code form.end no_end)
-    ∙ ap (λ t. follow (cond t (Goes found 0) (option_step rows found code place (body_in form place rest))) (λ more skip. read_on form rows more (place + 1) skip rest)) (other_eqb code form.pad no_pad)
+    ap (λ t. follow (cond t (Ends (Ok found)) (cond (code == form.pad) (Goes found 0) (option_step rows found code place (body_in form place rest))))
+    (λ more skip. read_on form rows more (place + 1) skip rest)) (other_eqb code form.end no_end)
+    ∙ ap (λ t. follow (cond t (Goes found 0) (option_step rows found code place (body_in form place rest))) (λ more skip. read_on form rows more (place + 1) skip rest))
+    (other_eqb code form.pad no_pad)
 
 body_cases : (few less : Bool) (size : ℕ) (rest body : List ℕ) (short cut : TlvFault)
     → cond few (Err short) (cond less (Err cut) (Ok (take size rest))) ≡ Ok body → (less ≡ false) × (take size rest ≡ body)
@@ -68,14 +74,16 @@ body_there form place (size ∷ rest) body is =
     omega (arith, length-take (size - head_counted form) rest, ap length is_taken.1)
 
 -- an option that isn't there
-pub fails_in_body : (form : Form) (rows : List Row) (found : List Found) (place : ℕ) (octets : List ℕ) (fault : TlvFault) → 1 ≤ length octets → (get_or octets 0 0 ≡ form.end → ⊥) → (get_or octets 0 0 ≡ form.pad → ⊥)
+pub fails_in_body : (form : Form) (rows : List Row) (found : List Found) (place : ℕ) (octets : List ℕ) (fault : TlvFault) → 1 ≤ length octets → (get_or octets 0 0 ≡ form.end → ⊥) →
+    (get_or octets 0 0 ≡ form.pad → ⊥)
     → body_in form place (drop 1 octets) ≡ Err fault → read_on form rows found place 0 octets ≡ Err fault
 fails_in_body form rows found place octets fault some no_end no_pad is =
     at_option form rows found place octets some no_end no_pad
     ∙ ap (λ b. follow (option_step rows found (get_or octets 0 0) place b) (λ more skip. read_on form rows more (place + 1) skip (drop 1 octets))) is
 
 -- an option that is wrong
-pub fails_in_row : (form : Form) (rows : List Row) (found : List Found) (place : ℕ) (octets body : List ℕ) (fault : TlvFault) → 1 ≤ length octets → (get_or octets 0 0 ≡ form.end → ⊥) → (get_or octets 0 0 ≡ form.pad → ⊥)
+pub fails_in_row : (form : Form) (rows : List Row) (found : List Found) (place : ℕ) (octets body : List ℕ) (fault : TlvFault) → 1 ≤ length octets →
+    (get_or octets 0 0 ≡ form.end → ⊥) → (get_or octets 0 0 ≡ form.pad → ⊥)
     → body_in form place (drop 1 octets) ≡ Ok body → taken (row_of rows (get_or octets 0 0)) found (record { code = get_or octets 0 0; place = place; body = body }) ≡ Ends (Err fault)
     → read_on form rows found place 0 octets ≡ Err fault
 fails_in_row form rows found place octets body fault some no_end no_pad is wrong =

@@ -2,7 +2,8 @@
 //! as in TCP (RFC 9293, 3.1) and DHCP (RFC 2132, 2). Nothing is allocated.
 #![tactic(auto)]
 
-ghost use Rattle.std.specs.Prelude.{◌≡◌, ℕ, ◌+◌, ◌≤◌, ◌==◌, ◌↔◌, ◌++◌, true, false, List, length, drop, IsSome, IfNone, replicate, Option, Ok, Err, is_ok, is_some, option_copied, position, IfSome, IfOk, OnOk, IfErr, MatchResult};
+ghost use Rattle.std.specs.Prelude.{◌≡◌, ℕ, ◌+◌, ◌≤◌, ◌==◌, ◌↔◌, ◌++◌, true, false, List, length, drop, IsSome, IfNone, replicate, Option, Ok, Err, is_ok, is_some, option_copied};
+ghost use Rattle.std.specs.Prelude.{position, IfSome, IfOk, OnOk, IfErr, MatchResult};
 ghost use Rattle.tlv_table.specs.Tables.{is_below, is_rising, is_row, are_rows, is_table, row_of};
 ghost use Rattle.tlv_table.specs.Reading.{Found, first_body, body_in, head_counted, judged, option_step, Agrees, Takes, reading, found_in};
 ghost use Rattle.tlv_table.specs.Grammar.{Field, item_octets, IsListOf, IsNoList};

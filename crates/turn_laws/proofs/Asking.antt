@@ -1,5 +1,6 @@
 -- What is due for a datagram of a guest: a socket is opened for it once, and it is sent once.
-use Rattle.std.proofs.Common.{◌≡◌, ℕ, ◌+◌, ◌-◌, ◌<◌, ◌≤◌, ◌==◌, nat_lt, Bool, true, false, List, [], ◌∷◌, ◌++◌, length, take, Option, Some, None, if◌then◌else◌, refl, sym, ◌∙◌, ap, subst, arith, length-append, append-nil}
+use Rattle.std.proofs.Common.{◌≡◌, ℕ, ◌+◌, ◌-◌, ◌<◌, ◌≤◌, ◌==◌, nat_lt, Bool, true, false, List, [], ◌∷◌, ◌++◌, length, take, Option, Some, None, if◌then◌else◌, refl, sym, ◌∙◌, ap, subst}
+use Rattle.std.proofs.Common.{arith, length-append, append-nil}
 use Rattle.std.proofs.lemmas.Bool.Decides.{nat_tests}
 use Rattle.std.proofs.lemmas.List.{take-append-le}
 use Rattle.std.specs.Int.{w32, from_be_bytes}
@@ -32,7 +33,8 @@ never_whole (_ ∷ past) = never_whole past
 not_over : {A : Type 0} → true ≡ false → A
 not_over is = cc
 
-over_stays : (e : Entry) (o : Option Ending) (cause : Cause) (past : List Entry) → (config : Config) → May config past (call_of e) → phase config past ≡ Over cause → is_over (phase_after e o (Over cause)) ≡ true
+over_stays : (e : Entry) (o : Option Ending) (cause : Cause) (past : List Entry) → (config : Config) → May config past (call_of e) → phase config past ≡ Over cause → is_over
+    (phase_after e o (Over cause)) ≡ true
 over_stays e (Some why) cause past config may is = refl
 over_stays (Wait wants timeout answer ready) None cause past config may is = absurd (never (first_of (may_turn (phase config past)) (nat_lt (waits past) config.turns) may.place))
   where
@@ -84,10 +86,13 @@ none_came : (octets : List ℕ) → length octets ≡ 0 → octets ≡ []
 none_came [] is = refl
 none_came (x ∷ octets) is = absurd (omega (arith, is))
 
-short_by : (asked : ℕ) (answer : Io) (octets so_far : List ℕ) → Allowed (LinkRead asked answer octets) → read_ending answer (so_far ++ octets) ≡ None → is_too_long so_far ≡ false → is_too_long (so_far ++ octets) ≡ false
+short_by : (asked : ℕ) (answer : Io) (octets so_far : List ℕ) → Allowed (LinkRead asked answer octets) → read_ending answer (so_far ++ octets) ≡ None → is_too_long so_far ≡ false →
+    is_too_long (so_far ++ octets) ≡ false
 short_by asked (Done n) octets so_far allowed none short = read_short n asked so_far octets none
-short_by asked End octets so_far allowed none short = subst (λ xs. is_too_long (so_far ++ xs) ≡ false) (sym (none_came octets allowed.1.0)) (subst (λ xs. is_too_long xs ≡ false) (sym (append-nil so_far)) short)
-short_by asked NotYet octets so_far allowed none short = subst (λ xs. is_too_long (so_far ++ xs) ≡ false) (sym (none_came octets allowed.1.0)) (subst (λ xs. is_too_long xs ≡ false) (sym (append-nil so_far)) short)
+short_by asked End octets so_far allowed none short = subst (λ xs. is_too_long (so_far ++ xs) ≡ false) (sym (none_came octets allowed.1.0))
+    (subst (λ xs. is_too_long xs ≡ false) (sym (append-nil so_far)) short)
+short_by asked NotYet octets so_far allowed none short = subst (λ xs. is_too_long (so_far ++ xs) ≡ false) (sym (none_came octets allowed.1.0))
+    (subst (λ xs. is_too_long xs ≡ false) (sym (append-nil so_far)) short)
 short_by asked Failed octets so_far allowed none short = cc
 
 pub not_long : (config : Config) (past : List Entry) → Lawful config past → AreAllowed past → is_over (phase config past) ≡ false → is_too_long (partial past) ≡ false
@@ -97,7 +102,8 @@ not_long config (e ∷ past) lawful allowed yet = by e lawful.0 allowed.0 yet (n
   where
     by : (e : Entry) → May config past (call_of e) → Allowed e → is_over (phase config (e ∷ past)) ≡ false → is_too_long (partial past) ≡ false → is_too_long (partial (e ∷ past)) ≡ false
     by (LinkRead asked answer octets) may allowed yet short =
-        long_kept (partial past ++ octets) (short_by asked answer octets (partial past) allowed (ends (ending (LinkRead asked answer octets) (partial past)) (phase config past) (LinkRead asked answer octets) yet) short)
+        long_kept (partial past ++ octets) (short_by asked answer octets (partial past) allowed (ends (ending (LinkRead asked answer octets) (partial past)) (phase config past)
+        (LinkRead asked answer octets) yet) short)
     by _ may allowed yet short = short
 
 -- a frame that comes doesn't end the run
@@ -108,7 +114,8 @@ whole_long : (octets : List ℕ) → is_whole octets ≡ true → (4 + spelt_len
 unfolding missing
 whole_long octets is = by (nat_lt (length octets) 4) refl is
   where
-    by : (b : Bool) → nat_lt (length octets) 4 ≡ b → ((if b then 4 - length octets else 4 + spelt_length octets - length octets) == 0) ≡ true → (4 + spelt_length octets ≤ length octets) × (4 ≤ length octets)
+    by : (b : Bool) → nat_lt (length octets) 4 ≡ b → ((if b then 4 - length octets else 4 + spelt_length octets - length octets) == 0) ≡ true →
+        (4 + spelt_length octets ≤ length octets) × (4 ≤ length octets)
     by true less none = absurd (grind (arith, nat_tests, less, none))
     by false less none = ((grind (arith, nat_tests, less, none)), (grind (arith, nat_tests, less)))
 
@@ -125,7 +132,8 @@ short_whole so_far octets short most whole = by (nat_lt (length so_far) 4) refl 
     same_start : 4 ≤ length so_far → from_be_bytes w32 (take 4 (so_far ++ octets)) ≡ from_be_bytes w32 (take 4 so_far)
     same_start enough = ap (from_be_bytes w32) (take-append-le 4 so_far octets enough)
 
-    by : (b : Bool) → nat_lt (length so_far) 4 ≡ b → (if b then false else nat_lt most_from_link (from_be_bytes w32 (take 4 so_far))) ≡ false → length octets ≤ (if b then 4 - length so_far else 4 + from_be_bytes w32 (take 4 so_far) - length so_far)
+    by : (b : Bool) → nat_lt (length so_far) 4 ≡ b → (if b then false else nat_lt most_from_link (from_be_bytes w32 (take 4 so_far))) ≡ false → length octets ≤
+        (if b then 4 - length so_far else 4 + from_be_bytes w32 (take 4 so_far) - length so_far)
         → (if nat_lt (length (so_far ++ octets)) 4 then false else nat_lt most_from_link (from_be_bytes w32 (take 4 (so_far ++ octets)))) ≡ false
     by true less short most =
         let long = is.0 in let four = is.1 in let whole_of = grown in
@@ -135,7 +143,8 @@ short_whole so_far octets short most whole = by (nat_lt (length so_far) 4) refl 
     by false less short most =
         let four = is.1 in
         let enough : 4 ≤ length so_far = grind (arith, nat_tests, less) in
-        ap (λ b. if b then false else nat_lt most_from_link (from_be_bytes w32 (take 4 (so_far ++ octets)))) (missed 0 (length (so_far ++ octets)) 0 four) ∙ ap (nat_lt most_from_link) (same_start enough) ∙ short
+        ap (λ b. if b then false else nat_lt most_from_link (from_be_bytes w32 (take 4 (so_far ++ octets)))) (missed 0 (length (so_far ++ octets)) 0 four) ∙ ap
+        (nat_lt most_from_link) (same_start enough) ∙ short
 
 whole_again : (so_far : List ℕ) (octets : List ℕ) → length octets ≡ 0 → is_whole so_far ≡ false → is_whole (so_far ++ octets) ≡ true → ⊥
 whole_again so_far octets none part whole = clash (is_whole so_far) (sym (ap is_whole (append-nil so_far)) ∙ sym (ap (λ xs. is_whole (so_far ++ xs)) (none_came octets none)) ∙ whole) part
@@ -149,7 +158,8 @@ pub record Came (config : Config) (past : List Entry) (answer : Io) (octets : Li
   pub some : 1 ≤ length octets
   pub goes_on : read_ending answer (partial past ++ octets) ≡ None
 
-whole_came : (config : Config) (past : List Entry) (asked : ℕ) (answer : Io) (octets : List ℕ) → Lawful config past → AreAllowed past → May config past (CallLinkRead asked) → Allowed (LinkRead asked answer octets)
+whole_came : (config : Config) (past : List Entry) (asked : ℕ) (answer : Io) (octets : List ℕ) → Lawful config past → AreAllowed past → May config past (CallLinkRead asked) →
+    Allowed (LinkRead asked answer octets)
     → is_over (phase config past) ≡ false → is_whole (partial past ++ octets) ≡ true → Came config past answer octets
 whole_came config past asked (Done n) octets lawful allowed may given yet whole = record {
   some = (let many = given.1.0 in let some = given.0.0 in omega (arith, many, some));
@@ -168,6 +178,7 @@ working_yet Started is = cc
 working_yet Woken is = cc
 working_yet (Over cause) is = cc
 
-pub it_came : (config : Config) (past : List Entry) (asked : ℕ) (answer : Io) (octets : List ℕ) → Lawful config past → AreAllowed past → May config past (CallLinkRead asked) → Allowed (LinkRead asked answer octets)
+pub it_came : (config : Config) (past : List Entry) (asked : ℕ) (answer : Io) (octets : List ℕ) → Lawful config past → AreAllowed past → May config past (CallLinkRead asked) →
+    Allowed (LinkRead asked answer octets)
     → is_whole (partial past ++ octets) ≡ true → Came config past answer octets
 it_came config past asked answer octets lawful allowed may given whole = whole_came config past asked answer octets lawful allowed may given (working_yet (phase config past) may.place) whole

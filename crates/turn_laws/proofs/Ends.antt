@@ -2,7 +2,8 @@
 use Rattle.std.proofs.Common.{◌≡◌, ℕ, ◌<◌, ◌==◌, ◌&&◌, ◌||◌, Bool, true, false, cond, List, [], ◌∷◌, length, Option, Some, None, option_map, if◌then◌else◌, refl, sym, ◌∙◌, ap, subst, arith}
 use Rattle.std.proofs.lemmas.Bool.Decides.{nat_tests}
 use Rattle.net_octets.specs.declared.Endpoint.{Endpoint}
-use Rattle.world_face.specs.Journal.{Entry, call_of, Now, Wait, LinkOpen, LinkRead, LinkWrite, Connect, Connected, Listen, Accept, TcpRead, TcpWrite, TcpEnd, Close, UdpOpen, UdpSend, UdpRecv, FileLen, FileRead, CallTcpEnd}
+use Rattle.world_face.specs.Journal.{Entry, call_of, Now, Wait, LinkOpen, LinkRead, LinkWrite, Connect, Connected, Listen, Accept, TcpRead, TcpWrite, TcpEnd, Close, UdpOpen, UdpSend}
+use Rattle.world_face.specs.Journal.{UdpRecv, FileLen, FileRead, CallTcpEnd}
 use Rattle.world_face.specs.declared.Made.{Made}
 use Rattle.world_face.specs.declared.Made.TheVariants.{Done, Failed}
 use Rattle.world_face.specs.declared.Accepted.{Accepted}
@@ -97,17 +98,20 @@ module _ (n : ℕ) where
   IsOther (Visits listener socket peer) = (socket == n) ≡ false
   IsOther _ = Unit {0}
 
-  opened_stays : (config : Config) (now socket : ℕ) (tuple : Tuple) (event : Event) (b : Book) → (socket == n) ≡ false → HasEnded (flow_of n b.flows) → HasEnded (flow_of n (opens config now socket tuple event b).flows)
+  opened_stays : (config : Config) (now socket : ℕ) (tuple : Tuple) (event : Event) (b : Book) → (socket == n) ≡ false → HasEnded (flow_of n b.flows) → HasEnded
+      (flow_of n (opens config now socket tuple event b).flows)
   opened_stays config now socket tuple event b other has =
       let new : Flow = record { number = socket; tuple = tuple; story = At now event ∷ [] } in
       subst (λ (k : Bool). HasEnded (cond k (Some new) (flow_of n b.flows))) (sym other) has
 
   turned_stays : (config : Config) (sc : Scene) (d : Doing) (b : Book) → IsOther d → HasEnded (flow_of n b.flows) → HasEnded (flow_of n (turned config sc d b).flows)
   turned_stays config sc Nothing b other has = has
-  turned_stays config sc (Comes on) b other has = tell_stays (is_on on.tuple) (with_event sc.moment (Arrives on.segment)) (λ f. refl) (λ f is. story_stays sc.moment (Arrives on.segment) f.story is) b.flows has
+  turned_stays config sc (Comes on) b other has = tell_stays (is_on on.tuple) (with_event sc.moment (Arrives on.segment)) (λ f. refl)
+      (λ f is. story_stays sc.moment (Arrives on.segment) f.story is) b.flows has
   turned_stays config sc (Goes on) b other has = tell_stays (is_on on.tuple) (sends sc.moment on.segment) (sends_number sc.moment on.segment) (sends_stays sc.moment on) b.flows has
   turned_stays config sc (Seeks asked) b other has =
-      subst HasEnded (sym (map_found n (seeks_for sc.moment asked) (seeks_number sc.moment asked) b.flows)) (map_stays (seeks_for sc.moment asked) (seeks_stays sc.moment asked) (flow_of n b.flows) has)
+      subst HasEnded (sym (map_found n (seeks_for sc.moment asked) (seeks_number sc.moment asked) b.flows)) (map_stays (seeks_for sc.moment asked) (seeks_stays sc.moment asked)
+      (flow_of n b.flows) has)
   turned_stays config sc Pauses b other has = has
   turned_stays config sc (Joins socket) b other has = by b.came
     where
@@ -116,7 +120,8 @@ module _ (n : ℕ) where
       by (Some on) = opened_stays config sc.moment socket on.tuple (Connects (first_number sc.moment (length b.flows)) on.segment) b other has
   turned_stays config sc (Visits listener socket peer) b other has = by (port_of config listener)
     where
-      by_test : (at : Endpoint) (t : Bool) → HasEnded (flow_of n (if t then doom socket b else opens config sc.moment socket (tuple_for config at peer) (Accepts (first_number sc.moment (length b.flows))) b).flows)
+      by_test : (at : Endpoint) (t : Bool) → HasEnded (flow_of n (if t then doom socket b else opens config sc.moment socket (tuple_for config at peer)
+          (Accepts (first_number sc.moment (length b.flows))) b).flows)
       by_test at true = has
       by_test at false = opened_stays config sc.moment socket (tuple_for config at peer) (Accepts (first_number sc.moment (length b.flows))) b other has
 
@@ -167,7 +172,8 @@ module _ (n : ℕ) where
 
   other_call : (config : Config) (e : Entry) (past : List Entry) → May config past (call_of e) → n < next_number past → IsOther (by_call e)
   other_call config (Connect socket to answer) past may less =
-      other_joins answer socket (another (next_number past) socket less (connects_next (book config past).doomed (connects_to config (book config past)) (next_number past) socket to may.flows.touches))
+      other_joins answer socket (another (next_number past) socket less (connects_next (book config past).doomed (connects_to config (book config past))
+      (next_number past) socket to may.flows.touches))
   other_call config (Accept listener socket answer) past may less = other_visits answer listener socket (another (next_number past) socket less may.flows.touches)
   other_call config (Wait wants timeout answer ready) past may less = tt
   other_call config (Connected socket answer) past may less = tt
@@ -189,7 +195,8 @@ module _ (n : ℕ) where
   has_on : (config : Config) (e : Entry) (past : List Entry) → Lawful config (e ∷ past) → HasEnded (flow_of n (book config past).flows) → HasEnded (flow_of n (book config (e ∷ past)).flows)
   has_on config e past lawful has =
       turned_stays config (scene config past) (doing config past e) (book config past)
-      (other_by (happens config past e).came (happens config past e).went e (other_call config e past lawful.0 (below_next (next_number past) (book config past).flows (are_kept config past (keeps_flows config past lawful.1)).below has))) has
+      (other_by (happens config past e).came (happens config past e).went e
+      (other_call config e past lawful.0 (below_next (next_number past) (book config past).flows (are_kept config past (keeps_flows config past lawful.1)).below has))) has
 
 ends_now : (now : ℕ) (answer : Made) (story : Story) → has_ended (guest (At now (ended_by answer) ∷ story)) ≡ true
 ends_now now Done story = refl
@@ -209,8 +216,10 @@ has_told config n [] lawful is = cc
 has_told config n (Wait wants timeout answer ready ∷ past) lawful is = cc
 has_told config n (TcpEnd socket answer ∷ past) lawful is = by (socket == n) refl is (λ more. has_on n config (TcpEnd socket answer) past lawful (has_told config n past lawful.1 more))
   where
-    by : (b : Bool) → (socket == n) ≡ b → (b || told past n) ≡ true → (told past n ≡ true → HasEnded (flow_of n (book config (TcpEnd socket answer ∷ past)).flows)) → HasEnded (flow_of n (book config (TcpEnd socket answer ∷ past)).flows)
-    by true this is more = let same : socket ≡ n = grind (arith, nat_tests, this) in subst (λ m. HasEnded (flow_of m (book config (TcpEnd socket answer ∷ past)).flows)) same (has_now config socket answer past lawful.0)
+    by : (b : Bool) → (socket == n) ≡ b → (b || told past n) ≡ true → (told past n ≡ true → HasEnded (flow_of n (book config (TcpEnd socket answer ∷ past)).flows)) → HasEnded
+        (flow_of n (book config (TcpEnd socket answer ∷ past)).flows)
+    by true this is more = let same : socket ≡ n = grind (arith, nat_tests, this) in subst (λ m. HasEnded (flow_of m (book config (TcpEnd socket answer ∷ past)).flows)) same
+        (has_now config socket answer past lawful.0)
     by false this is more = more is
 has_told config n (Now moment ∷ past) lawful is = has_on n config (Now moment) past lawful (has_told config n past lawful.1 is)
 has_told config n (LinkOpen at answer ∷ past) lawful is = has_on n config (LinkOpen at answer) past lawful (has_told config n past lawful.1 is)

@@ -2,7 +2,8 @@
 use Rattle.std.proofs.Common.{◌≡◌, ℕ, ◌+◌, ◌≤◌, ◌==◌, nat_lt, Bool, true, false, List, [], ◌∷◌, ◌++◌, Option, Some, None, option_map, if◌then◌else◌, refl, sym, ◌∙◌, ap, subst, arith}
 use Rattle.net_octets.specs.declared.Endpoint.{Endpoint}
 use Rattle.world_face.specs.Frames.{is_whole, partial}
-use Rattle.world_face.specs.Journal.{AreAllowed, Call, Entry, call_of, Now, Wait, LinkOpen, LinkRead, LinkWrite, Connect, Connected, Listen, Accept, TcpRead, TcpWrite, TcpEnd, Close, UdpOpen, UdpSend, UdpRecv, FileLen, FileRead, CallClose, CallLinkRead, CallUdpOpen, CallUdpSend}
+use Rattle.world_face.specs.Journal.{AreAllowed, Call, Entry, call_of, Now, Wait, LinkOpen, LinkRead, LinkWrite, Connect, Connected, Listen, Accept, TcpRead, TcpWrite, TcpEnd, Close}
+use Rattle.world_face.specs.Journal.{UdpOpen, UdpSend, UdpRecv, FileLen, FileRead, CallClose, CallLinkRead, CallUdpOpen, CallUdpSend}
 use Rattle.world_face.specs.declared.Io.{Io}
 use Rattle.world_face.specs.declared.Made.{Made}
 use Rattle.world_face.specs.declared.Made.TheVariants.{Done, Failed}
@@ -45,7 +46,8 @@ working_none Woken past is = cc
 working_none (Over cause) past is = cc
 
 -- the call that is due for it
-due_now : (config : Config) (past : List Entry) (s : Step) (call : Call) (errand : Errand) → InTurn config past → step config past ≡ s → errand_in s ≡ Some errand → due_for config s (next_number past) ≡ Some call → due config past ≡ Some call
+due_now : (config : Config) (past : List Entry) (s : Step) (call : Call) (errand : Errand) → InTurn config past → step config past ≡ s → errand_in s ≡ Some errand →
+    due_for config s (next_number past) ≡ Some call → due config past ≡ Some call
 due_now config past s call errand turn is left this =
     let working : is_working (phase config past) ≡ true = subst (λ o. OfErrand (λ (errand : Errand). is_working (phase config past) ≡ true) o) (errand_is config past s is ∙ left) turn in
     ap (λ o. unless_due o (unless_due (due_for config (step config past) (next_number past)) (others_due config past))) (working_none (phase config past) past working)
@@ -62,7 +64,8 @@ idle_none config past call may idle turn = by (step config past) refl
   where
     by : (s : Step) → step config past ≡ s → errand_left config past ≡ None
     by Settled is = errand_is config past Settled is
-    by (NeedsRoom oldest errand) is = absurd (subst IsIdle (is_due config past call (CallClose oldest) may (due_now config past (NeedsRoom oldest errand) (CallClose oldest) errand turn is refl refl)) idle)
+    by (NeedsRoom oldest errand) is = absurd (subst IsIdle (is_due config past call (CallClose oldest) may
+        (due_now config past (NeedsRoom oldest errand) (CallClose oldest) errand turn is refl refl)) idle)
     by (NeedsSocket errand) is = absurd (subst IsIdle (is_due config past call _ may (due_now config past (NeedsSocket errand) _ errand turn is refl refl)) idle)
     by (NeedsSending socket errand) is = absurd (subst IsIdle (is_due config past call _ may (due_now config past (NeedsSending socket errand) _ errand turn is refl refl)) idle)
 
@@ -79,18 +82,23 @@ opened_working (Over cause) is = cc
 abbrev pub came_by : Config → List Entry → (asked : ℕ) (answer : Io) (octets : List ℕ) → (b : Bool) → Option Arrival
 came_by config past asked answer octets b = option_map (arrival_of config (moment past) (waiting config past)) (if b then Some (drop 4 (partial past ++ octets)) else None)
 
-read_turn : (config : Config) (past : List Entry) (asked : ℕ) (answer : Io) (octets : List ℕ) → Lawful config (LinkRead asked answer octets ∷ past) → AreAllowed (LinkRead asked answer octets ∷ past) → InTurn config past
+read_turn : (config : Config) (past : List Entry) (asked : ℕ) (answer : Io) (octets : List ℕ) → Lawful config (LinkRead asked answer octets ∷ past) → AreAllowed
+    (LinkRead asked answer octets ∷ past) → InTurn config past
     → InTurn config (LinkRead asked answer octets ∷ past)
 read_turn config past asked answer octets lawful allowed turn = by (is_whole (partial past ++ octets)) refl
   where
     by : (b : Bool) → is_whole (partial past ++ octets) ≡ b
-        → OfErrand (λ (errand : Errand). is_working (phase config (LinkRead asked answer octets ∷ past)) ≡ true) (errand_after config (LinkRead asked answer octets) (came_by config past asked answer octets b) (errand_left config past))
-    by true whole = all_errands (λ (errand : Errand). is_working (phase config (LinkRead asked answer octets ∷ past)) ≡ true) (errand_after config (LinkRead asked answer octets) (came_by config past asked answer octets true) (errand_left config past))
-        (λ errand is. ap (λ o. is_working (phase_after (LinkRead asked answer octets) o (phase config past))) (it_came config past asked answer octets lawful.1 allowed.1 lawful.0 allowed.0 whole).goes_on ∙ lawful.0.place)
+        → OfErrand (λ (errand : Errand). is_working (phase config (LinkRead asked answer octets ∷ past)) ≡ true) (errand_after config (LinkRead asked answer octets)
+        (came_by config past asked answer octets b) (errand_left config past))
+    by true whole = all_errands (λ (errand : Errand). is_working (phase config (LinkRead asked answer octets ∷ past)) ≡ true) (errand_after config (LinkRead asked answer octets)
+        (came_by config past asked answer octets true) (errand_left config past))
+        (λ errand is. ap (λ o. is_working (phase_after (LinkRead asked answer octets) o (phase config past)))
+        (it_came config past asked answer octets lawful.1 allowed.1 lawful.0 allowed.0 whole).goes_on ∙ lawful.0.place)
     by false part = none_in_turn config past (LinkRead asked answer octets ∷ past) (idle_none config past (CallLinkRead asked) lawful.0 tt turn)
 
 opened_turn : (config : Config) (past : List Entry) (socket : ℕ) (at : Endpoint) (answer : Made) → InTurn config past → InTurn config (UdpOpen socket at answer ∷ past)
-opened_turn config past socket at Done turn = of_errand (λ errand. is_working (phase config past) ≡ true) (λ errand. is_working (opened Done (phase config past)) ≡ true) (λ errand is. opened_working (phase config past) is) (errand_left config past) turn
+opened_turn config past socket at Done turn = of_errand (λ errand. is_working (phase config past) ≡ true) (λ errand. is_working (opened Done (phase config past)) ≡ true)
+    (λ errand is. opened_working (phase config past) is) (errand_left config past) turn
 opened_turn config past socket at Failed turn = tt
 
 pub in_turn : (config : Config) (past : List Entry) → Lawful config past → AreAllowed past → InTurn config past
@@ -148,20 +156,24 @@ no_more config e past may turn other same_left = by (step config past) refl
     by (NeedsSocket errand) is = two_most (step config (e ∷ past))
     by (NeedsSending socket errand) is = absurd (subst IsNoSending (is_due config past (call_of e) _ may (due_now config past (NeedsSending socket errand) _ errand turn is refl refl)) other)
 
-pub sent_once : (config : Config) (past : List Entry) (socket : ℕ) (to : Endpoint) (octets : List ℕ) (answer : Sent) → May config past (CallUdpSend socket to octets) → calls_for (step config (UdpSend socket to octets answer ∷ past)) + 1 ≤ calls_for (step config past)
+pub sent_once : (config : Config) (past : List Entry) (socket : ℕ) (to : Endpoint) (octets : List ℕ) (answer : Sent) → May config past (CallUdpSend socket to octets) → calls_for
+    (step config (UdpSend socket to octets answer ∷ past)) + 1 ≤ calls_for (step config past)
 sent_once config past socket to octets answer may = let asked = ap calls_for (sends config past socket to octets may).asked in omega (arith, asked)
 
 -- a socket that was opened for it is there
-module _ (config : Config) (past : List Entry) (socket : ℕ) (at : Endpoint) (errand : Errand) (may : May config past (CallUdpOpen socket at)) (lawful : Lawful config past) (left : errand_left config past ≡ Some errand) where
+module _ (config : Config) (past : List Entry) (socket : ℕ) (at : Endpoint) (errand : Errand) (may : May config past (CallUdpOpen socket at)) (lawful : Lawful config past)
+    (left : errand_left config past ≡ Some errand) where
   waited : nat_lt 0 (waits past) ≡ true
   waited = waited_for config past errand left lawful
 
   question_sent : asks_a_name config errand ≡ true → calls_for (step config (UdpOpen socket at Done ∷ past)) ≤ 1
   question_sent names =
       let is = ap calls_for (step_to_name config (UdpOpen socket at Done ∷ past) errand names left ∙ ap (λ list. step_to_names list errand) list_is
-      ∙ ap (λ o. with_socket o (questions config past ++ (question socket errand (moment past) ∷ [])) errand) (socket_last errand.datagram.from (ident_in errand.datagram.body) (questions config past) (question socket errand (moment past))
+      ∙ ap (λ o. with_socket o (questions config past ++ (question socket errand (moment past) ∷ [])) errand) (socket_last errand.datagram.from (ident_in errand.datagram.body)
+      (questions config past) (question socket errand (moment past))
       (no_socket_yet config past socket at errand may lawful left names)
-      (and_both (same_endpoint errand.datagram.from errand.datagram.from) (ident_in errand.datagram.body == ident_in errand.datagram.body) (same_port errand.datagram.from) (same (ident_in errand.datagram.body))))) in omega (arith, is)
+      (and_both (same_endpoint errand.datagram.from errand.datagram.from) (ident_in errand.datagram.body == ident_in errand.datagram.body) (same_port errand.datagram.from)
+      (same (ident_in errand.datagram.body))))) in omega (arith, is)
     where
       list_is : questions config (UdpOpen socket at Done ∷ past) ≡ questions config past ++ (question socket errand (moment past) ∷ [])
       list_is = ap (λ o. with_opened config Done socket (moment past) o (questions config past)) left
@@ -192,7 +204,8 @@ module _ (config : Config) (past : List Entry) (socket : ℕ) (at : Endpoint) (e
       let later = UdpOpen socket at Done ∷ past in
       let is = ap calls_for (step_is_of config later errand other left) in
       let most = at_most_one (forward_for config errand.datagram.from later) (socket_for config errand.datagram.from later) later
-      (λ none. clash (is_port errand.datagram.from (opened_for config socket later)) its_port (find_none (λ s. is_port errand.datagram.from (opened_for config s later)) (associations_open config later) socket none (is_there other))) in
+      (λ none. clash (is_port errand.datagram.from (opened_for config socket later)) its_port (find_none (λ s. is_port errand.datagram.from (opened_for config s later))
+      (associations_open config later) socket none (is_there other))) in
       omega (arith, is, most)
     where
       clash : (b : Bool) → b ≡ true → b ≡ false → ⊥
@@ -206,10 +219,12 @@ module _ (config : Config) (past : List Entry) (socket : ℕ) (at : Endpoint) (e
       by true is = question_sent is
       by false is = datagram_sent is
 
-pub sent_next : (config : Config) (past : List Entry) (socket : ℕ) (at : Endpoint) (answer : Made) → Opens config (step config past) (next_number past) socket at → May config past (CallUdpOpen socket at) → Lawful config past
+pub sent_next : (config : Config) (past : List Entry) (socket : ℕ) (at : Endpoint) (answer : Made) → Opens config (step config past) (next_number past) socket at → May config past
+    (CallUdpOpen socket at) → Lawful config past
     → calls_for (step config (UdpOpen socket at answer ∷ past)) + 1 ≤ calls_for (step config past)
 sent_next config past socket at answer o may lawful = by answer o.errand (ap calls_for o.asked) (errand_is config past (NeedsSocket o.errand) o.asked)
   where
-    by : (answer : Made) (errand : Errand) → calls_for (step config past) ≡ 2 → errand_left config past ≡ Some errand → calls_for (step config (UdpOpen socket at answer ∷ past)) + 1 ≤ calls_for (step config past)
+    by : (answer : Made) (errand : Errand) → calls_for (step config past) ≡ 2 → errand_left config past ≡ Some errand → calls_for
+        (step config (UdpOpen socket at answer ∷ past)) + 1 ≤ calls_for (step config past)
     by Done errand two left = let one = opened_for_it config past socket at errand may lawful left in omega (arith, two, one)
     by Failed errand two left = omega (arith, two)

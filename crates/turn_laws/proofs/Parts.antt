@@ -1,10 +1,12 @@
 -- What else is still due: the clock, the link, calls on files, and a connection of the host.
-use Rattle.std.proofs.Common.{◌≡◌, ℕ, suc, ◌+◌, ◌≤◌, ◌==◌, nat_lt, nat_le, Bool, true, false, List, [], ◌∷◌, ◌++◌, length, drop, Option, Some, None, option_and_then, if◌then◌else◌, refl, sym, ◌∙◌, ap, subst, arith, inl, inr}
+use Rattle.std.proofs.Common.{◌≡◌, ℕ, suc, ◌+◌, ◌≤◌, ◌==◌, nat_lt, nat_le, Bool, true, false, List, [], ◌∷◌, ◌++◌, length, drop, Option, Some, None, option_and_then, if◌then◌else◌, refl}
+use Rattle.std.proofs.Common.{sym, ◌∙◌, ap, subst, arith, inl, inr}
 use Rattle.std.proofs.lemmas.Bool.Decides.{nat_tests}
 use Rattle.std.proofs.lemmas.List.{drop_all}
 use Rattle.net_octets.specs.declared.Endpoint.{Endpoint}
 use Rattle.world_face.specs.Frames.{Ending, MayOffer, goes_out, is_blocked, opens, rest_after, spelling, tail, wait_ending}
-use Rattle.world_face.specs.Journal.{Call, Entry, MayWrite, count_of, Now, Wait, LinkWrite, Listen, UdpOpen, FileLen, FileRead, CallNow, CallClose, CallConnect, CallFileLen, CallFileRead, CallLinkWrite, MayReadFile, CallListen, CallUdpOpen}
+use Rattle.world_face.specs.Journal.{Call, Entry, MayWrite, count_of, Now, Wait, LinkWrite, Listen, UdpOpen, FileLen, FileRead, CallNow, CallClose, CallConnect, CallFileLen, CallFileRead}
+use Rattle.world_face.specs.Journal.{CallLinkWrite, MayReadFile, CallListen, CallUdpOpen}
 use Rattle.world_face.specs.declared.FileSize.{FileSize}
 use Rattle.world_face.specs.declared.FileSize.TheVariants.{Length, Missing, Failed as SizeFailed}
 use Rattle.world_face.specs.declared.Io.{Io}
@@ -30,7 +32,8 @@ use Rattle.slirp_laws.proofs.FileCalls.{sought_length, sought_octets}
 use Rattle.slirp_laws.proofs.Phases.{IsForOther, due_call, for_others, others_due, OpensNone, asks_after_waits, opens as opens_for_it}
 use Rattle.tftp_server.specs.Asking.{call_for}
 use Rattle.tftp_server.specs.Packets.{Terms, terms_of, options_octets}
-use Rattle.tftp_server.specs.Transfers.{Quest, Said, SeeksLength, SeeksOctets, Settled as NothingSought, Sought, Transfer, begins, length_came, measured, next_again, octets_came, octets_of, reads_on, seeks_block, seeks_next, told_length, told_octets, transfer, with_room, sends_block, sends}
+use Rattle.tftp_server.specs.Transfers.{Quest, Said, SeeksLength, SeeksOctets, Settled as NothingSought, Sought, Transfer, begins, length_came, measured, next_again, octets_came}
+use Rattle.tftp_server.specs.Transfers.{octets_of, reads_on, seeks_block, seeks_next, told_length, told_octets, transfer, with_room, sends_block, sends}
 use Rattle.turn_laws.specs.Tally.{frames_in}
 use Rattle.poll_list.specs.declared.Want.{Want}
 use Rattle.world_face.specs.declared.Waited.{Waited}
@@ -87,7 +90,8 @@ clock_on _ None p apart = omega arith
 pub clock_stays : (config : Config) (e : Entry) (past : List Entry) → NoWait e → calls_on_clock (phase config (e ∷ past)) ≤ calls_on_clock (phase config past)
 clock_stays config e past apart = clock_on e _ (phase config past) apart
 
-pub begun_clock : (config : Config) (past : List Entry) (wants : List Want) (timeout : Option ℕ) (answer : Waited) (ready : List Want) → calls_on_clock (phase config (Wait wants timeout answer ready ∷ past)) ≤ 1
+pub begun_clock : (config : Config) (past : List Entry) (wants : List Want) (timeout : Option ℕ) (answer : Waited) (ready : List Want) → calls_on_clock
+    (phase config (Wait wants timeout answer ready ∷ past)) ≤ 1
 begun_clock config past wants timeout answer ready = by answer (phase config past)
   where
     by : (answer : Waited) (p : Phase) → calls_on_clock (phase_after (Wait wants timeout answer ready) (wait_ending answer) p) ≤ 1
@@ -121,9 +125,11 @@ opens_apart ByUdp number forward is = cc
 some_same : (a b : Call) → Some a ≡ Some b → a ≡ b
 some_same a b is = cc
 
-asked_in : (p : Phase) (past : List Entry) (other : Option Call) (told : ℕ) → (other ≡ Some CallNow → ⊥) → unless_due (due_in p past) other ≡ Some CallNow → calls_on_clock (phase_after (Now told) None p) + 1 ≤ calls_on_clock p
+asked_in : (p : Phase) (past : List Entry) (other : Option Call) (told : ℕ) → (other ≡ Some CallNow → ⊥) → unless_due (due_in p past) other ≡ Some CallNow → calls_on_clock
+    (phase_after (Now told) None p) + 1 ≤ calls_on_clock p
 asked_in (Opening count []) past other told never is = omega arith
-asked_in (Opening count (forward ∷ forwards)) past other told never is = absurd (opens_apart forward.proto (next_number past) forward (some_same (opening_of forward.proto (next_number past) forward) CallNow is))
+asked_in (Opening count (forward ∷ forwards)) past other told never is = absurd (opens_apart forward.proto (next_number past) forward
+    (some_same (opening_of forward.proto (next_number past) forward) CallNow is))
 asked_in Started past other told never is = absurd (never is)
 asked_in Woken past other told never is = omega arith
 asked_in Working past other told never is = absurd (never is)
@@ -136,7 +142,8 @@ asked_once config past told may =
 
 -- ---- ports of the host
 
-opened_less : (answer : Made) (count : ℕ) (forward : Forward) (forwards : List Forward) → calls_on_clock (opened answer (Opening count (forward ∷ forwards))) + 1 ≤ calls_on_clock (Opening count (forward ∷ forwards))
+opened_less : (answer : Made) (count : ℕ) (forward : Forward) (forwards : List Forward) → calls_on_clock (opened answer (Opening count (forward ∷ forwards))) + 1 ≤ calls_on_clock
+    (Opening count (forward ∷ forwards))
 opened_less MadeDone count forward forwards = omega arith
 opened_less MadeFailed count forward forwards = omega arith
 
@@ -146,7 +153,8 @@ no_port config (NeedsRoom oldest errand) other number socket at fit is = cc
 no_port config (NeedsSocket errand) other number socket at fit is = cc
 no_port config (NeedsSending s errand) other number socket at fit is = cc
 
-listened_in : (p : Phase) (past : List Entry) (other : Option Call) (socket : ℕ) (at : Endpoint) (answer : Made) → (other ≡ Some (CallListen socket at) → ⊥) → unless_due (due_in p past) other ≡ Some (CallListen socket at)
+listened_in : (p : Phase) (past : List Entry) (other : Option Call) (socket : ℕ) (at : Endpoint) (answer : Made) → (other ≡ Some (CallListen socket at) → ⊥) → unless_due
+    (due_in p past) other ≡ Some (CallListen socket at)
     → calls_on_clock (opened answer p) + 1 ≤ calls_on_clock p
 listened_in (Opening count []) past other socket at answer never is = cc
 listened_in (Opening count (forward ∷ forwards)) past other socket at answer never is = opened_less answer count forward forwards
@@ -155,7 +163,8 @@ listened_in Woken past other socket at answer never is = cc
 listened_in Working past other socket at answer never is = absurd (never is)
 listened_in (Over cause) past other socket at answer never is = absurd (closed_first (first (open_sockets past)) other (CallListen socket at) (λ s same. cc) never is)
 
-pub listened_once : (config : Config) (past : List Entry) (socket : ℕ) (at : Endpoint) (answer : Made) → May config past (CallListen socket at) → calls_on_clock (phase config (Listen socket at answer ∷ past)) + 1 ≤ calls_on_clock (phase config past)
+pub listened_once : (config : Config) (past : List Entry) (socket : ℕ) (at : Endpoint) (answer : Made) → May config past (CallListen socket at) → calls_on_clock
+    (phase config (Listen socket at answer ∷ past)) + 1 ≤ calls_on_clock (phase config past)
 listened_once config past socket at answer may =
     listened_in (phase config past) past (unless_due (due_for config (step config past) (next_number past)) (others_due config past)) socket at answer
     (no_port config (step config past) (others_due config past) (next_number past) socket at (for_others config past)) (due_call (due config past) (CallListen socket at) may.place may.due)
@@ -174,11 +183,13 @@ left_none o MadeFailed none = refl
 
 -- a socket for datagrams is one of the settings', or one that a guest's datagram asks for
 pub opened_once : (config : Config) (past : List Entry) (socket : ℕ) (at : Endpoint) (answer : Made) → May config past (CallUdpOpen socket at) → Lawful config past
-    → calls_on_clock (phase config (UdpOpen socket at answer ∷ past)) + calls_for (step config (UdpOpen socket at answer ∷ past)) + 1 ≤ calls_on_clock (phase config past) + calls_for (step config past)
+    → calls_on_clock (phase config (UdpOpen socket at answer ∷ past)) + calls_for (step config (UdpOpen socket at answer ∷ past)) + 1 ≤ calls_on_clock
+    (phase config past) + calls_for (step config past)
 opened_once config past socket at answer may lawful =
     elim (opens_for_it config past socket at may) [
       | inl early ↦ (let less = opens_some (phase config past) answer early.1 in
-          let none = none_for config (UdpOpen socket at answer ∷ past) (left_none (errand_left config past) answer (none_early (waits past) (errand_left config past) early.0 (asks_after_waits config past lawful))) in omega (arith, less, none))
+          let none = none_for config (UdpOpen socket at answer ∷ past) (left_none (errand_left config past) answer (none_early (waits past) (errand_left config past) early.0
+          (asks_after_waits config past lawful))) in omega (arith, less, none))
       | inr o ↦ (let less = sent_next config past socket at answer o may lawful in let same = clock_stays config (UdpOpen socket at answer) past tt in omega (arith, less, same))
     ]
 
@@ -231,8 +242,10 @@ link_by octets (x ∷ rest) Failed offered given = let none = refused_link octet
     clash is = cc
 
 pub written_link : (config : Config) (past : List Entry) (octets : List ℕ) (answer : Io) → May config past (CallLinkWrite octets) → MayWrite (length octets) answer
-    → calls_on_link (is_blocked (LinkWrite octets answer ∷ past)) (tail (LinkWrite octets answer ∷ past)) + 1 ≤ calls_on_link (is_blocked past) (tail past) + frames_in (goes_out (LinkWrite octets answer) past)
-written_link config past octets answer may given = let free = ap (λ b. calls_on_link b (tail past)) may.framed.1 in let less = link_by octets (tail past) answer may.framed.0 given in omega (arith, free, less)
+    → calls_on_link (is_blocked (LinkWrite octets answer ∷ past)) (tail (LinkWrite octets answer ∷ past)) + 1 ≤ calls_on_link (is_blocked past) (tail past) + frames_in
+    (goes_out (LinkWrite octets answer) past)
+written_link config past octets answer may given = let free = ap (λ b. calls_on_link b (tail past)) may.framed.1 in let less = link_by octets
+    (tail past) answer may.framed.0 given in omega (arith, free, less)
 
 -- ---- files
 
@@ -272,14 +285,16 @@ length_one now (Length n) s others = measured_one now n s (terms_of n s.options)
 length_one now Missing s others = omega arith
 length_one now SizeFailed s others = omega arith
 
-measured_less : (now : ℕ) (name : List ℕ) (answer : FileSize) (q : Quest) (others : List Transfer) → call_for q ≡ Some (CallFileLen name) → calls_on_files (length_came now answer q others).files.quest + 1 ≤ calls_on_files q
+measured_less : (now : ℕ) (name : List ℕ) (answer : FileSize) (q : Quest) (others : List Transfer) → call_for q ≡ Some (CallFileLen name) → calls_on_files
+    (length_came now answer q others).files.quest + 1 ≤ calls_on_files q
 measured_less now name answer NothingSought others is = cc
 measured_less now name answer (SeeksLength s) others is = let one = length_one now answer s others in omega (arith, one)
 measured_less now name answer (SeeksOctets t there) others is = cc
 
 pub measured_file : (config : Config) (past : List Entry) (name : List ℕ) (answer : FileSize) → May config past (CallFileLen name)
     → calls_on_files (serving config (FileLen name answer ∷ past)).files.quest + 1 ≤ calls_on_files (serving config past).files.quest
-measured_file config past name answer may = measured_less (serving config past).now name answer (serving config past).files.quest (serving config past).files.transfers (sought_length config past name may)
+measured_file config past name answer may = measured_less (serving config past).now name answer (serving config past).files.quest (serving config past).files.transfers
+    (sought_length config past name may)
 
 reads_one : (now : ℕ) (there : List ℕ) (t : Transfer) (others : List Transfer) → calls_on_files (reads_on now there t others).files.quest ≤ 1
 reads_one now there t others = by (nat_le (octets_of t) (length there))
@@ -295,16 +310,19 @@ octets_less now asked End octets there t others may many = omega arith
 octets_less now asked NotYet octets there t others may many = omega arith
 octets_less now asked Failed octets there t others may many = omega arith
 
-taken_less : (now asked : ℕ) (name : List ℕ) (place : ℕ) (answer : Io) (octets : List ℕ) (q : Quest) (others : List Transfer) → MayReadFile asked answer → length octets ≡ count_of answer → call_for q ≡ Some (CallFileRead name place asked)
+taken_less : (now asked : ℕ) (name : List ℕ) (place : ℕ) (answer : Io) (octets : List ℕ) (q : Quest) (others : List Transfer) → MayReadFile asked answer →
+    length octets ≡ count_of answer → call_for q ≡ Some (CallFileRead name place asked)
     → calls_on_files (octets_came now answer octets q others).files.quest + 1 ≤ calls_on_files q + length octets
 taken_less now asked name place answer octets NothingSought others may many is = cc
 taken_less now asked name place answer octets (SeeksLength s) others may many is = cc
 taken_less now asked name place answer octets (SeeksOctets t there) others may many is = let less = octets_less now asked answer octets there t others may many in omega (arith, less)
 
-pub taken_file : (config : Config) (past : List Entry) (name : List ℕ) (place asked : ℕ) (answer : Io) (octets : List ℕ) → May config past (CallFileRead name place asked) → MayReadFile asked answer → length octets ≡ count_of answer
+pub taken_file : (config : Config) (past : List Entry) (name : List ℕ) (place asked : ℕ) (answer : Io) (octets : List ℕ) → May config past (CallFileRead name place asked) →
+    MayReadFile asked answer → length octets ≡ count_of answer
     → calls_on_files (serving config (FileRead name place asked answer octets ∷ past)).files.quest + 1 ≤ calls_on_files (serving config past).files.quest + length octets
 taken_file config past name place asked answer octets may given many =
-    taken_less (serving config past).now asked name place answer octets (serving config past).files.quest (serving config past).files.transfers given many (sought_octets config past name place asked may)
+    taken_less (serving config past).now asked name place answer octets (serving config past).files.quest (serving config past).files.transfers given many
+    (sought_octets config past name place asked may)
 
 sent_same : (b : Bool) (s : Serving) → (files_sent b s).quest ≡ s.files.quest
 sent_same false s = refl
@@ -318,7 +336,8 @@ sent_same true s = by s.again
     by None = next (next_again s.now s.files.transfers)
     by (Some said) = refl
 
-pub written_files : (config : Config) (past : List Entry) (octets : List ℕ) (answer : Io) → calls_on_files (serving config (LinkWrite octets answer ∷ past)).files.quest ≡ calls_on_files (serving config past).files.quest
+pub written_files : (config : Config) (past : List Entry) (octets : List ℕ) (answer : Io) → calls_on_files
+    (serving config (LinkWrite octets answer ∷ past)).files.quest ≡ calls_on_files (serving config past).files.quest
 written_files config past octets answer = ap calls_on_files (sent_same (begins_again config (identification past) (ledger config past) (goes_out (LinkWrite octets answer) past)) (serving config past))
 
 -- ---- connections
@@ -359,7 +378,8 @@ module _ (config : Config) (later : List Entry) (s : Serving) (links : ℕ) (one
   by_fate d ForFiles none = let most = two_on_files (served_file config s d).files.quest in omega (arith, none, most)
   by_fate d (GoesTo to) none = let most = two_most (step_of config later (errand_by d (GoesTo to))) in omega (arith, none, most)
 
-  pub by_packet : (packet : Packet) → (segment_by packet ≡ None → links ≡ 0) → calls_for (step_of config later (errand_by_packet config packet)) + calls_on_files (files_by_packet config s packet).quest + links ≤ 2 + calls_on_files s.files.quest
+  pub by_packet : (packet : Packet) → (segment_by packet ≡ None → links ≡ 0) → calls_for (step_of config later (errand_by_packet config packet)) + calls_on_files
+      (files_by_packet config s packet).quest + links ≤ 2 + calls_on_files s.files.quest
   by_packet Unheard none = let is = none refl in omega (arith, is)
   by_packet (ArpPacket arp) none = let is = none refl in omega (arith, is)
   by_packet (Message mac ip message) none = let is = none refl in omega (arith, is)

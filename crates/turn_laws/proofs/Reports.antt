@@ -164,7 +164,8 @@ pub in_front : (socket : ℕ) (items : List Want) → writes (Tcp socket) items 
 in_front socket [] is = cc
 in_front socket (item ∷ items) is = by (is_to_write (Tcp socket) item) refl is (λ more. in_front socket items more)
   where
-    by : (b : Bool) → (same_who (Tcp socket) item.of && item.write) ≡ b → (b || writes (Tcp socket) items) ≡ true → (writes (Tcp socket) items ≡ true → was_written_for socket (written (Tcp socket) items) ≡ true)
+    by : (b : Bool) → (same_who (Tcp socket) item.of && item.write) ≡ b → (b || writes (Tcp socket) items) ≡ true → (writes (Tcp socket) items ≡ true → was_written_for socket
+        (written (Tcp socket) items) ≡ true)
         → was_written_for socket (if b then record { of = item.of; read = item.read; write = false } ∷ items else written (Tcp socket) items) ≡ true
     by true this is rest = ap (λ b. b && true) (first_of (same_who (Tcp socket) item.of) item.write this)
     by false other is rest = rest is
@@ -185,7 +186,8 @@ ended_front : (told later : ℕ → Bool) (socket : ℕ) (items : List Want) →
 ended_front told later socket [] is before after = cc
 ended_front told later socket (item ∷ items) is before after = let less = end_front told later socket item.of item.read item.write is before after in omega (arith, less)
 
-pub is_ended : (told later : ℕ → Bool) (socket : ℕ) (items : List Want) (just : Bool) → (writes (Tcp socket) items || just) ≡ true → (just ≡ true → was_written_for socket items ≡ true) → told socket ≡ false → later socket ≡ true
+pub is_ended : (told later : ℕ → Bool) (socket : ℕ) (items : List Want) (just : Bool) → (writes (Tcp socket) items || just) ≡ true →
+    (just ≡ true → was_written_for socket items ≡ true) → told socket ≡ false → later socket ≡ true
     → fronts later (ended socket items) + 1 ≤ fronts told items
 is_ended told later socket items just served in_place before after = by (was_written_for socket items) refl
   where

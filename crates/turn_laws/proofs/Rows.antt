@@ -30,10 +30,12 @@ first = hex "0000004a52540012345652550a00020208004500003c000020004011246ec633640
 abbrev second : List ℕ
 second = hex "0000003e52540012345652550a0002020800450000300000000540114475c63364010a00020f2122232425262728292a2b2c2d2e2f303132333435363738393a3b3c"
 
--- The link takes ten octets of the first and is free again, but the run waits once more; in the turn that follows, for which nothing is reported, the clock is asked, the rest goes out, and the link takes nothing of the second.
+-- The link takes ten octets of the first and is free again, but the run waits once more; in the turn that follows, for which nothing is reported, the clock is
+-- asked, the rest goes out, and the link takes nothing of the second.
 abbrev reached : List Entry
 reached =
-    heard ++ LinkWrite first (Done 10) ∷ Wait (writing Link ∷ []) (Some 240000) Ready (writing Link ∷ []) ∷ Now 21 ∷ Wait (reading Link ∷ []) (Some 240000) Ready [] ∷ Now 22 ∷ LinkWrite (drop 10 first) (Done 68) ∷ LinkWrite second NotYet ∷ []
+    heard ++ LinkWrite first (Done 10) ∷ Wait (writing Link ∷ []) (Some 240000) Ready (writing Link ∷ []) ∷ Now 21 ∷ Wait (reading Link ∷ []) (Some 240000) Ready [] ∷ Now 22
+    ∷ LinkWrite (drop 10 first) (Done 68) ∷ LinkWrite second NotYet ∷ []
 
 reached_lawful : Lawful narrow (run reached)
 unfolding missing spelling is_too_long spelt_length

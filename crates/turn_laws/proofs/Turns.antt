@@ -4,7 +4,8 @@ use Rattle.std.proofs.lemmas.Bool.Decides.{nat_tests}
 use Rattle.poll_list.specs.declared.Want.{Want}
 use Rattle.poll_list.specs.declared.Who.TheVariants.{Link, Listener as AListener, Tcp, Udp}
 use Rattle.world_face.specs.Frames.{is_blocked, is_whole, partial, tail}
-use Rattle.world_face.specs.Journal.{Allowed, AreAllowed, Entry, Now, Wait, LinkOpen, LinkRead, LinkWrite, Connect, Connected, Listen, Accept, TcpRead, TcpWrite, TcpEnd, Close, UdpOpen, UdpSend, UdpRecv, FileLen, FileRead, CallWait}
+use Rattle.world_face.specs.Journal.{Allowed, AreAllowed, Entry, Now, Wait, LinkOpen, LinkRead, LinkWrite, Connect, Connected, Listen, Accept, TcpRead, TcpWrite, TcpEnd, Close, UdpOpen}
+use Rattle.world_face.specs.Journal.{UdpSend, UdpRecv, FileLen, FileRead, CallWait}
 use Rattle.world_face.specs.declared.Io.{Io}
 use Rattle.world_face.specs.declared.Io.TheVariants.{Done, End, NotYet, Failed}
 use Rattle.world_face.specs.declared.Waited.{Waited}
@@ -27,7 +28,8 @@ use Rattle.turn_laws.specs.Tally.{most_calls, tally}
 use Rattle.turn_laws.proofs.Asking.{it_came}
 use Rattle.turn_laws.proofs.Ends.{told, untold}
 use Rattle.turn_laws.proofs.Errands.{calls_for, came_by, idle_none, in_turn, no_more, none_for, sent_once}
-use Rattle.turn_laws.proofs.Parts.{NoWait, asked_once, begun_clock, listened_once, opened_once, by_packet, calls_on_clock, calls_on_files, calls_on_link, calls_to_connect, clock_stays, connects_once, measured_file, none_to_connect, one_to_connect, taken_file, two_on_link, written_files, written_link}
+use Rattle.turn_laws.proofs.Parts.{NoWait, asked_once, begun_clock, listened_once, opened_once, by_packet, calls_on_clock, calls_on_files, calls_on_link, calls_to_connect, clock_stays}
+use Rattle.turn_laws.proofs.Parts.{connects_once, measured_file, none_to_connect, one_to_connect, taken_file, two_on_link, written_files, written_link}
 use Rattle.turn_laws.proofs.Reports.{at_wait, fronts, in_front, is_ended, is_passed, is_read, is_written}
 
 -- how many calls may still come for what there is
@@ -53,7 +55,8 @@ abbrev Few : Config → List Entry → Type 0
 Few config past = (tally config past).calls + (reports past + clock config past + link past + asks config past + files config past + connects config past) ≤ most_calls (tally config past)
 
 -- a wait begins anew
-begins : (config : Config) (past : List Entry) (wants : List Want) (timeout : Option ℕ) (answer : Waited) (ready : List Want) → Lawful config past → AreAllowed past → May config past (CallWait wants timeout)
+begins : (config : Config) (past : List Entry) (wants : List Want) (timeout : Option ℕ) (answer : Waited) (ready : List Want) → Lawful config past → AreAllowed past →
+    May config past (CallWait wants timeout)
     → Few config (Wait wants timeout answer ready ∷ past)
 begins config past wants timeout answer ready lawful allowed may =
     let e = Wait wants timeout answer ready in
@@ -87,18 +90,22 @@ brought asked End octets so_far allowed is = cc
 brought asked NotYet octets so_far allowed is = cc
 brought asked Failed octets so_far allowed is = cc
 
-module _ (config : Config) (past : List Entry) (asked : ℕ) (answer : Io) (octets : List ℕ) (lawful : Lawful config (LinkRead asked answer octets ∷ past)) (allowed : AreAllowed (LinkRead asked answer octets ∷ past)) where
+module _ (config : Config) (past : List Entry) (asked : ℕ) (answer : Io) (octets : List ℕ) (lawful : Lawful config (LinkRead asked answer octets ∷ past))
+    (allowed : AreAllowed (LinkRead asked answer octets ∷ past)) where
   abbrev read_now : List Entry
   read_now = LinkRead asked answer octets ∷ past
 
   whole_read : is_whole (partial past ++ octets) ≡ true → reports read_now + asks config read_now + files config read_now + connects config read_now ≤ reports past + files config past
   whole_read whole =
       let fewer = is_read (λ n. told past n) (λ n. told past n) Link (agenda past) lawful.0.served in
-      let rest : reports read_now ≡ fronts (λ n. told past n) (behind Link (agenda past)) = ap (λ (b : Bool). fronts (λ n. told past n) (if b then from Link (agenda past) else behind Link (agenda past))) (stops answer (partial past ++ octets) whole) in
+      let rest : reports read_now ≡ fronts (λ n. told past n) (behind Link (agenda past)) = ap
+      (λ (b : Bool). fronts (λ n. told past n) (if b then from Link (agenda past) else behind Link (agenda past))) (stops answer (partial past ++ octets) whole) in
       let most : asks config read_now + files config read_now + connects config read_now ≤ 2 + files config past =
       subst (λ b. calls_for (step_of config read_now (errand_after config (LinkRead asked answer octets) (came_by config past asked answer octets b) (errand_left config past)))
-      + calls_on_files (files_after config past (happens config past (LinkRead asked answer octets)) (came_by config past asked answer octets b) (ledger config past)).quest + connects config read_now ≤ 2 + files config past) (sym whole)
-      (by_packet config read_now (serving config past) (connects config read_now) (one_to_connect (connects_to config (book config read_now))) (arrival_of config (moment past) (waiting config past) (drop 4 (partial past ++ octets))).packet
+      + calls_on_files (files_after config past (happens config past (LinkRead asked answer octets)) (came_by config past asked answer octets b)
+      (ledger config past)).quest + connects config read_now ≤ 2 + files config past) (sym whole)
+      (by_packet config read_now (serving config past) (connects config read_now) (one_to_connect (connects_to config (book config read_now)))
+      (arrival_of config (moment past) (waiting config past) (drop 4 (partial past ++ octets))).packet
       (λ none. none_to_connect config (LinkRead asked answer octets) past (ap (λ b. segment_came (came_by config past asked answer octets b)) whole ∙ none))) in
       omega (arith, fewer, rest, most)
 
@@ -109,18 +116,22 @@ module _ (config : Config) (past : List Entry) (asked : ℕ) (answer : Io) (octe
       by true on = let less = is_passed (λ n. told past n) Link (agenda past) in let some = brought asked answer octets (partial past ++ octets) allowed.0 on in omega (arith, less, some)
       by false off = let fewer = is_read (λ n. told past n) (λ n. told past n) Link (agenda past) lawful.0.served in omega (arith, fewer)
 
-  part_read : is_whole (partial past ++ octets) ≡ false → reports read_now + asks config read_now + files config read_now + connects config read_now + 1 ≤ reports past + asks config past + files config past + length octets
+  part_read : is_whole (partial past ++ octets) ≡ false → reports read_now + asks config read_now + files config read_now + connects config read_now + 1 ≤ reports past + asks
+      config past + files config past + length octets
   part_read part =
       let one = part_reports in
-      let two = no_more config (LinkRead asked answer octets) past lawful.0 (in_turn config past lawful.1 allowed.1) tt (ap (λ b. errand_after config (LinkRead asked answer octets) (came_by config past asked answer octets b) (errand_left config past)) part) in
-      let three : files config read_now ≡ files config past = ap (λ b. calls_on_files (files_after config past (happens config past (LinkRead asked answer octets)) (came_by config past asked answer octets b) (ledger config past)).quest) part in
+      let two = no_more config (LinkRead asked answer octets) past lawful.0 (in_turn config past lawful.1 allowed.1) tt
+      (ap (λ b. errand_after config (LinkRead asked answer octets) (came_by config past asked answer octets b) (errand_left config past)) part) in
+      let three : files config read_now ≡ files config past = ap (λ b. calls_on_files (files_after config past (happens config past (LinkRead asked answer octets))
+      (came_by config past asked answer octets b) (ledger config past)).quest) part in
       let four = none_to_connect config (LinkRead asked answer octets) past (ap (λ b. segment_came (came_by config past asked answer octets b)) part) in
       omega (arith, one, two, three, four)
 
   link_read : reports read_now + asks config read_now + files config read_now + connects config read_now + 1 ≤ reports past + asks config past + files config past + length octets
   link_read = by (is_whole (partial past ++ octets)) refl
     where
-      by : (b : Bool) → is_whole (partial past ++ octets) ≡ b → reports read_now + asks config read_now + files config read_now + connects config read_now + 1 ≤ reports past + asks config past + files config past + length octets
+      by : (b : Bool) → is_whole (partial past ++ octets) ≡ b → reports read_now + asks config read_now + files config read_now + connects config read_now + 1 ≤ reports past + asks
+          config past + files config past + length octets
       by true whole = let less = whole_read whole in let some = (it_came config past asked answer octets lawful.1 allowed.1 lawful.0 allowed.0 whole).some in omega (arith, less, some)
       by false part = part_read part
 
@@ -185,7 +196,8 @@ module _ (config : Config) (past : List Entry) (few : Few config past) where
       let five = clock_stays config (TcpWrite socket octets answer) past tt in
       omega (arith, few, one, two, three, five)
   few_on (TcpEnd socket answer) turn lawful allowed =
-      let one = is_ended (λ n. told past n) (λ n. told (TcpEnd socket answer ∷ past) n) socket (agenda past) (has_just_written socket past) lawful.0.served (just_written config socket past lawful.1) (untold config socket past lawful.1 lawful.0)
+      let one = is_ended (λ n. told past n) (λ n. told (TcpEnd socket answer ∷ past) n) socket (agenda past) (has_just_written socket past) lawful.0.served
+      (just_written config socket past lawful.1) (untold config socket past lawful.1 lawful.0)
       (ap (λ b. b || told past socket) (same socket)) in
       let two = no_more config (TcpEnd socket answer) past lawful.0 (in_turn config past lawful.1 allowed.1) tt refl in
       let three = none_to_connect config (TcpEnd socket answer) past refl in

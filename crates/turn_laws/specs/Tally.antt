@@ -4,7 +4,8 @@ use Rattle.world_face.specs.Journal.{Entry, Wait, LinkRead, LinkWrite, Close, Fi
 use Rattle.world_face.specs.Frames.{goes_out}
 use Rattle.host_policy.specs.Addresses.{Config}
 
--- Since the last wait: the calls; and the items that it reported, the sockets that were closed, the octets that came on the link or from files, and the frames that began to go out. Before the first wait the items are the ports that the settings open.
+-- Since the last wait: the calls; and the items that it reported, the sockets that were closed, the octets that came on the link or from files, and the frames
+-- that began to go out. Before the first wait the items are the ports that the settings open.
 pub record Tally : Type 0 where
   pub calls : ℕ
   pub items : ℕ
@@ -32,6 +33,7 @@ abbrev pub tally : Config → List Entry → Tally
 tally config [] = nothing_yet (length config.forwards)
 tally config (e ∷ past) = counted e (goes_out e past) (tally config past)
 
--- Three for each item: octets of a host are read, others written to it, and it is told the end. One for each socket that is closed, octet that comes, and frame that goes out. And three beside: the clock is asked, the rest of a frame goes out, and the link takes nothing.
+-- Three for each item: octets of a host are read, others written to it, and it is told the end. One for each socket that is closed, octet that comes, and frame
+-- that goes out. And three beside: the clock is asked, the rest of a frame goes out, and the link takes nothing.
 abbrev pub most_calls : Tally → ℕ
 most_calls t = 3 * t.items + t.closes + t.octets + t.frames + 3

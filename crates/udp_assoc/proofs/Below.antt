@@ -29,5 +29,6 @@ below_up bound (x ∷ list) below =
     let here = All-head (λ (n : ℕ). n < bound) x.number (numbers list) below in
     All-cons (λ (n : ℕ). n < bound + 1) x.number (numbers list) (omega (arith, here)) (below_up bound list (All-tail (λ (n : ℕ). n < bound) x.number (numbers list) below))
 
-pub below_moved : (bound socket : ℕ) (change : Association → Association) → ((a : Association) → (change a).number ≡ a.number) → (list : List Association) → AreBelow bound list → AreBelow bound (moved_last change socket list)
+pub below_moved : (bound socket : ℕ) (change : Association → Association) → ((a : Association) → (change a).number ≡ a.number) → (list : List Association) → AreBelow bound list →
+    AreBelow bound (moved_last change socket list)
 below_moved bound socket change keeps list below = All-permutation (λ (n : ℕ). n < bound) (numbers list) (numbers (moved_last change socket list)) (moved_numbers change keeps socket list) below

@@ -7,8 +7,10 @@ use Rattle.net_octets.specs.declared.Endpoint.{Endpoint}
 use Rattle.udp_assoc.specs.Associations.{numbers, without, moved_last}
 use Rattle.udp_assoc.specs.Rows.{row, in_order, one, times, gone, Rise, key, keys_of, AreRows, ArePorts, IsRoomFor, IsTakenOut}
 use Rattle.udp_assoc.specs.declared.assocs.Association.{Association}
-use Rattle.udp_assoc.proofs.Ordering.{equal, others, placed, once, where_it_is, same_place, remove_gone, rise_gone, rise_last, rise_insert, none_yet, times_gone, times_last, times-insert, gone_alike, moved_alike, as_often}
-use Rattle.udp_assoc.proofs.Keeping.{row_number, row_at, row_set_other, row_more, row_more_other, row_removed, numbers_in_order, numbers_set, numbers_removed, length_numbers, since_set, since_more, since_removed, same_order, in_order-append, without_in_order, moved_in_order, as_many}
+use Rattle.udp_assoc.proofs.Ordering.{equal, others, placed, once, where_it_is, same_place, remove_gone, rise_gone, rise_last, rise_insert, none_yet, times_gone, times_last, times-insert}
+use Rattle.udp_assoc.proofs.Ordering.{gone_alike, moved_alike, as_often}
+use Rattle.udp_assoc.proofs.Keeping.{row_number, row_at, row_set_other, row_more, row_more_other, row_removed, numbers_in_order, numbers_set, numbers_removed, length_numbers, since_set}
+use Rattle.udp_assoc.proofs.Keeping.{since_more, since_removed, same_order, in_order-append, without_in_order, moved_in_order, as_many}
 use Rattle.udp_assoc.proofs.Porting.{key_at, key_there, length_keys, keys_insert, keys_remove, same_keys_of, small_more, small_removed, small_row, small_set}
 
 -- the association with a number, at its place
@@ -77,7 +79,8 @@ module _ (rows : List Association) (rising order keys owners : List ℕ) (since 
       rise = ports.rise;
       same = λ n. ports.same n ∙ ap (times n) (sym numbers_stay);
       small = small_set rows place b
-          (subst (λ (e : Endpoint). e.port < 65536) (sym (same_guest ∙ ap (λ (a : Association). a.guest) its_row)) (small_row number rows (let o = ports.same number in omega (arith, among_owners, o)) ports.small)) ports.small;
+          (subst (λ (e : Endpoint). e.port < 65536) (sym (same_guest ∙ ap (λ (a : Association). a.guest) its_row))
+          (small_row number rows (let o = ports.same number in omega (arith, among_owners, o)) ports.small)) ports.small;
     }
 
     pub used_keeps : (new_rows : List Association) (new_order : List ℕ) (new_since : ℕ) → new_rows ≡ new → new_order ≡ gone number order ++ (number ∷ []) → new_since ≡ min since now
@@ -87,10 +90,12 @@ module _ (rows : List Association) (rising order keys owners : List ℕ) (since 
         (subst (λ o. AreRows new_rows rising o (min since now) × ArePorts new_rows keys owners) (sym order_is)
         (subst (λ r. AreRows r rising (gone number order ++ (number ∷ [])) (min since now) × ArePorts r keys owners) (sym rows_are) (used_rows, used_ports)))
 
-    pub used_last : (new_rows : List Association) (new_order : List ℕ) → new_rows ≡ new → new_order ≡ gone number order ++ (number ∷ []) → in_order new_rows new_order ≡ moved_last change number (in_order rows order)
+    pub used_last : (new_rows : List Association) (new_order : List ℕ) → new_rows ≡ new → new_order ≡ gone number order ++ (number ∷ []) →
+        in_order new_rows new_order ≡ moved_last change number (in_order rows order)
     used_last new_rows new_order rows_are order_is =
         ap (λ r. in_order r new_order) rows_are ∙ ap (in_order new) order_is ∙ in_order-append new (gone number order) number
-        ∙ ap (λ l. l ++ (row number new ∷ [])) (same_order rows new (gone number order) (λ n some. row_else n (λ it. let none = ap (λ m. times m (gone number order)) (sym it) ∙ times_gone number order in omega (arith, some, none))))
+        ∙ ap (λ l. l ++ (row number new ∷ [])) (same_order rows new (gone number order)
+        (λ n some. row_else n (λ it. let none = ap (λ m. times m (gone number order)) (sym it) ∙ times_gone number order in omega (arith, some, none))))
         ∙ ap (λ (a : Association). in_order rows (gone number order) ++ (a ∷ [])) (row_now ∙ is ∙ ap change its_row)
         ∙ sym (moved_in_order change number rows order ordered_once)
 
@@ -212,7 +217,8 @@ module _ (rows : List Association) (rising order keys owners : List ℕ) (since 
     keys_are = sym (
         keys_insert more owners p a.number
         ∙ ap (λ (x : Association). insert (keys_of more owners) p (key x.guest)) (row_more rows a none_rows)
-        ∙ ap (λ l. insert l p (key a.guest)) (same_keys_of rows more owners (λ n some. ap (λ (x : Association). x.guest) (row_old n (λ it. let none = ap (λ m. times m owners) (sym it) ∙ none_owners in omega (arith, some, none)))))
+        ∙ ap (λ l. insert l p (key a.guest)) (same_keys_of rows more owners
+        (λ n some. ap (λ (x : Association). x.guest) (row_old n (λ it. let none = ap (λ m. times m owners) (sym it) ∙ none_owners in omega (arith, some, none)))))
         ∙ ap (λ l. insert l p (key a.guest)) (sym ports.keys_are));
     rise = rise_insert keys p (key a.guest) room.fits ports.rise room.below room.above;
     same = λ n.
@@ -224,7 +230,8 @@ module _ (rows : List Association) (rising order keys owners : List ℕ) (since 
   }
 
   pub opened_keeps : (p : ℕ) → IsRoomFor (key a.guest) keys p → (new_rows : List Association) (new_rising new_order new_keys new_owners : List ℕ) (new_since : ℕ)
-      → new_rows ≡ more → new_rising ≡ rising ++ (a.number ∷ []) → new_order ≡ order ++ (a.number ∷ []) → new_keys ≡ insert keys p (key a.guest) → new_owners ≡ insert owners p a.number → new_since ≡ min since a.used
+      → new_rows ≡ more → new_rising ≡ rising ++ (a.number ∷ []) → new_order ≡ order ++ (a.number ∷ []) → new_keys ≡ insert keys p (key a.guest) →
+      new_owners ≡ insert owners p a.number → new_since ≡ min since a.used
       → AreRows new_rows new_rising new_order new_since × ArePorts new_rows new_keys new_owners
   opened_keeps p room new_rows new_rising new_order new_keys new_owners new_since rows_are rising_is order_is keys_are owners_are since_is = (
     subst (λ s. AreRows new_rows new_rising new_order s) (sym since_is)
@@ -239,5 +246,6 @@ module _ (rows : List Association) (rising order keys owners : List ℕ) (since 
   pub opened_last : (new_rows : List Association) (new_order : List ℕ) → new_rows ≡ more → new_order ≡ order ++ (a.number ∷ []) → in_order new_rows new_order ≡ in_order rows order ++ (a ∷ [])
   opened_last new_rows new_order rows_are order_is =
       ap (λ r. in_order r new_order) rows_are ∙ ap (in_order more) order_is ∙ in_order-append more order a.number
-      ∙ ap (λ l. l ++ (row a.number more ∷ [])) (same_order rows more order (λ n some. row_old n (λ it. let none = ap (λ m. times m order) (sym it) ∙ none_yet a.number order order_above in omega (arith, some, none))))
+      ∙ ap (λ l. l ++ (row a.number more ∷ [])) (same_order rows more order
+      (λ n some. row_old n (λ it. let none = ap (λ m. times m order) (sym it) ∙ none_yet a.number order order_above in omega (arith, some, none))))
       ∙ ap (λ (x : Association). in_order rows order ++ (x ∷ [])) (row_more rows a none_rows)

@@ -1,5 +1,6 @@
 -- What changes of the rows make of the list.
-use Rattle.std.proofs.Common.{◌≡◌, ℕ, zero, suc, ◌+◌, ◌<◌, ◌≤◌, ◌==◌, ◌&&◌, ◌||◌, not, nat_le, Bool, cond, true, false, All, List, [], ◌∷◌, ◌++◌, length, get_or, set, slice_get, min, Option, Some, None, refl, sym, ◌∙◌, ap, arith}
+use Rattle.std.proofs.Common.{◌≡◌, ℕ, zero, suc, ◌+◌, ◌<◌, ◌≤◌, ◌==◌, ◌&&◌, ◌||◌, not, nat_le, Bool, cond, true, false, All, List, [], ◌∷◌, ◌++◌, length, get_or, set, slice_get, min}
+use Rattle.std.proofs.Common.{Option, Some, None, refl, sym, ◌∙◌, ap, arith}
 use Rattle.std.proofs.lemmas.Bool.Decides.{nat_tests}
 use Rattle.std.specs.List.{remove, list_any}
 use Rattle.std.proofs.lemmas.List.Elements.{All-cons, All-nil, All-head, All-tail}
@@ -155,7 +156,8 @@ moved_in_order change x rows (m ∷ order) some =
     ∙ by (m == x) refl some (λ rest. moved_in_order change x rows order rest)
   where
     by : (b : Bool) → (m == x) ≡ b → one b + times x order ≡ 1 → (times x order ≡ 1 → moved_last change x (in_order rows order) ≡ in_order rows (gone x order) ++ (change (row x rows) ∷ []))
-        → cond b (in_order rows order ++ (change (row m rows) ∷ [])) (row m rows ∷ moved_last change x (in_order rows order)) ≡ in_order rows (cond (not b) (m ∷ gone x order) (gone x order)) ++ (change (row x rows) ∷ [])
+        → cond b (in_order rows order ++ (change (row m rows) ∷ [])) (row m rows ∷ moved_last change x (in_order rows order)) ≡ in_order rows
+        (cond (not b) (m ∷ gone x order) (gone x order)) ++ (change (row x rows) ∷ [])
     by true is one_of more =
         ap (λ k. in_order rows order ++ (change (row k rows) ∷ [])) (equal m x is)
         ∙ ap (λ l. in_order rows l ++ (change (row x rows) ∷ [])) (sym (gone_none x order (omega (arith, one_of))))
@@ -210,7 +212,8 @@ row_passes test x (a ∷ rows) few is = by (a.number == x) (test a) refl few is 
     by true false passes few some more = let none = nowhere_else rows (omega (arith, few)) in cc
     by false t passes few some more = let later = more (omega (arith, few)) some in (omega (arith, later.0), later.1)
 
-any_in_order : (test : Association → Bool) (x : ℕ) (rows : List Association) (order : List ℕ) → 0 < times x order → test (row x rows) ≡ true → list_any (λ a. is_numbered x a && test a) (in_order rows order) ≡ true
+any_in_order : (test : Association → Bool) (x : ℕ) (rows : List Association) (order : List ℕ) → 0 < times x order → test (row x rows) ≡ true → list_any
+    (λ a. is_numbered x a && test a) (in_order rows order) ≡ true
 any_in_order test x rows [] some passes = absurd (omega (arith, some))
 any_in_order test x rows (m ∷ order) some passes =
     ap (λ k. ((k == x) && test (row m rows)) || list_any (λ a. is_numbered x a && test a) (in_order rows order)) (row_number m rows)

@@ -54,7 +54,8 @@ walked of before (n ∷ ns) last (suc most) few chain =
     ap (λ (l : Neighbours). n ∷ walk most of l.behind) chain.0 ∙ ap (λ (rest : List ℕ). n ∷ rest) (walked of (Some n) ns last most (omega (arith, few)) chain.1)
 
 -- the neighbours of a number in a list aren't numbers that stand neither in it nor before it
-before_not : (of : ℕ → Neighbours) (x m : ℕ) (before : Option ℕ) (ns : List ℕ) (last : Option ℕ) → Chain of before ns last → 0 < times m ns → (before ≡ Some x → ⊥) → times x ns ≡ 0 → (of m).before ≡ Some x → ⊥
+before_not : (of : ℕ → Neighbours) (x m : ℕ) (before : Option ℕ) (ns : List ℕ) (last : Option ℕ) → Chain of before ns last → 0 < times m ns → (before ≡ Some x → ⊥) →
+    times x ns ≡ 0 → (of m).before ≡ Some x → ⊥
 before_not of x m before [] last chain some out none is = omega (arith, some)
 before_not of x m before (n ∷ ns) last chain some out none is =
     by (n == m) refl some (λ more. before_not of x m (Some n) ns last chain.1 more (λ e. let one_is : n ≡ x = cc in differs x n ns none one_is) (rest_without x n ns none) is)
@@ -88,7 +89,8 @@ among_rest : (n : ℕ) (ns all : List ℕ) → Among (n ∷ ns) all → Among ns
 among_rest n ns all sub k some = sub k (behind_it k n ns some)
 
 -- the neighbours of a number differ
-pub apart : (of : ℕ → Neighbours) (m k : ℕ) (before : Option ℕ) (ns : List ℕ) (last : Option ℕ) → Chain of before ns last → Once ns → Outside before ns → 0 < times m ns → (of m).before ≡ Some k → (of m).behind ≡ Some k → ⊥
+pub apart : (of : ℕ → Neighbours) (m k : ℕ) (before : Option ℕ) (ns : List ℕ) (last : Option ℕ) → Chain of before ns last → Once ns → Outside before ns → 0 < times m ns →
+    (of m).before ≡ Some k → (of m).behind ≡ Some k → ⊥
 apart of m k before [] last chain once out some left right = omega (arith, some)
 apart of m k before (n ∷ ns) last chain once out some left right = by (n == m) refl some (λ more. apart of m k (Some n) ns last chain.1 (once_rest n ns once) (once_first n ns once) more left right)
   where
@@ -130,10 +132,12 @@ module _ (of new : ℕ → Neighbours) (m : ℕ) (all : List ℕ) (taken : Taken
   at_left k some is = taken k some ∙ misses_before (of m).behind (of m).before k _ (λ e. differ k is e) ∙ hits (of m).before (of m).behind k (of k) is
 
   at_right : (k : ℕ) → 0 < times k all → (of m).behind ≡ Some k → new k ≡ neighbours (of m).before (of k).behind
-  at_right k some is = taken k some ∙ hits_before (of m).behind (of m).before k _ is ∙ ap (λ (l : Neighbours). neighbours (of m).before l.behind) (misses (of m).before (of m).behind k (of k) (λ e. differ k e is))
+  at_right k some is = taken k some ∙ hits_before (of m).behind (of m).before k _ is ∙ ap (λ (l : Neighbours). neighbours (of m).before l.behind)
+      (misses (of m).before (of m).behind k (of k) (λ e. differ k e is))
 
   -- it was the first of the list
-  from_first : (before : Option ℕ) (ns : List ℕ) (last : Option ℕ) → of m ≡ neighbours before (first_of ns) → Chain of (Some m) ns last → Once (m ∷ ns) → Outside before (m ∷ ns) → Among ns all → Chain new before ns (unless_none (first_of ns) before last)
+  from_first : (before : Option ℕ) (ns : List ℕ) (last : Option ℕ) → of m ≡ neighbours before (first_of ns) → Chain of (Some m) ns last → Once (m ∷ ns) → Outside before (m ∷ ns) →
+      Among ns all → Chain new before ns (unless_none (first_of ns) before last)
   from_first before [] last is chain once out sub = refl
   from_first before (r ∷ rest) last is chain once out sub =
       let behind : (of m).behind ≡ Some r = ap (λ (l : Neighbours). l.behind) is in
@@ -145,7 +149,8 @@ module _ (of new : ℕ → Neighbours) (m : ℕ) (all : List ℕ) (taken : Taken
             (λ e. let this : Some r ≡ Some k = sym behind ∙ e in let one_is : r ≡ k = cc in let no_more = subst (λ x. times x rest ≡ 0) one_is none in omega (arith, some, no_more))) chain.1,
       )
 
-  first_left : (before : Option ℕ) (n : ℕ) (ns : List ℕ) (last : Option ℕ) → of n ≡ neighbours before (first_of ns) → Chain of (Some n) ns last → times n ns ≡ 0 → 0 < times m ns → Once ns → 0 < times n all → new n ≡ neighbours before (first_of (gone m ns))
+  first_left : (before : Option ℕ) (n : ℕ) (ns : List ℕ) (last : Option ℕ) → of n ≡ neighbours before (first_of ns) → Chain of (Some n) ns last → times n ns ≡ 0 → 0 < times m ns →
+      Once ns → 0 < times n all → new n ≡ neighbours before (first_of (gone m ns))
   first_left before n [] last is chain none some once in_all = absurd (omega (arith, some))
   first_left before n (r ∷ rest) last is chain none some once in_all = by (r == m) refl some
     where
@@ -153,25 +158,30 @@ module _ (of new : ℕ → Neighbours) (m : ℕ) (all : List ℕ) (taken : Taken
       by true this some =
           let fm : of m ≡ neighbours (Some n) (first_of rest) = ap of (sym (equal r m this)) ∙ chain.0 in
           let out_of = subst (λ x. times x rest ≡ 0) (equal r m this) (once_first r rest once) in
-          at_left n in_all (ap (λ (l : Neighbours). l.before) fm) ∙ ap (λ (l : Neighbours). neighbours l.before (of m).behind) is ∙ ap (λ (l : Neighbours). neighbours before l.behind) fm ∙ ap (λ (l : List ℕ). neighbours before (first_of l)) (sym (gone_none m rest out_of))
+          at_left n in_all (ap (λ (l : Neighbours). l.before) fm) ∙ ap (λ (l : Neighbours). neighbours l.before (of m).behind) is ∙ ap
+          (λ (l : Neighbours). neighbours before l.behind) fm ∙ ap (λ (l : List ℕ). neighbours before (first_of l)) (sym (gone_none m rest out_of))
       by false this some =
           at_others n in_all
           (before_not of n m (Some r) rest last chain.1 (omega (arith, some)) (λ e. let one_is : r ≡ n = cc in differs n r rest none one_is) (rest_without n r rest none))
           (behind_not of n m (Some n) (r ∷ rest) last chain (behind_it m r rest (omega (arith, some))) none)
           ∙ is
 
-  pub chain_taken : (before : Option ℕ) (ns : List ℕ) (last : Option ℕ) → Chain of before ns last → Once ns → Outside before ns → 0 < times m ns → Among ns all → Chain new before (gone m ns) (unless_none (of m).behind (of m).before last)
+  pub chain_taken : (before : Option ℕ) (ns : List ℕ) (last : Option ℕ) → Chain of before ns last → Once ns → Outside before ns → 0 < times m ns → Among ns all → Chain new before
+      (gone m ns) (unless_none (of m).behind (of m).before last)
   chain_taken before [] last chain once out some sub = absurd (omega (arith, some))
-  chain_taken before (n ∷ ns) last chain once out some sub = by (n == m) refl some (λ more. chain_taken (Some n) ns last chain.1 (once_rest n ns once) (once_first n ns once) more (among_rest n ns all sub))
+  chain_taken before (n ∷ ns) last chain once out some sub = by (n == m) refl some (λ more. chain_taken (Some n) ns last chain.1 (once_rest n ns once) (once_first n ns once) more
+      (among_rest n ns all sub))
     where
-      by : (b : Bool) → (n == m) ≡ b → 0 < one b + times m ns → (0 < times m ns → Chain new (Some n) (gone m ns) (unless_none (of m).behind (of m).before last)) → Chain new before (if not b then n ∷ gone m ns else gone m ns) (unless_none (of m).behind (of m).before last)
+      by : (b : Bool) → (n == m) ≡ b → 0 < one b + times m ns → (0 < times m ns → Chain new (Some n) (gone m ns) (unless_none (of m).behind (of m).before last)) → Chain new before
+          (if not b then n ∷ gone m ns else gone m ns) (unless_none (of m).behind (of m).before last)
       by true this some more =
           let is = equal n m this in
           let fm : of m ≡ neighbours before (first_of ns) = ap of (sym is) ∙ chain.0 in
           let none = subst (λ x. times x ns ≡ 0) is (once_first n ns once) in
           subst (λ (l : List ℕ). Chain new before l (unless_none (of m).behind (of m).before last)) (sym (gone_none m ns none))
           (subst (λ (l : Neighbours). Chain new before ns (unless_none l.behind l.before last)) (sym fm)
-          (from_first before ns last fm (subst (λ x. Chain of (Some x) ns last) is chain.1) (subst (λ x. Once (x ∷ ns)) is once) (subst (λ x. Outside before (x ∷ ns)) is out) (among_rest n ns all sub)))
+          (from_first before ns last fm (subst (λ x. Chain of (Some x) ns last) is chain.1) (subst (λ x. Once (x ∷ ns)) is once) (subst (λ x. Outside before (x ∷ ns)) is out)
+          (among_rest n ns all sub)))
       by false this some more = (first_left before n ns last chain.0 chain.1 (once_first n ns once) (omega (arith, some)) (once_rest n ns once) (sub n (here n ns)), more (omega (arith, some)))
 
 -- who is first then
@@ -183,7 +193,8 @@ before_some of m x (n ∷ ns) last chain some a b = by (n == m) refl some (λ mo
     by true this some more = ap (λ (l : Neighbours). unless_none l.before a b) (ap of (sym (equal n m this)) ∙ chain.0)
     by false this some more = more (omega (arith, some))
 
-pub first_taken : (of : ℕ → Neighbours) (m : ℕ) (ns : List ℕ) (last : Option ℕ) → Chain of None ns last → Once ns → 0 < times m ns → unless_none (of m).before (of m).behind (first_of ns) ≡ first_of (gone m ns)
+pub first_taken : (of : ℕ → Neighbours) (m : ℕ) (ns : List ℕ) (last : Option ℕ) → Chain of None ns last → Once ns → 0 < times m ns → unless_none (of m).before (of m).behind
+    (first_of ns) ≡ first_of (gone m ns)
 first_taken of m [] last chain once some = absurd (omega (arith, some))
 first_taken of m (n ∷ ns) last chain once some = by (n == m) refl some
   where
@@ -204,7 +215,8 @@ module _ (of new : ℕ → Neighbours) (m : ℕ) (all : List ℕ) (in_all : 0 < 
   not_it : (last : Option ℕ) (k : ℕ) → Put of new last m all → 0 < times k all → (m ≡ k → ⊥) → new k ≡ with_behind last (Some m) k (of k)
   not_it last k put some other = put k some ∙ ap (λ (b : Bool). if b then neighbours last None else with_behind last (Some m) k (of k)) (is_other m k other)
 
-  pub chain_put : (before : Option ℕ) (ns : List ℕ) (last : Option ℕ) → Put of new last m all → Chain of before ns last → Once ns → times m ns ≡ 0 → Among ns all → Chain new before (ns ++ (m ∷ [])) (Some m)
+  pub chain_put : (before : Option ℕ) (ns : List ℕ) (last : Option ℕ) → Put of new last m all → Chain of before ns last → Once ns → times m ns ≡ 0 → Among ns all → Chain new before
+      (ns ++ (m ∷ [])) (Some m)
   chain_put before [] last put chain once none sub = (at_it last put ∙ ap (λ (b : Option ℕ). neighbours b None) chain, refl)
   chain_put before (n ∷ []) last put chain once none sub = (
     not_it last n put (sub n (here n [])) (λ e. differs m n [] none (sym e)) ∙ hits last (Some m) n (of n) chain.1 ∙ ap (λ (l : Neighbours). neighbours l.before (Some m)) chain.0,

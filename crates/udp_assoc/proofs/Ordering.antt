@@ -219,8 +219,11 @@ pub rise_insert : (ns : List ℕ) (p k : ℕ) → p ≤ length ns → Rise ns �
 rise_insert [] zero k le rise below above = (tt, tt)
 rise_insert [] (suc p) k le rise below above = absurd (omega (arith, le))
 rise_insert (m ∷ ns) zero k le rise below above = (all_above k (m ∷ ns) (λ i few. above i (omega arith) few), rise)
-rise_insert (m ∷ ns) (suc p) k le rise below above =
-    (above_insert m k ns p rise.0 (below 0 (omega arith)), rise_insert ns p k (omega (arith, le)) rise.1 (λ i less. below (suc i) (omega (arith, less))) (λ i up few. above (suc i) (omega (arith, up)) (omega (arith, few))))
+rise_insert (m ∷ ns) (suc p) k le rise below above = (
+  above_insert m k ns p rise.0 (below 0 (omega arith)),
+  rise_insert ns p k (omega (arith, le)) rise.1 (λ i less. below (suc i) (omega (arith, less)))
+      (λ i up few. above (suc i) (omega (arith, up)) (omega (arith, few))),
+)
 
 pub times-insert : (n x : ℕ) (xs : List ℕ) (p : ℕ) → times n (insert xs p x) ≡ one (x == n) + times n xs
 times-insert n x [] zero = refl

@@ -65,7 +65,8 @@ no_fault from to octets is =
     record { long = f.long; least = f.least; most = f.most; sum = f.sum }
 
 -- the fields, found one by one
-pub read_by : (from to : ℕ) (octets : List ℕ) → Tests from to octets → (from_port to_port : ℕ) (body : List ℕ) → from_port ≡ two_at octets 0 → to_port ≡ two_at octets 2 → body ≡ part octets 8 (two_at octets 4 - 8)
+pub read_by : (from to : ℕ) (octets : List ℕ) → Tests from to octets → (from_port to_port : ℕ) (body : List ℕ) → from_port ≡ two_at octets 0 → to_port ≡ two_at octets 2 →
+    body ≡ part octets 8 (two_at octets 4 - 8)
     → read_udp from to octets ≡ Some (record { from_port = from_port; to_port = to_port; body = body })
 read_by from to octets t from_port to_port body p q r =
     let found : Udp = record { from_port = two_at octets 0; to_port = two_at octets 2; body = part octets 8 (two_at octets 4 - 8) } in

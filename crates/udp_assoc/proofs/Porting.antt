@@ -82,7 +82,8 @@ missing guest rows (m ∷ order) none =
     ap (λ b. option_map (λ (a : Association). a.number) (cond b (Some (row m rows)) (find (is_of guest) (in_order rows order)))) (none m (omega (arith, counted)))
     ∙ missing guest rows order (λ n there. none n (omega (arith, there)))
 
-module _ (guest : Endpoint) (rows : List Association) (rising order keys owners : List ℕ) (since : ℕ) (are : AreRows rows rising order since) (ports : ArePorts rows keys owners) (small : guest.port < 65536) where
+module _ (guest : Endpoint) (rows : List Association) (rising order keys owners : List ℕ) (since : ℕ) (are : AreRows rows rising order since) (ports : ArePorts rows keys owners)
+    (small : guest.port < 65536) where
   -- as often among the owners as in the order of use
   among : (n : ℕ) → times n order ≡ times n owners
   among n = are.same n ∙ ap (times n) are.numbers_are ∙ sym (ports.same n)
@@ -176,7 +177,8 @@ small_set (a ∷ rows) zero b small are = (small, are.1)
 small_set (a ∷ rows) (suc p) b small are = (are.0, small_set rows p b small are.1)
 
 -- as many endpoints as associations
-pub as_many_keys : (rows : List Association) (rising order keys owners : List ℕ) (since : ℕ) → AreRows rows rising order since → ArePorts rows keys owners → (length keys ≡ length order) × (length owners ≡ length order)
+pub as_many_keys : (rows : List Association) (rising order keys owners : List ℕ) (since : ℕ) → AreRows rows rising order since → ArePorts rows keys owners →
+    (length keys ≡ length order) × (length owners ≡ length order)
 as_many_keys rows rising order keys owners since are ports =
     let long = as_long owners order (λ n. ports.same n ∙ ap (times n) (sym are.numbers_are) ∙ sym (are.same n)) in
     (ap length ports.keys_are ∙ length_keys rows owners ∙ long, long)

@@ -1,5 +1,6 @@
 -- Links beside numbers that rise.
-use Rattle.std.proofs.Common.{◌≡◌, ℕ, ◌+◌, ◌<◌, ◌≤◌, ◌==◌, Bool, true, false, All, List, [], ◌∷◌, ◌++◌, length, get_or, set, Option, Some, None, if◌then◌else◌, refl, sym, ◌∙◌, ap, subst, zero, suc, length-append, arith}
+use Rattle.std.proofs.Common.{◌≡◌, ℕ, ◌+◌, ◌<◌, ◌≤◌, ◌==◌, Bool, true, false, All, List, [], ◌∷◌, ◌++◌, length, get_or, set, Option, Some, None, if◌then◌else◌, refl, sym, ◌∙◌, ap, subst}
+use Rattle.std.proofs.Common.{zero, suc, length-append, arith}
 use Rattle.std.specs.List.{remove}
 use Rattle.std.proofs.lemmas.List.Sorted.{All-permutation}
 use Rattle.udp_assoc.specs.Rows.{Rise, gone, one, times}
@@ -7,10 +8,12 @@ use Rattle.udp_assoc.specs.Links.{AreLinks, Chain, first_of, neighbours, neighbo
 use Rattle.udp_assoc.specs.declared.order.Neighbours.{Neighbours}
 use Rattle.udp_assoc.specs.declared.order.Side.{Side}
 use Rattle.udp_assoc.proofs.Linking.{Once, Put, Taken, apart, chain_put, chain_same, chain_taken, first_put, first_taken, walked}
-use Rattle.udp_assoc.proofs.Ordering.{as_long, as_often, equal, gone_alike, is_equal, is_other, moved_alike, none_yet, once, placed, rise_gone, rise_last, same, times_gone, times_gone_other, times_last}
+use Rattle.udp_assoc.proofs.Ordering.{as_long, as_often, equal, gone_alike, is_equal, is_other, moved_alike, none_yet, once, placed, rise_gone, rise_last, same, times_gone}
+use Rattle.udp_assoc.proofs.Ordering.{times_gone_other, times_last}
 
 -- the neighbours of a number that is there
-pub neighbours_found : (numbers : List ℕ) (links : List Neighbours) (n place : ℕ) (d : Neighbours) → place < length numbers → length links ≡ length numbers → get_or numbers place 0 ≡ n → times n numbers ≤ 1 → neighbours_of numbers links n ≡ get_or links place d
+pub neighbours_found : (numbers : List ℕ) (links : List Neighbours) (n place : ℕ) (d : Neighbours) → place < length numbers → length links ≡ length numbers →
+    get_or numbers place 0 ≡ n → times n numbers ≤ 1 → neighbours_of numbers links n ≡ get_or links place d
 neighbours_found [] links n place d few long is most = absurd (omega (arith, few))
 neighbours_found (m ∷ ms) [] n place d few long is most = absurd (omega (arith, long))
 neighbours_found (m ∷ ms) (l ∷ ls) n zero d few long is most = ap (λ (b : Bool). if b then l else neighbours_of ms ls n) (is_equal m n is)
@@ -26,7 +29,8 @@ neighbours_missing (m ∷ ms) (l ∷ ls) n none =
     ap (λ (b : Bool). if b then l else neighbours_of ms ls n) (is_other m n (λ e. let here = ap one (is_equal m n e) in omega (arith, none, here))) ∙ neighbours_missing ms ls n (omega (arith, none))
 
 -- another was put in its place
-pub neighbours_set : (numbers : List ℕ) (links : List Neighbours) (n place : ℕ) (x : Neighbours) → place < length numbers → length links ≡ length numbers → get_or numbers place 0 ≡ n → times n numbers ≤ 1
+pub neighbours_set : (numbers : List ℕ) (links : List Neighbours) (n place : ℕ) (x : Neighbours) → place < length numbers → length links ≡ length numbers →
+    get_or numbers place 0 ≡ n → times n numbers ≤ 1
     → (k : ℕ) → neighbours_of numbers (set links place x) k ≡ (if n == k then x else neighbours_of numbers links k)
 neighbours_set [] links n place x few long is most k = absurd (omega (arith, few))
 neighbours_set (m ∷ ms) [] n place x few long is most k = absurd (omega (arith, long))
@@ -59,18 +63,22 @@ side_set side numbers links new n place d other few long is most put k =
     by false this = refl
 
 -- a number went out, or came in
-pub neighbours_removed : (numbers : List ℕ) (links : List Neighbours) (n place : ℕ) → place < length numbers → length links ≡ length numbers → get_or numbers place 0 ≡ n → (k : ℕ) → (n ≡ k → ⊥) → neighbours_of (remove numbers place) (remove links place) k ≡ neighbours_of numbers links k
+pub neighbours_removed : (numbers : List ℕ) (links : List Neighbours) (n place : ℕ) → place < length numbers → length links ≡ length numbers → get_or numbers place 0 ≡ n →
+    (k : ℕ) → (n ≡ k → ⊥) → neighbours_of (remove numbers place) (remove links place) k ≡ neighbours_of numbers links k
 neighbours_removed [] links n place few long is k other = absurd (omega (arith, few))
 neighbours_removed (m ∷ ms) [] n place few long is k other = absurd (omega (arith, long))
 neighbours_removed (m ∷ ms) (l ∷ ls) n zero few long is k other = sym (ap (λ (b : Bool). if b then l else neighbours_of ms ls k) (is_other m k (λ e. other (sym is ∙ e))))
-neighbours_removed (m ∷ ms) (l ∷ ls) n (suc p) few long is k other = ap (λ (r : Neighbours). if m == k then l else r) (neighbours_removed ms ls n p (omega (arith, few)) (omega (arith, long)) is k other)
+neighbours_removed (m ∷ ms) (l ∷ ls) n (suc p) few long is k other = ap (λ (r : Neighbours). if m == k then l else r) (neighbours_removed ms ls n p (omega (arith, few))
+    (omega (arith, long)) is k other)
 
-pub neighbours_pushed : (numbers : List ℕ) (links : List Neighbours) (m : ℕ) (x : Neighbours) → length links ≡ length numbers → (k : ℕ) → 0 < times k numbers → neighbours_of (numbers ++ (m ∷ [])) (links ++ (x ∷ [])) k ≡ neighbours_of numbers links k
+pub neighbours_pushed : (numbers : List ℕ) (links : List Neighbours) (m : ℕ) (x : Neighbours) → length links ≡ length numbers → (k : ℕ) → 0 < times k numbers → neighbours_of
+    (numbers ++ (m ∷ [])) (links ++ (x ∷ [])) k ≡ neighbours_of numbers links k
 neighbours_pushed [] links m x long k some = absurd (omega (arith, some))
 neighbours_pushed (n ∷ ns) [] m x long k some = absurd (omega (arith, long))
 neighbours_pushed (n ∷ ns) (l ∷ ls) m x long k some = by (n == k) some (λ more. neighbours_pushed ns ls m x (omega (arith, long)) k more)
   where
-    by : (b : Bool) → 0 < one b + times k ns → (0 < times k ns → neighbours_of (ns ++ (m ∷ [])) (ls ++ (x ∷ [])) k ≡ neighbours_of ns ls k) → (if b then l else neighbours_of (ns ++ (m ∷ [])) (ls ++ (x ∷ [])) k) ≡ (if b then l else neighbours_of ns ls k)
+    by : (b : Bool) → 0 < one b + times k ns → (0 < times k ns → neighbours_of (ns ++ (m ∷ [])) (ls ++ (x ∷ [])) k ≡ neighbours_of ns ls k) →
+        (if b then l else neighbours_of (ns ++ (m ∷ [])) (ls ++ (x ∷ [])) k) ≡ (if b then l else neighbours_of ns ls k)
     by true some more = refl
     by false some more = more (omega (arith, some))
 
@@ -123,7 +131,8 @@ module _ (numbers : List ℕ) (links : List Neighbours) (first last : Option ℕ
             others_by no_test e = let yes_test = is_equal m k e in cc
 
     -- it went out
-    pub forgotten : (place : ℕ) → place < length numbers → get_or numbers place 0 ≡ m → length taken ≡ length links → (new_numbers : List ℕ) (new : List Neighbours) → new_numbers ≡ gone m numbers → new_numbers ≡ remove numbers place → new ≡ remove taken place → length new ≡ length new_numbers
+    pub forgotten : (place : ℕ) → place < length numbers → get_or numbers place 0 ≡ m → length taken ≡ length links → (new_numbers : List ℕ) (new : List Neighbours) →
+        new_numbers ≡ gone m numbers → new_numbers ≡ remove numbers place → new ≡ remove taken place → length new ≡ length new_numbers
         → AreLinks new_numbers new (unless_none l.before l.behind first) (unless_none l.behind l.before last)
     forgotten place few here long new_numbers new gone_is numbers_is links_is as_many = record {
       order = gone m are.order;
@@ -133,18 +142,21 @@ module _ (numbers : List ℕ) (links : List Neighbours) (first last : Option ℕ
       begins = first_out;
       chain = chain_same (neighbours_of numbers taken) (neighbours_of new_numbers new) None (gone m are.order) (unless_none l.behind l.before last)
           (λ k some. ap (λ (ns : List ℕ). neighbours_of ns new k) numbers_is ∙ ap (λ (ls : List Neighbours). neighbours_of (remove numbers place) ls k) links_is
-          ∙ neighbours_removed numbers taken m place few (long ∙ are.beside) here k (λ e. let none = subst (λ x. times x (gone m are.order) ≡ 0) e (times_gone m are.order) in omega (arith, none, some)))
+          ∙ neighbours_removed numbers taken m place few (long ∙ are.beside) here k (λ e. let none = subst (λ x. times x (gone m are.order) ≡ 0) e (times_gone m are.order) in omega
+          (arith, none, some)))
           chain_out;
     }
 
-    pub forgotten_list : (place : ℕ) (few : place < length numbers) (at_it : get_or numbers place 0 ≡ m) (long : length taken ≡ length links) (new_numbers : List ℕ) (new : List Neighbours) (gone_is : new_numbers ≡ gone m numbers) (numbers_is : new_numbers ≡ remove numbers place) (links_is : new ≡ remove taken place)
+    pub forgotten_list : (place : ℕ) (few : place < length numbers) (at_it : get_or numbers place 0 ≡ m) (long : length taken ≡ length links) (new_numbers : List ℕ)
+        (new : List Neighbours) (gone_is : new_numbers ≡ gone m numbers) (numbers_is : new_numbers ≡ remove numbers place) (links_is : new ≡ remove taken place)
         → length new ≡ length new_numbers → walk (length new_numbers) (neighbours_of new_numbers new) (unless_none l.before l.behind first) ≡ gone m are.order
     unfolding forgotten
     forgotten_list place few at_it long new_numbers new gone_is numbers_is links_is as_many =
         order_is new_numbers new (unless_none l.before l.behind first) (unless_none l.behind l.before last) (forgotten place few at_it long new_numbers new gone_is numbers_is links_is as_many)
 
     -- it was made the last
-    pub made_last : times m are.order ≡ 1 → (new : List Neighbours) → length new ≡ length links → (first_left last_left : Option ℕ) → first_left ≡ unless_none l.before l.behind first → last_left ≡ unless_none l.behind l.before last
+    pub made_last : times m are.order ≡ 1 → (new : List Neighbours) → length new ≡ length links → (first_left last_left : Option ℕ) →
+        first_left ≡ unless_none l.before l.behind first → last_left ≡ unless_none l.behind l.before last
         → Put (neighbours_of numbers taken) (neighbours_of numbers new) last_left m numbers → AreLinks numbers new (unless_none first_left (Some m) first_left) (Some m)
     made_last one_time new long first_left last_left first_is last_is puts = record {
       order = gone m are.order ++ (m ∷ []);
@@ -156,14 +168,17 @@ module _ (numbers : List ℕ) (links : List Neighbours) (first last : Option ℕ
           (subst (λ (o : Option ℕ). Chain (neighbours_of numbers taken) None (gone m are.order) o) (sym last_is) chain_out) gone_once (times_gone m are.order) gone_among;
     }
 
-    pub made_list : times m are.order ≡ 1 → (new : List Neighbours) → length new ≡ length links → (first_left last_left : Option ℕ) → first_left ≡ unless_none l.before l.behind first → last_left ≡ unless_none l.behind l.before last
-        → Put (neighbours_of numbers taken) (neighbours_of numbers new) last_left m numbers → walk (length numbers) (neighbours_of numbers new) (unless_none first_left (Some m) first_left) ≡ gone m are.order ++ (m ∷ [])
+    pub made_list : times m are.order ≡ 1 → (new : List Neighbours) → length new ≡ length links → (first_left last_left : Option ℕ) →
+        first_left ≡ unless_none l.before l.behind first → last_left ≡ unless_none l.behind l.before last
+        → Put (neighbours_of numbers taken) (neighbours_of numbers new) last_left m numbers → walk (length numbers) (neighbours_of numbers new)
+        (unless_none first_left (Some m) first_left) ≡ gone m are.order ++ (m ∷ [])
     unfolding made_last
     made_list one_time new long first_left last_left first_is last_is puts =
         order_is numbers new (unless_none first_left (Some m) first_left) (Some m) (made_last one_time new long first_left last_left first_is last_is puts)
 
   -- one came in as the last
-  pub came_last : (m : ℕ) → All (λ n. n < m) are.order → (new_numbers : List ℕ) (between new : List Neighbours) → new_numbers ≡ numbers ++ (m ∷ []) → (x : Neighbours) → between ≡ links ++ (x ∷ []) → length new ≡ length new_numbers
+  pub came_last : (m : ℕ) → All (λ n. n < m) are.order → (new_numbers : List ℕ) (between new : List Neighbours) → new_numbers ≡ numbers ++ (m ∷ []) → (x : Neighbours) →
+      between ≡ links ++ (x ∷ []) → length new ≡ length new_numbers
       → Put (neighbours_of new_numbers between) (neighbours_of new_numbers new) last m new_numbers → AreLinks new_numbers new (unless_none first (Some m) first) (Some m)
   came_last m above new_numbers between new numbers_is x between_is long puts =
       let above_all = All-permutation (λ (n : ℕ). n < m) are.order numbers (as_often are.order numbers are.same) above in
@@ -177,12 +192,15 @@ module _ (numbers : List ℕ) (links : List Neighbours) (first last : Option ℕ
         chain = chain_put (neighbours_of new_numbers between) (neighbours_of new_numbers new) m new_numbers
             (let here = as_times m in let is = ap one (same m) in omega (arith, here, is)) None are.order last puts
             (chain_same (neighbours_of numbers links) (neighbours_of new_numbers between) None are.order last
-            (λ k some. ap (λ (ns : List ℕ). neighbours_of ns between k) numbers_is ∙ ap (λ (ls : List Neighbours). neighbours_of (numbers ++ (m ∷ [])) ls k) between_is ∙ neighbours_pushed numbers links m x are.beside k (among k some)) are.chain)
+            (λ k some. ap (λ (ns : List ℕ). neighbours_of ns between k) numbers_is ∙ ap (λ (ls : List Neighbours). neighbours_of (numbers ++ (m ∷ [])) ls k) between_is
+            ∙ neighbours_pushed numbers links m x are.beside k (among k some)) are.chain)
             each_once (none_yet m are.order above) (λ k some. let here = as_times k in let in_it = among k some in omega (arith, here, in_it));
       }
 
-  pub came_list : (m : ℕ) → All (λ n. n < m) are.order → (new_numbers : List ℕ) (between new : List Neighbours) → new_numbers ≡ numbers ++ (m ∷ []) → (x : Neighbours) → between ≡ links ++ (x ∷ []) → length new ≡ length new_numbers
-      → Put (neighbours_of new_numbers between) (neighbours_of new_numbers new) last m new_numbers → walk (length new_numbers) (neighbours_of new_numbers new) (unless_none first (Some m) first) ≡ are.order ++ (m ∷ [])
+  pub came_list : (m : ℕ) → All (λ n. n < m) are.order → (new_numbers : List ℕ) (between new : List Neighbours) → new_numbers ≡ numbers ++ (m ∷ []) → (x : Neighbours) →
+      between ≡ links ++ (x ∷ []) → length new ≡ length new_numbers
+      → Put (neighbours_of new_numbers between) (neighbours_of new_numbers new) last m new_numbers → walk (length new_numbers) (neighbours_of new_numbers new)
+      (unless_none first (Some m) first) ≡ are.order ++ (m ∷ [])
   unfolding came_last
   came_list m above new_numbers between new numbers_is x between_is long puts =
       order_is new_numbers new (unless_none first (Some m) first) (Some m) (came_last m above new_numbers between new numbers_is x between_is long puts)

@@ -27,7 +27,8 @@ module _ (rows : List Association) (rising order keys owners : List ℕ) (since 
 
     -- its row was changed and put back, and its number made the last
     module _ (change : Association → Association) (now : ℕ) (same_number : (a : Association) → (change a).number ≡ a.number) (same_guest : (a : Association) → (change a).guest ≡ a.guest)
-        (used : (a : Association) → (change a).used ≡ now) (new_rows seen_rows : List Association) (rows_seen : seen_rows ≡ rows) (put : new_rows ≡ set rows place (change (get_or seen_rows place nobody)))
+        (used : (a : Association) → (change a).used ≡ now) (new_rows seen_rows : List Association) (rows_seen : seen_rows ≡ rows)
+        (put : new_rows ≡ set rows place (change (get_or seen_rows place nobody)))
         (new_order : List ℕ) (last : new_order ≡ gone number order ++ (number ∷ [])) where
       abbrev was : Association
       was = get_or rows place nobody
@@ -37,9 +38,11 @@ module _ (rows : List Association) (rising order keys owners : List ℕ) (since 
 
       pub keeps_rows : (new_since : ℕ) → new_since ≡ min since now → AreRows new_rows rising new_order new_since × ArePorts new_rows keys owners
       keeps_rows new_since least =
-          used_keeps rows rising order keys owners since are ports number place nobody few here change (change was) now refl (same_number was) (same_guest was) (used was) new_rows new_order new_since put_back last least
+          used_keeps rows rising order keys owners since are ports number place nobody few here change (change was) now refl (same_number was) (same_guest was)
+          (used was) new_rows new_order new_since put_back last least
 
       pub is_last : (list : List Association) → in_order rows order ≡ list → in_order new_rows new_order ≡ moved_last change number list
       is_last list shown =
-          used_last rows rising order keys owners since are ports number place nobody few here change (change was) now refl (same_number was) (same_guest was) (used was) new_rows new_order put_back last
+          used_last rows rising order keys owners since are ports number place nobody few here change (change was) now refl (same_number was) (same_guest was)
+          (used was) new_rows new_order put_back last
           ∙ ap (moved_last change number) shown

@@ -1,5 +1,6 @@
 -- What is written is in the grammar.
-use Rattle.std.proofs.Common.{◌≡◌, ℕ, zero, suc, ◌+◌, ◌-◌, ◌≤◌, ◌<◌, ◌^◌, ◌==◌, ◌||◌, Bool, true, false, if◌then◌else◌, List, [], ◌++◌, length, take, inl, inr, refl, sym, ◌∙◌, ap, subst, arith, append-nil, mod-lt, lit<}
+use Rattle.std.proofs.Common.{◌≡◌, ℕ, zero, suc, ◌+◌, ◌-◌, ◌≤◌, ◌<◌, ◌^◌, ◌==◌, ◌||◌, Bool, true, false, if◌then◌else◌, List, [], ◌++◌, length, take, inl, inr, refl, sym, ◌∙◌, ap, subst}
+use Rattle.std.proofs.Common.{arith, append-nil, mod-lt, lit<}
 use Rattle.std.proofs.lemmas.Bool.{cases_Bool}
 use Rattle.std.proofs.lemmas.Bool.Decides.{nat_tests}
 use Rattle.std.proofs.lemmas.List.{take_at}
@@ -62,7 +63,8 @@ written_is from to udp from_port to_port size =
     or_right false b is = is
 
 -- octets whose front is written so are a datagram
-pub front_is : (from to : ℕ) (udp : Udp) (n : ℕ) (now rest : List ℕ) → udp.from_port < 2 ^ 16 → udp.to_port < 2 ^ 16 → 8 + length udp.body < 2 ^ 16 → n ≡ 8 + length udp.body → now ≡ udp_octets from to udp ++ rest
+pub front_is : (from to : ℕ) (udp : Udp) (n : ℕ) (now rest : List ℕ) → udp.from_port < 2 ^ 16 → udp.to_port < 2 ^ 16 → 8 + length udp.body < 2 ^ 16 → n ≡ 8 + length udp.body →
+    now ≡ udp_octets from to udp ++ rest
     → (g : IsUdp from to (take n now) udp) × IsPlain from to (take n now) udp g
 front_is from to udp n now rest from_port to_port size long is =
     let front : take n now ≡ udp_octets from to udp = ap (take n) is ∙ take_at (udp_octets from to udp) rest n (length-udp (written_sum (summed from to (udp_with 0 udp))) udp ∙ sym long) in

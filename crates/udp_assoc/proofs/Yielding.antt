@@ -29,7 +29,8 @@ pub still_none : (guest : Endpoint) (socket : ℕ) (list : List Association) →
 still_none guest socket [] none = refl
 still_none guest socket (a ∷ list) none = by (is_of guest a) refl (is_numbered socket a) none (λ rest. still_none guest socket list rest)
   where
-    by : (b : Bool) → is_of guest a ≡ b → (t : Bool) → option_map (λ (x : Association). x.number) (if b then Some a else find (is_of guest) list) ≡ None → (socket_of guest list ≡ None → socket_of guest (without socket list) ≡ None)
+    by : (b : Bool) → is_of guest a ≡ b → (t : Bool) → option_map (λ (x : Association). x.number) (if b then Some a else find (is_of guest) list) ≡ None →
+        (socket_of guest list ≡ None → socket_of guest (without socket list) ≡ None)
         → socket_of guest (if not t then a ∷ without socket list else without socket list) ≡ None
     by true here t none more = cc
     by false here true none more = more none

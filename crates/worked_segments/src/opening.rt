@@ -19,7 +19,9 @@ pub struct Opening {
     pub host: u32,
     /// The most octets of a datagram on the link.
     mtu: u16,
+    /// Whether there is a congestion window.
     pub congestion: bool,
+    /// Whether the link takes nothing at first.
     pub is_blocked: bool,
 }
 
@@ -75,7 +77,7 @@ impl Opening {
         Some(())
     }
 
-    /// The connection.
+    /// A new connection that is opened so, to the guest or by the guest's SYN.
     pub fn connection(&self) -> Conn
         ensures { (size : ℕ) → HasBuffers result (empty self.now.ring) (downward [] 0 size) }
     {

@@ -99,6 +99,7 @@ impl Owner {
         self.up.count().saturating_add(self.up.held() as u64)
     }
 
+    /// The name of what became of the connection, as a case writes it; `Nothing` where nothing did since it was forgotten last.
     pub fn change(&self) -> &'static str {
         match self.change {
             Change::Nothing => "Nothing",
@@ -239,8 +240,8 @@ impl Owner {
 
 // The state.
 impl Owner {
-    /// The state, in the words of a case. The edge is `edge` where it can't be seen: past the host's end, with a blocked link or a congestion window, and where more was
-    /// sent before. Sends all that the guest's window lets through.
+    /// The state, in the words of a case. The edge is `edge` where it can't be seen: past the host's end, with a blocked link or a congestion window,
+    /// and where more was sent before. Sends all that the guest's window lets through.
     pub fn state(&mut self, edge: u64, behind: &str) -> Result<String, AllocError> {
         let state = self.conn.state();
         if state == State::Closed {

@@ -8,7 +8,8 @@ added_then a b None = refl
 added_then a b (Some octets) = ap Some (append_assoc octets a b)
 
 -- one piece, and then another
-pub puts_then : {X Y : Type 0} (old mid new : Option (List ℕ)) (f g h : ℕ) (a b : List ℕ) (r : Result X Failed) (s : Result Y Failed) → Puts old mid f g a r → IsOk r → Puts mid new g h b s → Puts old new f h (a ++ b) s
+pub puts_then : {X Y : Type 0} (old mid new : Option (List ℕ)) (f g h : ℕ) (a b : List ℕ) (r : Result X Failed) (s : Result Y Failed) → Puts old mid f g a r → IsOk r →
+    Puts mid new g h b s → Puts old new f h (a ++ b) s
 puts_then old mid new f g h a b r s first ok second = record {
   ok = λ done. second.ok done ∙ ap (added b) (first.ok ok) ∙ added_then a b old;
   err = λ failed. omega (arith, first.later, second.err failed);

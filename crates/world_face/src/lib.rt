@@ -4,7 +4,8 @@
 mod sink;
 
 ghost use Rattle.std.specs.Prelude.{◌≡◌, ◌<◌, ◌≤◌, length};
-ghost use Rattle.world_face.specs.Journal.{filled, filled_got, place_of, IsPlace, Now, Wait, LinkOpen, LinkRead, LinkWrite, Connect, Connected, Listen, Accept, TcpRead, TcpWrite, TcpEnd, Close, UdpOpen, UdpSend, UdpRecv, FileLen, FileRead};
+ghost use Rattle.world_face.specs.Journal.{filled, filled_got, place_of, IsPlace, Now, Wait, LinkOpen, LinkRead, LinkWrite, Connect, Connected, Listen, Accept, TcpRead, TcpWrite, TcpEnd};
+ghost use Rattle.world_face.specs.Journal.{Close, UdpOpen, UdpSend, UdpRecv, FileLen, FileRead};
 ghost use Rattle.world_face.specs.Limits.{most_ready, most_to_link, most_to_flow, most_to_udp, most_wants, most_name};
 ghost use Rattle.poll_list.specs.Listing.{AreWants};
 ghost use Rattle.world_face.specs.Tells.{Telling, Answers};
@@ -47,9 +48,16 @@ pub fn sooner(one: Option<u64>, other: Option<u64>) -> Option<u64>
 /// What a read or a write answers.
 #[derive(Clone, Copy, Debug, PartialEq, Eq)]
 pub enum Io {
+    /// So many octets were moved, one at least: those that a read brought stand at the front of its slice, those that a write
+    /// took at the front of what it was offered.
     Done(usize),
+    /// The other side writes no more, and every later read says so again. Of a file: there are no octets from this place on. No
+    /// write answers it.
     End,
+    /// Nothing is there yet, or nothing is taken now: the call may be made again, and `wait` tells when. No read of a file
+    /// answers it.
     NotYet,
+    /// It failed, for good, and the count of its kind rose.
     Failed,
 }
 
@@ -67,58 +75,88 @@ impl Io {
     }
 }
 
+/// What opening the link, a listener or a socket, beginning a connection, or ending its writing direction answers.
 #[derive(Clone, Copy, Debug, PartialEq, Eq)]
 pub enum Made {
+    /// It is done; a socket is there until its `close`. A connection has only begun: `connected` tells what became of it.
     Done,
+    /// It failed, for good, and the count of its kind rose. What was to be opened isn't there.
     Failed,
 }
 
+/// What became of a connection that was begun.
 #[derive(Clone, Copy, Debug, PartialEq, Eq)]
 pub enum Joined {
+    /// It stands: octets may be read and written.
     Yes,
+    /// It is still on its way; `wait` tells, for writing, when to ask again.
     NotYet,
+    /// The host refused it or wasn't reached, and the count of its kind rose. The socket is there until its `close`.
     Failed,
 }
 
+/// Whether a peer was taken from a listener.
 #[derive(Clone, Copy, Debug, PartialEq, Eq)]
 pub enum Accepted {
+    /// A peer with this endpoint; the connection stands.
     From(Endpoint),
+    /// No peer is waiting; `wait` tells, for reading of the listener, when one may be. There is no such connection.
     NotYet,
+    /// It failed, and the count of its kind rose. There is no such connection.
     Failed,
 }
 
+/// Whether a datagram was sent.
 #[derive(Clone, Copy, Debug, PartialEq, Eq)]
 pub enum Sent {
+    /// All of it.
     Done,
+    /// The host takes none now: nothing of it was sent.
     NotYet,
+    /// It failed, and the count of its kind rose: nothing of it was sent.
     Failed,
 }
 
+/// Whether a datagram was received.
 #[derive(Clone, Copy, Debug, PartialEq, Eq)]
 pub enum Got {
+    /// One from this endpoint, of which so many octets stand at the front of the slice; a datagram may have none. What didn't
+    /// fit is lost.
     From(Endpoint, usize),
+    /// None is there; `wait` tells, for reading, when one may be.
     NotYet,
+    /// It failed, and the count of its kind rose.
     Failed,
 }
 
+/// What the length of a file is.
 #[derive(Clone, Copy, Debug, PartialEq, Eq)]
 pub enum FileSize {
+    /// So many octets.
     Length(u64),
+    /// There is no such file.
     Missing,
+    /// It can't be asked, and the count of its kind rose.
     Failed,
 }
 
+/// How a wait ended.
 #[derive(Clone, Copy, Debug, PartialEq, Eq)]
 pub enum Waited {
+    /// One of the wants is ready and reported, or the time is over and nothing is.
     Ready,
+    /// The run is to end in good order.
     Stop,
+    /// It failed, and the count of its kind rose: the run is to end.
     Failed,
 }
 
 /// Where the link is.
 #[derive(Drop)]
 pub enum LinkAt {
+    /// A socket of the Unix kind at this path, of 1 to 107 octets.
     Unix(ArrayString<107>),
+    /// A socket of TCP at this endpoint of the host.
     Tcp(Endpoint),
 }
 

@@ -7,7 +7,8 @@ use Rattle.address_text.proofs.read_number.Goals as goal
 pub returns-clause-number : goal.returns-clause-number
 returns-clause-number c =
     let read = subst (λ (t : List ℕ). IsReadAs t (Some c.in-Some-parse.n)) c.in-Some.ensures.text c.in-Some-parse.ensures in
-    let is : c.args.text.now ≡ decimal c.in-Some-parse.n = number_read c.args.text.now (Some c.in-Some-parse.n) read (search rules) c.if-text-eq43.false (sym c.has_needless_zero.ensures ∙ c.if-has_needless_zero.false) in
+    let is : c.args.text.now ≡ decimal c.in-Some-parse.n = number_read c.args.text.now (Some c.in-Some-parse.n) read (search rules) c.if-text-eq43.false
+    (sym c.has_needless_zero.ensures ∙ c.if-has_needless_zero.false) in
     (is, omega (arith, read))
 
 pub returns-then-is_empty-clause-refused : goal.returns-then-is_empty-clause-refused

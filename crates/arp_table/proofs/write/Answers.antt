@@ -23,7 +23,8 @@ returns-clause-written c =
     let three = written_front (first ++ v.sender_mac.0) (four v.sender_ip.0) into _ _ 14 4 18 4 two_ c.write_u32.ensures (omega (arith, six)) refl (lit≤ tt) in
     let long : length (first ++ v.sender_mac.0 ++ four v.sender_ip.0) ≡ 18 = length-append (first ++ v.sender_mac.0) (four v.sender_ip.0) ∙ omega (arith, six) in
     let four_ = written (first ++ v.sender_mac.0 ++ four v.sender_ip.0) v.target_mac.0 into _ _ 18 6 24 three c.copy_from_slice-3.ensures.after long refl in
-    let long' : length (first ++ v.sender_mac.0 ++ four v.sender_ip.0 ++ v.target_mac.0) ≡ 24 = length-append (first ++ v.sender_mac.0 ++ four v.sender_ip.0) v.target_mac.0 ∙ omega (arith, six', long) in
+    let long' : length (first ++ v.sender_mac.0 ++ four v.sender_ip.0 ++ v.target_mac.0) ≡ 24 = length-append (first ++ v.sender_mac.0 ++ four v.sender_ip.0) v.target_mac.0 ∙ omega
+    (arith, six', long) in
     let five = written_front (first ++ v.sender_mac.0 ++ four v.sender_ip.0 ++ v.target_mac.0) (four v.target_ip.0) into _ _ 24 4 28 4 four_ c.write_u32-2.ensures long' refl (lit≤ tt) in
     five ∙ ap (λ (xs : List ℕ). xs ++ v.sender_mac.0 ++ four v.sender_ip.0 ++ v.target_mac.0 ++ four v.target_ip.0 ++ drop 28 into) (head v.reply c.operation.result c.operation.ensures)
 

@@ -18,7 +18,8 @@ returns-in-Some-clause-entries c =
     let some = c.requires.some in
     let same = same_Some some.0 c.in-Some.tuple (sym (read_has c.args.slots.now _ c.args.slot some.0 c.tuple.result some.1 c.tuple.ensures) ∙ c.in-Some.is) in
     let p = c.remove_entry.ensures.place in
-    entry_left c.args.slots.now c.args.entries.now.items c.remove_entry.new.entries.items c.args.slot p.0 c.in-Some.tuple (subst (HasTuple c.args.slots.now c.args.slot) same some.1) p.1.0 p.1.1 c.requires.entries
+    entry_left c.args.slots.now c.args.entries.now.items c.remove_entry.new.entries.items c.args.slot p.0 c.in-Some.tuple
+    (subst (HasTuple c.args.slots.now c.args.slot) same some.1) p.1.0 p.1.1 c.requires.entries
 
 pub returns-in-Some-clause-one : goal.returns-in-Some-clause-one
 returns-in-Some-clause-one c = let p = c.remove_entry.ensures.place in one_fewer c.args.entries.now.items c.remove_entry.new.entries.items p.0 (entry_of c.in-Some.tuple p.1.0.0) p.1.0.1 p.1.1

@@ -16,7 +16,8 @@ returns-clause-fields c =
     let fragment : c.read_u16-fragment.result ≡ two_at octets 6 = omega arith in
     let from : c.read_u32.result ≡ four_at octets 12 = omega arith in
     let to : c.read_u32-2.result ≡ four_at octets 16 = omega arith in
-    read_by octets passed _ c.read_u16-fragment.result _ _ _ _ _ ident fragment refl from to (ap (λ n. take n octets) head) (ap (λ n. take (c.read_u16-total.result - n) (drop n octets)) head ∙ ap (λ n. take (n - head_length octets) (drop (head_length octets) octets)) total)
+    read_by octets passed _ c.read_u16-fragment.result _ _ _ _ _ ident fragment refl from to (ap (λ n. take n octets) head)
+    (ap (λ n. take (c.read_u16-total.result - n) (drop n octets)) head ∙ ap (λ n. take (n - head_length octets) (drop (head_length octets) octets)) total)
 
 pub returns-clause-packet : goal.returns-clause-packet
 returns-clause-packet c =

@@ -141,7 +141,8 @@ impl ScriptWorld {
         }
     }
 
-    // Goes on by the next line where that answers this call, and else ceases at it.
+    /// Uses up the next line where that serves this call. Else the World ceases at this call, unless it had ceased before, and the call counts as
+    /// failed where it can fail.
     pub(super) fn follow(&mut self, given: Stop, octets: &[u8], wants: &[Want])
         requires asked { InRange (call_at given octets.now wants.now) }
         requires few { MayBring given (length octets.now) (length wants.now) }
@@ -154,7 +155,7 @@ impl ScriptWorld {
         }
     }
 
-    // The same for an opening of the link.
+    /// Goes on by an opening of the link at this place, as `follow` does by a call.
     pub(super) fn follow_open(&mut self, at: &LinkAt)
         requires { IsPlace (place_of at.now) }
         ensures { Answers (script_tells self.old) (script_tells self.new) (answer_to self.new (CallLinkOpen (place_of at.now))) }
@@ -165,7 +166,7 @@ impl ScriptWorld {
         }
     }
 
-    // The line that was used up last, while it answers.
+    /// The line that was used up last. None before the first, and once the World has ceased.
     pub(super) fn last(&self) -> Option<&Line>
         ensures { option_map entry_of (option_copied result) ≡ last_of self.now }
     {

@@ -127,7 +127,8 @@ impl ScriptWorld {
         &self.rows[..self.used]
     }
 
-    /// Where the schedule was left: nowhere exactly where the World still answers by it. A World has ceased exactly where it names the call at which it did, and the next line doesn't fit that call.
+    /// Where the schedule was left: nowhere exactly where the World still answers by it. A World has ceased exactly where it names the call at which
+    /// it did, and the next line doesn't fit that call.
     pub fn divergence(&self) -> Option<Divergence>
         ensures value { result ≡ divergence_of self.now }
         ensures live { IsNone result ↔ (self.now.live ≡ true) }

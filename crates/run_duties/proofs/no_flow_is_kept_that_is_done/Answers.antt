@@ -2,7 +2,9 @@ use Rattle.run_duties.proofs.Laws.{at_wait, closed_when_done, connects_in_time}
 use Rattle.run_duties.proofs.no_flow_is_kept_that_is_done.Goals as goal
 
 pub returns-clause-connects : goal.returns-clause-connects
-returns-clause-connects c = λ config later past wants timeout answer ready socket f dutiful. connects_in_time config past wants timeout socket f (at_wait config later past wants timeout answer ready dutiful)
+returns-clause-connects c = λ config later past wants timeout answer ready socket f dutiful. connects_in_time config past wants timeout socket f
+    (at_wait config later past wants timeout answer ready dutiful)
 
 pub returns-clause-done : goal.returns-clause-done
-returns-clause-done c = λ config later past wants timeout answer ready socket f dutiful. closed_when_done config past wants timeout socket f (at_wait config later past wants timeout answer ready dutiful)
+returns-clause-done c = λ config later past wants timeout answer ready socket f dutiful. closed_when_done config past wants timeout socket f
+    (at_wait config later past wants timeout answer ready dutiful)

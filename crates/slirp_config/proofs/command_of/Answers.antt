@@ -1,7 +1,8 @@
 use Rattle.std.proofs.Common.{◌≡◌, Bool, false, [], ◌∷◌, map, bytes_eq, string_bytes, codes, refl, sym, ◌∙◌, ap, subst}
 use Rattle.slirp_config.specs.Meaning.{Helps, TellsVersion, IsHelp}
 use Rattle.slirp_config.specs.Options.{Word}
-use Rattle.slirp_config.proofs.Commanded.{alone_refused, begins_all, drive_command, drive_refused, help_alone, no_behind, no_command, replay_command, replay_refused, serve_command, serve_refused, stops_at_once, version_alone}
+use Rattle.slirp_config.proofs.Commanded.{alone_refused, begins_all, drive_command, drive_refused, help_alone, no_behind, no_command, replay_command, replay_refused, serve_command}
+use Rattle.slirp_config.proofs.Commanded.{serve_refused, stops_at_once, version_alone}
 use Rattle.slirp_config.proofs.Names.{same_text}
 use Rattle.slirp_config.proofs.command_of.Goals as goal
 
@@ -46,13 +47,15 @@ returns-then-is_help-clause-refused c =
     let behind = map string_bytes c.in-Some.behind.now in
     let word = string_bytes c.in-Some.command.now in
     let help = subst IsHelp c.as_str-4.ensures.value c.if-is_help.ensures in
-    alone_refused (map string_bytes c.args.words.now) behind c.alone.result word (Helps, (word, refl, help)) (help_alone word help) (ap (map string_bytes) c.in-Some.ensures.cases.0) (no_behind string_bytes c.in-Some.behind.now c.alone.result c.alone.ensures.refused)
+    alone_refused (map string_bytes c.args.words.now) behind c.alone.result word (Helps, (word, refl, help)) (help_alone word help)
+    (ap (map string_bytes) c.in-Some.ensures.cases.0) (no_behind string_bytes c.in-Some.behind.now c.alone.result c.alone.ensures.refused)
 
 pub returns-then-eq-4-clause-refused : goal.returns-then-eq-4-clause-refused
 returns-then-eq-4-clause-refused c =
     let name = sym c.as_str-5.ensures.value ∙ same_text c.as_str-5.result.now (codes "--version") (sym c.eq-4.ensures ∙ c.if-eq-4.true) in
     let behind = map string_bytes c.in-Some.behind.now in
-    alone_refused (map string_bytes c.args.words.now) behind c.alone-then-eq-4.result (codes "--version") (TellsVersion, refl) version_alone (ap (map string_bytes) c.in-Some.ensures.cases.0 ∙ ap (λ (w : Word). w ∷ behind) name) (no_behind string_bytes c.in-Some.behind.now c.alone-then-eq-4.result c.alone-then-eq-4.ensures.refused)
+    alone_refused (map string_bytes c.args.words.now) behind c.alone-then-eq-4.result (codes "--version") (TellsVersion, refl) version_alone
+    (ap (map string_bytes) c.in-Some.ensures.cases.0 ∙ ap (λ (w : Word). w ∷ behind) name) (no_behind string_bytes c.in-Some.behind.now c.alone-then-eq-4.result c.alone-then-eq-4.ensures.refused)
 
 pub returns-clause-refused : goal.returns-clause-refused
 returns-clause-refused c =

@@ -22,7 +22,8 @@ returns-in-Ok-clause-bad_config c =
     let words = map string_bytes c.args.words.now.items in
     let m = c.in-Ok.ensures.meant in
     let means = subst (λ (w : List Word). Means w m.0) (ap (map string_bytes) c.as_slice.ensures.value) m.1 in
-    (answered (Means words) (one_meaning words) c.in-Ok.command m.0 means m.2 c.checked.result c.checked.ensures.same c.checked.ensures.sound c.checked.ensures.whole c.checked.ensures.broken).bad_config
+    (answered (Means words) (one_meaning words) c.in-Ok.command m.0 means m.2 c.checked.result c.checked.ensures.same c.checked.ensures.sound c.checked.ensures.whole
+    c.checked.ensures.broken).bad_config
 
 pub returns-in-Ok-clause-only : goal.returns-in-Ok-clause-only
 returns-in-Ok-clause-only c =
@@ -32,7 +33,11 @@ returns-in-Ok-clause-only c =
     (answered (Means words) (one_meaning words) c.in-Ok.command m.0 means m.2 c.checked.result c.checked.ensures.same c.checked.ensures.sound c.checked.ensures.whole c.checked.ensures.broken).only
 
 pub returns-in-Err-clause-only : goal.returns-in-Err-clause-only
-returns-in-Err-clause-only c = λ meaning m. absurd (stopped (map string_bytes c.as_slice.result.now) _ c.in-Err.ensures.refused (meaning, subst (λ (w : List Word). Means w meaning) (ap (map string_bytes) (sym c.as_slice.ensures.value)) m))
+returns-in-Err-clause-only c = λ meaning m. absurd (stopped (map string_bytes c.as_slice.result.now) _ c.in-Err.ensures.refused (
+  meaning,
+  subst (λ (w : List Word). Means w meaning)
+      (ap (map string_bytes) (sym c.as_slice.ensures.value)) m,
+))
 
 same_stop : (one other : Stop) → ◌≡◌ {A = Result Command WordFault} (Err (Usage one)) (Err (Usage other)) → one ≡ other
 same_stop one other is = cc

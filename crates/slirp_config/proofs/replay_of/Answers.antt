@@ -60,7 +60,8 @@ returns-clause-meant c =
     let set = c.in-Ok-settings.ensures.set in
     let named = c.in-Ok.ensures.file in
     let read = c.in_ok-line.ensures.read in
-    let front = front_of c.in-Some.file.now.now (rule_words c.in-Some.rules.now) read.walk.alone (ap rule_words (sym c.in-Some.ensures.cases.0) ∙ c.alone.ensures ∙ sym (ap (λ (w : Walk). w.alone) read.keeps)) in
+    let front = front_of c.in-Some.file.now.now (rule_words c.in-Some.rules.now) read.walk.alone (ap rule_words (sym c.in-Some.ensures.cases.0) ∙ c.alone.ensures ∙ sym
+    (ap (λ (w : Walk). w.alone) read.keeps)) in
     let wanted = subst (λ (a : List Word). AreWanted Replay a) front.1 (subst (λ (v : Verb). AreWanted v read.walk.alone) read.verb_is read.good.wanted) in
     let whole = whole_rules 33 front.0 (rule_words c.in-Some.rules.now) set.0.dhcp_start set.0.forwards (omega arith) front.2 wanted.1 set.2 in
     let settings = with_forwards (value_in (walk_of c.in_ok-line.line).options) set.0 whole.0 set.1 in

@@ -77,7 +77,8 @@ returns-clause-meant c =
     let options : (walk_of c.in_ok-line.line).options ≡ read.walk.options = sym (ap (λ (w : Walk). w.options) read.keeps) in
     let link : IsLinkAt (given (codes "--link")) at = subst (λ (o : Option Word). IsLinkAt o at) c.in-Some.ensures c.in-Ok.ensures.link in
     let taps : IsTap given c.in-Ok-tap_of.tap = (sym c.has.ensures ∙ c.in-Ok-tap_of.ensures.recorded, sym c.has-2.ensures ∙ c.in-Ok-tap_of.ensures.captured) in
-    let whole = whole_rules 34 read.walk.alone _ set.0.dhcp_start set.0.forwards (omega arith) (ap (λ (w : Walk). w.alone) read.keeps ∙ sym c.alone.ensures) (subst (λ (v : Verb). AreWanted v read.walk.alone) read.verb_is read.good.wanted) set.2 in
+    let whole = whole_rules 34 read.walk.alone _ set.0.dhcp_start set.0.forwards (omega arith) (ap (λ (w : Walk). w.alone) read.keeps ∙ sym c.alone.ensures)
+    (subst (λ (v : Verb). AreWanted v read.walk.alone) read.verb_is read.good.wanted) set.2 in
     let config = record set.0 { forwards = whole.0 } in
     let settings : AreSettings given config = with_forwards given set.0 whole.0 set.1 in (
       config,

@@ -23,14 +23,16 @@ returns-in_err-body-clause-err c =
     let i = c.loop-rest.invariant in
     let xs = c.loop-rest.rest.now in
     let p = err_from_is_err_and c.from_residual.result c.from_residual.ensures.1 in
-    rw (p.1, p.2) (sym i.goes_on ∙ fails_in_body _ _ i.found _ xs _ c.in-len1-up.len_at_least c.if-code-form.false c.if-code-form-2.false (sym (ap (body_in c.args.form.now (length c.args.octets.now - length xs)) (all_after 1 xs)) ∙ c.in_err-body.ensures))
+    rw (p.1, p.2) (sym i.goes_on ∙ fails_in_body _ _ i.found _ xs _ c.in-len1-up.len_at_least c.if-code-form.false c.if-code-form-2.false
+    (sym (ap (body_in c.args.form.now (length c.args.octets.now - length xs)) (all_after 1 xs)) ∙ c.in_err-body.ensures))
 
 pub returns-in_err-take-clause-err : goal.returns-in_err-take-clause-err
 returns-in_err-take-clause-err c =
     let i = c.loop-rest.invariant in
     let xs = c.loop-rest.rest.now in
     let p = err_from_is_err_and c.from_residual-in_err-take.result c.from_residual-in_err-take.ensures.1 in
-    rw (p.1, p.2) (sym i.goes_on ∙ fails_in_row _ _ i.found _ xs c.in_ok-body.body.now _ c.in-len1-up.len_at_least c.if-code-form.false c.if-code-form-2.false (sym (ap (body_in c.args.form.now (length c.args.octets.now - length xs)) (all_after 1 xs)) ∙ c.in_ok-body.ensures) (c.in_err-take.ensures i.found i.agrees))
+    rw (p.1, p.2) (sym i.goes_on ∙ fails_in_row _ _ i.found _ xs c.in_ok-body.body.now _ c.in-len1-up.len_at_least c.if-code-form.false c.if-code-form-2.false
+    (sym (ap (body_in c.args.form.now (length c.args.octets.now - length xs)) (all_after 1 xs)) ∙ c.in_ok-body.ensures) (c.in_err-take.ensures i.found i.agrees))
 
 pub loop-rest-preserved : goal.loop-rest-preserved
 loop-rest-preserved c =

@@ -11,7 +11,8 @@ pub returns-in_err-find_row : goal.returns-in_err-find_row
 returns-in_err-find_row c =
     let read = reading c.args.form.now c.args.rows.now c.args.octets.now in
     rw c.from_residual.ensures
-    (sym (none_first c.args.code (found_in read) (reading_lacks _ _ c.args.code [] (found_in read) 0 0 c.args.octets.now (unknown c.args.rows.now c.args.code c.in_err-find_row.ensures) refl (ok_is read c.requires))))
+    (sym (none_first c.args.code (found_in read) (reading_lacks _ _ c.args.code [] (found_in read) 0 0 c.args.octets.now
+    (unknown c.args.rows.now c.args.code c.in_err-find_row.ensures) refl (ok_is read c.requires))))
 
 pub returns-then-front-form : goal.returns-then-front-form
 returns-then-front-form c =
@@ -44,7 +45,8 @@ returns-then-front-code c =
     let xs = c.loop-rest.rest.now in
     let body = body_anywhere c.args.form.now 0 i.place (drop 1 xs) c.in-Ok.body.now (sym (ap (body_in c.args.form.now 0) (all_after 1 xs)) ∙ c.in-Ok.ensures) in
     let row = known c.args.rows.now c.args.code c.in_ok-find_row.field-0 c.in_ok-find_row.ensures in
-    sym (this_is_first _ _ i.found i.place xs c.in-Ok.body.now c.args.code _ c.in-len1-up.len_at_least c.if-front-form.false c.if-front-form-2.false body c.if-front-code.true row.2 i.none _ i.goes_on c.requires)
+    sym (this_is_first _ _ i.found i.place xs c.in-Ok.body.now c.args.code _ c.in-len1-up.len_at_least c.if-front-form.false c.if-front-form-2.false body c.if-front-code.true row.2
+    i.none _ i.goes_on c.requires)
 
 pub loop-rest-preserved : goal.loop-rest-preserved
 loop-rest-preserved c =
@@ -52,7 +54,8 @@ loop-rest-preserved c =
     let xs = c.loop-rest.rest.now in
     let size = 1 + length c.in-Ok.body.now in
     let body = body_anywhere c.args.form.now 0 i.place (drop 1 xs) c.in-Ok.body.now (sym (ap (body_in c.args.form.now 0) (all_after 1 xs)) ∙ c.in-Ok.ensures) in
-    let next = passes_on _ _ i.found i.place xs c.in-Ok.body.now c.args.code c.in-len1-up.len_at_least c.if-front-form.false c.if-front-form-2.false body c.if-front-code.false i.none (ap is_ok i.goes_on ∙ c.requires) in
+    let next = passes_on _ _ i.found i.place xs c.in-Ok.body.now c.args.code c.in-len1-up.len_at_least c.if-front-form.false c.if-front-form-2.false body c.if-front-code.false
+    i.none (ap is_ok i.goes_on ∙ c.requires) in
     record {
       found = next.0;
       place = i.place + 2 + length c.in-Ok.body.now;
@@ -67,6 +70,7 @@ returns c =
     let is = sym i.goes_on ∙ at_none _ _ i.found i.place c.loop-rest.rest.now c.in_default.len_below in
     sym (ap (λ r. first_body c.args.code (found_in r)) is ∙ at_last c.args.form.now.end_needed c.args.code i.found i.none (sym (ap is_ok is) ∙ c.requires))
   where
-    at_last : (needed : Bool) (code : ℕ) (found : List Found) → has_code code found ≡ false → is_ok (cond needed (Err faults.NoEnd) (Ok found)) ≡ true → first_body code (found_in (cond needed (Err faults.NoEnd) (Ok found))) ≡ None
+    at_last : (needed : Bool) (code : ℕ) (found : List Found) → has_code code found ≡ false → is_ok (cond needed (Err faults.NoEnd) (Ok found)) ≡ true → first_body code
+        (found_in (cond needed (Err faults.NoEnd) (Ok found))) ≡ None
     at_last true code found none right = cc
     at_last false code found none right = none_first code found none

@@ -16,7 +16,8 @@ loop-have-preserved g c =
     let less : have < whole = omega (arith, c.loop-have-test.true, size) in
     let asked : c.min-asked.result ≡ min (whole - have) 16384 = c.min-asked.ensures ∙ ap (λ n. min (n - have) 16384) size in
     record {
-      brings = brings_then c.loop-have.invariant.brings (brings_one read.1 (λ allowed past fetched. read_more name whole have c.min-asked.result (Done c.in-Done.count) before c.read_part.new.octets read.0 past fetched less c.requires.few size asked read.2));
+      brings = brings_then c.loop-have.invariant.brings (brings_one read.1 (λ allowed past fetched. read_more name whole have c.min-asked.result
+          (Done c.in-Done.count) before c.read_part.new.octets read.0 past fetched less c.requires.few size asked read.2));
       within = omega (arith, c.in-Done.ensures.count, c.min-asked.ensures, c.read_part.auto.octets, c.loop-have-test.true);
       size = c.read_part.auto.octets ∙ size;
     }

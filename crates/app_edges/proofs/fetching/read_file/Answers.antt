@@ -17,7 +17,8 @@ pub returns-then-fetch-clause-makes : goal.returns-then-fetch-clause-makes
 returns-then-fetch-clause-makes g c =
     let size : c.in-Some.length ≡ length c.deref_mut.result.now = omega (arith, c.deref_mut.ensures.len, c.in-Ok.ensures.len) in
     let measured = subst (λ (s : FileSize). Answers (g.W.World.tells c.args.world.now) (g.W.World.tells c.file_len.new.self) (FileLen c.args.name.now s)) c.in-Some.ensures.length c.file_len.ensures in
-    makes_as _ _ _ _ (makes_from (makes_one _ _ (FileLen c.args.name.now (Length c.in-Some.length)) _ measured (λ allowed. (((refl, refl), tt), ap Some size, refl))) c.if-fetch.ensures.brings) (λ made fetched. (
+    makes_as _ _ _ _ (makes_from (makes_one _ _ (FileLen c.args.name.now (Length c.in-Some.length)) _ measured (λ allowed. (((refl, refl), tt), ap Some size, refl)))
+    c.if-fetch.ensures.brings) (λ made fetched. (
       fetched.0,
       (with_items_is c.in-Ok.octets c.fetch.new.octets (c.fetch.auto.octets ∙ c.deref_mut.ensures.len) ∙ fetched.1.0, fetched.1.1),
       tt,
@@ -27,4 +28,5 @@ pub returns-else-fetch-clause-makes : goal.returns-else-fetch-clause-makes
 returns-else-fetch-clause-makes g c =
     let size : c.in-Some.length ≡ length c.deref_mut.result.now = omega (arith, c.deref_mut.ensures.len, c.in-Ok.ensures.len) in
     let measured = subst (λ (s : FileSize). Answers (g.W.World.tells c.args.world.now) (g.W.World.tells c.file_len.new.self) (FileLen c.args.name.now s)) c.in-Some.ensures.length c.file_len.ensures in
-    makes_as _ _ _ _ (makes_from (makes_one _ _ (FileLen c.args.name.now (Length c.in-Some.length)) _ measured (λ allowed. (((refl, refl), tt), ap Some size, refl))) c.if-fetch.ensures.brings) (λ made fetched. (fetched.0, tt, λ is. fetched.1))
+    makes_as _ _ _ _ (makes_from (makes_one _ _ (FileLen c.args.name.now (Length c.in-Some.length)) _ measured (λ allowed. (((refl, refl), tt), ap Some size, refl)))
+    c.if-fetch.ensures.brings) (λ made fetched. (fetched.0, tt, λ is. fetched.1))

@@ -14,9 +14,11 @@ pub returns-in-Ok : goal.returns-in-Ok
 returns-in-Ok c =
     let octets = c.args.octets.now in
     c.message_with.ensures
-    ∙ ap (message_of octets) (c.in-Ok.ensures.exact ∙ ap (λ (r : Rules). reading r.form r.rows (take (length octets - 240) (drop 240 octets))) c.options_read.ensures ∙ ap (reading form rows_read) (rest octets))
+    ∙ ap (message_of octets) (c.in-Ok.ensures.exact ∙ ap (λ (r : Rules). reading r.form r.rows (take (length octets - 240) (drop 240 octets))) c.options_read.ensures ∙ ap
+    (reading form rows_read) (rest octets))
 
 pub returns-in-Err : goal.returns-in-Err
 returns-in-Err c =
     let octets = c.args.octets.now in
-    ap (message_of octets) (c.in-Err.ensures.exact ∙ ap (λ (r : Rules). reading r.form r.rows (take (length octets - 240) (drop 240 octets))) c.options_read.ensures ∙ ap (reading form rows_read) (rest octets))
+    ap (message_of octets) (c.in-Err.ensures.exact ∙ ap (λ (r : Rules). reading r.form r.rows (take (length octets - 240) (drop 240 octets))) c.options_read.ensures ∙ ap
+    (reading form rows_read) (rest octets))

@@ -17,4 +17,5 @@ returns-clause-written c =
     c.write.ensures.written
     ∙ ap (λ (r : Rules). item_octets r.form (Field c.args.code body) ++ drop c.write.result (take (length into - at) (drop at into))) c.requires.table
     ∙ ap (λ xs. xs ++ drop c.write.result (take (length into - at) (drop at into))) (sym (append-nil item)) in
-    adds_front into c.write.new.into (item ++ []) at c.write.result (length into - at) (at + c.write.result) (omega (arith, size, ap length (append-nil item))) refl (omega (arith, size, c.requires.room)) (omega (arith, size, c.requires.room)) octets
+    adds_front into c.write.new.into (item ++ []) at c.write.result (length into - at) (at + c.write.result) (omega (arith, size, ap length (append-nil item))) refl
+    (omega (arith, size, c.requires.room)) (omega (arith, size, c.requires.room)) octets

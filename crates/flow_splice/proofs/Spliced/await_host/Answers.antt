@@ -12,7 +12,11 @@ returns-then-connect_end-now-clause-makes g c =
     let f : Splice = c.args.self.now in
     let now : ℕ = c.args.now in
     makes_one _ _ (Close f.face.number) _ c.fail.ensures.closes
-    (λ allowed. (subst (λ (x : Splice). GoesOnYet f x now (Close f.face.number ∷ [])) (sym c.fail.ensures.change) (host_late f now c.requires.open_yet c.requires.connects (let late = c.if-connect_end-now.true in let is = c.connect_end.ensures in omega (arith, late, is))), refl))
+    (λ allowed. (
+      subst (λ (x : Splice). GoesOnYet f x now (Close f.face.number ∷ [])) (sym c.fail.ensures.change) (host_late f now c.requires.open_yet c.requires.connects
+          (let late = c.if-connect_end-now.true in let is = c.connect_end.ensures in omega (arith, late, is))),
+      refl,
+    ))
 
 pub returns-else-connect_end-now-clause-makes : goal.returns-else-connect_end-now-clause-makes
 returns-else-connect_end-now-clause-makes g c = makes_none _ _ (none_yet c.args.self.now c.args.now, refl)

@@ -34,4 +34,9 @@ returns-in-Failed-clause-makes g c =
     let f = c.args.self.now in
     let told = subst (λ (x : Splice). Answers (g.W.World.tells c.args.world.now) (g.W.World.tells c.connected.new.self) (Connected x.face.number Failed)) c.self.view_is c.in-Failed.ensures in
     two_calls _ _ _ (Connected f.face.number Failed) (Close f.face.number) _ told c.fail.ensures.closes
-    (λ one two. (subst (λ (x : Splice). GoesOn f x false c.args.now (Close f.face.number ∷ Connected f.face.number Failed ∷ [])) (sym c.fail.ensures.change) (host_refused f c.args.now c.requires.open_yet c.requires.connects), refl, refl))
+    (λ one two. (
+      subst (λ (x : Splice). GoesOn f x false c.args.now (Close f.face.number ∷ Connected f.face.number Failed ∷ [])) (sym c.fail.ensures.change)
+          (host_refused f c.args.now c.requires.open_yet c.requires.connects),
+      refl,
+      refl,
+    ))

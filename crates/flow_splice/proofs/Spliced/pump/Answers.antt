@@ -35,7 +35,8 @@ returns-in-Some-clause-makes g c =
     (λ made sends. (
       learn_then f new c.args.mac link next first last c.args.now made (subst (λ (x : Splice). SendsOn x new link next first last c.args.now made) c.learn.ensures sends.0),
       sends.1,
-      known_asks f new c.args.mac c.args.now made (ap (λ (x : Splice). x.mac) (sym c.learn.ensures) ∙ sym c.mac.ensures ∙ c.in-Some.is) (c.send_all.ensures.stays.same.asked ∙ ap (λ (x : Splice). x.asked) c.learn.ensures),
+      known_asks f new c.args.mac c.args.now made (ap (λ (x : Splice). x.mac) (sym c.learn.ensures) ∙ sym c.mac.ensures ∙ c.in-Some.is)
+          (c.send_all.ensures.stays.same.asked ∙ ap (λ (x : Splice). x.asked) c.learn.ensures),
     ))
 
 pub returns-in-None-clause-makes : goal.returns-in-None-clause-makes
@@ -49,7 +50,8 @@ returns-in-None-clause-makes g c =
     (λ made sends. (
       learn_then f new c.args.mac link next first first c.args.now made (subst (λ (x : Splice). SendsOn x new link next first first c.args.now made) c.learn.ensures (sends.0 first (omega arith))),
       sends.1,
-      unknown_asks f new c.args.mac c.args.now made (ap (λ (x : Splice). x.mac) (sym c.learn.ensures) ∙ sym c.mac.ensures ∙ c.in-None.is) (subst (λ (x : Splice). AsksOnce None x new c.args.now made) c.learn.ensures sends.2),
+      unknown_asks f new c.args.mac c.args.now made (ap (λ (x : Splice). x.mac) (sym c.learn.ensures) ∙ sym c.mac.ensures ∙ c.in-None.is)
+          (subst (λ (x : Splice). AsksOnce None x new c.args.now made) c.learn.ensures sends.2),
     ))
 
 pub returns-in-Some-clause-ahead : goal.returns-in-Some-clause-ahead

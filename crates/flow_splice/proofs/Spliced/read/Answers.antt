@@ -67,7 +67,8 @@ returns-in-Done-clause-makes g c =
     makes_one _ _ (TcpRead f.face.number asked answer octets) _ read.1
     (λ allowed. (
       subst (λ (x : Splice). GoesOn f x false now (TcpRead f.face.number asked answer octets ∷ [])) (sym change)
-          (host_gives f now c.requires.open_yet c.requires.may answer octets gave c.ask_octets.ensures.size read.2 (subst (λ (x : Splice). HasBuffers x.conn x.up x.down) change c.ask_octets.ensures.buffers)),
+          (host_gives f now c.requires.open_yet c.requires.may answer octets gave c.ask_octets.ensures.size read.2
+          (subst (λ (x : Splice). HasBuffers x.conn x.up x.down) change c.ask_octets.ensures.buffers)),
       refl,
       refl,
     ))

@@ -43,7 +43,8 @@ returns-clause-makes g c =
     let due : asks_now f now ≡ true = sym c.asks_now.ensures ∙ c.if-not-asks_now.false in
     let change : new ≡ asked (offered writes.0) f now = is ∙ ap (λ (r : Offered). asked r f now) writes.2 in (
       flow,
-      subst (λ (es : List Entry). IsPumpWork c.outcome.result es) (sym writes.1) (subst (λ (p : Pumped). IsPumpWork p (LinkWrite (spelling (request_frame f.face)) writes.0 ∷ [])) (sym c.outcome.ensures) works),
+      subst (λ (es : List Entry). IsPumpWork c.outcome.result es) (sym writes.1) (subst (λ (p : Pumped). IsPumpWork p (LinkWrite (spelling (request_frame f.face)) writes.0 ∷ []))
+          (sym c.outcome.ensures) works),
       inr (record { due = due; answer = writes.0; one = writes.1; change = change; fits = offer.ensures.fits }),
     ))
 

@@ -51,9 +51,11 @@ returns-clause-makes g c =
     let allowed = subst AreAllowed writes.1 wrote.1 in
     let flow = sends f now first what c.args.mac c.requires.mac c.requires.now (omega arith) offer.ensures.buffers two.1 two.0 offer.ensures.sized result writes.0 writes.2 allowed.0 new made marks in
     let stays = marks_stay result what f new now made marks in
-    let works : IsPumpWork (pumped_of result c.blocked.result) (made ++ some) = subst (λ (es : List Entry). IsPumpWork (pumped_of result c.blocked.result) (made ++ es)) (sym writes.1) (marks_work result writes.0 c.blocked.result frame what f new now made writes.2 marks) in (
+    let works : IsPumpWork (pumped_of result c.blocked.result) (made ++ some) = subst (λ (es : List Entry). IsPumpWork (pumped_of result c.blocked.result) (made ++ es))
+    (sym writes.1) (marks_work result writes.0 c.blocked.result frame what f new now made writes.2 marks) in (
       (
-        subst (λ (es : List Entry). Sends f new first c.mark.new.ident now (made ++ es)) (sym writes.1) (subst (λ (n : ℕ). Sends f new first n now (made ++ (LinkWrite frame writes.0 ∷ []))) (sym c.mark.ensures.ident) flow),
+        subst (λ (es : List Entry). Sends f new first c.mark.new.ident now (made ++ es)) (sym writes.1)
+            (subst (λ (n : ℕ). Sends f new first n now (made ++ (LinkWrite frame writes.0 ∷ []))) (sym c.mark.ensures.ident) flow),
         λ past k. subst (λ (es : List Entry). Keeps new_link es) (sym (append_assoc made some past)) (closes_keep new_link (some ++ past) made stays.closes (wrote.0.1 past k)),
       ),
       subst (λ (p : Pumped). IsPumpWork p (made ++ some)) (sym c.outcome.ensures) works,

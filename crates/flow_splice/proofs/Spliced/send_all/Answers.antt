@@ -36,7 +36,8 @@ loop-what-preserved g c =
     record {
       makes = makes_then _ _ _ _ _ _ kept.makes c.send.ensures.makes
           (λ first second a b. (
-            sends_then old mid new c.args.link.now c.loop-what.link c.send.new.link c.args.ident.now c.loop-what.ident c.send.new.ident c.args.now first second c.send.ensures.stays.same.face c.send.ensures.stays.same.mac a.0 b.0,
+            sends_then old mid new c.args.link.now c.loop-what.link c.send.new.link c.args.ident.now c.loop-what.ident c.send.new.ident c.args.now first second
+                c.send.ensures.stays.same.face c.send.ensures.stays.same.mac a.0 b.0,
             works_then Clear second first a.1 (subst (λ (p : Pumped). IsPumpWork p second) c.in-Clear.is b.1),
           ));
       tail = free.1;
@@ -55,7 +56,8 @@ returns-in-Blocked-clause-makes g c =
     let new : Splice = c.send.new.self in
     makes_then _ _ _ _ _ _ c.loop-what.invariant.makes c.send.ensures.makes
     (λ first second a b. (
-      sends_then old mid new c.args.link.now c.loop-what.link c.send.new.link c.args.ident.now c.loop-what.ident c.send.new.ident c.args.now first second c.send.ensures.stays.same.face c.send.ensures.stays.same.mac a.0 b.0,
+      sends_then old mid new c.args.link.now c.loop-what.link c.send.new.link c.args.ident.now c.loop-what.ident c.send.new.ident c.args.now first second
+          c.send.ensures.stays.same.face c.send.ensures.stays.same.mac a.0 b.0,
       works_then Blocked second first a.1 (subst (λ (p : Pumped). IsPumpWork p second) c.in-Blocked.is b.1),
     ))
 
@@ -66,7 +68,8 @@ returns-in-Failed-clause-makes g c =
     let new : Splice = c.send.new.self in
     makes_then _ _ _ _ _ _ c.loop-what.invariant.makes c.send.ensures.makes
     (λ first second a b. (
-      sends_then old mid new c.args.link.now c.loop-what.link c.send.new.link c.args.ident.now c.loop-what.ident c.send.new.ident c.args.now first second c.send.ensures.stays.same.face c.send.ensures.stays.same.mac a.0 b.0,
+      sends_then old mid new c.args.link.now c.loop-what.link c.send.new.link c.args.ident.now c.loop-what.ident c.send.new.ident c.args.now first second
+          c.send.ensures.stays.same.face c.send.ensures.stays.same.mac a.0 b.0,
       works_then Failed second first a.1 (subst (λ (p : Pumped). IsPumpWork p second) c.in-Failed.is b.1),
     ))
 
@@ -84,8 +87,10 @@ returns-in-Failed-clause-closed g c shut = c.send.ensures.closed (c.loop-what.in
 
 pub returns-in-Blocked-clause-rests : goal.returns-in-Blocked-clause-rests
 returns-in-Blocked-clause-rests g c =
-    acknowledges_once c.args.self.now c.loop-what.self c.send.new.self c.args.now c.in-Some.what c.owed.ensures.rests (sym c.owed.ensures.owed ∙ c.in-Some.is) c.loop-what.invariant.rests c.send.ensures.rests
+    acknowledges_once c.args.self.now c.loop-what.self c.send.new.self c.args.now c.in-Some.what c.owed.ensures.rests
+    (sym c.owed.ensures.owed ∙ c.in-Some.is) c.loop-what.invariant.rests c.send.ensures.rests
 
 pub returns-in-Failed-clause-rests : goal.returns-in-Failed-clause-rests
 returns-in-Failed-clause-rests g c =
-    acknowledges_once c.args.self.now c.loop-what.self c.send.new.self c.args.now c.in-Some.what c.owed.ensures.rests (sym c.owed.ensures.owed ∙ c.in-Some.is) c.loop-what.invariant.rests c.send.ensures.rests
+    acknowledges_once c.args.self.now c.loop-what.self c.send.new.self c.args.now c.in-Some.what c.owed.ensures.rests
+    (sym c.owed.ensures.owed ∙ c.in-Some.is) c.loop-what.invariant.rests c.send.ensures.rests

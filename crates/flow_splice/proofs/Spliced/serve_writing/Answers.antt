@@ -35,11 +35,26 @@ returns-then-connects-clause-makes g c =
     ))
 
 pub returns-then-owes_octets-clause-makes : goal.returns-then-owes_octets-clause-makes
-returns-then-owes_octets-clause-makes g c = makes_as _ _ _ _ c.write.ensures.makes (λ made goes. (goes.0, goes.1, unless_idle c.args.ready made c.if-not-ready.false, λ ready waits. subst (λ (b : Bool). some_is (serves_write b) made ≡ true) (sym (sym c.connects.ensures ∙ c.if-connects.false)) goes.2, goes.3))
+returns-then-owes_octets-clause-makes g c = makes_as _ _ _ _ c.write.ensures.makes
+    (λ made goes. (
+      goes.0,
+      goes.1,
+      unless_idle c.args.ready made c.if-not-ready.false,
+      λ ready waits. subst (λ (b : Bool). some_is (serves_write b) made ≡ true)
+          (sym (sym c.connects.ensures ∙ c.if-connects.false)) goes.2,
+      goes.3,
+    ))
 
 pub returns-then-owes_end-clause-makes : goal.returns-then-owes_end-clause-makes
 returns-then-owes_end-clause-makes g c =
-    makes_as _ _ _ _ c.end.ensures.makes (λ made goes. (goes.0, ending_writes made goes.1, unless_idle c.args.ready made c.if-not-ready.false, λ ready waits. subst (λ (b : Bool). some_is (serves_write b) made ≡ true) (sym (sym c.connects.ensures ∙ c.if-connects.false)) goes.2, goes.3))
+    makes_as _ _ _ _ c.end.ensures.makes (λ made goes. (
+      goes.0,
+      ending_writes made goes.1,
+      unless_idle c.args.ready made c.if-not-ready.false,
+      λ ready waits. subst
+          (λ (b : Bool). some_is (serves_write b) made ≡ true) (sym (sym c.connects.ensures ∙ c.if-connects.false)) goes.2,
+      goes.3,
+    ))
 
 pub returns-else-owes_end-clause-makes : goal.returns-else-owes_end-clause-makes
 returns-else-owes_end-clause-makes g c =

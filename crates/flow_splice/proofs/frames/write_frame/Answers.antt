@@ -41,7 +41,16 @@ returns-clause-frame c number =
     let ours = our_mac route.vhost.0 in
     let kind = two ipv4_kind in
     let whole : length ((ether ++ ip) ++ octets) ≡ 34 + size =
-    omega (arith, length-append (ether ++ ip) octets, length-append ether ip, length-append (route.mac.0 ++ ours ++ kind) [], length-append (route.mac.0 ++ ours) kind, length-append route.mac.0 ours, six, long) in
+    omega (
+      arith,
+      length-append (ether ++ ip) octets,
+      length-append ether ip,
+      length-append (route.mac.0 ++ ours ++ kind) [],
+      length-append (route.mac.0 ++ ours) kind,
+      length-append route.mac.0 ours,
+      six,
+      long,
+    ) in
     ap (take (34 + size)) c.write_at.ensures.written ∙ take_at ((ether ++ ip) ++ octets) (drop (34 + size) c.args.into.now) (34 + size) whole
     ∙ front_is (route.mac.0 ++ ours ++ kind) ip octets
     ∙ ap (λ (n : ℕ). route.mac.0 ++ ours ++ kind ++ (summed_head 64 route.ident 0 tcp_proto route.other.addr.0 route.guest.addr.0 n ++ octets)) (sym long)

@@ -7,5 +7,6 @@ use Rattle.flow_splice.proofs.pump.offer_arp.Goals as goal
 
 pub returns-clause-makes : goal.returns-clause-makes
 returns-clause-makes g c other at number =
-    subst (λ (frame : List ℕ). Makes (g.W.World.tells c.args.world.now) (g.W.World.tells c.offer.new.world) (λ made. Writes c.offer.result (spelling frame) made × ((past : List Entry) → Keeps c.args.link.now past → Keeps c.offer.new.self (made ++ past))))
+    subst (λ (frame : List ℕ). Makes (g.W.World.tells c.args.world.now) (g.W.World.tells c.offer.new.world) (λ made. Writes c.offer.result (spelling frame) made ×
+    ((past : List Entry) → Keeps c.args.link.now past → Keeps c.offer.new.self (made ++ past))))
     (c.write_request-length.ensures.frame other at number) c.offer.ensures.makes

@@ -10,4 +10,8 @@ use Rattle.flow_table.proofs.FlowTable.free.Goals as goal
 pub invariant_of-self : goal.invariant_of-self
 invariant_of-self c =
     let has = subst (λ (f : Flows). HasSome f.slots c.args.slot) (sym c.self.view_is) c.requires in
-    freed_table _ c.self.inside.rest_order.items c.self.inside.free.items c.give_back.new.free.items _ c.release.new.entries.items _ c.release.new.rests.items c.args.slot has.0 _ _ _ _ _ _ c.self.invariant has.1 (subst (λ (s : List Slot). AreEntries (slice_set s c.args.slot Free) c.release.new.entries.items) c.deref.ensures.value c.release.ensures.entries) c.release.ensures.one (subst (λ (s : List Slot). (rest_order : List ℕ) → AreRests s rest_order c.self.inside.rests.items → AreRests (slice_set s c.args.slot Free) rest_order c.release.new.rests.items) c.deref.ensures.value c.release.ensures.rests) c.give_back.ensures.items c.release.ensures.room c.release.ensures.bed c.give_back.ensures.room
+    freed_table _ c.self.inside.rest_order.items c.self.inside.free.items c.give_back.new.free.items _ c.release.new.entries.items _ c.release.new.rests.items c.args.slot has.0 _ _
+    _ _ _ _ c.self.invariant has.1 (subst (λ (s : List Slot). AreEntries (slice_set s c.args.slot Free) c.release.new.entries.items) c.deref.ensures.value
+    c.release.ensures.entries) c.release.ensures.one (subst (λ (s : List Slot). (rest_order : List ℕ) → AreRests s rest_order c.self.inside.rests.items → AreRests
+    (slice_set s c.args.slot Free) rest_order c.release.new.rests.items) c.deref.ensures.value c.release.ensures.rests) c.give_back.ensures.items c.release.ensures.room
+    c.release.ensures.bed c.give_back.ensures.room

@@ -17,7 +17,8 @@ pub insert_rest-requires-clause-room : goal.insert_rest-requires-clause-room
 insert_rest-requires-clause-room c =
     let slots = c.self.inside.slots.items in
     let has = asked _ _ _ c.args.slot c.self.view_is c.requires in
-    let ended = subst (λ (s : List Slot). (rest_order : List ℕ) → AreRests s rest_order c.self.inside.rests.items → AreRests (slice_set s c.args.slot Free) rest_order c.end_rest.new.rests.items) c.deref.ensures.value c.end_rest.ensures.rests in
+    let ended = subst (λ (s : List Slot). (rest_order : List ℕ) → AreRests s rest_order c.self.inside.rests.items → AreRests
+    (slice_set s c.args.slot Free) rest_order c.end_rest.new.rests.items) c.deref.ensures.value c.end_rest.ensures.rests in
     let below = rests_below slots c.self.inside.rest_order.items c.end_rest.new.rests.items c.args.slot (has_within slots c.args.slot has.0 has.1) (ended _ c.self.invariant.by_rest) in
     omega (arith, below, c.end_rest.ensures.room, c.self.invariant.rests_fit, c.end_rest.new.rests.ok.0)
 
@@ -40,9 +41,11 @@ invariant_of-self c =
     let has = asked slots rest_order _ slot c.self.view_is c.requires in
     let read = tuple_is_read slots slot c.index.result.now has.0 has.1 c.index.ensures in
     let is : HasTuple slots slot c.in-Some.tuple = has.1 ∙ sym read ∙ sym c.tuple.ensures ∙ c.in-Some.is in
-    let ended = subst (λ (s : List Slot). (rest_order : List ℕ) → AreRests s rest_order c.self.inside.rests.items → AreRests (slice_set s slot Free) rest_order c.end_rest.new.rests.items) c.deref.ensures.value c.end_rest.ensures.rests in
+    let ended = subst (λ (s : List Slot). (rest_order : List ℕ) → AreRests s rest_order c.self.inside.rests.items → AreRests
+    (slice_set s slot Free) rest_order c.end_rest.new.rests.items) c.deref.ensures.value c.end_rest.ensures.rests in
     let at = c.insert_rest.ensures.place in
-    rested_table slots rest_order _ c.self.inside.free.items c.self.inside.entries.items c.self.inside.rests.items c.end_rest.new.rests.items c.insert_rest.new.rests.items slot c.args.since at.0 c.in-Some.tuple _ _ _ _ c.self.invariant is ended at.1.0 at.1.1
+    rested_table slots rest_order _ c.self.inside.free.items c.self.inside.entries.items c.self.inside.rests.items c.end_rest.new.rests.items c.insert_rest.new.rests.items slot
+    c.args.since at.0 c.in-Some.tuple _ _ _ _ c.self.invariant is ended at.1.0 at.1.1
     (take_at c.move_last.new.rest_order _ _ (omega arith) ∙ c.move_last.ensures ∙ ap (moved_last slot) c.deref_mut.ensures.value) (omega (arith, c.insert_rest.ensures.room, c.end_rest.ensures.room))
 
 pub returns-in-Some : goal.returns-in-Some

@@ -22,4 +22,5 @@ loop-size-preserved g c = record {
 }
 
 pub returns-clause-place : goal.returns-clause-place
-returns-clause-place g c = nothing_left c.args.entries.now c.loop-size.low c.loop-size.size c.args.t.now (omega arith) c.loop-size.invariant.within c.loop-size.invariant.below c.loop-size.invariant.above
+returns-clause-place g c = nothing_left c.args.entries.now c.loop-size.low c.loop-size.size c.args.t.now
+    (omega arith) c.loop-size.invariant.within c.loop-size.invariant.below c.loop-size.invariant.above

@@ -9,4 +9,5 @@ returns c =
     let rests = c.args.rests.now in
     let since = c.args.since in
     let parted = IsPartitionedBy-ltb (λ (r : Rest). r.since) rests since c.requires in
-    first_since_is rests since c.partition_point.result c.partition_point.ensures.bound (IsPartitionPoint-from_clause (λ (r : Rest). ltb r.since since) _ _ c.partition_point.ensures.partitioned parted (λ a r q k. search rules))
+    first_since_is rests since c.partition_point.result c.partition_point.ensures.bound
+    (IsPartitionPoint-from_clause (λ (r : Rest). ltb r.since since) _ _ c.partition_point.ensures.partitioned parted (λ a r q k. search rules))

@@ -15,19 +15,22 @@ use Rattle.port_forward.proofs.Forwards.add_hostfwd.Goals as goal
 
 pub returns-then-contains_key-clause-adds : goal.returns-then-contains_key-clause-adds
 returns-then-contains_key-clause-adds g c =
-    let taken = key_is_taken c.args.forward.proto c.args.forward.host c.port_of-port.result c.self.inside.ports.entries c.args.self.now c.contains_key.result c.contains_key.ensures c.port_of-port.ensures c.self.view_is in
+    let taken = key_is_taken c.args.forward.proto c.args.forward.host c.port_of-port.result c.self.inside.ports.entries c.args.self.now c.contains_key.result c.contains_key.ensures
+    c.port_of-port.ensures c.self.view_is in
     refuses c.args.policy.now c.args.forward c.args.self.now c.args.number Taken (g.W.World.tells c.args.world.now)
     (is_taken_first c.args.policy.now c.args.forward c.args.self.now (sym taken ∙ c.if-contains_key.true))
 
 pub returns-then-not-is_guest-clause-adds : goal.returns-then-not-is_guest-clause-adds
 returns-then-not-is_guest-clause-adds g c =
-    let taken = key_is_taken c.args.forward.proto c.args.forward.host c.port_of-port.result c.self.inside.ports.entries c.args.self.now c.contains_key.result c.contains_key.ensures c.port_of-port.ensures c.self.view_is in
+    let taken = key_is_taken c.args.forward.proto c.args.forward.host c.port_of-port.result c.self.inside.ports.entries c.args.self.now c.contains_key.result c.contains_key.ensures
+    c.port_of-port.ensures c.self.view_is in
     refuses c.args.policy.now c.args.forward c.args.self.now c.args.number BadGuest (g.W.World.tells c.args.world.now)
     (not_guest_next c.args.policy.now c.args.forward c.args.self.now (sym taken ∙ c.if-contains_key.false) (sym c.is_guest.ensures ∙ c.if-not-is_guest.true))
 
 pub returns-then-len-ge-MOST_FORWARDS-clause-adds : goal.returns-then-len-ge-MOST_FORWARDS-clause-adds
 returns-then-len-ge-MOST_FORWARDS-clause-adds g c =
-    let taken = key_is_taken c.args.forward.proto c.args.forward.host c.port_of-port.result c.self.inside.ports.entries c.args.self.now c.contains_key.result c.contains_key.ensures c.port_of-port.ensures c.self.view_is in
+    let taken = key_is_taken c.args.forward.proto c.args.forward.host c.port_of-port.result c.self.inside.ports.entries c.args.self.now c.contains_key.result c.contains_key.ensures
+    c.port_of-port.ensures c.self.view_is in
     let many = as_many c.self.inside.ports.entries c.args.self.now c.len.result c.len.ensures.len c.self.view_is in
     refuses c.args.policy.now c.args.forward c.args.self.now c.args.number Full (g.W.World.tells c.args.world.now)
     (full_last c.args.policy.now c.args.forward c.args.self.now (sym taken ∙ c.if-contains_key.false) (sym c.is_guest.ensures ∙ c.if-not-is_guest.false)
@@ -35,7 +38,8 @@ returns-then-len-ge-MOST_FORWARDS-clause-adds g c =
 
 pub returns-in-Done-clause-adds : goal.returns-in-Done-clause-adds
 returns-in-Done-clause-adds g c =
-    let taken = key_is_taken c.args.forward.proto c.args.forward.host c.port_of-port.result c.self.inside.ports.entries c.args.self.now c.contains_key.result c.contains_key.ensures c.port_of-port.ensures c.self.view_is in
+    let taken = key_is_taken c.args.forward.proto c.args.forward.host c.port_of-port.result c.self.inside.ports.entries c.args.self.now c.contains_key.result c.contains_key.ensures
+    c.port_of-port.ensures c.self.view_is in
     let many = as_many c.self.inside.ports.entries c.args.self.now c.len.result c.len.ensures.len c.self.view_is in
     let forward = c.args.forward in
     let lead : Lead = record { guest = forward.guest; number = c.args.number } in
@@ -54,7 +58,8 @@ returns-in-Done-clause-adds g c =
 
 pub returns-in-Failed-clause-adds : goal.returns-in-Failed-clause-adds
 returns-in-Failed-clause-adds g c =
-    let taken = key_is_taken c.args.forward.proto c.args.forward.host c.port_of-port.result c.self.inside.ports.entries c.args.self.now c.contains_key.result c.contains_key.ensures c.port_of-port.ensures c.self.view_is in
+    let taken = key_is_taken c.args.forward.proto c.args.forward.host c.port_of-port.result c.self.inside.ports.entries c.args.self.now c.contains_key.result c.contains_key.ensures
+    c.port_of-port.ensures c.self.view_is in
     let many = as_many c.self.inside.ports.entries c.args.self.now c.len.result c.len.ensures.len c.self.view_is in
     let forward = c.args.forward in
     let old = g.W.World.tells c.args.world.now in

@@ -12,12 +12,15 @@ use Rattle.port_forward.proofs.Forwards.socket_for.Goals as goal
 pub returns-in_err-lead : goal.returns-in_err-lead
 returns-in_err-lead c =
     let entries = c.self.inside.ports.entries in
-    let found = find_from_yields_List (λ (e : Port × Lead). leads_to c.args.guest (opened_of e)) _ _ c.find.result c.find.ensures.ran (YieldsList-from_rest entries c.iter.ensures.rest) (λ x b q k. search (rules, tests)) in
+    let found = find_from_yields_List (λ (e : Port × Lead). leads_to c.args.guest (opened_of e)) _ _ c.find.result c.find.ensures.ran
+    (YieldsList-from_rest entries c.iter.ensures.rest) (λ x b q k. search (rules, tests)) in
     let none : c.from_residual.result ≡ None = search rules in
-    none ∙ ap (λ r. option_map number_of (option_map deref_pair r)) (sym c.in_err-lead.was) ∙ first_socket c.args.guest entries c.args.self.now (option_map deref_pair c.find.result) found c.self.view_is
+    none ∙ ap (λ r. option_map number_of (option_map deref_pair r)) (sym c.in_err-lead.was) ∙ first_socket c.args.guest entries c.args.self.now
+    (option_map deref_pair c.find.result) found c.self.view_is
 
 pub returns : goal.returns
 returns c =
     let entries = c.self.inside.ports.entries in
-    let found = find_from_yields_List (λ (e : Port × Lead). leads_to c.args.guest (opened_of e)) _ _ c.find.result c.find.ensures.ran (YieldsList-from_rest entries c.iter.ensures.rest) (λ x b q k. search (rules, tests)) in
+    let found = find_from_yields_List (λ (e : Port × Lead). leads_to c.args.guest (opened_of e)) _ _ c.find.result c.find.ensures.ran
+    (YieldsList-from_rest entries c.iter.ensures.rest) (λ x b q k. search (rules, tests)) in
     ap (λ r. option_map number_of (option_map deref_pair r)) (sym c.in_ok-lead.was) ∙ first_socket c.args.guest entries c.args.self.now (option_map deref_pair c.find.result) found c.self.view_is

@@ -17,7 +17,8 @@ returns-clause-distinct c =
     let is_other = λ (e : Port × Lead). not (same_port c.args.port.now e.0) in
     let over = rest_all deref_pair c.loop-other.other-iterator c.next.new.self c.next.result c.in-None.is c.next.ensures.steps in
     let all = subst (λ (left : List (Port × Lead)). c.loop-other.kept.items ++ filter is_other left ≡ filter is_other entries) over c.loop-other.invariant.0 in
-    subst (λ (kept : List (Port × Lead)). IsDistinct same_port (keys_of kept)) (sym all ∙ append-nil c.loop-other.kept.items) (IsDistinct-keys_filter same_port is_other entries c.iter-other-items.ensures.unique)
+    subst (λ (kept : List (Port × Lead)). IsDistinct same_port (keys_of kept)) (sym all ∙ append-nil c.loop-other.kept.items)
+    (IsDistinct-keys_filter same_port is_other entries c.iter-other-items.ensures.unique)
 
 pub returns-clause-one : goal.returns-clause-one
 returns-clause-one c there =

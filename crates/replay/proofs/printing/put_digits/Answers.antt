@@ -23,4 +23,5 @@ loop-rest-preserved g c =
 pub returns : goal.returns
 returns g c =
     let so_far = c.loop-rest.invariant in
-    puts_after _ _ _ _ _ _ (encode_lower so_far.before) (encode_lower c.loop-rest.rest.now) _ c.put_chunk-2.result so_far.put so_far.later c.put_chunk-2.ensures (digits_append so_far.before c.loop-rest.rest.now ∙ ap encode_lower (sym so_far.is))
+    puts_after _ _ _ _ _ _ (encode_lower so_far.before) (encode_lower c.loop-rest.rest.now) _ c.put_chunk-2.result so_far.put so_far.later c.put_chunk-2.ensures
+    (digits_append so_far.before c.loop-rest.rest.now ∙ ap encode_lower (sym so_far.is))

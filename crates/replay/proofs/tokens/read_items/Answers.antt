@@ -11,7 +11,8 @@ loop-item-init c = record { text = rw c.new-items.ensures.items refl; range = rw
 pub loop-item-preserved : goal.loop-item-preserved
 loop-item-preserved c = record {
   text = each_more _ _ c.in-Ok.item.now c.in-Ok.after.now _ _ c.in_ok-want.want c.loop-item.invariant.text c.in-Ok.ensures.parts c.in_ok-want.ensures.want c.in_ok-push.ensures.items;
-  range = subst (λ (ws : List Want). are_wants ws ≡ true) (sym c.in_ok-push.ensures.items) (wants_push c.loop-item.items.items c.in_ok-want.want c.loop-item.invariant.range c.in_ok-want.ensures.range);
+  range = subst (λ (ws : List Want). are_wants ws ≡ true) (sym c.in_ok-push.ensures.items)
+      (wants_push c.loop-item.items.items c.in_ok-want.want c.loop-item.invariant.range c.in_ok-want.ensures.range);
   left = λ want more h is. let l = c.loop-item.invariant.left want more h is in (next_left _ _ _ c.in-Ok.ensures.parts c.in-Ok.ensures.first l.want l.more l.range l.is).1;
 }
 
@@ -19,10 +20,13 @@ pub returns-clause-items : goal.returns-clause-items
 returns-clause-items c = joined_all _ _ _ _ c.in_ok-want-2.want c.loop-item.invariant.text c.in_ok-want-2.ensures.want c.in_ok-push-2.ensures.items
 
 pub returns-in_err-want-clause-refused : goal.returns-in_err-want-clause-refused
-returns-in_err-want-clause-refused c = λ _ want more h is. let l = c.loop-item.invariant.left want more h is in c.in_err-want.ensures.refused l.want (one_want l.want l.more l.range) (next_left _ _ _ c.in-Ok.ensures.parts c.in-Ok.ensures.first l.want l.more l.range l.is).0
+returns-in_err-want-clause-refused c = λ _ want more h is. let l = c.loop-item.invariant.left want more h is in c.in_err-want.ensures.refused l.want
+    (one_want l.want l.more l.range) (next_left _ _ _ c.in-Ok.ensures.parts c.in-Ok.ensures.first l.want l.more l.range l.is).0
 
 pub returns-in_err-want-2-clause-refused : goal.returns-in_err-want-2-clause-refused
-returns-in_err-want-2-clause-refused c = λ _ want more h is. let l = c.loop-item.invariant.left want more h is in c.in_err-want-2.ensures.refused l.want (one_want l.want l.more l.range) (last_left _ c.in_default.ensures.refused l.want l.more l.range l.is)
+returns-in_err-want-2-clause-refused c = λ _ want more h is. let l = c.loop-item.invariant.left want more h is in c.in_err-want-2.ensures.refused l.want
+    (one_want l.want l.more l.range) (last_left _ c.in_default.ensures.refused l.want l.more l.range l.is)
 
 pub returns-clause-range : goal.returns-clause-range
-returns-clause-range c = subst (λ (ws : List Want). are_wants ws ≡ true) (sym c.in_ok-push-2.ensures.items) (wants_push c.loop-item.items.items c.in_ok-want-2.want c.loop-item.invariant.range c.in_ok-want-2.ensures.range)
+returns-clause-range c = subst (λ (ws : List Want). are_wants ws ≡ true) (sym c.in_ok-push-2.ensures.items)
+    (wants_push c.loop-item.items.items c.in_ok-want-2.want c.loop-item.invariant.range c.in_ok-want-2.ensures.range)

@@ -16,7 +16,8 @@ pub returns-then-not-is_lower_case-clause-refused : goal.returns-then-not-is_low
 returns-then-not-is_lower_case-clause-refused c = λ _ octets h is. absurd (cc (sym (octets_lower c.args.text.now octets h is)))
 
 pub returns-in_err-octets-clause-refused : goal.returns-in_err-octets-clause-refused
-returns-in_err-octets-clause-refused c = let p = err_from_is_err_and c.from_residual.result c.from_residual.ensures.1 in rw (p.1, p.2) (λ unread octets h is. c.in_err-octets.ensures.refused unread octets (octets_decode c.args.text.now octets h is (λ dash. absurd (cc (sym (c.same.ensures.1 dash) ∙ c.if-same.false)))))
+returns-in_err-octets-clause-refused c = let p = err_from_is_err_and c.from_residual.result c.from_residual.ensures.1 in rw (p.1, p.2)
+    (λ unread octets h is. c.in_err-octets.ensures.refused unread octets (octets_decode c.args.text.now octets h is (λ dash. absurd (cc (sym (c.same.ensures.1 dash) ∙ c.if-same.false)))))
 
 pub returns-clause-range : goal.returns-clause-range
 returns-clause-range c = octets_small c.args.text.now c.in_ok-octets.octets.items c.in_ok-octets.ensures.octets

@@ -14,4 +14,5 @@ pub invariant_of-self : goal.invariant_of-self
 invariant_of-self c =
     let stopped = subst (λ (ms : List (Option ℕ)). AreTimers (slice_set ms c.args.slot None) c.stop.new.row.items) c.deref.ensures.value c.stop.ensures.timers in
     let at = c.insert_timer.ensures.place in
-    set_row c.self.inside.moments.items c.args.self.now c.stop.new.row.items c.insert_timer.new.row.items at.0 c.args.slot c.args.at _ _ c.self.view_is c.requires at.1.0 at.1.1 stopped c.self.invariant.fits (omega (arith, c.insert_timer.ensures.room, c.stop.ensures.room))
+    set_row c.self.inside.moments.items c.args.self.now c.stop.new.row.items c.insert_timer.new.row.items at.0 c.args.slot c.args.at _ _ c.self.view_is c.requires at.1.0 at.1.1
+    stopped c.self.invariant.fits (omega (arith, c.insert_timer.ensures.room, c.stop.ensures.room))

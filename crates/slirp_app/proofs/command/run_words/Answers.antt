@@ -30,15 +30,18 @@ returns-in-Ok-clause-course g c =
     let read = c.read_words in
     let command = c.in-Ok.command in
     let means : Means words (said command) = subst (λ (r : Result Command WordFault). IfOk r (λ (k : Command). Means words (said k))) c.in-Ok.is read.ensures.meant in
-    Meant (said command) means (λ other this. one_meaning read.result command other c.in-Ok.is (read.ensures.only other this)) (none_broken read.result command c.in-Ok.is (read.ensures.only (said command) means))
+    Meant (said command) means (λ other this. one_meaning read.result command other c.in-Ok.is (read.ensures.only other this))
+    (none_broken read.result command c.in-Ok.is (read.ensures.only (said command) means))
     c.follow-outcome.ensures.run.0 c.follow-outcome.ensures.run.1 c.follow-outcome.ensures.does
 
 pub returns-in-Err-clause-course : goal.returns-in-Err-clause-course
 returns-in-Err-clause-course g c =
     let words = map string_bytes c.args.words.now.items in
     let read = c.read_words in
-    subst (λ (o : Outcome). Course words o (g.W.World.tells c.args.world.now) (g.W.World.tells c.args.world.now) (g.K.Sink.holds c.args.out.now) (g.K.Sink.holds c.args.out.now)) (sym c.refusal.ensures)
-    (refused_course words read.result c.in-Err.fault (g.W.World.tells c.args.world.now) (g.K.Sink.holds c.args.out.now) c.in-Err.is read.ensures.bad_config read.ensures.usage read.ensures.only (makes_none _ _ refl))
+    subst (λ (o : Outcome). Course words o (g.W.World.tells c.args.world.now) (g.W.World.tells c.args.world.now) (g.K.Sink.holds c.args.out.now) (g.K.Sink.holds c.args.out.now))
+    (sym c.refusal.ensures)
+    (refused_course words read.result c.in-Err.fault (g.W.World.tells c.args.world.now)
+    (g.K.Sink.holds c.args.out.now) c.in-Err.is read.ensures.bad_config read.ensures.usage read.ensures.only (makes_none _ _ refl))
 
 pub returns-in-Ok-clause-forwards : goal.returns-in-Ok-clause-forwards
 returns-in-Ok-clause-forwards g c = λ meaning means whole.

@@ -18,10 +18,12 @@ use Rattle.slirp_app.proofs.command.slirp_main.Goals as goal
 told : {X : Type 0} (words heard : List Word) (forwards led : List Forward) (old new : Option (List ℕ)) (f g : ℕ) (outcome : Outcome) (result : Result X Failed) → heard ≡ words → led ≡ forwards
     → Puts old new f g (told_text heard led outcome) result → Got words forwards old new f g outcome
 told words heard forwards led old new f g outcome result is same puts =
-    subst (λ (w : List Word). Got w forwards old new f g outcome) is (subst (λ (l : List Forward). Got heard l old new f g outcome) same (causing.got old new f g (told_text heard led outcome) result puts))
+    subst (λ (w : List Word). Got w forwards old new f g outcome) is (subst (λ (l : List Forward). Got heard l old new f g outcome) same
+    (causing.got old new f g (told_text heard led outcome) result puts))
 
 pub returns-clause-usage : goal.returns-clause-usage
-returns-clause-usage g c = subst (λ n. (n ≡ 1) ↔ ((meaning : Meaning) → ¬ Means (map string_bytes c.args.words.now.items) meaning)) (sym c.code.ensures) (courses.usage _ _ _ _ _ _ c.run_words-outcome.ensures.course)
+returns-clause-usage g c = subst (λ n. (n ≡ 1) ↔ ((meaning : Meaning) → ¬ Means (map string_bytes c.args.words.now.items) meaning)) (sym c.code.ensures)
+    (courses.usage _ _ _ _ _ _ c.run_words-outcome.ensures.course)
 
 pub returns-clause-mistake : goal.returns-clause-mistake
 returns-clause-mistake g c is =
@@ -58,7 +60,8 @@ returns-clause-replays g c file config means sound =
     let led = c.forwards_of.ensures ∙ c.run_words-outcome.ensures.forwards (Replays file config) means sound in
     subst (λ n. ReplaysFile file config n (g.W.World.tells c.args.world.now) (g.W.World.tells new.world) (g.K.Sink.holds c.args.out.now) (g.K.Sink.holds new.out)
     (Got words config.forwards (g.E.Sink.holds c.args.err.now) (g.E.Sink.holds c.tell-told.new.err) (g.E.Sink.faults c.args.err.now) (g.E.Sink.faults c.tell-told.new.err))) (sym c.code.ensures)
-    (causing.replays config _ _ file _ _ (Got words config.forwards (g.E.Sink.holds c.args.err.now) (g.E.Sink.holds c.tell-told.new.err) (g.E.Sink.faults c.args.err.now) (g.E.Sink.faults c.tell-told.new.err)) outcome
+    (causing.replays config _ _ file _ _ (Got words config.forwards (g.E.Sink.holds c.args.err.now) (g.E.Sink.holds c.tell-told.new.err) (g.E.Sink.faults c.args.err.now)
+    (g.E.Sink.faults c.tell-told.new.err)) outcome
     (courses.does _ _ _ _ _ _ c.run_words-outcome.ensures.course (Replays file config) means sound)
     (told words _ config.forwards _ _ _ _ _ outcome c.tell-told.result (ap (map string_bytes) c.as_slice.ensures.value) led c.tell-told.ensures.text))
 
@@ -104,5 +107,10 @@ returns-clause-refused g c is = c.run_words-outcome.ensures.refused (sym c.code.
 pub returns-clause-told : goal.returns-clause-told
 returns-clause-told g c =
     let words = map string_bytes c.args.words.now.items in
-    let outcome = c.run_words-outcome.result.0 in
-    (outcome, c.forwards_of.result.now, c.code.ensures, told words _ c.forwards_of.result.now c.forwards_of.result.now _ _ _ _ outcome c.tell-told.result (ap (map string_bytes) c.as_slice.ensures.value) refl c.tell-told.ensures.text)
+    let outcome = c.run_words-outcome.result.0 in (
+      outcome,
+      c.forwards_of.result.now,
+      c.code.ensures,
+      told words _ c.forwards_of.result.now c.forwards_of.result.now _ _ _ _ outcome c.tell-told.result
+          (ap (map string_bytes) c.as_slice.ensures.value) refl c.tell-told.ensures.text,
+    )

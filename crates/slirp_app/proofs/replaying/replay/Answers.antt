@@ -21,7 +21,8 @@ named result fault value at line is of same (inr only) = inl cc
 
 pub returns-in-Err-Line-clause-misspelt : goal.returns-in-Err-Line-clause-misspelt
 returns-in-Err-Line-clause-misspelt g c line unread =
-    named c.read.result c.in-Err-Line.field-0 _ c.in-Err-Line.line line c.in-Err-Line.is c.in-Err-Line.field-0-is c.in-Err-Line.line-is (c.read.ensures.only line (subst (λ l. IsFirstUnread l line) (sym c.deref.ensures.value) unread))
+    named c.read.result c.in-Err-Line.field-0 _ c.in-Err-Line.line line c.in-Err-Line.is c.in-Err-Line.field-0-is c.in-Err-Line.line-is
+    (c.read.ensures.only line (subst (λ l. IsFirstUnread l line) (sym c.deref.ensures.value) unread))
 
 not_large : {A : Type 0} (result : Result A ScriptFault) (fault : ScriptFault) (line : ℕ) → result ≡ Err fault → fault ≡ TooLarge → (result ≡ Err (AtLine line)) ⊎ (result ≡ Err OutOfMemory) → ⊥
 not_large result fault line is of (inl only) = cc
@@ -29,4 +30,5 @@ not_large result fault line is of (inr only) = cc
 
 pub returns-in-Err-TooLarge-clause-misspelt : goal.returns-in-Err-TooLarge-clause-misspelt
 returns-in-Err-TooLarge-clause-misspelt g c line unread =
-    absurd (not_large c.read.result c.in-Err-TooLarge.field-0 line c.in-Err-TooLarge.is c.in-Err-TooLarge.field-0-is (c.read.ensures.only line (subst (λ l. IsFirstUnread l line) (sym c.deref.ensures.value) unread)))
+    absurd (not_large c.read.result c.in-Err-TooLarge.field-0 line c.in-Err-TooLarge.is c.in-Err-TooLarge.field-0-is
+    (c.read.ensures.only line (subst (λ l. IsFirstUnread l line) (sym c.deref.ensures.value) unread)))

@@ -18,7 +18,8 @@ returns-in-Ok-put_record-clause-came g c =
     let runs = subst (λ (k : Config). Makes (script_tells c.args.script) (script_tells new) (IsRun k done)) c.in-Ok.ensures.config c.run_service-done.ensures.runs in
     let put = c.put_record.ensures.ok (ap is_ok c.in-Ok-put_record.is) ∙ ap (λ n. added (text (script_tells new).kept ++ end_line n) (g.K.Sink.holds c.args.out.now)) c.code.ensures in
     let left = c.ended-outcome.ensures in
-    replayed (settings c.args.config.now) c.args.script new done c.ended-outcome.result (g.K.Sink.holds c.args.out.now) (g.K.Sink.holds c.put_record.new.out) c.requires.fresh left.lives left.ceased left.fits_none left.within left.readable put runs
+    replayed (settings c.args.config.now) c.args.script new done c.ended-outcome.result (g.K.Sink.holds c.args.out.now)
+    (g.K.Sink.holds c.put_record.new.out) c.requires.fresh left.lives left.ceased left.fits_none left.within left.readable put runs
 
 pub returns-clause-refused : goal.returns-clause-refused
 returns-clause-refused g c is = c.put_record.ensures.err (ap is_err c.in-Err.is)

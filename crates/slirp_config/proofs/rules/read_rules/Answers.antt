@@ -22,4 +22,5 @@ pub returns-clause-read : goal.returns-clause-read
 returns-clause-read c =
     let rules = rule_words c.args.rules.now in
     let past : length c.args.rules.now ≤ c.loop-rule.rule-index = omega (arith, c.loop-rule-test.false, c.loop-rule.auto.rule-index-end) in
-    read_all rules c.args.dhcp_start.0 _ (subst (λ (w : List Word). HasRead rules w c.args.dhcp_start.0 c.loop-rule.forwards.items) (no_rule c.args.rules.now c.loop-rule.rule-index past) c.loop-rule.invariant)
+    read_all rules c.args.dhcp_start.0 _ (subst (λ (w : List Word). HasRead rules w c.args.dhcp_start.0 c.loop-rule.forwards.items)
+    (no_rule c.args.rules.now c.loop-rule.rule-index past) c.loop-rule.invariant)

@@ -29,7 +29,8 @@ loop-place-preserved c =
           let n = w.in-Some.number in
           let other = sym w.is_over.ensures ∙ w.if-is_over.false in
           ap (λ l. l.items) w.numbers-is ∙ c.loop-place.invariant
-          ∙ sym (over_taken c.args.proto c.args.forwards.now place w.in-Some.forward n (sym c.at.ensures ∙ w.in-Some.is) ∙ ap (λ (b : Bool). before ++ (if b then n ∷ [] else [])) other ∙ append-nil before)
+          ∙ sym (over_taken c.args.proto c.args.forwards.now place w.in-Some.forward n (sym c.at.ensures ∙ w.in-Some.is) ∙ ap
+          (λ (b : Bool). before ++ (if b then n ∷ [] else [])) other ∙ append-nil before)
       | in_default w ↦ let all = none_further c.args.forwards.now place (sym c.at.ensures ∙ w.in_default.is) in absurd (omega (arith, all, less, count))
     ]
 

@@ -30,4 +30,5 @@ loop-number-preserved c =
 
 pub returns-clause-items : goal.returns-clause-items
 returns-clause-items c =
-    c.add_sockets.ensures.items ∙ ap (λ (l : List ℕ). c.loop-number.wants.items ++ map udp_want l) (all_came c.args.some.now c.loop-number.left.now c.loop-number.number-index c.loop-number-test.false) ∙ c.loop-number.invariant.items
+    c.add_sockets.ensures.items ∙ ap (λ (l : List ℕ). c.loop-number.wants.items ++ map udp_want l)
+    (all_came c.args.some.now c.loop-number.left.now c.loop-number.number-index c.loop-number-test.false) ∙ c.loop-number.invariant.items

@@ -5,4 +5,5 @@ pub returns-clause-next : goal.returns-clause-next
 returns-clause-next c = closed_next
 
 pub returns-clause-once : goal.returns-clause-once
-returns-clause-once c = λ config between past socket asked count more guest peer octets others answer lawful a. heard_once config between past socket asked count more guest peer octets others answer lawful a
+returns-clause-once c = λ config between past socket asked count more guest peer octets others answer lawful a. heard_once config between past socket asked count more guest peer
+    octets others answer lawful a

@@ -34,7 +34,8 @@ returns-clause-kept c =
     let no = c.in-Some.ensures.none.1 (subst (λ (l : List KeptRange). 32 < length (with_range l new)) (sym c.as_slice.ensures.value) more) in
     cc no in
     let each : (place : ℕ) → slice_get c.overwrite-newly.new.ring.items place ≡ written_at rs inside.held c.args.ahead (length (take n octets)) (take n octets) c.reach.new.ring.items place =
-    λ place. c.overwrite-newly.ensures.places place ∙ ap (λ (l : List KeptRange). written_at l inside.held c.args.ahead (length (take n octets)) (take n octets) c.reach.new.ring.items place) ranges_seen in
+    λ place. c.overwrite-newly.ensures.places place ∙ ap (λ (l : List KeptRange). written_at l inside.held c.args.ahead (length (take n octets))
+    (take n octets) c.reach.new.ring.items place) ranges_seen in
     let counted : n ≡ min (length octets) (inside.ring.capacity - inside.held - c.args.ahead) = omega (arith, c.min-count.ensures, c.saturating_sub.ensures, c.capacity.ensures.capacity) in
     (λ i. seen inside.held inside.written ((c.overwrite-newly.ensures.capacity ∙ c.reach.ensures.capacity) i) (ranges_are i) c.overwrite-newly.new.ring.items)
     ∙ keeps rs inside.held inside.written inside.ring.capacity c.args.ahead n inside.ring.items c.reach.new.ring.items c.overwrite-newly.new.ring.items octets

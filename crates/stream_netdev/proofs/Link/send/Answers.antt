@@ -18,6 +18,7 @@ returns-clause-sent g c =
       answer,
       answers,
       c.offered_of.ensures,
-      drop_part inside.out.items inside.from inside.to c.count-count.result fits ∙ ap (λ n. drop n (take (inside.to - inside.from) (drop inside.from inside.out.items))) c.count-count.ensures ∙ ap (drop (count_of answer)) tail_is,
+      drop_part inside.out.items inside.from inside.to c.count-count.result fits ∙ ap
+          (λ n. drop n (take (inside.to - inside.from) (drop inside.from inside.out.items))) c.count-count.ensures ∙ ap (drop (count_of answer)) tail_is,
       ap (λ n. nat_lt n c.tail.result) c.count-count.ensures ∙ ap (λ n. nat_lt (count_of answer) n) c.tail.ensures,
     )

@@ -12,7 +12,8 @@ loop-part-preserved c =
     let part : Splice = c.part-item.result in
     let seen = map part_of (take c.loop-part.part-index parts) in
     subst (IsNextAfter c.args.now (map part_of (take (c.loop-part.part-index + 1) parts))) (sym (c.earlier-first.ensures ∙ ap (earlier c.loop-part.first) c.time_after.ensures))
-    (subst (λ (s : List (Option Splice)). IsNextAfter c.args.now s (earlier c.loop-part.first (if_after c.args.now (time_of part)))) (sym (parts_more parts c.loop-part.part-index part c.loop-part-test.true c.part-item.is))
+    (subst (λ (s : List (Option Splice)). IsNextAfter c.args.now s (earlier c.loop-part.first (if_after c.args.now (time_of part))))
+    (sym (parts_more parts c.loop-part.part-index part c.loop-part-test.true c.part-item.is))
     (next_more c.args.now seen part c.loop-part.first c.loop-part.invariant))
 
 pub returns : goal.returns

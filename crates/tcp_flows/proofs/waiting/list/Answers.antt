@@ -21,7 +21,8 @@ returns-in-true-false-clause-items c =
     let n = c.args.number in
     let place = c.place_of-place.result in
     let here = stands place n wants (sym (c.in-true-false.ensures ∙ ap (has_at place n) c.deref-2.ensures.value)) in
-    c.remove.ensures.items ∙ taken_out n wants place here.0 c.requires.order here.1 here.2 ∙ ap (λ (l : List Want). with_wants n l wants) (sym (listed_none n c.args.waits (sym (c.in-true-false.ensures'))))
+    c.remove.ensures.items ∙ taken_out n wants place here.0 c.requires.order here.1 here.2 ∙ ap (λ (l : List Want). with_wants n l wants)
+    (sym (listed_none n c.args.waits (sym (c.in-true-false.ensures'))))
 
 pub returns-in-false-true-clause-items : goal.returns-in-false-true-clause-items
 returns-in-false-true-clause-items c =

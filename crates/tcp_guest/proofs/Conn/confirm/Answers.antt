@@ -12,4 +12,5 @@ returns-clause-seen c =
 
 pub returns-clause-connection : goal.returns-clause-connection
 returns-clause-connection c =
-    confirmed_is _ c.args.self.now c.self.view_is c.args.down.now c.acked.new.down c.args.seg.now.seq c.args.window c.args.bare c.args.now c.acked.result c.acked.new.self c.acked.ensures.dropped c.acked.ensures.change
+    confirmed_is _ c.args.self.now c.self.view_is c.args.down.now c.acked.new.down c.args.seg.now.seq c.args.window c.args.bare c.args.now c.acked.result c.acked.new.self
+    c.acked.ensures.dropped c.acked.ensures.change

@@ -20,7 +20,8 @@ returns-clause-kept c k x is =
     (grind (arith, ints, to_z-of_z)) (grind arith)
 
 pub returns-clause-comes : goal.returns-clause-comes
-returns-clause-comes c = comes_by c.args.self.now c.args.seq.0 c.args.octets.now c.args.up.now c.put-count.new.up c.put-count.result c.put-count.ensures.count (returns-clause-held c) (returns-clause-kept c)
+returns-clause-comes c = comes_by c.args.self.now c.args.seq.0 c.args.octets.now c.args.up.now c.put-count.new.up c.put-count.result c.put-count.ensures.count
+    (returns-clause-held c) (returns-clause-kept c)
 
 pub returns-then-self-clause-comes : goal.returns-then-self-clause-comes
 returns-then-self-clause-comes c = nothing_comes c.args.self.now c.args.seq.0 c.args.octets.now c.args.up.now

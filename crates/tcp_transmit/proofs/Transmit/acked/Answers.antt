@@ -40,7 +40,8 @@ returns-clause-feeds c =
     let stepped : c.owe_probe.new.self ≡ opened (windowed (acknowledged (congested t c.args.window c.args.bare seen) seen c.args.now) c.args.seq c.args.window) =
     c.owe_probe.ensures ∙ ap opened (c.take_window.ensures ∙ ap (λ (x : Transmission). windowed x c.args.seq c.args.window)
     (c.acknowledge.ensures.change ∙ ap (λ (x : Transmission). acknowledged x seen c.args.now) is)) in
-    let given = subst (λ (d : Downward). Feeds (watched_over (opened (windowed (acknowledged (congested t c.args.window c.args.bare seen) seen c.args.now) c.args.seq c.args.window)) d c.args.now) d) (sym c.acknowledge.ensures.dropped) ready in
+    let given = subst (λ (d : Downward). Feeds (watched_over (opened
+    (windowed (acknowledged (congested t c.args.window c.args.bare seen) seen c.args.now) c.args.seq c.args.window)) d c.args.now) d) (sym c.acknowledge.ensures.dropped) ready in
     let noted = subst (λ (x : Transmission). Feeds (watched_over x c.acknowledge.new.down c.args.now) c.acknowledge.new.down) (sym stepped) given in
     subst (λ (x : Transmission). Feeds x c.acknowledge.new.down) (sym (c.watch.ensures ∙ ap (λ (b : Bool). watched c.owe_probe.new.self b c.args.now) c.has_unsent-unsent.ensures)) noted
 
@@ -58,4 +59,5 @@ returns-clause-steady c same runs left =
     let is : c.watch.new.self ≡ after_ack t c.acknowledge.new.down c.args.seq c.args.window c.args.bare c.args.now Same =
     returns-clause-change c ∙ ap (λ (s : AckSeen). after_ack t c.acknowledge.new.down c.args.seq c.args.window c.args.bare c.args.now s) same in
     subst (λ (x : Transmission). (x.acked < x.sent) ⊎ (is_closed x ≡ true) → x.resend.timer ≡ t.resend.timer) (sym is)
-    (same_steady t c.args.down.now c.acknowledge.new.down c.args.seq c.args.window c.args.bare c.args.now c.requires.feeds (returns-clause-read c) (runs_on t.resend.timer t.resend.estimate.wait runs)) left
+    (same_steady t c.args.down.now c.acknowledge.new.down c.args.seq c.args.window c.args.bare c.args.now c.requires.feeds (returns-clause-read c)
+    (runs_on t.resend.timer t.resend.estimate.wait runs)) left

@@ -17,8 +17,22 @@ invariant_of-self c =
     let ends : end_of c.args.p.now ≤ octets_read c.requires.owed.0 + 1 = owed_ends c.args.self.now c.requires.owed.0 c.args.p.now c.requires.owed.1 c.requires.owed.2 in
     let few = c.requires.owed.1.few in
     elim c.if-p.branch [
-      | then-p w ↦ rw w.self-inside-is (c.self.invariant.0, c.self.invariant.1, omega (arith, c.self.invariant.2, c.max-self-inside.ensures), omega (arith, c.self.invariant.3, c.max-self-inside.ensures, c.numbers.ensures, ends, few), c.self.invariant.4)
-      | else-p w ↦ rw w.self-inside-is (c.self.invariant.0, c.self.invariant.1, omega (arith, c.self.invariant.2, c.max-self-inside.ensures), omega (arith, c.self.invariant.3, c.max-self-inside.ensures, c.numbers.ensures, ends, few), c.self.invariant.4)
+      | then-p w ↦ rw w.self-inside-is (
+        c.self.invariant.0,
+        c.self.invariant.1,
+        omega (arith, c.self.invariant.2, c.max-self-inside.ensures),
+        omega
+            (arith, c.self.invariant.3, c.max-self-inside.ensures, c.numbers.ensures, ends, few),
+        c.self.invariant.4,
+      )
+      | else-p w ↦ rw w.self-inside-is (
+        c.self.invariant.0,
+        c.self.invariant.1,
+        omega (arith, c.self.invariant.2, c.max-self-inside.ensures),
+        omega
+            (arith, c.self.invariant.3, c.max-self-inside.ensures, c.numbers.ensures, ends, few),
+        c.self.invariant.4,
+      )
     ]
 
 pub returns-clause-sent : goal.returns-clause-sent

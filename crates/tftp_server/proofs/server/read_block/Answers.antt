@@ -23,7 +23,16 @@ asked_size block there = ap length (take_all (length block - there) (drop there 
 mid_size : (block into : List ℕ) (there : ℕ) → there ≤ length block → length into ≡ length block - there → length (put_mid there (length block - there) block into) ≡ length block
 mid_size block into there within size =
     let rest = drop (length block - there) (drop there block) in
-    omega (arith, length-append (take there block) (into ++ rest), length-append into rest, length-take-le there block within, length-drop (length block - there) (drop there block), length-drop there block, size)
+    omega (
+      arith,
+      length-append (take there block) (into ++ rest),
+      length-append into rest,
+      length-take-le there block within,
+      length-drop (length block - there)
+          (drop there block),
+      length-drop there block,
+      size,
+    )
 
 pub loop-there-preserved : goal.loop-there-preserved
 loop-there-preserved g c =
@@ -44,7 +53,8 @@ loop-there-preserved g c =
           subst (λ (xs : List ℕ). Makes (g.W.World.tells c.args.world.now) (g.W.World.tells c.file_read.new.self) (ReadsOn now t others xs)) (sym (filled_to block into there n within few size))
           (read_more (g.W.World.tells c.args.world.now) (g.W.World.tells c.loop-there.world) (g.W.World.tells c.file_read.new.self) now t others c.args.file.now before (take n into) n
           (c.args.place + there) (length (take (length block - there) (drop there block)))
-          name (omega (arith, place, front)) (omega (arith, asked_size block there, all, front)) (omega (arith, front, all, c.loop-there-test.true)) (c.loop-there.invariant.1 now t others name place all) c.in-Done.ensures),
+          name (omega (arith, place, front)) (omega (arith, asked_size block there, all, front)) (omega (arith, front, all, c.loop-there-test.true))
+          (c.loop-there.invariant.1 now t others name place all) c.in-Done.ensures),
     )
 
 pub returns-in_default : goal.returns-in_default

@@ -13,4 +13,5 @@ loop-place-preserved c =
     let a = get_or rows place _ in
     subst (λ s. AreSince s (take (place + 1) rows)) (sym c.min-first.ensures)
     (subst (λ k. AreSince (min c.loop-place.first a.used) (take k rows)) next
-    (subst (λ (l : List Association). AreSince (min c.loop-place.first a.used) l) (sym (take-suc rows place _ c.loop-place-test.true)) (since_more c.loop-place.first (take place rows) a c.loop-place.invariant)))
+    (subst (λ (l : List Association). AreSince (min c.loop-place.first a.used) l) (sym (take-suc rows place _ c.loop-place-test.true))
+    (since_more c.loop-place.first (take place rows) a c.loop-place.invariant)))

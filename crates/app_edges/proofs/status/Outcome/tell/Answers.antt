@@ -10,13 +10,15 @@ pub returns-in-FrameTooLong-clause-text : goal.returns-in-FrameTooLong-clause-te
 returns-in-FrameTooLong-clause-text g c =
     let words = map string_bytes c.args.words.now in
     let forwards = c.args.forwards.now in
-    puts_same _ _ _ _ _ _ _ c.tell_number-in-FrameTooLong.ensures (ap (λ t. codes "slirpd: frame of " ++ t) (sym (append_assoc (decimal c.in-FrameTooLong.length) (codes " octets") (10 ∷ []))) ∙ ap (told_text words forwards) (sym c.in-FrameTooLong.is))
+    puts_same _ _ _ _ _ _ _ c.tell_number-in-FrameTooLong.ensures
+    (ap (λ t. codes "slirpd: frame of " ++ t) (sym (append_assoc (decimal c.in-FrameTooLong.length) (codes " octets") (10 ∷ []))) ∙ ap (told_text words forwards) (sym c.in-FrameTooLong.is))
 
 pub returns-in-FrameCut-clause-text : goal.returns-in-FrameCut-clause-text
 returns-in-FrameCut-clause-text g c =
     let words = map string_bytes c.args.words.now in
     let forwards = c.args.forwards.now in
-    puts_same _ _ _ _ _ _ _ c.tell_number-in-FrameCut.ensures (ap (λ t. codes "slirpd: link ended inside a frame, " ++ t) (sym (append_assoc (decimal c.in-FrameCut.octets) (codes " octets") (10 ∷ []))) ∙ ap (told_text words forwards) (sym c.in-FrameCut.is))
+    puts_same _ _ _ _ _ _ _ c.tell_number-in-FrameCut.ensures (ap (λ t. codes "slirpd: link ended inside a frame, " ++ t)
+    (sym (append_assoc (decimal c.in-FrameCut.octets) (codes " octets") (10 ∷ []))) ∙ ap (told_text words forwards) (sym c.in-FrameCut.is))
 
 pub returns-in-LinkFault-clause-text : goal.returns-in-LinkFault-clause-text
 returns-in-LinkFault-clause-text g c =

@@ -25,9 +25,11 @@ returns-in-From-clause-hears g c =
 pub returns-in-NotYet-clause-hears : goal.returns-in-NotYet-clause-hears
 returns-in-NotYet-clause-hears g c =
     let found = sym (c.in-Some.ensures ∙ ap (λ (s : RelayState). numbered c.args.s s.list) c.self.view_is) in
-    makes_one _ _ (UdpRecv c.args.s (length c.args.into.now) NotYet (filled_got NotYet c.udp_recv.new.into)) _ c.in-NotYet.ensures (λ allowed. OnQuestion c.in-Some.question NotYet found refl refl refl)
+    makes_one _ _ (UdpRecv c.args.s (length c.args.into.now) NotYet (filled_got NotYet c.udp_recv.new.into)) _ c.in-NotYet.ensures
+    (λ allowed. OnQuestion c.in-Some.question NotYet found refl refl refl)
 
 pub returns-in-Failed-clause-hears : goal.returns-in-Failed-clause-hears
 returns-in-Failed-clause-hears g c =
     let found = sym (c.in-Some.ensures ∙ ap (λ (s : RelayState). numbered c.args.s s.list) c.self.view_is) in
-    makes_one _ _ (UdpRecv c.args.s (length c.args.into.now) Failed (filled_got Failed c.udp_recv.new.into)) _ c.in-Failed.ensures (λ allowed. OnQuestion c.in-Some.question Failed found refl refl refl)
+    makes_one _ _ (UdpRecv c.args.s (length c.args.into.now) Failed (filled_got Failed c.udp_recv.new.into)) _ c.in-Failed.ensures
+    (λ allowed. OnQuestion c.in-Some.question Failed found refl refl refl)

@@ -21,11 +21,13 @@ returns-in-Done-clause-opens g c =
     let old = c.self.inside.list in
     let opened = c.open.ensures ∙ ap (λ (i : ℕ). let q : Question = record { number = number; guest = d.from; mac = d.mac; ident = i; used = now } in old ++ (q ∷ [])) c.requires.ident in
     let is = ap (λ (s : RelayState). s.list) c.send_on.ensures.list ∙ ap (moved_last (asked_from d.mac now) number) opened in
-    subst (λ (s : RelayState). Makes (g.W.World.tells c.args.world.now) (g.W.World.tells c.send_on.new.world) (OpensFor s.bind d now number s.list c.send_on.new.self.list c.send_on.result)) c.self.view_is
+    subst (λ (s : RelayState). Makes (g.W.World.tells c.args.world.now) (g.W.World.tells c.send_on.new.world)
+    (OpensFor s.bind d now number s.list c.send_on.new.self.list c.send_on.result)) c.self.view_is
     (makes_then _ _ _ _ _ _ (makes_one _ _ (UdpOpen number at Done) (λ made. ◌≡◌ {A = List Entry} made (UdpOpen number at Done ∷ [])) c.in-Done.ensures (λ allowed. refl)) c.send_on.ensures.sends
     (λ first second opens sends. Opens sends.0 (ap (λ (m : List Entry). m ++ first) sends.1 ∙ ap (λ (m : List Entry). UdpSend number d.to d.body sends.0 ∷ m) opens) is sends.2))
 
 pub returns-in-Failed-clause-opens : goal.returns-in-Failed-clause-opens
 returns-in-Failed-clause-opens g c =
-    subst (λ (s : RelayState). Makes (g.W.World.tells c.args.world.now) (g.W.World.tells c.udp_open.new.self) (OpensFor s.bind (asked_of c.args.asked.now) c.args.now c.args.number.now s.list s.list (Unreachable no_network))) c.self.view_is
+    subst (λ (s : RelayState). Makes (g.W.World.tells c.args.world.now) (g.W.World.tells c.udp_open.new.self)
+    (OpensFor s.bind (asked_of c.args.asked.now) c.args.now c.args.number.now s.list s.list (Unreachable no_network))) c.self.view_is
     (makes_one _ _ (UdpOpen c.args.number.now (endpoint c.self.inside.bind.0 0) Failed) _ c.in-Failed.ensures (λ allowed. OpensNone refl refl refl))

@@ -10,13 +10,15 @@ use Rattle.dns_relay.proofs.relay.Relay.query.Goals as goal
 
 pub returns-in-Some-clause-relays : goal.returns-in-Some-clause-relays
 returns-in-Some-clause-relays g c =
-    let found = sym (ap (option_map (λ (q : Question). q.number)) c.in-Some.ensures ∙ ap (λ (i : ℕ). socket_of c.args.from i c.self.inside.list) c.ident_in-ident.ensures ∙ ap (λ (s : RelayState). socket_of c.args.from (ident_in c.args.body.now) s.list) c.self.view_is) in
+    let found = sym (ap (option_map (λ (q : Question). q.number)) c.in-Some.ensures ∙ ap (λ (i : ℕ). socket_of c.args.from i c.self.inside.list) c.ident_in-ident.ensures ∙ ap
+    (λ (s : RelayState). socket_of c.args.from (ident_in c.args.body.now) s.list) c.self.view_is) in
     let list = ap (λ (s : RelayState). s.list) c.send_on.ensures.list in
     makes_as _ _ _ _ c.send_on.ensures.sends (λ made sends. BySocket c.in-Some.question.number sends.0 found sends.1 sends.2 list refl)
 
 pub returns-in-None-clause-relays : goal.returns-in-None-clause-relays
 returns-in-None-clause-relays g c =
-    let found = sym (ap (option_map (λ (q : Question). q.number)) c.in-None.ensures ∙ ap (λ (i : ℕ). socket_of c.args.from i c.self.inside.list) c.ident_in-ident.ensures ∙ ap (λ (s : RelayState). socket_of c.args.from (ident_in c.args.body.now) s.list) c.self.view_is) in
+    let found = sym (ap (option_map (λ (q : Question). q.number)) c.in-None.ensures ∙ ap (λ (i : ℕ). socket_of c.args.from i c.self.inside.list) c.ident_in-ident.ensures ∙ ap
+    (λ (s : RelayState). socket_of c.args.from (ident_in c.args.body.now) s.list) c.self.view_is) in
     let list = ap (λ (s : RelayState). s.list) c.make_room.ensures.list in
     let bind = ap (λ (s : RelayState). s.bind) c.make_room.ensures.list in
     let d : Asked = record { from = c.args.from; mac = c.args.mac; to = c.args.to; body = c.args.body.now } in

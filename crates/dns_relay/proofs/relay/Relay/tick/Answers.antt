@@ -17,7 +17,8 @@ pub loop-preserved : goal.loop-preserved
 loop-preserved g c =
     let now = c.args.now in
     let new = c.close_idle.new.self.list in
-    let closed = subst (λ (b : Bool). Makes (g.W.World.tells c.loop.world) (g.W.World.tells c.close_idle.new.world) (ClosesLeast (is_over now) b c.loop.self.list new)) c.loop-test.true c.close_idle.ensures.closes in
+    let closed = subst (λ (b : Bool). Makes (g.W.World.tells c.loop.world) (g.W.World.tells c.close_idle.new.world) (ClosesLeast (is_over now) b c.loop.self.list new))
+    c.loop-test.true c.close_idle.ensures.closes in
     record {
       makes = makes_then _ _ _ _ _ _ c.loop.invariant.makes closed (λ first second before closes.
           subst (λ (m : List Entry). Ticks now c.args.self.now.list new (m ++ first)) (sym closes.1) (c.loop.self.list, before, closes.2, closes.3));
@@ -28,7 +29,8 @@ pub returns-clause-closes : goal.returns-clause-closes
 returns-clause-closes g c =
     let now = c.args.now in
     let new = c.close_idle.new.self.list in
-    let closed = subst (λ (b : Bool). Makes (g.W.World.tells c.loop.world) (g.W.World.tells c.close_idle.new.world) (ClosesLeast (is_over now) b c.loop.self.list new)) c.loop-test.false c.close_idle.ensures.closes in
+    let closed = subst (λ (b : Bool). Makes (g.W.World.tells c.loop.world) (g.W.World.tells c.close_idle.new.world) (ClosesLeast (is_over now) b c.loop.self.list new))
+    c.loop-test.false c.close_idle.ensures.closes in
     makes_then _ _ _ _ _ _ c.loop.invariant.makes closed (λ first second before closes.
     subst (λ (m : List Entry). Ticks now c.args.self.now.list new (m ++ first)) (sym closes.0)
     (subst (λ l. Ticks now c.args.self.now.list l first) (sym closes.2) before))

@@ -4,7 +4,8 @@ use Rattle.drive_world.specs.declared.fault.Kind.TheVariants.{File}
 use Rattle.drive_world.proofs.fault.FaultWorldWorld.file_len.Goals as goal
 
 pub returns-then-fails-clause-answers : goal.returns-then-fails-clause-answers
-returns-then-fails-clause-answers g c = fails_here g.W.World.tells _ _ _ c.self.view_is _ File _ (c.fails.ensures.fails c.if-fails.true) refl refl refl refl (all_small c.args.name.now (λ i. omega (arith, c.type_inv.name i)), tt)
+returns-then-fails-clause-answers g c = fails_here g.W.World.tells _ _ _ c.self.view_is _ File _ (c.fails.ensures.fails c.if-fails.true) refl refl refl refl
+    (all_small c.args.name.now (λ i. omega (arith, c.type_inv.name i)), tt)
 
 pub returns-then-fails-clause-fails : goal.returns-then-fails-clause-fails
 returns-then-fails-clause-fails g c is = (refl, given_here g.W.World.tells _ _ _ c.self.view_is _ File (c.fails.ensures.fails c.if-fails.true).1)

@@ -30,7 +30,8 @@ returns-in-Some-Short-clause-falls_short g c is =
     let call = c.file_read-answer in
     falls_short g.W.World.tells _ _ _ c.self.view_is call.new.self _ _ File _ call.result _ c.count.ensures.counted
     (c.cut.ensures ∙ ap (λ whole. short_of File whole call.result c.count.new.self) (whole_stays c.args.into.now call.new.into call.result c.requires.room call.auto.into))
-    (first_read c.args.into.now call.new.into call.result c.requires.room call.auto.into (λ asked octets. FileRead c.args.name.now c.args.at asked call.result octets) _ _ (as_read _ _ call.ensures.allowed.0) call.ensures)
+    (first_read c.args.into.now call.new.into call.result c.requires.room call.auto.into (λ asked octets. FileRead c.args.name.now c.args.at asked call.result octets) _ _
+    (as_read _ _ call.ensures.allowed.0) call.ensures)
 
 pub returns-in-Some-NotYet-clause-answers : goal.returns-in-Some-NotYet-clause-answers
 returns-in-Some-NotYet-clause-answers g c = passed_on g.W.World.tells _ _ _ c.self.view_is _ _ _ c.file_read.ensures c.count.ensures.counted

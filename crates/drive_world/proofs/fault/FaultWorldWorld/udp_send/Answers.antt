@@ -4,13 +4,15 @@ use Rattle.drive_world.specs.declared.fault.Kind.TheVariants.{Socket}
 use Rattle.drive_world.proofs.fault.FaultWorldWorld.udp_send.Goals as goal
 
 pub returns-in-Fails-clause-answers : goal.returns-in-Fails-clause-answers
-returns-in-Fails-clause-answers g c = fails_here g.W.World.tells _ _ _ c.self.view_is _ Socket _ (c.in-Fails.ensures.fails refl) refl refl refl refl (search rules, search rules, all_small c.args.from.now (λ i. omega (arith, c.type_inv.from i)))
+returns-in-Fails-clause-answers g c = fails_here g.W.World.tells _ _ _ c.self.view_is _ Socket _ (c.in-Fails.ensures.fails refl) refl refl refl refl
+    (search rules, search rules, all_small c.args.from.now (λ i. omega (arith, c.type_inv.from i)))
 
 pub returns-in-Fails-clause-fails : goal.returns-in-Fails-clause-fails
 returns-in-Fails-clause-fails g c is = (refl, given_here g.W.World.tells _ _ _ c.self.view_is _ Socket (c.in-Fails.ensures.fails refl).1)
 
 pub returns-in-IsPutOff-clause-answers : goal.returns-in-IsPutOff-clause-answers
-returns-in-IsPutOff-clause-answers g c = put_off_here g.W.World.tells _ _ _ c.self.view_is _ Socket _ (c.in-IsPutOff.ensures.put_off refl) refl refl refl refl (search rules, search rules, all_small c.args.from.now (λ i. omega (arith, c.type_inv.from i)))
+returns-in-IsPutOff-clause-answers g c = put_off_here g.W.World.tells _ _ _ c.self.view_is _ Socket _ (c.in-IsPutOff.ensures.put_off refl) refl refl refl refl
+    (search rules, search rules, all_small c.args.from.now (λ i. omega (arith, c.type_inv.from i)))
 
 pub returns-in-IsPutOff-clause-waits : goal.returns-in-IsPutOff-clause-waits
 returns-in-IsPutOff-clause-waits g c is = (refl, given_here g.W.World.tells _ _ _ c.self.view_is _ Socket (c.in-IsPutOff.ensures.put_off refl).1)

@@ -9,7 +9,8 @@ use Rattle.ipv4_reasm.proofs.Holing.{few_holes, fill_rise, filled_at, has_place}
 use Rattle.ipv4_reasm.proofs.holes.Holes.fill.Goals as goal
 
 -- the hole that was found is replaced by what is left of it
-is_filled : (p : Part) (row new : List Hole) (i : ℕ) (h : Hole) (before behind : Option Hole) → position (lies_in p) row ≡ Some i → h ≡ get_or row i h → before ≡ left_before p h → behind ≡ left_behind p h
+is_filled : (p : Part) (row new : List Hole) (i : ℕ) (h : Hole) (before behind : Option Hole) → position (lies_in p) row ≡ Some i → h ≡ get_or row i h → before ≡ left_before p h →
+    behind ≡ left_behind p h
     → new ≡ take i row ++ (listed before ++ (listed behind ++ drop (i + 1) row)) → new ≡ filled p row
 is_filled p row new i h before behind found at is as_well replaced =
     let place = position_or_len (lies_in p) row in
@@ -39,7 +40,8 @@ invariant_of-self c =
     let p = part_of c.args.v.now in
     let row = c.self.inside.row.items in
     let found : position (lies_in p) row ≡ Some c.in-Some.i = ap (position (lies_in p)) (sym c.deref.ensures.value) ∙ sym c.place_of.ensures ∙ c.in-Some.is in
-    let same = is_filled p row c.replace.new.row.items c.in-Some.i c.index.result.now c.before-in-Some.result c.behind.result found c.index.ensures c.before-in-Some.ensures c.behind.ensures c.replace.ensures.items in
+    let same = is_filled p row c.replace.new.row.items c.in-Some.i c.index.result.now c.before-in-Some.result c.behind.result found c.index.ensures c.before-in-Some.ensures
+    c.behind.ensures c.replace.ensures.items in
     let end = c.requires.end in
     let small : unit_end p ≤ 8190 = omega arith in
     record {
@@ -52,11 +54,13 @@ returns-in-Some c =
     let p = part_of c.args.v.now in
     let row = c.self.inside.row.items in
     let found : position (lies_in p) row ≡ Some c.in-Some.i = ap (position (lies_in p)) (sym c.deref.ensures.value) ∙ sym c.place_of.ensures ∙ c.in-Some.is in
-    is_filled p row c.replace.new.row.items c.in-Some.i c.index.result.now c.before-in-Some.result c.behind.result found c.index.ensures c.before-in-Some.ensures c.behind.ensures c.replace.ensures.items
+    is_filled p row c.replace.new.row.items c.in-Some.i c.index.result.now c.before-in-Some.result c.behind.result found c.index.ensures c.before-in-Some.ensures c.behind.ensures
+    c.replace.ensures.items
     ∙ ap (filled p) c.self.view_is
 
 pub returns-in_default : goal.returns-in_default
 returns-in_default c =
     let p = part_of c.args.v.now in
     let row = c.self.inside.row.items in
-    absurd (none_found p row (subst (λ (l : List Hole). has_hole p l ≡ true) (sym c.self.view_is) c.requires.hole) (ap (position (lies_in p)) (sym c.deref.ensures.value) ∙ sym c.place_of.ensures ∙ c.in_default.is))
+    absurd (none_found p row (subst (λ (l : List Hole). has_hole p l ≡ true) (sym c.self.view_is) c.requires.hole) (ap (position (lies_in p)) (sym c.deref.ensures.value)
+    ∙ sym c.place_of.ensures ∙ c.in_default.is))

@@ -31,9 +31,11 @@ returns-clause-began c =
       b.0,
       (
         b.1.1,
-        c.put-whole.ensures.put area at ∙ ap (λ (l : List Gathered). set l c.begin-i.result (after_part area p)) b.1.0 ∙ ap (λ n. set (c.make_room.new.self ++ area ∷ []) n (after_part area p)) c.begin-i.ensures.last
+        c.put-whole.ensures.put area at ∙ ap (λ (l : List Gathered). set l c.begin-i.result (after_part area p)) b.1.0 ∙ ap (λ n. set (c.make_room.new.self ++ area ∷ []) n
+            (after_part area p)) c.begin-i.ensures.last
             ∙ set_last c.make_room.new.self area (after_part area p) ∙ ap (λ (l : List Gathered). l ++ after_part area p ∷ []) c.make_room.ensures.room,
-        c.answer_of.ensures ∙ ap (answer_of c.begin-i.result) (c.put-whole.ensures.whole area at) ∙ ap (λ n. answer_of n (is_full (with_kept area p))) (c.begin-i.ensures.last ∙ ap length c.make_room.ensures.room),
+        c.answer_of.ensures ∙ ap (answer_of c.begin-i.result) (c.put-whole.ensures.whole area at) ∙ ap (λ n. answer_of n (is_full (with_kept area p)))
+            (c.begin-i.ensures.last ∙ ap length c.make_room.ensures.room),
       ),
     )
 

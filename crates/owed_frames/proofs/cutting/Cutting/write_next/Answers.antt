@@ -9,5 +9,6 @@ returns-clause-frame c =
     let plan = c.self.inside.plan in
     let left : 0 < plan.left = omega arith in
     let is = c.write_part-length.ensures.frame
-    ∙ ap (λ (octets : List ℕ). part_frame plan.course.to_mac.0 plan.course.from_mac.0 plan.course.ident plan.proto plan.course.from.0 plan.course.to.0 (cut_at plan.course.mtu (uncut (take plan.size octets)) plan.next)) c.deref.ensures.value in
+    ∙ ap (λ (octets : List ℕ). part_frame plan.course.to_mac.0 plan.course.from_mac.0 plan.course.ident plan.proto plan.course.from.0 plan.course.to.0
+    (cut_at plan.course.mtu (uncut (take plan.size octets)) plan.next)) c.deref.ensures.value in
     next_frame plan c.self.inside.body.items c.write_part-length.new.frame c.write_part-length.result left c.write_part-length.ensures.length.0 is ∙ c.self.view_is

@@ -59,4 +59,5 @@ returns c = λ e fits is.
       stop = stop_of w.stop w.octets.items w.wants.items;
       faults = record { link = w.link_faults; wait = w.wait_faults; socket = w.socket_faults; file = w.file_faults };
     } in
-    subst (λ (s : Script). IsCompleted s after e) c.self.view_is (completing.completed w.rows.items w.used c.index_mut.result.now c.index_mut.ensures.value e _ _ _ _ next is c.complete.new.self c.complete.ensures.row)
+    subst (λ (s : Script). IsCompleted s after e) c.self.view_is (completing.completed w.rows.items w.used c.index_mut.result.now c.index_mut.ensures.value e _ _ _ _ next is
+    c.complete.new.self c.complete.ensures.row)

@@ -11,4 +11,5 @@ returns-in-Unix c =
     subst (λ (at : Place). Answers (script_tells c.args.self.now) (script_tells c.follow.new.self) (answer_to c.follow.new.self (CallLinkOpen at))) is c.follow.ensures
 
 pub returns-in-Tcp : goal.returns-in-Tcp
-returns-in-Tcp c = subst (λ (at : Place). Answers (script_tells c.args.self.now) (script_tells c.follow-in-Tcp.new.self) (answer_to c.follow-in-Tcp.new.self (CallLinkOpen at))) (sym (ap place_of c.in-Tcp.is)) c.follow-in-Tcp.ensures
+returns-in-Tcp c = subst (λ (at : Place). Answers (script_tells c.args.self.now) (script_tells c.follow-in-Tcp.new.self) (answer_to c.follow-in-Tcp.new.self (CallLinkOpen at)))
+    (sym (ap place_of c.in-Tcp.is)) c.follow-in-Tcp.ensures

@@ -12,4 +12,5 @@ goes_on (Some stop) is = cc
 pub returns : goal.returns
 returns c =
     let w = c.self.inside in
-    a_line (is_none w.stop) w.rows.items w.used (w.used - 1) c.index.result.now (goes_on w.stop (sym c.is_some.ensures ∙ c.if-is_some.false)) (omega arith) (omega (arith, c.self.invariant.0)) c.index.ensures ∙ ap last_of c.self.view_is
+    a_line (is_none w.stop) w.rows.items w.used (w.used - 1) c.index.result.now (goes_on w.stop (sym c.is_some.ensures ∙ c.if-is_some.false)) (omega arith)
+    (omega (arith, c.self.invariant.0)) c.index.ensures ∙ ap last_of c.self.view_is

@@ -9,7 +9,8 @@ use Rattle.replay.proofs.world.ScriptWorldWorld.accept.Goals as goal
 
 pub returns-clause-answers : goal.returns-clause-answers
 returns-clause-answers c =
-    subst (λ (a : Accepted). Answers (script_tells c.args.self.now) (script_tells c.follow.new.self) (Accept c.args.l c.args.c a)) (sym (c.accepted.ensures ∙ ap accepted_of c.last.ensures)) c.follow.ensures
+    subst (λ (a : Accepted). Answers (script_tells c.args.self.now) (script_tells c.follow.new.self) (Accept c.args.l c.args.c a))
+    (sym (c.accepted.ensures ∙ ap accepted_of c.last.ensures)) c.follow.ensures
 
 pub returns-clause-ceased : goal.returns-clause-ceased
 returns-clause-ceased c dead = c.accepted.ensures ∙ ap accepted_of (c.last.ensures ∙ none_last c.follow.new.self dead)

@@ -9,7 +9,8 @@ use Rattle.replay.proofs.world.ScriptWorldWorld.file_len.Goals as goal
 
 pub returns-clause-answers : goal.returns-clause-answers
 returns-clause-answers c =
-    let told = subst (λ (a : FileSize). Answers (script_tells c.args.self.now) (script_tells c.follow.new.self) (FileLen c.as_bytes-file.result.now a)) (sym (c.size.ensures ∙ ap size_of c.last.ensures)) c.follow.ensures in
+    let told = subst (λ (a : FileSize). Answers (script_tells c.args.self.now) (script_tells c.follow.new.self) (FileLen c.as_bytes-file.result.now a))
+    (sym (c.size.ensures ∙ ap size_of c.last.ensures)) c.follow.ensures in
     subst (λ (n : List ℕ). Answers (script_tells c.args.self.now) (script_tells c.follow.new.self) (FileLen n c.size.result)) c.as_bytes-file.ensures.value told
 
 pub returns-clause-ceased : goal.returns-clause-ceased

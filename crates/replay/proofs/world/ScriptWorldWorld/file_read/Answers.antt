@@ -15,8 +15,10 @@ fill-requires c =
 
 pub returns-clause-answers : goal.returns-clause-answers
 returns-clause-answers c =
-    let told = read_told _ _ (λ (a : Io) (o : List ℕ). FileRead c.as_bytes-file.result.now c.args.at (length c.args.into.now) a o) _ _ c.brought.result.now _ c.fill.new.into (c.io.ensures ∙ ap io_of c.last-line.ensures) (c.brought.ensures ∙ ap octets_of c.last-line.ensures) c.follow.ensures.allowed.1.0 c.fill.ensures c.follow.ensures in
-    subst (λ (n : List ℕ). Answers (script_tells c.args.self.now) (script_tells c.follow.new.self) (FileRead n c.args.at (length c.args.into.now) c.io.result (filled c.io.result c.fill.new.into))) c.as_bytes-file.ensures.value told
+    let told = read_told _ _ (λ (a : Io) (o : List ℕ). FileRead c.as_bytes-file.result.now c.args.at (length c.args.into.now) a o) _ _ c.brought.result.now _ c.fill.new.into
+    (c.io.ensures ∙ ap io_of c.last-line.ensures) (c.brought.ensures ∙ ap octets_of c.last-line.ensures) c.follow.ensures.allowed.1.0 c.fill.ensures c.follow.ensures in
+    subst (λ (n : List ℕ). Answers (script_tells c.args.self.now) (script_tells c.follow.new.self) (FileRead n c.args.at (length c.args.into.now) c.io.result
+    (filled c.io.result c.fill.new.into))) c.as_bytes-file.ensures.value told
 
 pub returns-clause-ceased : goal.returns-clause-ceased
 returns-clause-ceased c dead = c.io.ensures ∙ ap io_of (c.last-line.ensures ∙ none_last c.follow.new.self dead)

@@ -12,7 +12,8 @@ fill-requires c =
 
 pub returns-clause-answers : goal.returns-clause-answers
 returns-clause-answers c =
-    read_told _ _ (LinkRead (length c.args.into.now)) _ _ c.brought.result.now _ c.fill.new.into (c.io.ensures ∙ ap io_of c.last-line.ensures) (c.brought.ensures ∙ ap octets_of c.last-line.ensures) c.follow.ensures.allowed.1.0 c.fill.ensures c.follow.ensures
+    read_told _ _ (LinkRead (length c.args.into.now)) _ _ c.brought.result.now _ c.fill.new.into (c.io.ensures ∙ ap io_of c.last-line.ensures)
+    (c.brought.ensures ∙ ap octets_of c.last-line.ensures) c.follow.ensures.allowed.1.0 c.fill.ensures c.follow.ensures
 
 pub returns-clause-ceased : goal.returns-clause-ceased
 returns-clause-ceased c dead = c.io.ensures ∙ ap io_of (c.last-line.ensures ∙ none_last c.follow.new.self dead)

@@ -12,7 +12,8 @@ fill-requires c =
 
 pub returns-clause-answers : goal.returns-clause-answers
 returns-clause-answers c =
-    got_told _ _ (UdpRecv c.args.s (length c.args.into.now)) _ _ c.brought.result.now _ c.fill.new.into (c.got.ensures ∙ ap got_of c.last-line.ensures) (c.brought.ensures ∙ ap octets_of c.last-line.ensures) c.follow.ensures.allowed.1.0 c.fill.ensures c.follow.ensures
+    got_told _ _ (UdpRecv c.args.s (length c.args.into.now)) _ _ c.brought.result.now _ c.fill.new.into (c.got.ensures ∙ ap got_of c.last-line.ensures)
+    (c.brought.ensures ∙ ap octets_of c.last-line.ensures) c.follow.ensures.allowed.1.0 c.fill.ensures c.follow.ensures
 
 pub returns-clause-ceased : goal.returns-clause-ceased
 returns-clause-ceased c dead = c.got.ensures ∙ ap got_of (c.last-line.ensures ∙ none_last c.follow.new.self dead)

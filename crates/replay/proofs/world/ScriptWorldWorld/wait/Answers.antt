@@ -19,8 +19,10 @@ pub returns-clause-answers : goal.returns-clause-answers
 returns-clause-answers c =
     let wants = c.items-items.result.now in
     let last = last_of c.follow.new.self in
-    let listed = subst (λ (r : List Want). Answers (script_tells c.args.self.now) (script_tells c.follow.new.self) (Wait wants c.args.timeout (waited_of last) r)) (sym (c.list.ensures.items ∙ c.reported.ensures ∙ ap ready_of c.last-line.ensures)) c.follow.ensures in
-    let said = subst (λ (a : Waited). Answers (script_tells c.args.self.now) (script_tells c.follow.new.self) (Wait wants c.args.timeout a c.list.new.into.items)) (sym (c.waited.ensures ∙ ap waited_of c.last-line.ensures)) listed in
+    let listed = subst (λ (r : List Want). Answers (script_tells c.args.self.now) (script_tells c.follow.new.self) (Wait wants c.args.timeout (waited_of last) r))
+    (sym (c.list.ensures.items ∙ c.reported.ensures ∙ ap ready_of c.last-line.ensures)) c.follow.ensures in
+    let said = subst (λ (a : Waited). Answers (script_tells c.args.self.now) (script_tells c.follow.new.self) (Wait wants c.args.timeout a c.list.new.into.items))
+    (sym (c.waited.ensures ∙ ap waited_of c.last-line.ensures)) listed in
     subst (λ (w : List Want). Answers (script_tells c.args.self.now) (script_tells c.follow.new.self) (Wait w c.args.timeout c.waited.result c.list.new.into.items)) c.items-items.ensures said
 
 pub returns-clause-ceased : goal.returns-clause-ceased

@@ -7,9 +7,17 @@ use Rattle.replay.proofs.world.schedule.read_rows.Goals as goal
 
 pub loop-rest-preserved : goal.loop-rest-preserved
 loop-rest-preserved c = record {
-  text = row_more c.args.octets.now c.loop-rest.rest.now c.in-Ok.text.now c.in-Ok.after.now c.loop-rest.rows.items c.push_row.new.rows.items c.in-Ok-read_line.row c.loop-rest.invariant.text c.in-Ok.ensures.parts c.in-Ok-read_line.ensures.line c.in_ok-push_row.ensures.items;
+  text = row_more c.args.octets.now c.loop-rest.rest.now c.in-Ok.text.now c.in-Ok.after.now c.loop-rest.rows.items c.push_row.new.rows.items c.in-Ok-read_line.row
+      c.loop-rest.invariant.text c.in-Ok.ensures.parts c.in-Ok-read_line.ensures.line c.in_ok-push_row.ensures.items;
   readable = readable_more c.loop-rest.rows.items c.push_row.new.rows.items c.in-Ok-read_line.row c.loop-rest.invariant.readable c.in-Ok-read_line.ensures.range c.in_ok-push_row.ensures.items;
-  few = omega (arith, c.loop-rest.invariant.few, shorter 10 c.loop-rest.rest.now c.in-Ok.text.now c.in-Ok.after.now c.in-Ok.ensures.parts, length-append c.loop-rest.rows.items (c.in-Ok-read_line.row ∷ []), ap length c.in_ok-push_row.ensures.items);
+  few = omega (
+    arith,
+    c.loop-rest.invariant.few,
+    shorter 10 c.loop-rest.rest.now c.in-Ok.text.now c.in-Ok.after.now c.in-Ok.ensures.parts,
+    length-append c.loop-rest.rows.items
+        (c.in-Ok-read_line.row ∷ []),
+    ap length c.in_ok-push_row.ensures.items,
+  );
 }
 
 pub returns-in-Err-NoReading-clause-first : goal.returns-in-Err-NoReading-clause-first

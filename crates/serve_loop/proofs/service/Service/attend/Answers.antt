@@ -11,20 +11,26 @@ returns-in-Link-clause-makes g c config count items wanted = c.attend_link.ensur
 
 pub returns-in-Udp-clause-makes : goal.returns-in-Udp-clause-makes
 returns-in-Udp-clause-makes g c config count items wanted =
-    subst (λ to_read. Brings (g.W.World.tells c.args.world.now) (g.W.World.tells c.attend_port.new.world) (ServesNow config count c.args.self.now.wants (c.args.item.now ∷ items) c.args.to_read c.args.self.now.slirp c.args.self.now.link)
-    (AfterItem c.attend_port.result config count c.args.self.now.wants items to_read c.attend_port.new.self.slirp c.attend_port.new.self.link)) (sym (still_by_socket c.args.to_read c.args.item.now (ap (same_who TheLink) c.in-Udp.is)))
+    subst (λ to_read. Brings (g.W.World.tells c.args.world.now) (g.W.World.tells c.attend_port.new.world)
+    (ServesNow config count c.args.self.now.wants (c.args.item.now ∷ items) c.args.to_read c.args.self.now.slirp c.args.self.now.link)
+    (AfterItem c.attend_port.result config count c.args.self.now.wants items to_read c.attend_port.new.self.slirp c.attend_port.new.self.link))
+    (sym (still_by_socket c.args.to_read c.args.item.now (ap (same_who TheLink) c.in-Udp.is)))
     (c.attend_port.ensures.makes config count items c.args.to_read)
 
 pub returns-in-Tcp-clause-makes : goal.returns-in-Tcp-clause-makes
 returns-in-Tcp-clause-makes g c config count items wanted =
-    subst (λ to_read. Brings (g.W.World.tells c.args.world.now) (g.W.World.tells c.attend_flow.new.world) (ServesNow config count c.args.self.now.wants (c.args.item.now ∷ items) c.args.to_read c.args.self.now.slirp c.args.self.now.link)
-    (AfterItem c.attend_flow.result config count c.args.self.now.wants items to_read c.attend_flow.new.self.slirp c.attend_flow.new.self.link)) (sym (still_by_socket c.args.to_read c.args.item.now (ap (same_who TheLink) c.in-Tcp.is)))
+    subst (λ to_read. Brings (g.W.World.tells c.args.world.now) (g.W.World.tells c.attend_flow.new.world)
+    (ServesNow config count c.args.self.now.wants (c.args.item.now ∷ items) c.args.to_read c.args.self.now.slirp c.args.self.now.link)
+    (AfterItem c.attend_flow.result config count c.args.self.now.wants items to_read c.attend_flow.new.self.slirp c.attend_flow.new.self.link))
+    (sym (still_by_socket c.args.to_read c.args.item.now (ap (same_who TheLink) c.in-Tcp.is)))
     (c.attend_flow.ensures.makes config count items c.args.to_read)
 
 pub returns-in-Listener-clause-makes : goal.returns-in-Listener-clause-makes
 returns-in-Listener-clause-makes g c config count items wanted =
-    subst (λ to_read. Brings (g.W.World.tells c.args.world.now) (g.W.World.tells c.attend_listener.new.world) (ServesNow config count c.args.self.now.wants (c.args.item.now ∷ items) c.args.to_read c.args.self.now.slirp c.args.self.now.link)
-    (AfterItem c.attend_listener.result config count c.args.self.now.wants items to_read c.attend_listener.new.self.slirp c.attend_listener.new.self.link)) (sym (still_by_socket c.args.to_read c.args.item.now (ap (same_who TheLink) c.in-Listener.is)))
+    subst (λ to_read. Brings (g.W.World.tells c.args.world.now) (g.W.World.tells c.attend_listener.new.world)
+    (ServesNow config count c.args.self.now.wants (c.args.item.now ∷ items) c.args.to_read c.args.self.now.slirp c.args.self.now.link)
+    (AfterItem c.attend_listener.result config count c.args.self.now.wants items to_read c.attend_listener.new.self.slirp c.attend_listener.new.self.link))
+    (sym (still_by_socket c.args.to_read c.args.item.now (ap (same_who TheLink) c.in-Listener.is)))
     (c.attend_listener.ensures.makes config count items c.args.to_read)
 
 pub returns-in-Link-clause-calm : goal.returns-in-Link-clause-calm

@@ -23,11 +23,14 @@ returns-clause-makes g c config count items to_read =
     let new = c.pump.new.self in
     let wanted = c.in-Some.wanted in
     let counts = counted_as c.args.number wants item wanted c.requires.of c.in-Some.ensures.counts in
-    subst (λ (s : ServiceState). Brings (g.W.World.tells c.args.world.now) (g.W.World.tells c.pump.new.world) (ServesNow config count wants (item ∷ items) to_read s.slirp s.link) (AfterItem c.pump.result config count wants items to_read new.slirp new.link)) c.self.view_is
+    subst (λ (s : ServiceState). Brings (g.W.World.tells c.args.world.now) (g.W.World.tells c.pump.new.world) (ServesNow config count wants (item ∷ items) to_read s.slirp s.link)
+    (AfterItem c.pump.result config count wants items to_read new.slirp new.link)) c.self.view_is
     (brings_then
-    (flow_serves config count wants items item c.args.number c.requires.of c.self.inside.slirp mid link wanted.read wanted.write counts c.take_report.ensures.told (λ none. ap (λ (s : SlirpState). s.flows) (c.take_report.ensures.untold none)) c.take_report.ensures.stays c.take_report.ensures.turn
+    (flow_serves config count wants items item c.args.number c.requires.of c.self.inside.slirp mid link wanted.read wanted.write counts c.take_report.ensures.told
+    (λ none. ap (λ (s : SlirpState). s.flows) (c.take_report.ensures.untold none)) c.take_report.ensures.stays c.take_report.ensures.turn
     (g.W.World.tells c.args.world.now) (g.W.World.tells c.take_report.new.world) to_read (c.take_report.ensures.makes config count wants item items link counts))
-    (pump_serves config count wants items c.pump.result to_read mid new.slirp link new.link (g.W.World.tells c.take_report.new.world) (g.W.World.tells c.pump.new.world) c.pump.ensures.marks c.pump.ensures.sent (c.pump.ensures.makes config (standing count wants items) false)))
+    (pump_serves config count wants items c.pump.result to_read mid new.slirp link new.link (g.W.World.tells c.take_report.new.world)
+    (g.W.World.tells c.pump.new.world) c.pump.ensures.marks c.pump.ensures.sent (c.pump.ensures.makes config (standing count wants items) false)))
 
 -- neither direction counts
 neither : (a b : Bool) → (a || b) ≡ false → (a ≡ false) × (b ≡ false)

@@ -21,18 +21,25 @@ returns-in-Again-clause-makes g c config count items wanted =
     let new = c.pump.new.self in
     let now = read_now c.args.to_read item (sym c.is_read_now.ensures ∙ c.if-is_read_now.true) in
     brings_then
-    (link_serves config count wants items item slirp mid.slirp link mid.link (g.W.World.tells c.args.world.now) (g.W.World.tells c.receive_frame.new.world) c.args.to_read c.requires.of wanted c.in-Again.ensures.marks
+    (link_serves config count wants items item slirp mid.slirp link mid.link (g.W.World.tells c.args.world.now)
+    (g.W.World.tells c.receive_frame.new.world) c.args.to_read c.requires.of wanted c.in-Again.ensures.marks
     (brings_as (c.in-Again.ensures.makes config count wants item items (of_link wants item c.requires.of now.1 (wanted now.0))) (λ past after. (after.0, after.1 refl))))
-    (pump_serves config count wants items c.pump.result (still c.args.to_read item) mid.slirp new.slirp mid.link new.link (g.W.World.tells c.receive_frame.new.world) (g.W.World.tells c.pump.new.world) c.pump.ensures.marks c.pump.ensures.sent (c.pump.ensures.makes config (standing count wants items) false))
+    (pump_serves config count wants items c.pump.result (still c.args.to_read item) mid.slirp new.slirp mid.link new.link (g.W.World.tells c.receive_frame.new.world)
+    (g.W.World.tells c.pump.new.world) c.pump.ensures.marks c.pump.ensures.sent (c.pump.ensures.makes config (standing count wants items) false))
 
 pub returns-in-Ended-clause-makes : goal.returns-in-Ended-clause-makes
 returns-in-Ended-clause-makes g c config count items wanted =
     let now = read_now c.args.to_read c.args.item.now (sym c.is_read_now.ensures ∙ c.if-is_read_now.true) in
     from_more _ _ _ _ _ (λ past serves. (serves.holds, serves.can_take))
-    (brings_as (c.in-Ended.ensures.makes config count c.args.self.now.wants c.args.item.now items (of_link c.args.self.now.wants c.args.item.now c.requires.of now.1 (wanted now.0))) (λ past after. after.0))
+    (brings_as (c.in-Ended.ensures.makes config count c.args.self.now.wants c.args.item.now items (of_link c.args.self.now.wants c.args.item.now c.requires.of now.1
+    (wanted now.0))) (λ past after. after.0))
 
 pub returns-in-Again-clause-step : goal.returns-in-Again-clause-step
-returns-in-Again-clause-step g c = record { counted = counted_after c.pump.result (g.W.World.tells c.args.world.now).faults (g.W.World.tells c.receive_frame.new.world).faults (g.W.World.tells c.pump.new.world).faults c.in-Again.ensures.step.counted c.pump.ensures.step.counted; on = c.pump.ensures.step.on }
+returns-in-Again-clause-step g c = record {
+  counted = counted_after c.pump.result (g.W.World.tells c.args.world.now).faults (g.W.World.tells c.receive_frame.new.world).faults
+      (g.W.World.tells c.pump.new.world).faults c.in-Again.ensures.step.counted c.pump.ensures.step.counted;
+  on = c.pump.ensures.step.on;
+}
 
 pub returns-in-Again-clause-passed : goal.returns-in-Again-clause-passed
 returns-in-Again-clause-passed g c wanted passed =
@@ -63,8 +70,10 @@ returns-then-writes_link-clause-makes g c config count items wanted =
     let new = c.pump-then-writes_link.new.self in
     brings_then
     (brings_none (λ past now.
-    let passed = link_passed config count wants items item slirp link past c.args.to_read c.requires.of wanted (not_now c.args.to_read item c.requires.of (sym c.is_read_now.ensures ∙ c.if-is_read_now.false)) now in (passed.holds, passed.left)))
-    (pump_serves config count wants items c.pump-then-writes_link.result (still c.args.to_read item) slirp new.slirp link new.link (g.W.World.tells c.args.world.now) (g.W.World.tells c.pump-then-writes_link.new.world)
+    let passed = link_passed config count wants items item slirp link past c.args.to_read c.requires.of wanted
+    (not_now c.args.to_read item c.requires.of (sym c.is_read_now.ensures ∙ c.if-is_read_now.false)) now in (passed.holds, passed.left)))
+    (pump_serves config count wants items c.pump-then-writes_link.result (still c.args.to_read item) slirp new.slirp link new.link (g.W.World.tells c.args.world.now)
+    (g.W.World.tells c.pump-then-writes_link.new.world)
     c.pump-then-writes_link.ensures.marks c.pump-then-writes_link.ensures.sent (c.pump-then-writes_link.ensures.makes config (standing count wants items) false))
 
 pub returns-clause-makes : goal.returns-clause-makes

@@ -38,11 +38,14 @@ returns-clause-makes g c config count items to_read =
     let mid = c.accept.new.self in
     let new = c.pump.new.self in
     let waited = both item.read (reads (Listener c.args.number) wants) (sym c.waits_for_peers.ensures ∙ c.if-not-waits_for_peers.false) in
-    subst (λ (s : ServiceState). Brings (g.W.World.tells c.args.world.now) (g.W.World.tells c.pump.new.world) (ServesNow config count wants (item ∷ items) to_read s.slirp s.link) (AfterItem c.pump.result config count wants items to_read new.slirp new.link)) c.self.view_is
+    subst (λ (s : ServiceState). Brings (g.W.World.tells c.args.world.now) (g.W.World.tells c.pump.new.world) (ServesNow config count wants (item ∷ items) to_read s.slirp s.link)
+    (AfterItem c.pump.result config count wants items to_read new.slirp new.link)) c.self.view_is
     (brings_then
-    (socket_serves config count wants items item c.self.inside.slirp mid link link (g.W.World.tells c.args.world.now) (g.W.World.tells c.accept.new.world) (Listener c.args.number) to_read c.requires.of (λ past. refl) c.accept.ensures.marks
+    (socket_serves config count wants items item c.self.inside.slirp mid link link (g.W.World.tells c.args.world.now) (g.W.World.tells c.accept.new.world)
+    (Listener c.args.number) to_read c.requires.of (λ past. refl) c.accept.ensures.marks
     (from_more _ _ _ _ _ (λ past now. now.0) (c.accept.ensures.makes config count wants item items link (of_listener c.args.number wants item c.requires.of waited.0 waited.1))))
-    (pump_serves config count wants items c.pump.result to_read mid new.slirp link new.link (g.W.World.tells c.accept.new.world) (g.W.World.tells c.pump.new.world) c.pump.ensures.marks c.pump.ensures.sent (c.pump.ensures.makes config (standing count wants items) false)))
+    (pump_serves config count wants items c.pump.result to_read mid new.slirp link new.link (g.W.World.tells c.accept.new.world)
+    (g.W.World.tells c.pump.new.world) c.pump.ensures.marks c.pump.ensures.sent (c.pump.ensures.makes config (standing count wants items) false)))
 
 pub returns-clause-passed : goal.returns-clause-passed
 returns-clause-passed g c passed =

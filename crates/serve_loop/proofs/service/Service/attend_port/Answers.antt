@@ -36,10 +36,12 @@ returns-clause-makes g c config count items to_read =
     let new = c.pump.new.self in
     let waited = both item.read (reads (Udp c.args.number) wants) (sym c.waits_for.ensures ∙ c.if-not-waits_for.false) in
     brings_then
-    (socket_serves config count wants items item slirp mid.slirp link mid.link (g.W.World.tells c.args.world.now) (g.W.World.tells c.receive_datagram.new.world) (Udp c.args.number) to_read c.requires.of (λ past. refl)
+    (socket_serves config count wants items item slirp mid.slirp link mid.link (g.W.World.tells c.args.world.now) (g.W.World.tells c.receive_datagram.new.world)
+    (Udp c.args.number) to_read c.requires.of (λ past. refl)
     (same_marks slirp.number slirp.flows mid.slirp.flows c.receive_datagram.ensures.flows)
     (c.receive_datagram.ensures.makes config count wants item items (of_socket c.args.number wants item c.requires.of waited.0 waited.1)))
-    (pump_serves config count wants items c.pump.result to_read mid.slirp new.slirp mid.link new.link (g.W.World.tells c.receive_datagram.new.world) (g.W.World.tells c.pump.new.world) c.pump.ensures.marks c.pump.ensures.sent (c.pump.ensures.makes config (standing count wants items) false))
+    (pump_serves config count wants items c.pump.result to_read mid.slirp new.slirp mid.link new.link (g.W.World.tells c.receive_datagram.new.world)
+    (g.W.World.tells c.pump.new.world) c.pump.ensures.marks c.pump.ensures.sent (c.pump.ensures.makes config (standing count wants items) false))
 
 pub returns-clause-passed : goal.returns-clause-passed
 returns-clause-passed g c passed =

@@ -11,4 +11,5 @@ returns c =
     let items = c.items.result.now in
     let same = c.items.ensures ∙ ap (λ (s : ServiceState). s.ready) c.self.view_is in
     let few = subst (λ (l : List Want). c.args.place < length l) (sym same) c.requires in
-    subst (λ (l : List Want). drop c.args.place l ≡ get_or items c.args.place (record { of = Link; read = false; write = false }) ∷ drop (c.args.place + 1) l) same (item_at items c.args.place (record { of = Link; read = false; write = false }) few)
+    subst (λ (l : List Want). drop c.args.place l ≡ get_or items c.args.place (record { of = Link; read = false; write = false }) ∷ drop (c.args.place + 1) l) same
+    (item_at items c.args.place (record { of = Link; read = false; write = false }) few)

@@ -24,7 +24,8 @@ pub returns-clause-makes : goal.returns-clause-makes
 returns-clause-makes g c =
     let i = c.self.inside in
     let view : ServiceState = record { slirp = i.slirp; link = i.link; wants = i.wants.items; ready = i.ready.items } in
-    subst (λ (s : ServiceState). Makes (g.W.World.tells c.args.world.now) (g.W.World.tells c.listen_all.new.world) (AfterListening c.listen_all.result s.slirp.config c.listen_all.new.self i.link)) c.self.view_is
+    subst (λ (s : ServiceState). Makes (g.W.World.tells c.args.world.now) (g.W.World.tells c.listen_all.new.world)
+    (AfterListening c.listen_all.result s.slirp.config c.listen_all.new.self i.link)) c.self.view_is
     (makes_from (makes_none _ _ (opens view (subst IsNew (sym c.self.view_is) c.requires))) (c.listen_all.ensures.makes i.slirp.config i.link refl))
 
 pub invariant_of-self : goal.invariant_of-self

@@ -20,12 +20,17 @@ returns-clause-makes g c config at aged =
     let new = c.pump-pumped.new in
     let made = brings_as (c.pump-pumped.ensures.makes config at aged) (λ past after.
     subst (λ t. AfterTurn t config at aged new.self new.link past) (sym c.turn_of.ensures) (pumped c.pump-pumped.result config at aged new.self new.link past after)) in
-    subst (λ (s : ServiceState). Brings (g.W.World.tells c.args.world.now) (g.W.World.tells new.world) (HoldsNow config at aged s.slirp s.link) (AfterTurn c.turn_of.result config at aged new.self new.link)) c.self.view_is made
+    subst (λ (s : ServiceState). Brings (g.W.World.tells c.args.world.now) (g.W.World.tells new.world) (HoldsNow config at aged s.slirp s.link)
+    (AfterTurn c.turn_of.result config at aged new.self new.link)) c.self.view_is made
 
 pub returns-clause-step : goal.returns-clause-step
 returns-clause-step g c =
     let more = grown _ _ _ (c.pump-pumped.ensures.makes c.args.self.now.slirp.config (after 0) false).counted in
-    record { counted = subst (λ t. IsCounted t (g.W.World.tells c.args.world.now).faults (g.W.World.tells c.pump-pumped.new.world).faults) (sym c.turn_of.ensures) (pump_counted c.pump-pumped.result _ _ more c.pump-pumped.ensures.failed); on = search rules }
+    record {
+      counted = subst (λ t. IsCounted t (g.W.World.tells c.args.world.now).faults (g.W.World.tells c.pump-pumped.new.world).faults) (sym c.turn_of.ensures)
+          (pump_counted c.pump-pumped.result _ _ more c.pump-pumped.ensures.failed);
+      on = search rules;
+    }
 
 pub returns-clause-sent : goal.returns-clause-sent
 returns-clause-sent g c again = sent_by c.pump-pumped.result c.pump-pumped.new.self c.pump-pumped.new.link c.pump-pumped.ensures.leaves (sym c.turn_of.ensures ∙ again)
@@ -44,7 +49,8 @@ returns-clause-connects g c config at aged past holds again early =
     let moment_same : new.moment ≡ i.moment = ap (λ (s : SlirpState). s.moment) c.pump-pumped.ensures.others in
     let before : HoldsNow config at aged i link past = subst (λ (s : ServiceState). HoldsNow config at aged s.slirp s.link past) (sym c.self.view_is) holds in
     let early_yet : IsInTime i link = subst (λ (s : ServiceState). IsInTime s.slirp s.link) (sym c.self.view_is) early in (
-      subst (λ (m : ℕ). AreInTime m new.flows.flows.slots) (sym moment_same) (in_time_yet i.moment i.flows.flows.slots new.flows.flows.slots (c.pump-pumped.ensures.connects config at aged past before) early_yet.0),
+      subst (λ (m : ℕ). AreInTime m new.flows.flows.slots) (sym moment_same) (in_time_yet i.moment i.flows.flows.slots new.flows.flows.slots
+          (c.pump-pumped.ensures.connects config at aged past before) early_yet.0),
       λ free n.
           let all_out = clear_by c.pump-pumped.result new c.pump-pumped.new.link c.pump-pumped.ensures.leaves (sym c.turn_of.ensures ∙ again) free in
           subst (λ (m : ℕ). HasNoneDue m new.flows.flows.slots n) (sym moment_same) (c.pump-pumped.ensures.ahead config at aged past before n (early_yet.1 (c.pump-pumped.ensures.free all_out) n)),

@@ -27,5 +27,6 @@ pub returns-else-is_settled-clause-makes : goal.returns-else-is_settled-clause-m
 returns-else-is_settled-clause-makes g c config count wants item items reported =
     brings_none (λ past now. (
       passes_over config count wants item items c.args.self.now.slirp (flowing false c.args.self.now.slirp.flows) c.args.self.now.link past now.0,
-      unless (is_left_to_read config past (Udp c.args.number)) (λ left. true_false (is_settled c.args.self.now.slirp c.args.self.now.link) (now.1 (Udp c.args.number) refl left) (sym c.is_settled.ensures ∙ c.if-is_settled.false)),
+      unless (is_left_to_read config past (Udp c.args.number)) (λ left. true_false (is_settled c.args.self.now.slirp c.args.self.now.link) (now.1 (Udp c.args.number) refl left)
+          (sym c.is_settled.ensures ∙ c.if-is_settled.false)),
     ))

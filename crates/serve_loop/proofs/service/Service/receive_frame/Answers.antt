@@ -25,7 +25,8 @@ use Rattle.serve_loop.proofs.service.Service.receive_frame.Goals as goal
 pub returns-then-not-is_settled-clause-makes : goal.returns-then-not-is_settled-clause-makes
 returns-then-not-is_settled-clause-makes g c config count wants item items reads_it = brings_none (λ past now. (
   passes_over config count wants item items c.args.self.now.slirp (flowing false c.args.self.now.slirp.flows) c.args.self.now.link past now.0,
-  λ again. unless (is_left_to_read config past TheLink) (λ left. true_false (is_settled c.args.self.now.slirp c.args.self.now.link) (now.1 TheLink refl left) (sym c.is_settled.ensures ∙ c.if-not-is_settled.true)),
+  λ again. unless (is_left_to_read config past TheLink) (λ left. true_false (is_settled c.args.self.now.slirp c.args.self.now.link) (now.1 TheLink refl left)
+      (sym c.is_settled.ensures ∙ c.if-not-is_settled.true)),
 ))
 
 pub returns-in-Frame-clause-makes : goal.returns-in-Frame-clause-makes
@@ -39,7 +40,9 @@ returns-in-Frame-clause-makes g c config count wants item items reads_it =
       record { before = link; past = past; made = made; is = refl; holds = holds; out = before.0; allowed = allowed; reads = read.1; came = ap Some (sym c.frame.ensures) },
       frame_was_read config made past new.self read.0 (read.1 past holds.keeps).1,
     )) in
-    let done = subst (λ (s : ServiceState). Brings (g.W.World.tells c.args.world.now) (g.W.World.tells c.input.new.world) (HoldsNow config (standing count wants (item ∷ items)) false s.slirp s.link) (λ past. AfterTurn Again config (standing count wants items) false c.input.new.self new.self past × (is_left_to_read config past TheLink ≡ false))) c.self.view_is
+    let done = subst (λ (s : ServiceState). Brings (g.W.World.tells c.args.world.now) (g.W.World.tells c.input.new.world)
+    (HoldsNow config (standing count wants (item ∷ items)) false s.slirp s.link)
+    (λ past. AfterTurn Again config (standing count wants items) false c.input.new.self new.self past × (is_left_to_read config past TheLink ≡ false))) c.self.view_is
     (brings_then came (read_then config (c.input.ensures.makes config count wants item items new.self reads_it)
     (λ past made it after. after.clock.counted ∙ sym (came_waits config (standing count wants (item ∷ items)) slirp new.self frame past it)))) in
     from_more _ _ _ _ _ (λ past now. now.0) (brings_as done (λ past now. (now.0, λ again. now.1)))
@@ -51,7 +54,8 @@ returns-in-NotYet-clause-makes g c config count wants item items reads_it =
     let new = c.read_frame.new in
     let before = settled slirp link (ap (λ (s : ServiceState). is_settled s.slirp s.link) c.self.view_is ∙ sym c.is_settled.ensures ∙ c.if-not-is_settled.false) in
     from_more _ _ _ _ _ (λ past now. now.0)
-    (subst (λ (s : ServiceState). Brings (g.W.World.tells c.args.world.now) (g.W.World.tells new.world) (HoldsNow config (standing count wants (item ∷ items)) false s.slirp s.link) (λ past. AfterTurn Again config (standing count wants items) false slirp new.self past × (Again ≡ Again → is_left_to_read config past TheLink ≡ false))) c.self.view_is
+    (subst (λ (s : ServiceState). Brings (g.W.World.tells c.args.world.now) (g.W.World.tells new.world) (HoldsNow config (standing count wants (item ∷ items)) false s.slirp s.link)
+    (λ past. AfterTurn Again config (standing count wants items) false slirp new.self past × (Again ≡ Again → is_left_to_read config past TheLink ≡ false))) c.self.view_is
     (brings_allowed c.in-NotYet.ensures.makes (λ made read allowed past holds.
     let came = nothing_came config count wants item items reads_it slirp link new.self NotYet before.1 before.0 made past allowed read.1 holds refl refl in
     (came, λ again. none_came config made past read.0 (came.clock.counted ∙ sym holds.clock.counted)))))
@@ -63,8 +67,13 @@ returns-in-End-clause-makes g c config count wants item items reads_it =
     let new = c.read_frame.new in
     let before = settled slirp link (ap (λ (s : ServiceState). is_settled s.slirp s.link) c.self.view_is ∙ sym c.is_settled.ensures ∙ c.if-not-is_settled.false) in
     from_more _ _ _ _ _ (λ past now. now.0)
-    (subst (λ (s : ServiceState). Brings (g.W.World.tells c.args.world.now) (g.W.World.tells new.world) (HoldsNow config (standing count wants (item ∷ items)) false s.slirp s.link) (λ past. AfterTurn (TurnEnded (Done)) config (standing count wants items) false slirp new.self past × ((TurnEnded (Done)) ≡ Again → is_left_to_read config past TheLink ≡ false))) c.self.view_is
-    (brings_allowed c.in-End.ensures.makes (λ made read allowed past holds. (ended_as config count (LinkEnded) slirp.forwards (holders_of slirp) _ (read_ended config count wants item items reads_it slirp link new.self (End) before.1 before.0 made past allowed read.1 holds (LinkEnded) refl refl), λ again. absurd cc))))
+    (subst (λ (s : ServiceState). Brings (g.W.World.tells c.args.world.now) (g.W.World.tells new.world) (HoldsNow config (standing count wants (item ∷ items)) false s.slirp s.link)
+    (λ past. AfterTurn (TurnEnded (Done)) config (standing count wants items) false slirp new.self past × ((TurnEnded (Done)) ≡ Again → is_left_to_read config past TheLink ≡ false))) c.self.view_is
+    (brings_allowed c.in-End.ensures.makes (λ made read allowed past holds. (
+      ended_as config count (LinkEnded) slirp.forwards (holders_of slirp) _
+          (read_ended config count wants item items reads_it slirp link new.self (End) before.1 before.0 made past allowed read.1 holds (LinkEnded) refl refl),
+      λ again. absurd cc,
+    ))))
 
 pub returns-in-Cut-clause-makes : goal.returns-in-Cut-clause-makes
 returns-in-Cut-clause-makes g c config count wants item items reads_it =
@@ -73,8 +82,14 @@ returns-in-Cut-clause-makes g c config count wants item items reads_it =
     let new = c.read_frame.new in
     let before = settled slirp link (ap (λ (s : ServiceState). is_settled s.slirp s.link) c.self.view_is ∙ sym c.is_settled.ensures ∙ c.if-not-is_settled.false) in
     from_more _ _ _ _ _ (λ past now. now.0)
-    (subst (λ (s : ServiceState). Brings (g.W.World.tells c.args.world.now) (g.W.World.tells new.world) (HoldsNow config (standing count wants (item ∷ items)) false s.slirp s.link) (λ past. AfterTurn (TurnEnded (EndCut c.in-Cut.n)) config (standing count wants items) false slirp new.self past × ((TurnEnded (EndCut c.in-Cut.n)) ≡ Again → is_left_to_read config past TheLink ≡ false))) c.self.view_is
-    (brings_allowed c.in-Cut.ensures.makes (λ made read allowed past holds. (ended_as config count (LinkCut c.in-Cut.n) slirp.forwards (holders_of slirp) _ (read_ended config count wants item items reads_it slirp link new.self (Cut c.in-Cut.n) before.1 before.0 made past allowed read.1 holds (LinkCut c.in-Cut.n) refl refl), λ again. absurd cc))))
+    (subst (λ (s : ServiceState). Brings (g.W.World.tells c.args.world.now) (g.W.World.tells new.world) (HoldsNow config (standing count wants (item ∷ items)) false s.slirp s.link)
+    (λ past. AfterTurn (TurnEnded (EndCut c.in-Cut.n)) config (standing count wants items) false slirp new.self past ×
+    ((TurnEnded (EndCut c.in-Cut.n)) ≡ Again → is_left_to_read config past TheLink ≡ false))) c.self.view_is
+    (brings_allowed c.in-Cut.ensures.makes (λ made read allowed past holds. (
+      ended_as config count (LinkCut c.in-Cut.n) slirp.forwards (holders_of slirp) _
+          (read_ended config count wants item items reads_it slirp link new.self (Cut c.in-Cut.n) before.1 before.0 made past allowed read.1 holds (LinkCut c.in-Cut.n) refl refl),
+      λ again. absurd cc,
+    ))))
 
 pub returns-in-TooLong-clause-makes : goal.returns-in-TooLong-clause-makes
 returns-in-TooLong-clause-makes g c config count wants item items reads_it =
@@ -83,8 +98,15 @@ returns-in-TooLong-clause-makes g c config count wants item items reads_it =
     let new = c.read_frame.new in
     let before = settled slirp link (ap (λ (s : ServiceState). is_settled s.slirp s.link) c.self.view_is ∙ sym c.is_settled.ensures ∙ c.if-not-is_settled.false) in
     from_more _ _ _ _ _ (λ past now. now.0)
-    (subst (λ (s : ServiceState). Brings (g.W.World.tells c.args.world.now) (g.W.World.tells new.world) (HoldsNow config (standing count wants (item ∷ items)) false s.slirp s.link) (λ past. AfterTurn (TurnEnded (EndLong c.in-TooLong.n)) config (standing count wants items) false slirp new.self past × ((TurnEnded (EndLong c.in-TooLong.n)) ≡ Again → is_left_to_read config past TheLink ≡ false))) c.self.view_is
-    (brings_allowed c.in-TooLong.ensures.makes (λ made read allowed past holds. (ended_as config count (LongFrame c.in-TooLong.n) slirp.forwards (holders_of slirp) _ (read_ended config count wants item items reads_it slirp link new.self (TooLong c.in-TooLong.n) before.1 before.0 made past allowed read.1 holds (LongFrame c.in-TooLong.n) refl refl), λ again. absurd cc))))
+    (subst (λ (s : ServiceState). Brings (g.W.World.tells c.args.world.now) (g.W.World.tells new.world) (HoldsNow config (standing count wants (item ∷ items)) false s.slirp s.link)
+    (λ past. AfterTurn (TurnEnded (EndLong c.in-TooLong.n)) config (standing count wants items) false slirp new.self past × ((TurnEnded (EndLong c.in-TooLong.n)) ≡ Again →
+    is_left_to_read config past TheLink ≡ false))) c.self.view_is
+    (brings_allowed c.in-TooLong.ensures.makes (λ made read allowed past holds. (
+      ended_as config count (LongFrame c.in-TooLong.n) slirp.forwards (holders_of slirp) _
+          (read_ended config count wants item items reads_it slirp link new.self (TooLong c.in-TooLong.n) before.1 before.0 made past allowed read.1 holds
+          (LongFrame c.in-TooLong.n) refl refl),
+      λ again. absurd cc,
+    ))))
 
 pub returns-in-Failed-clause-makes : goal.returns-in-Failed-clause-makes
 returns-in-Failed-clause-makes g c config count wants item items reads_it =
@@ -93,15 +115,25 @@ returns-in-Failed-clause-makes g c config count wants item items reads_it =
     let new = c.read_frame.new in
     let before = settled slirp link (ap (λ (s : ServiceState). is_settled s.slirp s.link) c.self.view_is ∙ sym c.is_settled.ensures ∙ c.if-not-is_settled.false) in
     from_more _ _ _ _ _ (λ past now. now.0)
-    (subst (λ (s : ServiceState). Brings (g.W.World.tells c.args.world.now) (g.W.World.tells new.world) (HoldsNow config (standing count wants (item ∷ items)) false s.slirp s.link) (λ past. AfterTurn (TurnEnded (LinkFault)) config (standing count wants items) false slirp new.self past × ((TurnEnded (LinkFault)) ≡ Again → is_left_to_read config past TheLink ≡ false))) c.self.view_is
-    (brings_allowed c.in-Failed.ensures.makes (λ made read allowed past holds. (ended_as config count (LinkFailed) slirp.forwards (holders_of slirp) _ (read_ended config count wants item items reads_it slirp link new.self (Failed) before.1 before.0 made past allowed read.1 holds (LinkFailed) refl refl), λ again. absurd cc))))
+    (subst (λ (s : ServiceState). Brings (g.W.World.tells c.args.world.now) (g.W.World.tells new.world) (HoldsNow config (standing count wants (item ∷ items)) false s.slirp s.link)
+    (λ past. AfterTurn (TurnEnded (LinkFault)) config (standing count wants items) false slirp new.self past ×
+    ((TurnEnded (LinkFault)) ≡ Again → is_left_to_read config past TheLink ≡ false))) c.self.view_is
+    (brings_allowed c.in-Failed.ensures.makes (λ made read allowed past holds. (
+      ended_as config count (LinkFailed) slirp.forwards (holders_of slirp) _
+          (read_ended config count wants item items reads_it slirp link new.self (Failed) before.1 before.0 made past allowed read.1 holds (LinkFailed) refl refl),
+      λ again. absurd cc,
+    ))))
 
 pub returns-in-Failed-clause-step : goal.returns-in-Failed-clause-step
 returns-in-Failed-clause-step g c = record { counted = c.in-Failed.ensures.failed refl; on = tt }
 
 pub returns-in-Frame-clause-step : goal.returns-in-Frame-clause-step
 returns-in-Frame-clause-step g c =
-    record { counted = grown_then (g.W.World.tells c.args.world.now).faults (g.W.World.tells c.read_frame.new.world).faults (g.W.World.tells c.input.new.world).faults (grown _ _ _ c.in-Frame.ensures.makes.counted) c.input.ensures.counts; on = search rules }
+    record {
+      counted = grown_then (g.W.World.tells c.args.world.now).faults (g.W.World.tells c.read_frame.new.world).faults (g.W.World.tells c.input.new.world).faults
+          (grown _ _ _ c.in-Frame.ensures.makes.counted) c.input.ensures.counts;
+      on = search rules;
+    }
 
 pub returns-in-NotYet-clause-step : goal.returns-in-NotYet-clause-step
 returns-in-NotYet-clause-step g c = record { counted = grown _ _ _ c.in-NotYet.ensures.makes.counted; on = search rules }

@@ -12,10 +12,12 @@ use Rattle.serve_loop.proofs.service.Service.send_all.Given as goal
 
 abbrev pub invariant-loop-self : goal.invariant-loop-self
 invariant-loop-self g l = record {
-  makes : (config : Config) (at : Standing) → Brings (g.W.World.tells l.fn.world) (g.W.World.tells l.world) (HoldsNow config at true l.fn.self.slirp l.fn.self.link) (HoldsNow config at true l.self.slirp l.self.link);
+  makes : (config : Config) (at : Standing) → Brings (g.W.World.tells l.fn.world) (g.W.World.tells l.world) (HoldsNow config at true l.fn.self.slirp l.fn.self.link)
+      (HoldsNow config at true l.self.slirp l.self.link);
   counts : AreGrown (g.W.World.tells l.fn.world).faults (g.W.World.tells l.world).faults;
   sent : AllSent l.self.slirp l.self.link;
-  connects : (config : Config) (at : Standing) (past : List Entry) → HoldsNow config at true l.fn.self.slirp l.fn.self.link past → IsInTime l.fn.self.slirp l.fn.self.link → IsInTime l.self.slirp l.self.link;
+  connects : (config : Config) (at : Standing) (past : List Entry) → HoldsNow config at true l.fn.self.slirp l.fn.self.link past → IsInTime l.fn.self.slirp l.fn.self.link →
+      IsInTime l.self.slirp l.self.link;
   calm : IsCalm l.self.slirp l.self.link;
   young : AreYoung l.fn.self.slirp → AreYoung l.self.slirp;
   untold : NoneTold l.fn.self.slirp → NoneTold l.self.slirp;

@@ -41,7 +41,8 @@ loop-count-preserved g c =
       config = c.in-Again.ensures.config ∙ c.loop-count.invariant.config;
       number = omega (arith, c.in-Again.ensures.number, c.loop-count.invariant.number);
       turns = omega (arith, c.in-Again.ensures.turns, c.loop-count.invariant.turns);
-      counts = grown_then (g.W.World.tells c.args.world.now).faults (g.W.World.tells c.loop-count.world).faults (g.W.World.tells c.turn.new.world).faults c.loop-count.invariant.counts c.in-Again.ensures.step.counted;
+      counts = grown_then (g.W.World.tells c.args.world.now).faults (g.W.World.tells c.loop-count.world).faults
+          (g.W.World.tells c.turn.new.world).faults c.loop-count.invariant.counts c.in-Again.ensures.step.counted;
     }
 
 pub returns-in-Ended-clause-makes : goal.returns-in-Ended-clause-makes
@@ -67,7 +68,8 @@ pub returns-in-Ended-turn-clause-attended : goal.returns-in-Ended-turn-clause-at
 returns-in-Ended-turn-clause-attended g c = attended c.args.self.now.slirp.config c.in-Ended-turn.end _ _ (returns-in-Ended-turn-clause-makes g c)
 
 pub returns-in-Ended-turn-clause-faults : goal.returns-in-Ended-turn-clause-faults
-returns-in-Ended-turn-clause-faults g c = end_after c.in-Ended-turn.end (g.W.World.tells c.args.world.now).faults (g.W.World.tells c.loop-count.world).faults (g.W.World.tells c.turn.new.world).faults c.loop-count.invariant.counts c.in-Ended-turn.ensures.step.counted
+returns-in-Ended-turn-clause-faults g c = end_after c.in-Ended-turn.end (g.W.World.tells c.args.world.now).faults (g.W.World.tells c.loop-count.world).faults
+    (g.W.World.tells c.turn.new.world).faults c.loop-count.invariant.counts c.in-Ended-turn.ensures.step.counted
 
 pub returns-clause-makes : goal.returns-clause-makes
 returns-clause-makes g c =
@@ -77,10 +79,12 @@ returns-clause-makes g c =
     let turns = c.self.invariant.0 ∙ ap (λ (s : ServiceState). s.slirp.config.turns) c.self.view_is ∙ ap (λ (k : Config). k.turns) c.in_default.ensures.config in
     let all = subst (λ n. n ≤ c.loop-count._count) turns c.loop-count-test.false in
     let most = c.self-2.invariant.0 ∙ ap (λ (s : ServiceState). s.slirp.config.turns) c.self-2.view_is ∙ ap (λ (k : Config). k.turns) c.loop-count.invariant.config in
-    let ran = makes_as _ _ _ _ c.loop-count.invariant.makes (λ made holds. (spent config c.loop-count._count c.self-2.inside.turns c.loop-count.self made c.requires.some_turns all most holds.0, holds.1.0)) in
+    let ran = makes_as _ _ _ _ c.loop-count.invariant.makes (λ made holds.
+    (spent config c.loop-count._count c.self-2.inside.turns c.loop-count.self made c.requires.some_turns all most holds.0, holds.1.0)) in
     makes_as _ _ _ _
     (finishes config end slirp.forwards (holders_of slirp) _ _ _
-    (subst (λ (s : ServiceState). Makes (g.W.World.tells c.args.world.now) (g.W.World.tells c.loop-count.world) (λ made. Closes config end s.slirp.forwards (holders_of s.slirp) made × Dutiful config made)) (sym c.self-2.view_is) ran)
+    (subst (λ (s : ServiceState). Makes (g.W.World.tells c.args.world.now) (g.W.World.tells c.loop-count.world)
+    (λ made. Closes config end s.slirp.forwards (holders_of s.slirp) made × Dutiful config made)) (sym c.self-2.view_is) ran)
     c.close_all.ensures.makes) (made_so config end)
 
 pub returns-clause-served : goal.returns-clause-served

@@ -32,10 +32,14 @@ returns-in-Stop-clause-makes g c config count few =
     let young_now : AreYoung slirp = subst (λ (s : ServiceState). AreYoung s.slirp) (sym c.self.view_is) c.requires.young in
     let calm_now : IsCalm slirp link = subst (λ (s : ServiceState). IsCalm s.slirp s.link) (sym c.self.view_is) c.requires.calm in
     let as_it_must = λ (config : Config) (count : ℕ) (past : List Entry) (holds : HoldsNow config (after count) true slirp link past) (early : IsInTime slirp link) (served : AllServed config past).
-    must_wait config (after count) slirp link past c.pollfds_fill-timeout.new.wants.items c.pollfds_fill-timeout.result holds none_again (subst (λ (s : ServiceState). AllSent s.slirp s.link) (sym c.self.view_is) c.requires.sent) young_now.0 young_now.1 young_now.2 early.0 (λ free. (calm_now free, early.1 free)) c.pollfds_fill-timeout.ensures.timeout c.pollfds_fill-timeout.ensures.items
+    must_wait config (after count) slirp link past c.pollfds_fill-timeout.new.wants.items c.pollfds_fill-timeout.result holds none_again
+    (subst (λ (s : ServiceState). AllSent s.slirp s.link) (sym c.self.view_is) c.requires.sent) young_now.0 young_now.1 young_now.2 early.0
+    (λ free. (calm_now free, early.1 free)) c.pollfds_fill-timeout.ensures.timeout c.pollfds_fill-timeout.ensures.items
     (c.pollfds_fill-timeout.ensures.waited_for config slirp.moment true past c.pollfds_fill-timeout.ensures.items.flows holds.flows.holds c.pollfds_fill-timeout.ensures.items.of_flows) served in
-    subst (λ (s : ServiceState). Brings (g.W.World.tells c.args.world.now) (g.W.World.tells c.wait.new.self) (MayRest config (after count) s.slirp s.link) (AttendsAfterSleep SleptStopped config (count + 1) c.pollfds_fill-timeout.new.wants.items c.wait.new.ready.items slirp link)) c.self.view_is
-    (brings_one (subst (λ (l : Listing). Answers (g.W.World.tells c.args.world.now) (g.W.World.tells c.wait.new.self) (Wait l.items c.pollfds_fill-timeout.result Stop c.wait.new.ready.items)) c.list.ensures c.in-Stop.ensures.answers) (λ allowed past rest. let now = rest.0 in (
+    subst (λ (s : ServiceState). Brings (g.W.World.tells c.args.world.now) (g.W.World.tells c.wait.new.self) (MayRest config (after count) s.slirp s.link)
+    (AttendsAfterSleep SleptStopped config (count + 1) c.pollfds_fill-timeout.new.wants.items c.wait.new.ready.items slirp link)) c.self.view_is
+    (brings_one (subst (λ (l : Listing). Answers (g.W.World.tells c.args.world.now) (g.W.World.tells c.wait.new.self)
+    (Wait l.items c.pollfds_fill-timeout.result Stop c.wait.new.ready.items)) c.list.ensures c.in-Stop.ensures.answers) (λ allowed past rest. let now = rest.0 in (
       wait_ends_it config count slirp slirp.flows link past c.pollfds_fill-timeout.new.wants.items c.pollfds_fill-timeout.result few none_again now.0 Stop c.wait.new.ready.items Stopped refl,
       (as_it_must config count past now.0 rest.1 now.1.1, now.1.0),
     )))
@@ -48,10 +52,14 @@ returns-in-Failed-clause-makes g c config count few =
     let young_now : AreYoung slirp = subst (λ (s : ServiceState). AreYoung s.slirp) (sym c.self.view_is) c.requires.young in
     let calm_now : IsCalm slirp link = subst (λ (s : ServiceState). IsCalm s.slirp s.link) (sym c.self.view_is) c.requires.calm in
     let as_it_must = λ (config : Config) (count : ℕ) (past : List Entry) (holds : HoldsNow config (after count) true slirp link past) (early : IsInTime slirp link) (served : AllServed config past).
-    must_wait config (after count) slirp link past c.pollfds_fill-timeout.new.wants.items c.pollfds_fill-timeout.result holds none_again (subst (λ (s : ServiceState). AllSent s.slirp s.link) (sym c.self.view_is) c.requires.sent) young_now.0 young_now.1 young_now.2 early.0 (λ free. (calm_now free, early.1 free)) c.pollfds_fill-timeout.ensures.timeout c.pollfds_fill-timeout.ensures.items
+    must_wait config (after count) slirp link past c.pollfds_fill-timeout.new.wants.items c.pollfds_fill-timeout.result holds none_again
+    (subst (λ (s : ServiceState). AllSent s.slirp s.link) (sym c.self.view_is) c.requires.sent) young_now.0 young_now.1 young_now.2 early.0
+    (λ free. (calm_now free, early.1 free)) c.pollfds_fill-timeout.ensures.timeout c.pollfds_fill-timeout.ensures.items
     (c.pollfds_fill-timeout.ensures.waited_for config slirp.moment true past c.pollfds_fill-timeout.ensures.items.flows holds.flows.holds c.pollfds_fill-timeout.ensures.items.of_flows) served in
-    subst (λ (s : ServiceState). Brings (g.W.World.tells c.args.world.now) (g.W.World.tells c.wait.new.self) (MayRest config (after count) s.slirp s.link) (AttendsAfterSleep SleepFailed config (count + 1) c.pollfds_fill-timeout.new.wants.items c.wait.new.ready.items slirp link)) c.self.view_is
-    (brings_one (subst (λ (l : Listing). Answers (g.W.World.tells c.args.world.now) (g.W.World.tells c.wait.new.self) (Wait l.items c.pollfds_fill-timeout.result Failed c.wait.new.ready.items)) c.list.ensures c.in-Failed.ensures.answers) (λ allowed past rest. let now = rest.0 in (
+    subst (λ (s : ServiceState). Brings (g.W.World.tells c.args.world.now) (g.W.World.tells c.wait.new.self) (MayRest config (after count) s.slirp s.link)
+    (AttendsAfterSleep SleepFailed config (count + 1) c.pollfds_fill-timeout.new.wants.items c.wait.new.ready.items slirp link)) c.self.view_is
+    (brings_one (subst (λ (l : Listing). Answers (g.W.World.tells c.args.world.now) (g.W.World.tells c.wait.new.self)
+    (Wait l.items c.pollfds_fill-timeout.result Failed c.wait.new.ready.items)) c.list.ensures c.in-Failed.ensures.answers) (λ allowed past rest. let now = rest.0 in (
       wait_ends_it config count slirp slirp.flows link past c.pollfds_fill-timeout.new.wants.items c.pollfds_fill-timeout.result few none_again now.0 Failed c.wait.new.ready.items WaitFailed refl,
       (as_it_must config count past now.0 rest.1 now.1.1, now.1.0),
     )))
@@ -64,7 +72,9 @@ returns-in-Ready-clause-makes g c config count few =
     let young_now : AreYoung slirp = subst (λ (s : ServiceState). AreYoung s.slirp) (sym c.self.view_is) c.requires.young in
     let calm_now : IsCalm slirp link = subst (λ (s : ServiceState). IsCalm s.slirp s.link) (sym c.self.view_is) c.requires.calm in
     let as_it_must = λ (config : Config) (count : ℕ) (past : List Entry) (holds : HoldsNow config (after count) true slirp link past) (early : IsInTime slirp link) (served : AllServed config past).
-    must_wait config (after count) slirp link past c.pollfds_fill-timeout.new.wants.items c.pollfds_fill-timeout.result holds none_again (subst (λ (s : ServiceState). AllSent s.slirp s.link) (sym c.self.view_is) c.requires.sent) young_now.0 young_now.1 young_now.2 early.0 (λ free. (calm_now free, early.1 free)) c.pollfds_fill-timeout.ensures.timeout c.pollfds_fill-timeout.ensures.items
+    must_wait config (after count) slirp link past c.pollfds_fill-timeout.new.wants.items c.pollfds_fill-timeout.result holds none_again
+    (subst (λ (s : ServiceState). AllSent s.slirp s.link) (sym c.self.view_is) c.requires.sent) young_now.0 young_now.1 young_now.2 early.0
+    (λ free. (calm_now free, early.1 free)) c.pollfds_fill-timeout.ensures.timeout c.pollfds_fill-timeout.ensures.items
     (c.pollfds_fill-timeout.ensures.waited_for config slirp.moment true past c.pollfds_fill-timeout.ensures.items.flows holds.flows.holds c.pollfds_fill-timeout.ensures.items.of_flows) served in
     let new = c.report.new.link in
     let wants = c.pollfds_fill-timeout.new.wants.items in
@@ -73,9 +83,13 @@ returns-in-Ready-clause-makes g c config count few =
     let told = c.now-told.result in
     let same = c.report.ensures.same in
     let free = c.report.ensures.free ∙ ap (λ (l : List Want). if writes TheLink l then false else link.blocked) c.items.ensures in
-    let waits = makes_one _ _ (Wait wants timeout Ready ready) (λ made. made ≡ Wait wants timeout Ready ready ∷ []) (subst (λ (l : Listing). Answers (g.W.World.tells c.args.world.now) (g.W.World.tells c.wait.new.self) (Wait l.items c.pollfds_fill-timeout.result Ready c.wait.new.ready.items)) c.list.ensures c.in-Ready.ensures.answers) (λ allowed. refl) in
-    let both = makes_next _ _ _ (Now told) (λ made. made ≡ Wait wants timeout Ready ready ∷ []) (λ made. made ≡ Now told ∷ Wait wants timeout Ready ready ∷ []) waits c.now-told.ensures (λ made is allowed. ap (λ (l : List Entry). Now told ∷ l) is) in
-    subst (λ (s : ServiceState). Brings (g.W.World.tells c.args.world.now) (g.W.World.tells c.now-told.new.self) (MayRest config (after count) s.slirp s.link) (AttendsAfterSleep SleptReady config (count + 1) wants ready c.tell_moment.new.self new)) c.self.view_is
+    let waits = makes_one _ _ (Wait wants timeout Ready ready) (λ made. made ≡ Wait wants timeout Ready ready ∷ [])
+    (subst (λ (l : Listing). Answers (g.W.World.tells c.args.world.now) (g.W.World.tells c.wait.new.self)
+    (Wait l.items c.pollfds_fill-timeout.result Ready c.wait.new.ready.items)) c.list.ensures c.in-Ready.ensures.answers) (λ allowed. refl) in
+    let both = makes_next _ _ _ (Now told) (λ made. made ≡ Wait wants timeout Ready ready ∷ []) (λ made. made ≡ Now told ∷ Wait wants timeout Ready ready
+    ∷ []) waits c.now-told.ensures (λ made is allowed. ap (λ (l : List Entry). Now told ∷ l) is) in
+    subst (λ (s : ServiceState). Brings (g.W.World.tells c.args.world.now) (g.W.World.tells c.now-told.new.self) (MayRest config (after count) s.slirp s.link)
+    (AttendsAfterSleep SleptReady config (count + 1) wants ready c.tell_moment.new.self new)) c.self.view_is
     (brings_allowed both (λ made is allowed past rest.
     let now = rest.0 in
     let fine = subst AreAllowed is allowed in
@@ -88,7 +102,8 @@ returns-in-Ready-clause-makes g c config count few =
         holds = subst (λ (s : SlirpState). HoldsNow config (standing (count + 1) wants ready) false s new (Now told ∷ Wait wants timeout Ready ready ∷ past)) (sym c.tell_moment.ensures)
             (wait_wakes config count slirp slirp.flows link past wants timeout few none_again now.0 ready told new fine.1.0 fine.0 (same_under_way link new same.0 same.1) same.2 free);
         left = left_at_first config past wants timeout ready told c.tell_moment.new.self (subst NoneTold (sym c.tell_moment.ensures) untold) apart;
-        can_take = can_take_at_first config past wants timeout ready told (after count) true slirp c.tell_moment.new.self link new now.0 sent must.waits_for same.2 (ap (λ (s : SlirpState). s.pending) c.tell_moment.ensures);
+        can_take = can_take_at_first config past wants timeout ready told (after count) true slirp c.tell_moment.new.self link new now.0 sent must.waits_for same.2
+            (ap (λ (s : SlirpState). s.pending) c.tell_moment.ensures);
       },
       (tt, (must, now.1.0)),
     )))
@@ -100,11 +115,14 @@ returns-in-Ready-clause-calm g c woken =
     let ready = c.wait.new.ready.items in
     let free = c.report.ensures.free ∙ ap (λ (l : List Want). if writes TheLink l then false else link.blocked) c.items.ensures in
     subst (λ (s : SlirpState). IsCalmAfter c.pollfds_fill-timeout.new.wants.items ready s c.report.new.link) (sym c.tell_moment.ensures)
-    (calm_after_wait c.pollfds_fill-timeout.new.wants.items ready slirp link c.report.new.link (writes TheLink ready) refl free (link_written slirp link c.pollfds_fill-timeout.new.wants.items c.pollfds_fill-timeout.ensures.items)
+    (calm_after_wait c.pollfds_fill-timeout.new.wants.items ready slirp link c.report.new.link (writes TheLink ready) refl free
+    (link_written slirp link c.pollfds_fill-timeout.new.wants.items c.pollfds_fill-timeout.ensures.items)
     (subst (λ (s : ServiceState). IsCalm s.slirp s.link) (sym c.self.view_is) c.requires.calm))
 
 pub returns-in-Ready-clause-few : goal.returns-in-Ready-clause-few
 returns-in-Ready-clause-few g c woken = c.in-Ready.ensures.answers.allowed.0.2
 
 pub returns-in-Failed-clause-failed : goal.returns-in-Failed-clause-failed
-returns-in-Failed-clause-failed g c is = wait_rose _ _ _ (subst (λ (l : Listing). Answers (g.W.World.tells c.args.world.now) (g.W.World.tells c.wait.new.self) (Wait l.items c.pollfds_fill-timeout.result Failed c.wait.new.ready.items)) c.list.ensures c.in-Failed.ensures.answers).counted (some_failed wait_failed (Wait c.pollfds_fill-timeout.new.wants.items c.pollfds_fill-timeout.result Failed c.wait.new.ready.items) [] refl)
+returns-in-Failed-clause-failed g c is = wait_rose _ _ _ (subst (λ (l : Listing). Answers (g.W.World.tells c.args.world.now) (g.W.World.tells c.wait.new.self)
+    (Wait l.items c.pollfds_fill-timeout.result Failed c.wait.new.ready.items)) c.list.ensures c.in-Failed.ensures.answers).counted
+    (some_failed wait_failed (Wait c.pollfds_fill-timeout.new.wants.items c.pollfds_fill-timeout.result Failed c.wait.new.ready.items) [] refl)

@@ -18,10 +18,17 @@ returns-in-Ended-clause-makes g c config count few =
     let slirp = c.self.inside.slirp in
     let end = c.in-Ended.end in
     brings_then
-    (subst (λ (s : ServiceState). Brings (g.W.World.tells c.args.world.now) (g.W.World.tells c.take_turn.new.world) (AttendsNow config (after count) false c.args.self.now.slirp c.args.self.now.link) (λ past. ((waited : ℕ) × EndedAs config waited end s.slirp.forwards (holders_of s.slirp) past) × Dutiful config past)) (sym c.self.view_is)
+    (subst (λ (s : ServiceState). Brings (g.W.World.tells c.args.world.now) (g.W.World.tells c.take_turn.new.world)
+    (AttendsNow config (after count) false c.args.self.now.slirp c.args.self.now.link)
+    (λ past. ((waited : ℕ) × EndedAs config waited end s.slirp.forwards (holders_of s.slirp) past) × Dutiful config past)) (sym c.self.view_is)
     (c.in-Ended.ensures.makes config count few))
-    (brings_from c.close_all.ensures.makes (λ made all past ended. attends_to config end slirp.forwards (holders_of slirp) made past (ran config ended.0.0 end slirp.forwards (holders_of slirp) past ended.0.1) ended.1 all))
+    (brings_from c.close_all.ensures.makes (λ made all past ended. attends_to config end slirp.forwards (holders_of slirp) made past
+    (ran config ended.0.0 end slirp.forwards (holders_of slirp) past ended.0.1) ended.1 all))
 
 pub returns-in-Ended-clause-step : goal.returns-in-Ended-clause-step
 returns-in-Ended-clause-step g c =
-    record { counted = end_before c.in-Ended.end (g.W.World.tells c.args.world.now).faults (g.W.World.tells c.take_turn.new.world).faults (g.W.World.tells c.close_all.new.world).faults c.in-Ended.ensures.step.counted (grown _ _ _ c.close_all.ensures.makes.counted); on = tt }
+    record {
+      counted = end_before c.in-Ended.end (g.W.World.tells c.args.world.now).faults (g.W.World.tells c.take_turn.new.world).faults
+          (g.W.World.tells c.close_all.new.world).faults c.in-Ended.ensures.step.counted (grown _ _ _ c.close_all.ensures.makes.counted);
+      on = tt;
+    }

@@ -13,37 +13,48 @@ use Rattle.slirp_config.proofs.Settled.{made}
 use Rattle.slirp_config.proofs.line.Line.put_settings.Goals as goal
 
 pub returns-in_err-network-clause-refused : goal.returns-in_err-network-clause-refused
-returns-in_err-network-clause-refused c = let p = err_from_is_err_and c.from_residual.result c.from_residual.ensures.1 in rw (p.1) (λ config are. c.in_err-network.ensures.refused config.network config.mask usual.network usual.mask are.net)
+returns-in_err-network-clause-refused c = let p = err_from_is_err_and c.from_residual.result c.from_residual.ensures.1 in rw (p.1)
+    (λ config are. c.in_err-network.ensures.refused config.network config.mask usual.network usual.mask are.net)
 
 pub returns-in_err-config-clause-refused : goal.returns-in_err-config-clause-refused
-returns-in_err-config-clause-refused c = let p = err_from_is_err_and c.from_residual-in_err-config.result c.from_residual-in_err-config.ensures.1 in rw (p.1) (λ config are. c.in_err-config.ensures.refused ((config.network + 2) % 2 ^ 32) config.vhost are.host)
+returns-in_err-config-clause-refused c = let p = err_from_is_err_and c.from_residual-in_err-config.result c.from_residual-in_err-config.ensures.1 in rw (p.1)
+    (λ config are. c.in_err-config.ensures.refused ((config.network + 2) % 2 ^ 32) config.vhost are.host)
 
 pub returns-in_err-config-2-clause-refused : goal.returns-in_err-config-2-clause-refused
-returns-in_err-config-2-clause-refused c = let p = err_from_is_err_and c.from_residual-in_err-config-2.result c.from_residual-in_err-config-2.ensures.1 in rw (p.1) (λ config are. c.in_err-config-2.ensures.refused ((config.network + 3) % 2 ^ 32) config.vnameserver are.dns)
+returns-in_err-config-2-clause-refused c = let p = err_from_is_err_and c.from_residual-in_err-config-2.result c.from_residual-in_err-config-2.ensures.1 in rw (p.1)
+    (λ config are. c.in_err-config-2.ensures.refused ((config.network + 3) % 2 ^ 32) config.vnameserver are.dns)
 
 pub returns-in_err-config-3-clause-refused : goal.returns-in_err-config-3-clause-refused
-returns-in_err-config-3-clause-refused c = let p = err_from_is_err_and c.from_residual-in_err-config-3.result c.from_residual-in_err-config-3.ensures.1 in rw (p.1) (λ config are. c.in_err-config-3.ensures.refused ((config.network + 15) % 2 ^ 32) config.dhcp_start are.dhcp_start)
+returns-in_err-config-3-clause-refused c = let p = err_from_is_err_and c.from_residual-in_err-config-3.result c.from_residual-in_err-config-3.ensures.1 in rw (p.1)
+    (λ config are. c.in_err-config-3.ensures.refused ((config.network + 15) % 2 ^ 32) config.dhcp_start are.dhcp_start)
 
 pub returns-in_err-config-4-clause-refused : goal.returns-in_err-config-4-clause-refused
-returns-in_err-config-4-clause-refused c = let p = err_from_is_err_and c.from_residual-in_err-config-4.result c.from_residual-in_err-config-4.ensures.1 in rw (p.1) (λ config are. c.in_err-config-4.ensures.refused config.mtu usual.mtu are.mtu)
+returns-in_err-config-4-clause-refused c = let p = err_from_is_err_and c.from_residual-in_err-config-4.result c.from_residual-in_err-config-4.ensures.1 in rw (p.1)
+    (λ config are. c.in_err-config-4.ensures.refused config.mtu usual.mtu are.mtu)
 
 pub returns-in_err-config-5-clause-refused : goal.returns-in_err-config-5-clause-refused
-returns-in_err-config-5-clause-refused c = let p = err_from_is_err_and c.from_residual-in_err-config-5.result c.from_residual-in_err-config-5.ensures.1 in rw (p.1) (λ config are. c.in_err-config-5.ensures.refused config.mru usual.mru are.mru)
+returns-in_err-config-5-clause-refused c = let p = err_from_is_err_and c.from_residual-in_err-config-5.result c.from_residual-in_err-config-5.ensures.1 in rw (p.1)
+    (λ config are. c.in_err-config-5.ensures.refused config.mru usual.mru are.mru)
 
 pub returns-in_err-number-clause-refused : goal.returns-in_err-number-clause-refused
-returns-in_err-number-clause-refused c = let p = err_from_is_err_and c.from_residual-in_err-number.result c.from_residual-in_err-number.ensures.1 in rw (p.1) (λ config are. c.in_err-number.ensures.refused config.flows usual.flows are.flows)
+returns-in_err-number-clause-refused c = let p = err_from_is_err_and c.from_residual-in_err-number.result c.from_residual-in_err-number.ensures.1 in rw (p.1)
+    (λ config are. c.in_err-number.ensures.refused config.flows usual.flows are.flows)
 
 pub returns-in_err-number-2-clause-refused : goal.returns-in_err-number-2-clause-refused
-returns-in_err-number-2-clause-refused c = let p = err_from_is_err_and c.from_residual-in_err-number-2.result c.from_residual-in_err-number-2.ensures.1 in rw (p.1) (λ config are. c.in_err-number-2.ensures.refused config.ring usual.ring are.ring)
+returns-in_err-number-2-clause-refused c = let p = err_from_is_err_and c.from_residual-in_err-number-2.result c.from_residual-in_err-number-2.ensures.1 in rw (p.1)
+    (λ config are. c.in_err-number-2.ensures.refused config.ring usual.ring are.ring)
 
 pub returns-in_err-config-6-clause-refused : goal.returns-in_err-config-6-clause-refused
-returns-in_err-config-6-clause-refused c = let p = err_from_is_err_and c.from_residual-in_err-config-6.result c.from_residual-in_err-config-6.ensures.1 in rw (p.1) (λ config are. c.in_err-config-6.ensures.refused config.resolver are.resolver)
+returns-in_err-config-6-clause-refused c = let p = err_from_is_err_and c.from_residual-in_err-config-6.result c.from_residual-in_err-config-6.ensures.1 in rw (p.1)
+    (λ config are. c.in_err-config-6.ensures.refused config.resolver are.resolver)
 
 pub returns-in_err-config-7-clause-refused : goal.returns-in_err-config-7-clause-refused
-returns-in_err-config-7-clause-refused c = let p = err_from_is_err_and c.from_residual-in_err-config-7.result c.from_residual-in_err-config-7.ensures.1 in rw (p.1) (λ config are. c.in_err-config-7.ensures.refused config.turns usual.turns are.turns)
+returns-in_err-config-7-clause-refused c = let p = err_from_is_err_and c.from_residual-in_err-config-7.result c.from_residual-in_err-config-7.ensures.1 in rw (p.1)
+    (λ config are. c.in_err-config-7.ensures.refused config.turns usual.turns are.turns)
 
 pub returns-in_err-config-8-clause-refused : goal.returns-in_err-config-8-clause-refused
-returns-in_err-config-8-clause-refused c = let p = err_from_is_err_and c.from_residual-in_err-config-8.result c.from_residual-in_err-config-8.ensures.1 in rw (p.1) (λ config are. c.in_err-config-8.ensures.refused config.outbound are.outbound)
+returns-in_err-config-8-clause-refused c = let p = err_from_is_err_and c.from_residual-in_err-config-8.result c.from_residual-in_err-config-8.ensures.1 in rw (p.1)
+    (λ config are. c.in_err-config-8.ensures.refused config.outbound are.outbound)
 
 pub returns-clause-set : goal.returns-clause-set
 returns-clause-set c =
@@ -60,10 +71,13 @@ returns-clause-set c =
     let turns = c.in_ok-config-7.field-0 in
     let outbound = option_map (λ a. a.0) c.in_ok-config-8.field-0 in
     let folder = option_map (λ path. path.bytes) c.folder-config.result in
-    let set = λ (u : Config) (f r : ℕ). made u network mask c.in_ok-config.field-0.0 c.in_ok-config-2.field-0.0 c.in_ok-config-3.field-0.0 c.has-config.result c.has-config-2.result c.text-config.result.items c.text-config-2.result.items c.text-config-3.result.items c.text-config-4.result.items folder mtu mru f r resolver turns outbound c.has-config-3.result c.has-config-4.result c.has-config-5.result c.version-config.result u.forwards in (
+    let set = λ (u : Config) (f r : ℕ). made u network mask c.in_ok-config.field-0.0 c.in_ok-config-2.field-0.0 c.in_ok-config-3.field-0.0 c.has-config.result c.has-config-2.result
+    c.text-config.result.items c.text-config-2.result.items c.text-config-3.result.items c.text-config-4.result.items folder mtu mru f r resolver turns outbound
+    c.has-config-3.result c.has-config-4.result c.has-config-5.result c.version-config.result u.forwards in (
       set usual flows ring,
       record {
-        net = match_default (given (codes "--net")) ((network ≡ base.vnetwork.0) × (mask ≡ base.vnetmask.0)) ((network ≡ usual.network) × (mask ≡ usual.mask)) (λ text. IsNetwork text network mask) (λ d. (d.0 ∙ ap (λ (u : Config). u.network) is, d.1 ∙ ap (λ (u : Config). u.mask) is)) c.in_ok-network.ensures.read;
+        net = match_default (given (codes "--net")) ((network ≡ base.vnetwork.0) × (mask ≡ base.vnetmask.0)) ((network ≡ usual.network) × (mask ≡ usual.mask))
+            (λ text. IsNetwork text network mask) (λ d. (d.0 ∙ ap (λ (u : Config). u.network) is, d.1 ∙ ap (λ (u : Config). u.mask) is)) c.in_ok-network.ensures.read;
         host = c.in_ok-config.ensures.read;
         dns = c.in_ok-config-2.ensures.read;
         dhcp_start = c.in_ok-config-3.ensures.read;
@@ -76,10 +90,12 @@ returns-clause-set c =
         tftp_path = c.folder-config.ensures;
         mtu = match_default (given (codes "--mtu")) (mtu ≡ base.if_mtu) (mtu ≡ usual.mtu) (λ text. IsNumber 16 text mtu) (λ d. d ∙ ap (λ (u : Config). u.mtu) is) c.in_ok-config-4.ensures.read;
         mru = match_default (given (codes "--mru")) (mru ≡ base.if_mru) (mru ≡ usual.mru) (λ text. IsNumber 16 text mru) (λ d. d ∙ ap (λ (u : Config). u.mru) is) c.in_ok-config-5.ensures.read;
-        flows = match_default (given (codes "--flows")) (flows ≡ base.flows) (flows ≡ usual.flows) (λ text. IsNumber 64 text flows) (λ d. d ∙ ap (λ (u : Config). u.flows) is) c.in_ok-number.ensures.read;
+        flows = match_default (given (codes "--flows")) (flows ≡ base.flows) (flows ≡ usual.flows) (λ text. IsNumber 64 text flows)
+            (λ d. d ∙ ap (λ (u : Config). u.flows) is) c.in_ok-number.ensures.read;
         ring = match_default (given (codes "--ring")) (ring ≡ base.ring) (ring ≡ usual.ring) (λ text. IsNumber 64 text ring) (λ d. d ∙ ap (λ (u : Config). u.ring) is) c.in_ok-number-2.ensures.read;
         resolver = c.in_ok-config-6.ensures.read;
-        turns = match_default (given (codes "--turns")) (turns ≡ base.turns) (turns ≡ usual.turns) (λ text. IsNumber 64 text turns) (λ d. d ∙ ap (λ (u : Config). u.turns) is) c.in_ok-config-7.ensures.read;
+        turns = match_default (given (codes "--turns")) (turns ≡ base.turns) (turns ≡ usual.turns) (λ text. IsNumber 64 text turns)
+            (λ d. d ∙ ap (λ (u : Config). u.turns) is) c.in_ok-config-7.ensures.read;
         outbound = c.in_ok-config-8.ensures.read;
         no_dns = c.has-config-3.ensures;
         no_dhcp = c.has-config-4.ensures;
@@ -87,7 +103,8 @@ returns-clause-set c =
         version = c.version-config.ensures;
         rest = refl;
       },
-      ap (λ (u : Config). set u c.narrow-config.result c.narrow-config-2.result) is ∙ ap (λ (n : ℕ). set usual n c.narrow-config-2.result) c.narrow-config.ensures ∙ ap (λ (n : ℕ). set usual (narrowed flows) n) c.narrow-config-2.ensures,
+      ap (λ (u : Config). set u c.narrow-config.result c.narrow-config-2.result) is ∙ ap (λ (n : ℕ). set usual n c.narrow-config-2.result) c.narrow-config.ensures ∙ ap
+          (λ (n : ℕ). set usual (narrowed flows) n) c.narrow-config-2.ensures,
     )
 
 pub returns-clause-none : goal.returns-clause-none

@@ -3,7 +3,8 @@ use Rattle.slirp_config.proofs.Finding.{value_is}
 use Rattle.slirp_config.proofs.line.Line.value.Goals as goal
 
 pub returns-in-Some : goal.returns-in-Some
-returns-in-Some c = value_is c.args.self.now.options.items c.args.name.now (Some c.in-Some.given.now) (c.in-Some.ensures ∙ ap (find (λ given. bytes_eq given.name.now c.args.name.now)) c.as_slice.ensures.value)
+returns-in-Some c = value_is c.args.self.now.options.items c.args.name.now (Some c.in-Some.given.now)
+    (c.in-Some.ensures ∙ ap (find (λ given. bytes_eq given.name.now c.args.name.now)) c.as_slice.ensures.value)
 
 pub returns-in-None : goal.returns-in-None
 returns-in-None c = value_is c.args.self.now.options.items c.args.name.now None (c.in-None.ensures ∙ ap (find (λ given. bytes_eq given.name.now c.args.name.now)) c.as_slice.ensures.value)

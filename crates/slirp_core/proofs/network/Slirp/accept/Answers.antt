@@ -41,7 +41,8 @@ returns-then-not-has_room-clause-makes g c config count wants item items link re
     brings_none (λ past holds. (
       passes_over config count wants item items c.args.self.now (flowing false c.args.self.now.flows) link past holds,
       unawaited_is_unread config (standing count wants (item ∷ items)) c.args.self.now (flowing false c.args.self.now.flows) link past holds refl c.args.listener
-          (no_room (nat_lt (in_use_slots c.args.self.now.flows.flows.table.slots) (length c.args.self.now.flows.flows.table.slots)) (option_map_or (is_over Tcp) (slice_get c.args.self.now.forwards c.args.listener) false)
+          (no_room (nat_lt (in_use_slots c.args.self.now.flows.flows.table.slots) (length c.args.self.now.flows.flows.table.slots))
+          (option_map_or (is_over Tcp) (slice_get c.args.self.now.forwards c.args.listener) false)
           (subst (λ (s : SlirpState). nat_lt (in_use_slots s.flows.flows.table.slots) (length s.flows.flows.table.slots) ≡ false) c.self.view_is (sym full))),
     ))
 
@@ -51,21 +52,38 @@ returns-in_default-clause-makes g c config count wants item items link reads_it 
     brings_none (λ past holds. (
       passes_over config count wants item items c.args.self.now (flowing false c.args.self.now.flows) link past holds,
       unawaited_is_unread config (standing count wants (item ∷ items)) c.args.self.now (flowing false c.args.self.now.flows) link past holds refl c.args.listener
-          (none_there (nat_lt (in_use_slots c.args.self.now.flows.flows.table.slots) (length c.args.self.now.flows.flows.table.slots)) (option_map_or (is_over Tcp) (slice_get c.args.self.now.forwards c.args.listener) false) (ap (λ o. option_map_or (is_over Tcp) o false) none)),
+          (none_there (nat_lt (in_use_slots c.args.self.now.flows.flows.table.slots) (length c.args.self.now.flows.flows.table.slots))
+          (option_map_or (is_over Tcp) (slice_get c.args.self.now.forwards c.args.listener) false) (ap (λ o. option_map_or (is_over Tcp) o false) none)),
     ))
 
 pub returns-in-NotYet : goal.returns-in-NotYet
 returns-in-NotYet g c =
     let i = c.self.inside in
-    let slirp : SlirpState = record { config = i.policy; known = i.guests; sent = i.sent; pending = i.outgoing; moment = i.moment; number = i.number; associations = i.associations.list; questions = i.questions.list; fragments = i.reasm; flows = i.flows; leases = i.leases.leases; forwards = i.forwards; transfers = i.files.transfers } in
+    let slirp : SlirpState = record {
+      config = i.policy;
+      known = i.guests;
+      sent = i.sent;
+      pending = i.outgoing;
+      moment = i.moment;
+      number = i.number;
+      associations = i.associations.list;
+      questions = i.questions.list;
+      fragments = i.reasm;
+      flows = i.flows;
+      leases = i.leases.leases;
+      forwards = i.forwards;
+      transfers = i.files.transfers;
+    } in
     let room_is = c.if-not-has_room.ensures in
     let room : in_use_slots i.flows.flows.table.slots < length i.flows.flows.table.slots = grind (arith, nat_tests, room_is) in
     record {
       makes = λ config count wants item items link reads_it.
           subst (λ (s : SlirpState). Brings (g.W.World.tells c.args.world.now) (g.W.World.tells c.accept.new.self) (Holds config (standing count wants (item ∷ items)) s (flowing false s.flows) link)
           (λ past. Holds config (standing count wants items) s (flowing false s.flows) link past × (is_left_to_read config past (AListener c.args.listener) ≡ false))) c.self.view_is
-          (passed_by _ _ config count wants item items c.args.listener reads_it slirp link room c.in-Some.forward c.in-Some.field-0-1 (sym c.at.ensures ∙ c.in-Some.is) c.in-Tcp.is c.accept.result c.in-NotYet.is c.accept.ensures);
-      asks = λ awaited. makes_one _ _ _ _ (subst (λ (s : SlirpState). Answers (g.W.World.tells c.args.world.now) (g.W.World.tells c.accept.new.self) (Accept c.args.listener s.number c.accept.result)) c.self.view_is c.accept.ensures) (λ allowed. (c.accept.result, false, refl));
+          (passed_by _ _ config count wants item items c.args.listener reads_it slirp link room c.in-Some.forward c.in-Some.field-0-1
+          (sym c.at.ensures ∙ c.in-Some.is) c.in-Tcp.is c.accept.result c.in-NotYet.is c.accept.ensures);
+      asks = λ awaited. makes_one _ _ _ _ (subst (λ (s : SlirpState). Answers (g.W.World.tells c.args.world.now) (g.W.World.tells c.accept.new.self)
+          (Accept c.args.listener s.number c.accept.result)) c.self.view_is c.accept.ensures) (λ allowed. (c.accept.result, false, refl));
       counts = grown _ _ _ c.accept.ensures.counted;
       number = omega arith;
       turn = refl;
@@ -76,7 +94,8 @@ returns-in-NotYet g c =
 -- a peer came, and was treated so
 abbrev HasTreated : Config → Endpoint → Endpoint → (old new : SlirpState) → List Entry → Type 0
 HasTreated k guest peer old new made =
-    (config : Config) (now : ℕ) (aged : Bool) (past : List Entry) → CoreHolds config now aged None old.flows.flows past → k ≡ config → Treats (is_refused config guest peer (book config past)) guest peer old new made
+    (config : Config) (now : ℕ) (aged : Bool) (past : List Entry) → CoreHolds config now aged None old.flows.flows past → k ≡ config → Treats
+    (is_refused config guest peer (book config past)) guest peer old new made
 
 pub returns-in-From-clause-makes : goal.returns-in-From-clause-makes
 returns-in-From-clause-makes g c config count wants item items link reads_it =
@@ -90,13 +109,16 @@ returns-in-From-clause-makes g c config count wants item items link reads_it =
     brings_allowed
     (makes_then _ _ _ (λ made. made ≡ came ∷ []) _
     (λ es. (made : List Entry) × (es ≡ made ++ came ∷ []) × HasTreated slirp.config forward.guest peer slirp new made)
-    (makes_one _ _ _ _ (subst (λ (s : SlirpState). Answers (g.W.World.tells c.args.world.now) (g.W.World.tells c.accept.new.self) (Accept c.args.listener s.number (From peer))) c.self.view_is c.in-From.ensures) (λ allowed. refl)) c.welcome.ensures.treats
+    (makes_one _ _ _ _ (subst (λ (s : SlirpState). Answers (g.W.World.tells c.args.world.now) (g.W.World.tells c.accept.new.self)
+    (Accept c.args.listener s.number (From peer))) c.self.view_is c.in-From.ensures) (λ allowed. refl)) c.welcome.ensures.treats
     (λ made more one treats. (more, ap (λ l. more ++ l) one, treats)))
     (λ es (made, is, treats) allowed past holds.
     let then_is : Holds config (standing count wants items) new (flowing false new.flows) link (es ++ past) =
     subst (λ l. Holds config (standing count wants items) new (flowing false new.flows) link (l ++ past)) (sym is)
-    (treated config count wants item items c.args.listener reads_it slirp link past holds (subst (λ (s : SlirpState). in_use_slots s.flows.flows.table.slots < length s.flows.flows.table.slots) c.self.view_is room)
-    forward c.in-Some.field-0-1 (subst (λ (s : SlirpState). slice_get s.forwards c.args.listener ≡ Some (forward, c.in-Some.field-0-1)) c.self.view_is (sym c.at.ensures ∙ c.in-Some.is)) c.in-Tcp.is peer new made (subst AreAllowed is allowed) c.welcome.ensures.others
+    (treated config count wants item items c.args.listener reads_it slirp link past holds
+    (subst (λ (s : SlirpState). in_use_slots s.flows.flows.table.slots < length s.flows.flows.table.slots) c.self.view_is room)
+    forward c.in-Some.field-0-1 (subst (λ (s : SlirpState). slice_get s.forwards c.args.listener ≡ Some (forward, c.in-Some.field-0-1)) c.self.view_is
+    (sym c.at.ensures ∙ c.in-Some.is)) c.in-Tcp.is peer new made (subst AreAllowed is allowed) c.welcome.ensures.others
     (treats config slirp.moment false past holds.flows.holds holds.guests.settings)) in (
       then_is,
       peer_is_read config count wants item items slirp new (flowing false slirp.flows) (flowing false new.flows) link link past es holds then_is c.args.listener slirp.number (From peer) made is,
@@ -114,27 +136,31 @@ returns-in-Udp-clause-makes g c config count wants item items link reads_it =
     brings_none (λ past holds. (
       passes_over config count wants item items c.args.self.now (flowing false c.args.self.now.flows) link past holds,
       unawaited_is_unread config (standing count wants (item ∷ items)) c.args.self.now (flowing false c.args.self.now.flows) link past holds refl c.args.listener
-          (none_there (nat_lt (in_use_slots c.args.self.now.flows.flows.table.slots) (length c.args.self.now.flows.flows.table.slots)) (option_map_or (is_over Tcp) (slice_get c.args.self.now.forwards c.args.listener) false) (ap (λ o. option_map_or (is_over Tcp) o false) some ∙ ap (same_proto Tcp) c.in-Udp.is)),
+          (none_there (nat_lt (in_use_slots c.args.self.now.flows.flows.table.slots) (length c.args.self.now.flows.flows.table.slots))
+          (option_map_or (is_over Tcp) (slice_get c.args.self.now.forwards c.args.listener) false) (ap (λ o. option_map_or (is_over Tcp) o false) some ∙ ap (same_proto Tcp) c.in-Udp.is)),
     ))
 
 pub returns-then-not-has_room-clause-asks : goal.returns-then-not-has_room-clause-asks
 returns-then-not-has_room-clause-asks g c awaited =
     let full = c.if-not-has_room.ensures in
-    let never : false ≡ true = sym (no_room (nat_lt (in_use_slots c.args.self.now.flows.flows.table.slots) (length c.args.self.now.flows.flows.table.slots)) (option_map_or (is_over Tcp) (slice_get c.args.self.now.forwards c.args.listener) false)
+    let never : false ≡ true = sym (no_room (nat_lt (in_use_slots c.args.self.now.flows.flows.table.slots) (length c.args.self.now.flows.flows.table.slots))
+    (option_map_or (is_over Tcp) (slice_get c.args.self.now.forwards c.args.listener) false)
     (subst (λ (s : SlirpState). nat_lt (in_use_slots s.flows.flows.table.slots) (length s.flows.flows.table.slots) ≡ false) c.self.view_is (sym full))) ∙ awaited in
     absurd cc
 
 pub returns-in_default-clause-asks : goal.returns-in_default-clause-asks
 returns-in_default-clause-asks g c awaited =
     let none = subst (λ (s : SlirpState). slice_get s.forwards c.args.listener ≡ None) c.self.view_is (sym c.at.ensures ∙ c.in_default.is) in
-    let never : false ≡ true = sym (none_there (nat_lt (in_use_slots c.args.self.now.flows.flows.table.slots) (length c.args.self.now.flows.flows.table.slots)) (option_map_or (is_over Tcp) (slice_get c.args.self.now.forwards c.args.listener) false)
+    let never : false ≡ true = sym (none_there (nat_lt (in_use_slots c.args.self.now.flows.flows.table.slots) (length c.args.self.now.flows.flows.table.slots))
+    (option_map_or (is_over Tcp) (slice_get c.args.self.now.forwards c.args.listener) false)
     (ap (λ o. option_map_or (is_over Tcp) o false) none)) ∙ awaited in
     absurd cc
 
 pub returns-in-Udp-clause-asks : goal.returns-in-Udp-clause-asks
 returns-in-Udp-clause-asks g c awaited =
     let some = subst (λ (s : SlirpState). slice_get s.forwards c.args.listener ≡ Some (c.in-Some.forward, c.in-Some.field-0-1)) c.self.view_is (sym c.at.ensures ∙ c.in-Some.is) in
-    let never : false ≡ true = sym (none_there (nat_lt (in_use_slots c.args.self.now.flows.flows.table.slots) (length c.args.self.now.flows.flows.table.slots)) (option_map_or (is_over Tcp) (slice_get c.args.self.now.forwards c.args.listener) false)
+    let never : false ≡ true = sym (none_there (nat_lt (in_use_slots c.args.self.now.flows.flows.table.slots) (length c.args.self.now.flows.flows.table.slots))
+    (option_map_or (is_over Tcp) (slice_get c.args.self.now.forwards c.args.listener) false)
     (ap (λ o. option_map_or (is_over Tcp) o false) some ∙ ap (same_proto Tcp) c.in-Udp.is)) ∙ awaited in
     absurd cc
 
@@ -142,7 +168,8 @@ pub returns-in-From-clause-asks : goal.returns-in-From-clause-asks
 returns-in-From-clause-asks g c awaited =
     let slirp = c.args.self.now in
     makes_then _ _ _ (λ made. made ≡ Accept c.args.listener slirp.number (From c.in-From.peer) ∷ []) (ClosesOne slirp.number) (AsksForPeer c.args.listener slirp.number)
-    (makes_one _ _ _ _ (subst (λ (s : SlirpState). Answers (g.W.World.tells c.args.world.now) (g.W.World.tells c.accept.new.self) (Accept c.args.listener s.number (From c.in-From.peer))) c.self.view_is c.in-From.ensures) (λ allowed. refl)) c.welcome.ensures.closes
+    (makes_one _ _ _ _ (subst (λ (s : SlirpState). Answers (g.W.World.tells c.args.world.now) (g.W.World.tells c.accept.new.self)
+    (Accept c.args.listener s.number (From c.in-From.peer))) c.self.view_is c.in-From.ensures) (λ allowed. refl)) c.welcome.ensures.closes
     (λ one more is (closed, closes). (From c.in-From.peer, closed, λ i. closes i ++ is i))
 
 pub returns-then-not-has_room-clause-marks : goal.returns-then-not-has_room-clause-marks

@@ -18,9 +18,24 @@ use Rattle.slirp_core.proofs.network.Slirp.ask.Goals as goal
 pub returns-clause-makes : goal.returns-clause-makes
 returns-clause-makes g c config at aged link =
     let i = c.self.inside in
-    let slirp : SlirpState = record { config = i.policy; known = i.guests; sent = i.sent; pending = i.outgoing; moment = i.moment; number = i.number; associations = i.associations.list; questions = i.questions.list; fragments = i.reasm; flows = i.flows; leases = i.leases.leases; forwards = i.forwards; transfers = i.files.transfers } in
+    let slirp : SlirpState = record {
+      config = i.policy;
+      known = i.guests;
+      sent = i.sent;
+      pending = i.outgoing;
+      moment = i.moment;
+      number = i.number;
+      associations = i.associations.list;
+      questions = i.questions.list;
+      fragments = i.reasm;
+      flows = i.flows;
+      leases = i.leases.leases;
+      forwards = i.forwards;
+      transfers = i.files.transfers;
+    } in
     let errand = errand_of c.args.datagram.now c.args.to in
-    subst (λ (s : SlirpState). Brings (g.W.World.tells c.args.world.now) (g.W.World.tells c.query-reply.new.world) (HoldsAt config at (asked_by config s (Some errand)) s (flowing aged s.flows) link) (Holds config at c.tell.new.self (flowing aged c.tell.new.self.flows) link)) c.self.view_is
+    subst (λ (s : SlirpState). Brings (g.W.World.tells c.args.world.now) (g.W.World.tells c.query-reply.new.world) (HoldsAt config at (asked_by config s (Some errand)) s
+    (flowing aged s.flows) link) (Holds config at c.tell.new.self (flowing aged c.tell.new.self.flows) link)) c.self.view_is
     (brings_allowed c.query-reply.ensures.relays (λ made relays allowed past holds.
     let name : asks_a_name config errand ≡ true = ap (λ (k : Config). asks_a_name k errand) (sym holds.guests.settings ∙ ap (λ (s : SlirpState). s.config) c.self.view_is) ∙ c.requires.name in
     let bind : i.questions.bind ≡ bind_for config = ap (λ (r : RelayState). r.bind) c.self.invariant.6.is ∙ ap bind_for holds.guests.settings in
@@ -50,6 +65,7 @@ invariant_of-self g c =
       c.self.invariant.4,
       c.self.invariant.5,
       asked_on c.query-reply.new.number i.policy i.questions c.query-reply.new.self c.query-reply.ensures.rest
-          (below_relayed i.questions.bind (asked_of errand) i.moment i.number c.query-reply.new.number i.questions.list c.query-reply.new.self.list c.query-reply.result makes.made makes.holds c.self.invariant.6.below) c.self.invariant.6.is,
+          (below_relayed i.questions.bind (asked_of errand) i.moment i.number c.query-reply.new.number i.questions.list c.query-reply.new.self.list c.query-reply.result makes.made
+          makes.holds c.self.invariant.6.below) c.self.invariant.6.is,
       c.self.invariant.7,
     )

@@ -23,7 +23,8 @@ returns-then-flow_is_first-clause-makes g c =
     let new = c.close_first.new in
     let o : Holders = record { associations = i.associations.list; questions = i.questions.list; slots = i.flows.flows.slots } in
     let first = subst (λ (s : SlirpState). IsFlowFirst (carriers (holders_of s)) s.flows.flows.slots) (sym c.self.view_is) (c.flow_is_first.ensures.yes c.if-flow_is_first.true) in
-    subst (λ (s : SlirpState). Makes (g.W.World.tells c.args.world.now) (g.W.World.tells new.world) (ClosesNext c.close_first.result (holders_of s) (record o { slots = new.self.flows.slots }))) c.self.view_is
+    subst (λ (s : SlirpState). Makes (g.W.World.tells c.args.world.now) (g.W.World.tells new.world) (ClosesNext c.close_first.result (holders_of s)
+    (record o { slots = new.self.flows.slots }))) c.self.view_is
     (makes_as _ _ _ _ c.close_first.ensures.closes (λ made closes config over past holds. flow_first config over made past c.close_first.result o new.self.flows.slots first closes holds))
 
 pub returns-then-flow_is_first-clause-fewer : goal.returns-then-flow_is_first-clause-fewer
@@ -60,7 +61,8 @@ returns-then-question_is_first-clause-makes g c =
     let o : Holders = record { associations = i.associations.list; questions = i.questions.list; slots = i.flows.flows.slots } in
     let no_flow = subst (λ (s : SlirpState). NoFlowFirst (carriers (holders_of s)) s.flows.flows.slots) (sym c.self.view_is) (c.flow_is_first.ensures.no c.if-flow_is_first.false) in
     let first = subst (λ (s : SlirpState). IsQuestionFirst s.associations s.questions) (sym c.self.view_is) (c.question_is_first.ensures.yes c.if-question_is_first.true) in
-    subst (λ (s : SlirpState). Makes (g.W.World.tells c.args.world.now) (g.W.World.tells closing.new.world) (ClosesNext closing.result (holders_of s) (record o { questions = closing.new.self.list }))) c.self.view_is
+    subst (λ (s : SlirpState). Makes (g.W.World.tells c.args.world.now) (g.W.World.tells closing.new.world)
+    (ClosesNext closing.result (holders_of s) (record o { questions = closing.new.self.list }))) c.self.view_is
     (makes_as _ _ _ _ closing.ensures.closes (λ made closes config over past holds. question_first config over made past closing.result o closing.new.self.list no_flow first closes holds))
 
 pub returns-then-question_is_first-clause-fewer : goal.returns-then-question_is_first-clause-fewer
@@ -107,7 +109,8 @@ returns-else-question_is_first-clause-makes g c =
     let o : Holders = record { associations = i.associations.list; questions = i.questions.list; slots = i.flows.flows.slots } in
     let no_flow = subst (λ (s : SlirpState). NoFlowFirst (carriers (holders_of s)) s.flows.flows.slots) (sym c.self.view_is) (c.flow_is_first.ensures.no c.if-flow_is_first.false) in
     let no_question = subst (λ (s : SlirpState). NoQuestionFirst s.associations s.questions) (sym c.self.view_is) (c.question_is_first.ensures.no c.if-question_is_first.false) in
-    subst (λ (s : SlirpState). Makes (g.W.World.tells c.args.world.now) (g.W.World.tells closing.new.world) (ClosesNext closing.result (holders_of s) (record o { associations = closing.new.self.list }))) c.self.view_is
+    subst (λ (s : SlirpState). Makes (g.W.World.tells c.args.world.now) (g.W.World.tells closing.new.world)
+    (ClosesNext closing.result (holders_of s) (record o { associations = closing.new.self.list }))) c.self.view_is
     (makes_as _ _ _ _ closing.ensures.closes (λ made closes config over past holds. association_first config over made past closing.result o closing.new.self.list no_flow no_question closes holds))
 
 pub returns-else-question_is_first-clause-fewer : goal.returns-else-question_is_first-clause-fewer

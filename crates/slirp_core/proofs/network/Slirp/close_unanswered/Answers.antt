@@ -12,8 +12,23 @@ use Rattle.slirp_core.proofs.network.Slirp.close_unanswered.Goals as goal
 pub returns-clause-makes : goal.returns-clause-makes
 returns-clause-makes g c config at aged link =
     let i = c.self.inside in
-    let slirp : SlirpState = record { config = i.policy; known = i.guests; sent = i.sent; pending = i.outgoing; moment = i.moment; number = i.number; associations = i.associations.list; questions = i.questions.list; fragments = i.reasm; flows = i.flows; leases = i.leases.leases; forwards = i.forwards; transfers = i.files.transfers } in
-    subst (λ (s : SlirpState). Brings (g.W.World.tells c.args.world.now) (g.W.World.tells c.tick.new.world) (Holds config at s (flowing aged s.flows) link) (Holds config at (record slirp { questions = c.tick.new.self.list }) (flowing aged i.flows) link)) c.self.view_is
+    let slirp : SlirpState = record {
+      config = i.policy;
+      known = i.guests;
+      sent = i.sent;
+      pending = i.outgoing;
+      moment = i.moment;
+      number = i.number;
+      associations = i.associations.list;
+      questions = i.questions.list;
+      fragments = i.reasm;
+      flows = i.flows;
+      leases = i.leases.leases;
+      forwards = i.forwards;
+      transfers = i.files.transfers;
+    } in
+    subst (λ (s : SlirpState). Brings (g.W.World.tells c.args.world.now) (g.W.World.tells c.tick.new.world) (Holds config at s (flowing aged s.flows) link)
+    (Holds config at (record slirp { questions = c.tick.new.self.list }) (flowing aged i.flows) link)) c.self.view_is
     (brings_allowed c.tick.ensures.closes (λ made ticks allowed past holds. asked_for_long config at (flowing aged i.flows) link slirp past c.tick.new.self.list made ticks allowed holds))
 
 pub returns-clause-rising : goal.returns-clause-rising
@@ -31,6 +46,7 @@ invariant_of-self g c =
       c.self.invariant.3,
       c.self.invariant.4,
       c.self.invariant.5,
-      asked_on i.number i.policy i.questions c.tick.new.self c.tick.ensures.rest (below_ticked i.number i.moment i.questions.list c.tick.new.self.list makes.made makes.holds c.self.invariant.6.below) c.self.invariant.6.is,
+      asked_on i.number i.policy i.questions c.tick.new.self c.tick.ensures.rest
+          (below_ticked i.number i.moment i.questions.list c.tick.new.self.list makes.made makes.holds c.self.invariant.6.below) c.self.invariant.6.is,
       c.self.invariant.7,
     )

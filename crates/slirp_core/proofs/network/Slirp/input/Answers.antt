@@ -94,4 +94,5 @@ returns-in-None-clause-makes g c config count wants item items link reads_it =
     (segment_then slirp mid done frame brought room None settings c.in-None.ensures.segment c.take_frame-brought.ensures.segment) past came)
 
 pub returns-in-Some-Errand-clause-counts : goal.returns-in-Some-Errand-clause-counts
-returns-in-Some-Errand-clause-counts g c = grown _ _ _ (c.relay.ensures.makes c.args.self.now.config (standing 0 [] []) false (record { octets = []; whole = false; tail = []; blocked = false })).counted
+returns-in-Some-Errand-clause-counts g c = grown _ _ _ (c.relay.ensures.makes c.args.self.now.config (standing 0 [] []) false
+    (record { octets = []; whole = false; tail = []; blocked = false })).counted

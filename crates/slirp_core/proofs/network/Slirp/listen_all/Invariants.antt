@@ -9,7 +9,8 @@ use Rattle.slirp_core.proofs.network.Slirp.listen_all.Given as goal
 
 abbrev pub invariant-loop-place : goal.invariant-loop-place
 invariant-loop-place g l = record {
-  makes : (config : Config) (link : LinkState) → l.fn.self.config ≡ config → Brings (g.W.World.tells l.fn.world) (g.W.World.tells l.world) (Opens config 0 l.fn.self link) (Opens config l.place l.self link);
+  makes : (config : Config) (link : LinkState) → l.fn.self.config ≡ config → Brings (g.W.World.tells l.fn.world) (g.W.World.tells l.world) (Opens config 0 l.fn.self link)
+      (Opens config l.place l.self link);
   counts : AreGrown (g.W.World.tells l.fn.world).faults (g.W.World.tells l.world).faults;
   forwards : l.self.forwards ≡ with_numbers 0 (take l.place l.fn.self.config.forwards);
   others : l.self ≡ record l.fn.self { number = l.place; forwards = l.self.forwards };

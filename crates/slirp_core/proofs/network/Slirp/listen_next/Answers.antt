@@ -18,5 +18,6 @@ returns-clause-adds g c =
     subst (λ (s : SlirpState). Makes (g.W.World.tells c.args.world.now) (g.W.World.tells c.add_hostfwd.new.world) (Listens c.is_ok.result forward s.number s.forwards new)) c.self.view_is
     (subst (λ (b : Bool). Makes (g.W.World.tells c.args.world.now) (g.W.World.tells c.add_hostfwd.new.world) (Listens b forward i.number i.forwards new)) (sym c.is_ok.ensures.value)
     (makes_as _ _ _ _
-    (subst (λ (fault : Option FwdFault). Makes (g.W.World.tells c.args.world.now) (g.W.World.tells c.add_hostfwd.new.world) (Adds fault forward i.number i.forwards new (result_err c.add_hostfwd.result))) unasked c.add_hostfwd.ensures.adds)
+    (subst (λ (fault : Option FwdFault). Makes (g.W.World.tells c.args.world.now) (g.W.World.tells c.add_hostfwd.new.world)
+    (Adds fault forward i.number i.forwards new (result_err c.add_hostfwd.result))) unasked c.add_hostfwd.ensures.adds)
     (λ made added. listens_by forward i.number i.forwards new c.add_hostfwd.result made added)))

@@ -45,6 +45,11 @@ invariant_of-result c =
       subst (AreDrawn 0) (sym flows) (drawn_none config (flows_between config c.requires).1),
       c.new-5.ensures.config ∙ sym c.new.ensures,
       ap length (c.in-Ok.ensures.items_if_clones_equal (λ y is. is)) ∙ length-replicate {A = ℕ} 1472 0,
-      subst (λ (k : Config). AreAsked 0 k c.new-4.result) (sym c.new.ensures) (record { below = subst (λ (r : RelayState). All (λ n. n < 0) (question_numbers r.list)) (sym c.new-4.ensures) (All-nil (λ n. n < 0)); is = c.new-4.ensures ∙ ap (λ (r : RelayState). record { bind = bind_for config; resolver = config.resolver; name_server = config.vnameserver; list = r.list }) (sym c.new-4.ensures) }),
+      subst (λ (k : Config). AreAsked 0 k c.new-4.result) (sym c.new.ensures)
+          (record {
+            below = subst (λ (r : RelayState). All (λ n. n < 0) (question_numbers r.list)) (sym c.new-4.ensures) (All-nil (λ n. n < 0));
+            is = c.new-4.ensures ∙ ap
+                (λ (r : RelayState). record { bind = bind_for config; resolver = config.resolver; name_server = config.vnameserver; list = r.list }) (sym c.new-4.ensures);
+          }),
       record { vhost = c.in_ok-files.ensures.vhost ∙ sym (ap (λ (k : Config). k.vhost) c.new.ensures); folder = c.in_ok-files.ensures.folder ∙ sym (ap (λ (k : Config). k.tftp_path) c.new.ensures) },
     )

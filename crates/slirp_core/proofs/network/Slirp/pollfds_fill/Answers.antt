@@ -26,14 +26,16 @@ returns-clause-timeout c held is =
       of_fragments = c.time_of_fragments.ensures held is;
       flows = c.time_of_flows.result;
       of_flows = subst (λ (b : Bool). IsFlowTime b now.moment now.flows.flows.slots c.time_of_flows.result) c.blocked-2.ensures c.time_of_flows.ensures.time;
-      suits_flows = λ config before past holds. subst (λ (b : Bool). SuitsFlows config now.moment b now.flows.flows.slots past c.time_of_flows.result) c.blocked-2.ensures (c.time_of_flows.ensures.suits config before past holds);
+      suits_flows = λ config before past holds. subst (λ (b : Bool). SuitsFlows config now.moment b now.flows.flows.slots past c.time_of_flows.result) c.blocked-2.ensures
+          (c.time_of_flows.ensures.suits config before past holds);
       files = c.time_of_files.result;
       of_files = c.time_of_files.ensures;
       is =
           c.sooner.ensures
           ∙ ap (λ (o : Option ℕ). sooner o c.time_of_files.result) (c.sooner-unless_files.ensures
           ∙ ap (λ (o : Option ℕ). sooner o c.time_of_flows.result) (c.sooner-datagrams-2.ensures
-          ∙ ap (λ (o : Option ℕ). sooner o c.time_of_fragments.result) (c.sooner-datagrams.ensures ∙ ap (λ (o : Option ℕ). sooner o c.time_of_questions.result) c.time_of_sockets.ensures ∙ ap (sooner (time_left now.moment now.associations)) c.time_of_questions.ensures)));
+          ∙ ap (λ (o : Option ℕ). sooner o c.time_of_fragments.result) (c.sooner-datagrams.ensures ∙ ap
+          (λ (o : Option ℕ). sooner o c.time_of_questions.result) c.time_of_sockets.ensures ∙ ap (sooner (time_left now.moment now.associations)) c.time_of_questions.ensures)));
     }
 
 pub returns-clause-items : goal.returns-clause-items
@@ -42,10 +44,12 @@ returns-clause-items c =
     let added = c.fill.ensures.items in
     let some = c.rising.result.now in
     let others = c.rising-2.result.now in
-    wants_of c.args.self.now c.args.link.now c.fill.new.self.items added.0 c.is_settled.result c.blocked.result c.listeners.result.now c.ports_over.result.now (merged some others) c.is_settled.ensures c.blocked.ensures
+    wants_of c.args.self.now c.args.link.now c.fill.new.self.items added.0 c.is_settled.result c.blocked.result c.listeners.result.now c.ports_over.result.now
+    (merged some others) c.is_settled.ensures c.blocked.ensures
     c.listeners.ensures.items c.ports_over.ensures.items
     (subst (λ (s : SlirpState). IsPermutation (carriers (holders_of s)) (merged some others)) c.self.view_is
-    (merged_all (numbers i.associations.list) (question_numbers i.questions.list) some others c.rising.ensures.all c.rising-2.ensures.all)) (merged_rises some others c.rising.ensures.rising c.rising-2.ensures.rising)
+    (merged_all (numbers i.associations.list) (question_numbers i.questions.list) some others c.rising.ensures.all c.rising-2.ensures.all))
+    (merged_rises some others c.rising.ensures.rising c.rising-2.ensures.rising)
     (subst (λ (s : SlirpState). AreWantsOf s.flows.flows.slots added.0) c.self.view_is added.2) added.1
 
 pub fill-requires-clause-numbers : goal.fill-requires-clause-numbers
@@ -62,5 +66,6 @@ fill-requires-clause-few c =
 
 pub returns-clause-waited_for : goal.returns-clause-waited_for
 returns-clause-waited_for c =
-    subst (λ (s : SlirpState). (config : Config) (before : ℕ) (aged : Bool) (past : List Entry) (added : List Want) → CoreHolds config before aged None s.flows.flows past → AreWantsOf s.flows.flows.slots added → AreWaitedFor config past added) c.self.view_is
+    subst (λ (s : SlirpState). (config : Config) (before : ℕ) (aged : Bool) (past : List Entry) (added : List Want) → CoreHolds config before aged None s.flows.flows past →
+    AreWantsOf s.flows.flows.slots added → AreWaitedFor config past added) c.self.view_is
     c.fill.ensures.waited_for

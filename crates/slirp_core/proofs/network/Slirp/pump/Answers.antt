@@ -18,13 +18,16 @@ use Rattle.slirp_core.proofs.network.Slirp.pump.Goals as goal
 
 pub returns-in-Clear-clause-makes : goal.returns-in-Clear-clause-makes
 returns-in-Clear-clause-makes g c config at aged =
-    brings_then (brings_none (λ past holds. c.tell_addresses.ensures.holds config at aged c.args.link.now past holds)) (brings_then (c.in-Clear.ensures.makes config at aged) (c.pump_flows.ensures.makes config at aged))
+    brings_then (brings_none (λ past holds. c.tell_addresses.ensures.holds config at aged c.args.link.now past holds)) (brings_then (c.in-Clear.ensures.makes config at aged)
+    (c.pump_flows.ensures.makes config at aged))
 
 pub returns-in-Blocked-clause-makes : goal.returns-in-Blocked-clause-makes
-returns-in-Blocked-clause-makes g c config at aged = brings_then (brings_none (λ past holds. c.tell_addresses.ensures.holds config at aged c.args.link.now past holds)) (c.in-Blocked.ensures.makes config at aged)
+returns-in-Blocked-clause-makes g c config at aged = brings_then (brings_none (λ past holds. c.tell_addresses.ensures.holds config at aged c.args.link.now past holds))
+    (c.in-Blocked.ensures.makes config at aged)
 
 pub returns-in-Failed-clause-makes : goal.returns-in-Failed-clause-makes
-returns-in-Failed-clause-makes g c config at aged = brings_then (brings_none (λ past holds. c.tell_addresses.ensures.holds config at aged c.args.link.now past holds)) (c.in-Failed.ensures.makes config at aged)
+returns-in-Failed-clause-makes g c config at aged = brings_then (brings_none (λ past holds. c.tell_addresses.ensures.holds config at aged c.args.link.now past holds))
+    (c.in-Failed.ensures.makes config at aged)
 
 pub pump_flows-requires-clause-told : goal.pump_flows-requires-clause-told
 pump_flows-requires-clause-told g c = subst (λ (s : SlirpState). AreTold s.known s.flows.flows.slots) (sym c.in-Clear.ensures.others) c.tell_addresses.ensures.told
@@ -47,15 +50,18 @@ returns-in-Clear-clause-ahead g c config at aged past holds n early =
     let after = c.tell_addresses.ensures.holds config at aged c.args.link.now past holds in
     subst (λ (m : ℕ). IsInTime m new.flows.flows.slots n) moment_same
     (c.pump_flows.ensures.ahead config told.moment aged past (subst (λ (k : Kept). CoreHolds config told.moment aged None k.flows past) (sym flows_same) after.flows.holds) n
-    (subst (λ (k : Kept). IsInTime mid.moment k.flows.slots n) (sym flows_same) (subst (λ (m : ℕ). IsInTime m told.flows.flows.slots n) (sym moment_same) (c.tell_addresses.ensures.ahead old.moment n early))))
+    (subst (λ (k : Kept). IsInTime mid.moment k.flows.slots n) (sym flows_same) (subst (λ (m : ℕ). IsInTime m told.flows.flows.slots n) (sym moment_same)
+    (c.tell_addresses.ensures.ahead old.moment n early))))
 
 pub returns-in-Blocked-clause-ahead : goal.returns-in-Blocked-clause-ahead
 returns-in-Blocked-clause-ahead g c config at aged past holds n early =
-    subst (λ (k : Kept). IsInTime c.args.self.now.moment k.flows.slots n) (sym (ap (λ (s : SlirpState). s.flows) c.in-Blocked.ensures.others)) (c.tell_addresses.ensures.ahead c.args.self.now.moment n early)
+    subst (λ (k : Kept). IsInTime c.args.self.now.moment k.flows.slots n) (sym (ap (λ (s : SlirpState). s.flows) c.in-Blocked.ensures.others))
+    (c.tell_addresses.ensures.ahead c.args.self.now.moment n early)
 
 pub returns-in-Failed-clause-ahead : goal.returns-in-Failed-clause-ahead
 returns-in-Failed-clause-ahead g c config at aged past holds n early =
-    subst (λ (k : Kept). IsInTime c.args.self.now.moment k.flows.slots n) (sym (ap (λ (s : SlirpState). s.flows) c.in-Failed.ensures.others)) (c.tell_addresses.ensures.ahead c.args.self.now.moment n early)
+    subst (λ (k : Kept). IsInTime c.args.self.now.moment k.flows.slots n) (sym (ap (λ (s : SlirpState). s.flows) c.in-Failed.ensures.others))
+    (c.tell_addresses.ensures.ahead c.args.self.now.moment n early)
 
 pub returns-in-Clear-clause-clear : goal.returns-in-Clear-clause-clear
 returns-in-Clear-clause-clear g c is = record {
@@ -92,7 +98,8 @@ returns-in-Clear-clause-connects g c config at aged past holds =
     connect_then c.args.self.now.flows.flows.slots told.flows.flows.slots c.pump_flows.new.self.flows.flows.slots c.tell_addresses.ensures.connects
     (subst (λ (k : Kept). ConnectYet k.flows.slots c.pump_flows.new.self.flows.flows.slots) flows_same
     (c.pump_flows.ensures.connects config aged past
-    (subst (λ (m : ℕ). CoreHolds config m aged None c.pump_answers.new.self.flows.flows past) (sym moment_same) (subst (λ (k : Kept). CoreHolds config told.moment aged None k.flows past) (sym flows_same) after.flows.holds))))
+    (subst (λ (m : ℕ). CoreHolds config m aged None c.pump_answers.new.self.flows.flows past) (sym moment_same)
+    (subst (λ (k : Kept). CoreHolds config told.moment aged None k.flows past) (sym flows_same) after.flows.holds))))
 
 pub returns-in-Blocked-clause-connects : goal.returns-in-Blocked-clause-connects
 returns-in-Blocked-clause-connects g c config at aged past holds =

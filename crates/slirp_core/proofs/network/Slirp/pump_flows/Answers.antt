@@ -16,11 +16,26 @@ use Rattle.slirp_core.proofs.network.Slirp.pump_flows.Goals as goal
 pub returns-clause-makes : goal.returns-clause-makes
 returns-clause-makes g c config at aged =
     let i = c.self.inside in
-    let slirp : SlirpState = record { config = i.policy; known = i.guests; sent = i.sent; pending = i.outgoing; moment = i.moment; number = i.number; associations = i.associations.list; questions = i.questions.list; fragments = i.reasm; flows = i.flows; leases = i.leases.leases; forwards = i.forwards; transfers = i.files.transfers } in
+    let slirp : SlirpState = record {
+      config = i.policy;
+      known = i.guests;
+      sent = i.sent;
+      pending = i.outgoing;
+      moment = i.moment;
+      number = i.number;
+      associations = i.associations.list;
+      questions = i.questions.list;
+      fragments = i.reasm;
+      flows = i.flows;
+      leases = i.leases.leases;
+      forwards = i.forwards;
+      transfers = i.files.transfers;
+    } in
     let new = c.pump.new.self in
     let none = ap (λ (s : SlirpState). s.pending) c.self.view_is ∙ c.requires.out in
     let result = c.pump.result in
-    subst (λ (s : SlirpState). Brings (g.W.World.tells c.args.world.now) (g.W.World.tells c.pump.new.world) (Holds config at s (flowing aged s.flows) c.args.link.now) (AfterPump result config at (record slirp { sent = c.pump.new.ident; flows = new }) (flowing aged new) c.pump.new.link)) c.self.view_is
+    subst (λ (s : SlirpState). Brings (g.W.World.tells c.args.world.now) (g.W.World.tells c.pump.new.world) (Holds config at s (flowing aged s.flows) c.args.link.now)
+    (AfterPump result config at (record slirp { sent = c.pump.new.ident; flows = new }) (flowing aged new) c.pump.new.link)) c.self.view_is
     (brings_allowed c.pump.ensures.makes (λ made pumps allowed past holds.
     after_put result config at (record slirp { sent = c.pump.new.ident }) new (flowing aged new) c.pump.new.link _
     (pumped_so config at slirp aged i.flows new c.args.link.now c.pump.new.link past made c.pump.new.ident result none allowed pumps.0 pumps.1 holds)))
@@ -37,8 +52,16 @@ returns-clause-told g c = c.pump.ensures.told (subst (λ (s : SlirpState). AreTo
 
 pub invariant_of-self : goal.invariant_of-self
 invariant_of-self g c =
-    let i = c.self.inside in
-    (c.self.invariant.0, c.self.invariant.1, c.self.invariant.2, drawn_stay i.number i.flows c.pump.new.self c.pump.ensures.stays c.self.invariant.3, c.self.invariant.4, c.self.invariant.5, c.self.invariant.6, c.self.invariant.7)
+    let i = c.self.inside in (
+      c.self.invariant.0,
+      c.self.invariant.1,
+      c.self.invariant.2,
+      drawn_stay i.number i.flows c.pump.new.self c.pump.ensures.stays c.self.invariant.3,
+      c.self.invariant.4,
+      c.self.invariant.5,
+      c.self.invariant.6,
+      c.self.invariant.7,
+    )
 
 pub returns-clause-connects : goal.returns-clause-connects
 returns-clause-connects g c config aged past holds =

@@ -14,5 +14,7 @@ returns-clause-makes g c config at aged =
     let kept = ap (λ (s : SlirpState). s.flows) c.mark_out.ensures in
     brings_allowed c.offer-offered.ensures.makes (λ made writes allowed past holds.
     subst (λ k. AfterPump c.outcome.result config at c.mark_out.new.self (flowing aged k) new (made ++ past)) (sym kept)
-    (after_offer config at c.args.self.now c.mark_out.new.self (flowing aged c.args.self.now.flows) old new made past c.frame.result.now (drop 1 c.args.self.now.pending) c.offer-offered.result c.outcome.result c.requires.none
-    (sym (ap (λ (s : SlirpState). s.pending) c.self.view_is) ∙ c.frame.ensures.frame ∙ ap (λ (l : List (List ℕ)). c.frame.result.now ∷ drop 1 l) (ap (λ (s : SlirpState). s.pending) c.self.view_is)) writes.0 writes.1 comes c.mark_out.ensures allowed holds))
+    (after_offer config at c.args.self.now c.mark_out.new.self (flowing aged c.args.self.now.flows) old new made past c.frame.result.now
+    (drop 1 c.args.self.now.pending) c.offer-offered.result c.outcome.result c.requires.none
+    (sym (ap (λ (s : SlirpState). s.pending) c.self.view_is) ∙ c.frame.ensures.frame ∙ ap (λ (l : List (List ℕ)). c.frame.result.now ∷ drop 1 l)
+    (ap (λ (s : SlirpState). s.pending) c.self.view_is)) writes.0 writes.1 comes c.mark_out.ensures allowed holds))

@@ -11,4 +11,5 @@ returns-clause-makes g c config at aged =
     let new = c.flush-offered.new.self in
     let some : 0 < length old.tail = omega (arith, c.tail.ensures) in
     let comes = c.outcome.ensures ∙ ap (pumped_of c.flush-offered.result) c.blocked-2.ensures in
-    brings_allowed c.flush-offered.ensures.makes (λ made writes allowed past holds. after_flush config at c.args.self.now (flowing aged c.args.self.now.flows) old new made past c.flush-offered.result c.outcome.result some writes.0 writes.1 comes allowed holds)
+    brings_allowed c.flush-offered.ensures.makes (λ made writes allowed past holds. after_flush config at c.args.self.now
+    (flowing aged c.args.self.now.flows) old new made past c.flush-offered.result c.outcome.result some writes.0 writes.1 comes allowed holds)

@@ -20,9 +20,11 @@ returns-in-Some-clause-no c not_less =
     let found = c.is_under.ensures.no not_less in
     let among = (first_is_least (numbers i.associations.list) others.result.now others.ensures.all others.ensures.rising found.0 found.1).0 in
     subst (λ (s : SlirpState). NoQuestionFirst s.associations s.questions) c.self.view_is
-    (question_isnt_under i.associations.list i.questions.list c.rising.result.now c.rising.ensures.all c.rising.ensures.rising c.in-Some.field-0.now (sym c.in-Some.ensures.value) found.0 among found.2)
+    (question_isnt_under i.associations.list i.questions.list c.rising.result.now c.rising.ensures.all c.rising.ensures.rising c.in-Some.field-0.now
+    (sym c.in-Some.ensures.value) found.0 among found.2)
 
 pub returns-in-None-clause-no : goal.returns-in-None-clause-no
 returns-in-None-clause-no c is =
     let i = c.self.inside in
-    subst (λ (s : SlirpState). NoQuestionFirst s.associations s.questions) c.self.view_is (no_question_first i.associations.list i.questions.list c.rising.result.now c.rising.ensures.all (sym c.in-None.ensures.value))
+    subst (λ (s : SlirpState). NoQuestionFirst s.associations s.questions) c.self.view_is
+    (no_question_first i.associations.list i.questions.list c.rising.result.now c.rising.ensures.all (sym c.in-None.ensures.value))

@@ -20,23 +20,40 @@ pub returns-clause-receives : goal.returns-clause-receives
 returns-clause-receives g c =
     let i = c.self.inside in
     let asked : is_some (numbered c.args.number i.questions.list) ≡ true = ap (λ (s : SlirpState). is_some (numbered c.args.number s.questions)) c.self.view_is ∙ c.requires.asked in
-    makes_as _ _ _ _ c.answer-reply.ensures.hears (λ made hears. receives_on i.questions i.moment c.args.number (length c.args.into.now) c.answer-reply.new.into c.answer-reply.new.self.list c.answer-reply.result made asked hears)
+    makes_as _ _ _ _ c.answer-reply.ensures.hears (λ made hears. receives_on i.questions i.moment c.args.number
+    (length c.args.into.now) c.answer-reply.new.into c.answer-reply.new.self.list c.answer-reply.result made asked hears)
 
 pub returns-clause-makes : goal.returns-clause-makes
 returns-clause-makes g c config count wants item items aged link reported out =
     let i = c.self.inside in
-    let slirp : SlirpState = record { config = i.policy; known = i.guests; sent = i.sent; pending = i.outgoing; moment = i.moment; number = i.number; associations = i.associations.list; questions = i.questions.list; fragments = i.reasm; flows = i.flows; leases = i.leases.leases; forwards = i.forwards; transfers = i.files.transfers } in
+    let slirp : SlirpState = record {
+      config = i.policy;
+      known = i.guests;
+      sent = i.sent;
+      pending = i.outgoing;
+      moment = i.moment;
+      number = i.number;
+      associations = i.associations.list;
+      questions = i.questions.list;
+      fragments = i.reasm;
+      flows = i.flows;
+      leases = i.leases.leases;
+      forwards = i.forwards;
+      transfers = i.files.transfers;
+    } in
     let none = ap (λ (s : SlirpState). s.pending) c.self.view_is ∙ c.requires.none in
     let asked : is_some (numbered c.args.number i.questions.list) ≡ true = ap (λ (s : SlirpState). is_some (numbered c.args.number s.questions)) c.self.view_is ∙ c.requires.asked in
     subst (λ (s : SlirpState). Brings (g.W.World.tells c.args.world.now) (g.W.World.tells c.answer-reply.new.world) (Holds config (standing count wants (item ∷ items)) s (flowing aged s.flows) link)
-    (λ past. Holds config (standing count wants items) c.answer_asker.new.self (flowing aged c.answer_asker.new.self.flows) link past × (is_left_to_read config past (Udp c.args.number) ≡ false))) c.self.view_is
+    (λ past. Holds config (standing count wants items) c.answer_asker.new.self (flowing aged c.answer_asker.new.self.flows) link past ×
+    (is_left_to_read config past (Udp c.args.number) ≡ false))) c.self.view_is
     (brings_allowed c.answer-reply.ensures.hears (λ made hears allowed past holds.
     let settings : i.questions ≡ record { bind = i.questions.bind; resolver = config.resolver; name_server = config.vnameserver; list = i.questions.list } =
     ap (λ (r : RelayState). record r { bind = i.questions.bind }) c.self.invariant.6.is
     ∙ ap (λ (k : Config). record { bind = i.questions.bind; resolver = k.resolver; name_server = k.vnameserver; list = i.questions.list }) holds.guests.settings in
     let then_is : Holds config (standing count wants items) c.answer_asker.new.self (flowing aged c.answer_asker.new.self.flows) link (made ++ past) =
     subst (λ (s : SlirpState). Holds config (standing count wants items) s (flowing aged s.flows) link (made ++ past)) (sym c.answer_asker.ensures)
-    (heard config count wants item items (flowing aged i.flows) link slirp i.questions settings past c.args.number (length c.args.into.now) c.answer-reply.new.into c.answer-reply.new.self.list c.answer-reply.result made reported c.requires.room none out hears allowed holds) in (
+    (heard config count wants item items (flowing aged i.flows) link slirp i.questions settings past c.args.number
+    (length c.args.into.now) c.answer-reply.new.into c.answer-reply.new.self.list c.answer-reply.result made reported c.requires.room none out hears allowed holds) in (
       then_is,
       datagram_is_read config count wants item items slirp c.answer_asker.new.self (flowing aged i.flows) (flowing aged c.answer_asker.new.self.flows) link link past made holds then_is c.args.number
           (λ open_one. receives_on i.questions i.moment c.args.number (length c.args.into.now) c.answer-reply.new.into c.answer-reply.new.self.list c.answer-reply.result made asked hears),
@@ -56,6 +73,7 @@ invariant_of-self g c =
       c.self.invariant.4,
       c.self.invariant.5,
       asked_on i.number i.policy i.questions c.answer-reply.new.self c.answer-reply.ensures.rest
-          (below_heard i.number i.questions i.moment c.args.number (length c.args.into.now) c.answer-reply.new.into c.answer-reply.new.self.list c.answer-reply.result makes.made makes.holds c.self.invariant.6.below) c.self.invariant.6.is,
+          (below_heard i.number i.questions i.moment c.args.number (length c.args.into.now) c.answer-reply.new.into c.answer-reply.new.self.list c.answer-reply.result makes.made
+          makes.holds c.self.invariant.6.below) c.self.invariant.6.is,
       c.self.invariant.7,
     )

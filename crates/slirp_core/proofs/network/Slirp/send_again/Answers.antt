@@ -21,13 +21,15 @@ some_of [] is none = cc
 some_of (f ∷ frames) is none = cc
 
 -- where frames are pending then a packet went, and one is due fewer
-fewer_by : (config : Config) (ident now : ℕ) (ts : List Transfer) (o : Option Transfer) (frames : List (List ℕ)) → AreSound ts → next_again now ts ≡ o → frames ≡ frames_of config ident (told_of_files config (begun now true ts)) → nat_lt 0 (length frames) ≡ true
+fewer_by : (config : Config) (ident now : ℕ) (ts : List Transfer) (o : Option Transfer) (frames : List (List ℕ)) → AreSound ts → next_again now ts ≡ o →
+    frames ≡ frames_of config ident (told_of_files config (begun now true ts)) → nat_lt 0 (length frames) ≡ true
     → due_count now (ticked now true ts) < due_count now ts
 fewer_by config ident now ts None frames sound found is some = absurd (some_of frames some (is ∙ ap (λ o. frames_of config ident (told_of_files config (option_map said_again o))) found))
 fewer_by config ident now ts (Some t) frames sound found is some = let one = fewer_due now t ts sound found in omega (arith, one)
 
 -- where none are none is due
-none_by : (config : Config) (ident now : ℕ) (ts : List Transfer) (o : Option Transfer) (frames : List (List ℕ)) → ((said : Said) → begun now true ts ≡ Some said → length said.octets ≤ 1472) → next_again now ts ≡ o
+none_by : (config : Config) (ident now : ℕ) (ts : List Transfer) (o : Option Transfer) (frames : List (List ℕ)) → ((said : Said) → begun now true ts ≡ Some said →
+    length said.octets ≤ 1472) → next_again now ts ≡ o
     → frames ≡ frames_of config ident (told_of_files config (begun now true ts)) → frames ≡ [] → next_again now (ticked now true ts) ≡ None
 none_by config ident now ts None frames fits found is none = ap (next_again now) (ticked_none now true ts found) ∙ next_left now ts ∙ found
 none_by config ident now ts (Some t) frames fits found is none =
@@ -48,17 +50,35 @@ put_packet-requires-clause-from c = subst (λ (n : ℕ). IsFromServer n c.next_a
 pub returns-clause-holds : goal.returns-clause-holds
 returns-clause-holds c config at link past holds =
     let i = c.self.inside in
-    let slirp : SlirpState = record { config = i.policy; known = i.guests; sent = i.sent; pending = i.outgoing; moment = i.moment; number = i.number; associations = i.associations.list; questions = i.questions.list; fragments = i.reasm; flows = i.flows; leases = i.leases.leases; forwards = i.forwards; transfers = i.files.transfers } in
+    let slirp : SlirpState = record {
+      config = i.policy;
+      known = i.guests;
+      sent = i.sent;
+      pending = i.outgoing;
+      moment = i.moment;
+      number = i.number;
+      associations = i.associations.list;
+      questions = i.questions.list;
+      fragments = i.reasm;
+      flows = i.flows;
+      leases = i.leases.leases;
+      forwards = i.forwards;
+      transfers = i.files.transfers;
+    } in
     let room = c.next_again-reply.new.into in
     let pending = c.put_packet.new.outgoing in
     let size : length room ≡ i.message.len = c.next_again-reply.auto.into ∙ c.deref_mut.ensures.len in
     let whole : c.deref.result.now ≡ room = c.deref.ensures.value ∙ take_at room (drop (length room) i.message.items) i.message.len size in
     let owed : pending ≡ frames_of i.policy i.sent (told_of_files i.policy (begun i.moment true i.files.transfers)) =
-    c.put_packet.ensures ∙ ap (λ (o : List ℕ). frames_of i.policy i.sent (told_of_files i.policy (said_by c.next_again-reply.result o))) whole ∙ ap (λ o. frames_of i.policy i.sent (told_of_files i.policy o)) c.next_again-reply.ensures.says in
+    c.put_packet.ensures ∙ ap (λ (o : List ℕ). frames_of i.policy i.sent (told_of_files i.policy (said_by c.next_again-reply.result o))) whole ∙ ap
+    (λ o. frames_of i.policy i.sent (told_of_files i.policy o)) c.next_again-reply.ensures.says in
     let transfers : c.next_again-reply.new.self.transfers ≡ ticked i.moment true i.files.transfers = ap (λ (s : Serving). s.transfers) c.next_again-reply.ensures.list in
     let none : slirp.pending ≡ [] = ap (λ (s : SlirpState). s.pending) c.self.view_is ∙ none_of c.args.self.now.pending (sym c.pending.ensures ∙ c.if-pending.false) in
     subst (λ (p : List (List ℕ)). Holds config at (record slirp { pending = p; transfers = c.next_again-reply.new.self.transfers }) (flowing true i.flows) link past) (sym owed)
-    (subst (λ (t : List Transfer). Holds config at (record slirp { pending = frames_of i.policy i.sent (told_of_files i.policy (begun i.moment true i.files.transfers)); transfers = t }) (flowing true i.flows) link past) (sym transfers)
+    (subst (λ (t : List Transfer). Holds config at (record slirp {
+      pending = frames_of i.policy i.sent (told_of_files i.policy (begun i.moment true i.files.transfers));
+      transfers = t;
+    }) (flowing true i.flows) link past) (sym transfers)
     (sends_it config at slirp i.flows link past none (subst (λ (s : SlirpState). Holds config at s (flowing true s.flows) link past) (sym c.self.view_is) holds)
     (λ said is. said_fits i.files.vhost c.next_again-reply.result room said c.next_again-reply.ensures.from (c.next_again-reply.ensures.says ∙ is))))
 
@@ -70,7 +90,8 @@ returns-clause-fewer c more =
     let size : length room ≡ i.message.len = c.next_again-reply.auto.into ∙ c.deref_mut.ensures.len in
     let whole : c.deref.result.now ≡ room = c.deref.ensures.value ∙ take_at room (drop (length room) i.message.items) i.message.len size in
     let owed : pending ≡ frames_of i.policy i.sent (told_of_files i.policy (begun i.moment true i.files.transfers)) =
-    c.put_packet.ensures ∙ ap (λ (o : List ℕ). frames_of i.policy i.sent (told_of_files i.policy (said_by c.next_again-reply.result o))) whole ∙ ap (λ o. frames_of i.policy i.sent (told_of_files i.policy o)) c.next_again-reply.ensures.says in
+    c.put_packet.ensures ∙ ap (λ (o : List ℕ). frames_of i.policy i.sent (told_of_files i.policy (said_by c.next_again-reply.result o))) whole ∙ ap
+    (λ o. frames_of i.policy i.sent (told_of_files i.policy o)) c.next_again-reply.ensures.says in
     let transfers : c.next_again-reply.new.self.transfers ≡ ticked i.moment true i.files.transfers = ap (λ (s : Serving). s.transfers) c.next_again-reply.ensures.list in
     subst (λ (s : SlirpState). due_count i.moment c.next_again-reply.new.self.transfers < due_count s.moment s.transfers) c.self.view_is
     (subst (λ (t : List Transfer). due_count i.moment t < due_count i.moment i.files.transfers) (sym transfers)
@@ -84,7 +105,8 @@ returns-clause-none c ended none =
     let size : length room ≡ i.message.len = c.next_again-reply.auto.into ∙ c.deref_mut.ensures.len in
     let whole : c.deref.result.now ≡ room = c.deref.ensures.value ∙ take_at room (drop (length room) i.message.items) i.message.len size in
     let owed : pending ≡ frames_of i.policy i.sent (told_of_files i.policy (begun i.moment true i.files.transfers)) =
-    c.put_packet.ensures ∙ ap (λ (o : List ℕ). frames_of i.policy i.sent (told_of_files i.policy (said_by c.next_again-reply.result o))) whole ∙ ap (λ o. frames_of i.policy i.sent (told_of_files i.policy o)) c.next_again-reply.ensures.says in
+    c.put_packet.ensures ∙ ap (λ (o : List ℕ). frames_of i.policy i.sent (told_of_files i.policy (said_by c.next_again-reply.result o))) whole ∙ ap
+    (λ o. frames_of i.policy i.sent (told_of_files i.policy o)) c.next_again-reply.ensures.says in
     let transfers : c.next_again-reply.new.self.transfers ≡ ticked i.moment true i.files.transfers = ap (λ (s : Serving). s.transfers) c.next_again-reply.ensures.list in
     ap (next_again i.moment) transfers
     ∙ none_by i.policy i.sent i.moment i.files.transfers (next_again i.moment i.files.transfers) pending

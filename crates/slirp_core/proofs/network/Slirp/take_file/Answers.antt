@@ -25,7 +25,21 @@ put_packet-requires-clause-from g c = subst (λ (n : ℕ). IsFromServer n c.pack
 pub returns-clause-makes : goal.returns-clause-makes
 returns-clause-makes g c config at link =
     let i = c.self.inside in
-    let slirp : SlirpState = record { config = i.policy; known = i.guests; sent = i.sent; pending = i.outgoing; moment = i.moment; number = i.number; associations = i.associations.list; questions = i.questions.list; fragments = i.reasm; flows = i.flows; leases = i.leases.leases; forwards = i.forwards; transfers = i.files.transfers } in
+    let slirp : SlirpState = record {
+      config = i.policy;
+      known = i.guests;
+      sent = i.sent;
+      pending = i.outgoing;
+      moment = i.moment;
+      number = i.number;
+      associations = i.associations.list;
+      questions = i.questions.list;
+      fragments = i.reasm;
+      flows = i.flows;
+      leases = i.leases.leases;
+      forwards = i.forwards;
+      transfers = i.files.transfers;
+    } in
     let d = datagram_of c.args.datagram.now in
     let room = c.packet-reply.new.into in
     let told = said_by c.packet-reply.result room in
@@ -33,8 +47,10 @@ returns-clause-makes g c config at link =
     let pending = c.put_packet.new.outgoing in
     let size : length room ≡ i.message.len = c.packet-reply.auto.into ∙ c.deref_mut.ensures.len in
     let whole : c.deref.result.now ≡ room = c.deref.ensures.value ∙ take_at room (drop (length room) i.message.items) i.message.len size in
-    let owed : pending ≡ frames_of i.policy i.sent (told_of_files i.policy told) = c.put_packet.ensures ∙ ap (λ (o : List ℕ). frames_of i.policy i.sent (told_of_files i.policy (said_by c.packet-reply.result o))) whole in
-    subst (λ (s : SlirpState). Brings (g.W.World.tells c.args.world.now) (g.W.World.tells c.packet-reply.new.world) (AsksFile config at s s.flows link d) (Holds config at (record slirp { pending = pending; transfers = transfers }) (flowing false i.flows) link)) c.self.view_is
+    let owed : pending ≡ frames_of i.policy i.sent (told_of_files i.policy told) = c.put_packet.ensures ∙ ap
+    (λ (o : List ℕ). frames_of i.policy i.sent (told_of_files i.policy (said_by c.packet-reply.result o))) whole in
+    subst (λ (s : SlirpState). Brings (g.W.World.tells c.args.world.now) (g.W.World.tells c.packet-reply.new.world) (AsksFile config at s s.flows link d)
+    (Holds config at (record slirp { pending = pending; transfers = transfers }) (flowing false i.flows) link)) c.self.view_is
     (brings_allowed c.packet-reply.ensures.serves (λ made is allowed past asks.
     subst (λ (p : List (List ℕ)). Holds config at (record slirp { pending = p; transfers = transfers }) (flowing false i.flows) link (made ++ past)) (sym owed)
     (served config at slirp i.flows link d past made transfers told asks allowed
@@ -43,7 +59,21 @@ returns-clause-makes g c config at link =
 pub returns-clause-serves : goal.returns-clause-serves
 returns-clause-serves g c =
     let i = c.self.inside in
-    let slirp : SlirpState = record { config = i.policy; known = i.guests; sent = i.sent; pending = i.outgoing; moment = i.moment; number = i.number; associations = i.associations.list; questions = i.questions.list; fragments = i.reasm; flows = i.flows; leases = i.leases.leases; forwards = i.forwards; transfers = i.files.transfers } in
+    let slirp : SlirpState = record {
+      config = i.policy;
+      known = i.guests;
+      sent = i.sent;
+      pending = i.outgoing;
+      moment = i.moment;
+      number = i.number;
+      associations = i.associations.list;
+      questions = i.questions.list;
+      fragments = i.reasm;
+      flows = i.flows;
+      leases = i.leases.leases;
+      forwards = i.forwards;
+      transfers = i.files.transfers;
+    } in
     let d = datagram_of c.args.datagram.now in
     let room = c.packet-reply.new.into in
     let told = said_by c.packet-reply.result room in
@@ -51,8 +81,10 @@ returns-clause-serves g c =
     let pending = c.put_packet.new.outgoing in
     let size : length room ≡ i.message.len = c.packet-reply.auto.into ∙ c.deref_mut.ensures.len in
     let whole : c.deref.result.now ≡ room = c.deref.ensures.value ∙ take_at room (drop (length room) i.message.items) i.message.len size in
-    let owed : pending ≡ frames_of i.policy i.sent (told_of_files i.policy told) = c.put_packet.ensures ∙ ap (λ (o : List ℕ). frames_of i.policy i.sent (told_of_files i.policy (said_by c.packet-reply.result o))) whole in
-    subst (λ (s : SlirpState). Makes (g.W.World.tells c.args.world.now) (g.W.World.tells c.packet-reply.new.world) (ServesFile s d (record slirp { pending = pending; transfers = transfers }))) c.self.view_is
+    let owed : pending ≡ frames_of i.policy i.sent (told_of_files i.policy told) = c.put_packet.ensures ∙ ap
+    (λ (o : List ℕ). frames_of i.policy i.sent (told_of_files i.policy (said_by c.packet-reply.result o))) whole in
+    subst (λ (s : SlirpState). Makes (g.W.World.tells c.args.world.now) (g.W.World.tells c.packet-reply.new.world)
+    (ServesFile s d (record slirp { pending = pending; transfers = transfers }))) c.self.view_is
     (makes_as _ _ _ (ServesFile slirp d (record slirp { pending = pending; transfers = transfers })) c.packet-reply.ensures.serves (λ made is. record {
       told = told;
       served = subst (λ (f : Option (List ℕ)). IsServed i.moment (came f i.moment d.mac d.from d.body (settled i.files.transfers)) transfers told made) c.self.invariant.7.folder is;
@@ -64,5 +96,13 @@ returns-clause-counts g c = grown _ _ _ c.packet-reply.ensures.serves.counted
 
 pub invariant_of-self : goal.invariant_of-self
 invariant_of-self g c =
-    let i = c.self.inside in
-    (c.self.invariant.0, c.self.invariant.1, c.self.invariant.2, c.self.invariant.3, c.self.invariant.4, search rules, c.self.invariant.6, server_on i.policy i.files c.packet-reply.new.self _ c.packet-reply.ensures.rest c.self.invariant.7)
+    let i = c.self.inside in (
+      c.self.invariant.0,
+      c.self.invariant.1,
+      c.self.invariant.2,
+      c.self.invariant.3,
+      c.self.invariant.4,
+      search rules,
+      c.self.invariant.6,
+      server_on i.policy i.files c.packet-reply.new.self _ c.packet-reply.ensures.rest c.self.invariant.7,
+    )

@@ -26,10 +26,25 @@ use Rattle.slirp_core.proofs.network.Slirp.take_segment.Goals as goal
 pub returns-in-Taken-clause-makes : goal.returns-in-Taken-clause-makes
 returns-in-Taken-clause-makes g c config at link =
     let i = c.self.inside in
-    let slirp : SlirpState = record { config = i.policy; known = i.guests; sent = i.sent; pending = i.outgoing; moment = i.moment; number = i.number; associations = i.associations.list; questions = i.questions.list; fragments = i.reasm; flows = i.flows; leases = i.leases.leases; forwards = i.forwards; transfers = i.files.transfers } in
+    let slirp : SlirpState = record {
+      config = i.policy;
+      known = i.guests;
+      sent = i.sent;
+      pending = i.outgoing;
+      moment = i.moment;
+      number = i.number;
+      associations = i.associations.list;
+      questions = i.questions.list;
+      fragments = i.reasm;
+      flows = i.flows;
+      leases = i.leases.leases;
+      forwards = i.forwards;
+      transfers = i.files.transfers;
+    } in
     let coming = coming_of c.args.came.now in
     let new = c.take_segment.new.self in
-    subst (λ (s : SlirpState). Brings (g.W.World.tells c.args.world.now) (g.W.World.tells c.take_segment.new.world) (Comes config at s s.flows link coming) (Holds config at (record slirp { flows = new }) (flowing false new) link)) c.self.view_is
+    subst (λ (s : SlirpState). Brings (g.W.World.tells c.args.world.now) (g.W.World.tells c.take_segment.new.world) (Comes config at s s.flows link coming)
+    (Holds config at (record slirp { flows = new }) (flowing false new) link)) c.self.view_is
     (brings_allowed c.in-Taken.ensures.makes (λ made hears allowed past comes.
     flows_put config at slirp new (flowing false new) link _ (heard_taken config at slirp i.flows link coming past comes made new allowed hears)))
 
@@ -37,10 +52,25 @@ returns-in-Taken-clause-makes g c config at link =
 pub returns-in-Strange-clause-makes : goal.returns-in-Strange-clause-makes
 returns-in-Strange-clause-makes g c config at link =
     let i = c.self.inside in
-    let slirp : SlirpState = record { config = i.policy; known = i.guests; sent = i.sent; pending = i.outgoing; moment = i.moment; number = i.number; associations = i.associations.list; questions = i.questions.list; fragments = i.reasm; flows = i.flows; leases = i.leases.leases; forwards = i.forwards; transfers = i.files.transfers } in
+    let slirp : SlirpState = record {
+      config = i.policy;
+      known = i.guests;
+      sent = i.sent;
+      pending = i.outgoing;
+      moment = i.moment;
+      number = i.number;
+      associations = i.associations.list;
+      questions = i.questions.list;
+      fragments = i.reasm;
+      flows = i.flows;
+      leases = i.leases.leases;
+      forwards = i.forwards;
+      transfers = i.files.transfers;
+    } in
     let coming = coming_of c.args.came.now in
     let new = c.take_segment.new.self in
-    subst (λ (s : SlirpState). Brings (g.W.World.tells c.args.world.now) (g.W.World.tells c.take_segment.new.world) (Comes config at s s.flows link coming) (Holds config at c.turn_away.new.self (flowing false c.turn_away.new.self.flows) link)) c.self.view_is
+    subst (λ (s : SlirpState). Brings (g.W.World.tells c.args.world.now) (g.W.World.tells c.take_segment.new.world) (Comes config at s s.flows link coming)
+    (Holds config at c.turn_away.new.self (flowing false c.turn_away.new.self.flows) link)) c.self.view_is
     (brings_allowed c.in-Strange.ensures.makes (λ made hears allowed past comes.
     subst (λ (s : SlirpState). Holds config at s (flowing false s.flows) link (made ++ past)) (sym c.turn_away.ensures)
     (flows_put config at _ new (flowing false new) link _ (heard_strange config at slirp i.flows link coming past comes made new allowed hears))))
@@ -49,26 +79,58 @@ returns-in-Strange-clause-makes g c config at link =
 pub returns-in-Dropped-clause-makes : goal.returns-in-Dropped-clause-makes
 returns-in-Dropped-clause-makes g c config at link =
     let i = c.self.inside in
-    let slirp : SlirpState = record { config = i.policy; known = i.guests; sent = i.sent; pending = i.outgoing; moment = i.moment; number = i.number; associations = i.associations.list; questions = i.questions.list; fragments = i.reasm; flows = i.flows; leases = i.leases.leases; forwards = i.forwards; transfers = i.files.transfers } in
+    let slirp : SlirpState = record {
+      config = i.policy;
+      known = i.guests;
+      sent = i.sent;
+      pending = i.outgoing;
+      moment = i.moment;
+      number = i.number;
+      associations = i.associations.list;
+      questions = i.questions.list;
+      fragments = i.reasm;
+      flows = i.flows;
+      leases = i.leases.leases;
+      forwards = i.forwards;
+      transfers = i.files.transfers;
+    } in
     let coming = coming_of c.args.came.now in
     let new = c.take_segment.new.self in
-    subst (λ (s : SlirpState). Brings (g.W.World.tells c.args.world.now) (g.W.World.tells c.take_segment.new.world) (Comes config at s s.flows link coming) (Holds config at (record slirp { flows = new }) (flowing false new) link)) c.self.view_is
+    subst (λ (s : SlirpState). Brings (g.W.World.tells c.args.world.now) (g.W.World.tells c.take_segment.new.world) (Comes config at s s.flows link coming)
+    (Holds config at (record slirp { flows = new }) (flowing false new) link)) c.self.view_is
     (brings_allowed c.in-Alone.ensures.makes (λ made hears allowed past comes.
     flows_put config at slirp new (flowing false new) link _
-    (alone_dropped config at slirp i.flows link coming past comes made new allowed hears (ap (λ (k : Config). lot_without k (nat_lt (in_use_slots new.flows.table.slots) (length new.flows.table.slots)) coming.on) (sym comes.guests.settings) ∙ sym c.in-Dropped.ensures))))
+    (alone_dropped config at slirp i.flows link coming past comes made new allowed hears
+    (ap (λ (k : Config). lot_without k (nat_lt (in_use_slots new.flows.table.slots) (length new.flows.table.slots)) coming.on) (sym comes.guests.settings) ∙ sym c.in-Dropped.ensures))))
 
 -- it is answered by a reset
 pub returns-in-Reset-clause-makes : goal.returns-in-Reset-clause-makes
 returns-in-Reset-clause-makes g c config at link =
     let i = c.self.inside in
-    let slirp : SlirpState = record { config = i.policy; known = i.guests; sent = i.sent; pending = i.outgoing; moment = i.moment; number = i.number; associations = i.associations.list; questions = i.questions.list; fragments = i.reasm; flows = i.flows; leases = i.leases.leases; forwards = i.forwards; transfers = i.files.transfers } in
+    let slirp : SlirpState = record {
+      config = i.policy;
+      known = i.guests;
+      sent = i.sent;
+      pending = i.outgoing;
+      moment = i.moment;
+      number = i.number;
+      associations = i.associations.list;
+      questions = i.questions.list;
+      fragments = i.reasm;
+      flows = i.flows;
+      leases = i.leases.leases;
+      forwards = i.forwards;
+      transfers = i.files.transfers;
+    } in
     let coming = coming_of c.args.came.now in
     let new = c.take_segment.new.self in
-    subst (λ (s : SlirpState). Brings (g.W.World.tells c.args.world.now) (g.W.World.tells c.take_segment.new.world) (Comes config at s s.flows link coming) (Holds config at c.turn_away-in-Reset.new.self (flowing false c.turn_away-in-Reset.new.self.flows) link)) c.self.view_is
+    subst (λ (s : SlirpState). Brings (g.W.World.tells c.args.world.now) (g.W.World.tells c.take_segment.new.world) (Comes config at s s.flows link coming)
+    (Holds config at c.turn_away-in-Reset.new.self (flowing false c.turn_away-in-Reset.new.self.flows) link)) c.self.view_is
     (brings_allowed c.in-Alone.ensures.makes (λ made hears allowed past comes.
     subst (λ (s : SlirpState). Holds config at s (flowing false s.flows) link (made ++ past)) (sym c.turn_away-in-Reset.ensures)
     (flows_put config at _ new (flowing false new) link _
-    (alone_reset config at slirp i.flows link coming past comes made new allowed hears (ap (λ (k : Config). lot_without k (nat_lt (in_use_slots new.flows.table.slots) (length new.flows.table.slots)) coming.on) (sym comes.guests.settings) ∙ sym c.in-Reset.ensures)))))
+    (alone_reset config at slirp i.flows link coming past comes made new allowed hears
+    (ap (λ (k : Config). lot_without k (nat_lt (in_use_slots new.flows.table.slots) (length new.flows.table.slots)) coming.on) (sym comes.guests.settings) ∙ sym c.in-Reset.ensures)))))
 
 -- the segment, and then a connect
 abbrev IsConnect : Entry → (List Entry → Type 0) → List Entry → Type 0
@@ -78,45 +140,80 @@ IsConnect e P made = (before : List Entry) × (made ≡ e ∷ before) × P befor
 pub returns-in-Done-clause-makes : goal.returns-in-Done-clause-makes
 returns-in-Done-clause-makes g c config at link =
     let i = c.self.inside in
-    let slirp : SlirpState = record { config = i.policy; known = i.guests; sent = i.sent; pending = i.outgoing; moment = i.moment; number = i.number; associations = i.associations.list; questions = i.questions.list; fragments = i.reasm; flows = i.flows; leases = i.leases.leases; forwards = i.forwards; transfers = i.files.transfers } in
+    let slirp : SlirpState = record {
+      config = i.policy;
+      known = i.guests;
+      sent = i.sent;
+      pending = i.outgoing;
+      moment = i.moment;
+      number = i.number;
+      associations = i.associations.list;
+      questions = i.questions.list;
+      fragments = i.reasm;
+      flows = i.flows;
+      leases = i.leases.leases;
+      forwards = i.forwards;
+      transfers = i.files.transfers;
+    } in
     let coming = coming_of c.args.came.now in
     let new = c.take_segment.new.self in
     let to = c.in-Connects.to in
     let begun = c.begin.new.self in
     let e = Connect i.number to Done in
     let P : List Entry → Type 0 = Hears slirp.moment i.flows new coming.on.tuple coming.tcp Alone in
-    let both : Makes (g.W.World.tells c.args.world.now) (g.W.World.tells c.connect.new.self) (IsConnect e P) = makes_next _ _ _ e P (IsConnect e P) c.in-Alone.ensures.makes c.in-Done.ensures (λ made hears fine. (made, refl, hears)) in
+    let both : Makes (g.W.World.tells c.args.world.now) (g.W.World.tells c.connect.new.self) (IsConnect e P) = makes_next _ _ _ e P
+    (IsConnect e P) c.in-Alone.ensures.makes c.in-Done.ensures (λ made hears fine. (made, refl, hears)) in
     let then_is : SlirpState = record slirp { number = i.number + 1; flows = begun } in
-    subst (λ (s : SlirpState). Brings (g.W.World.tells c.args.world.now) (g.W.World.tells c.connect.new.self) (Comes config at s s.flows link coming) (Holds config at then_is (flowing false begun) link)) c.self.view_is
+    subst (λ (s : SlirpState). Brings (g.W.World.tells c.args.world.now) (g.W.World.tells c.connect.new.self) (Comes config at s s.flows link coming)
+    (Holds config at then_is (flowing false begun) link)) c.self.view_is
     (brings_allowed both (λ made hears allowed past comes.
     let all = subst AreAllowed hears.1 allowed in
     subst (λ (m : List Entry). Holds config at then_is (flowing false begun) link (m ++ past)) (sym hears.1)
     (subst (λ (b : List Entry). Holds config at then_is (flowing false begun) link (e ∷ b ++ past)) (sym (none_made config at slirp i.flows link coming past comes hears.0 new all.1 hears.2))
     (flows_put config at (record slirp { number = i.number + 1 }) begun (flowing false begun) link _
-    (connected config at slirp i.flows link coming past comes hears.0 new all.1 hears.2 to (ap (λ (k : Config). lot_without k (nat_lt (in_use_slots new.flows.table.slots) (length new.flows.table.slots)) coming.on) (sym comes.guests.settings) ∙ sym c.in-Connects.ensures) begun c.args.came.now.mac refl all.0 c.begin.ensures.begins)))))
+    (connected config at slirp i.flows link coming past comes hears.0 new all.1 hears.2 to
+    (ap (λ (k : Config). lot_without k (nat_lt (in_use_slots new.flows.table.slots) (length new.flows.table.slots)) coming.on) (sym comes.guests.settings)
+    ∙ sym c.in-Connects.ensures) begun c.args.came.now.mac refl all.0 c.begin.ensures.begins)))))
 
 -- it doesn't
 pub returns-in-Failed-clause-makes : goal.returns-in-Failed-clause-makes
 returns-in-Failed-clause-makes g c config at link =
     let i = c.self.inside in
-    let slirp : SlirpState = record { config = i.policy; known = i.guests; sent = i.sent; pending = i.outgoing; moment = i.moment; number = i.number; associations = i.associations.list; questions = i.questions.list; fragments = i.reasm; flows = i.flows; leases = i.leases.leases; forwards = i.forwards; transfers = i.files.transfers } in
+    let slirp : SlirpState = record {
+      config = i.policy;
+      known = i.guests;
+      sent = i.sent;
+      pending = i.outgoing;
+      moment = i.moment;
+      number = i.number;
+      associations = i.associations.list;
+      questions = i.questions.list;
+      fragments = i.reasm;
+      flows = i.flows;
+      leases = i.leases.leases;
+      forwards = i.forwards;
+      transfers = i.files.transfers;
+    } in
     let coming = coming_of c.args.came.now in
     let new = c.take_segment.new.self in
     let to = c.in-Connects.to in
     let e = Connect i.number to Failed in
     let P : List Entry → Type 0 = Hears slirp.moment i.flows new coming.on.tuple coming.tcp Alone in
-    let both : Makes (g.W.World.tells c.args.world.now) (g.W.World.tells c.connect.new.self) (IsConnect e P) = makes_next _ _ _ e P (IsConnect e P) c.in-Alone.ensures.makes c.in-Failed.ensures (λ made hears fine. (made, refl, hears)) in
+    let both : Makes (g.W.World.tells c.args.world.now) (g.W.World.tells c.connect.new.self) (IsConnect e P) = makes_next _ _ _ e P
+    (IsConnect e P) c.in-Alone.ensures.makes c.in-Failed.ensures (λ made hears fine. (made, refl, hears)) in
     let then_is = c.turn_away-in-Failed.new.self in
     let refused : SlirpState = record slirp { number = i.number + 1; pending = frames_of i.policy i.sent (reset_for coming.on ∷ []) } in
     let after : SlirpState = record refused { flows = new } in
-    subst (λ (s : SlirpState). Brings (g.W.World.tells c.args.world.now) (g.W.World.tells c.connect.new.self) (Comes config at s s.flows link coming) (Holds config at then_is (flowing false then_is.flows) link)) c.self.view_is
+    subst (λ (s : SlirpState). Brings (g.W.World.tells c.args.world.now) (g.W.World.tells c.connect.new.self) (Comes config at s s.flows link coming)
+    (Holds config at then_is (flowing false then_is.flows) link)) c.self.view_is
     (brings_allowed both (λ made hears allowed past comes.
     let all = subst AreAllowed hears.1 allowed in
     subst (λ (s : SlirpState). Holds config at s (flowing false s.flows) link (made ++ past)) (sym c.turn_away-in-Failed.ensures)
     (subst (λ (m : List Entry). Holds config at after (flowing false new) link (m ++ past)) (sym hears.1)
     (subst (λ (b : List Entry). Holds config at after (flowing false new) link (e ∷ b ++ past)) (sym (none_made config at slirp i.flows link coming past comes hears.0 new all.1 hears.2))
     (flows_put config at refused new (flowing false new) link _
-    (unconnected_then config at slirp i.flows link coming past comes hears.0 new all.1 hears.2 to (ap (λ (k : Config). lot_without k (nat_lt (in_use_slots new.flows.table.slots) (length new.flows.table.slots)) coming.on) (sym comes.guests.settings) ∙ sym c.in-Connects.ensures) all.0))))))
+    (unconnected_then config at slirp i.flows link coming past comes hears.0 new all.1 hears.2 to
+    (ap (λ (k : Config). lot_without k (nat_lt (in_use_slots new.flows.table.slots) (length new.flows.table.slots)) coming.on) (sym comes.guests.settings) ∙ sym c.in-Connects.ensures) all.0))))))
 
 -- ---- what a flow that begins asks for
 
@@ -133,8 +230,16 @@ begin-requires-clause-above g c = (drawn_stay c.self.inside.number c.self.inside
 
 pub invariant_of-self-in-Reset : goal.invariant_of-self-in-Reset
 invariant_of-self-in-Reset g c =
-    let i = c.self.inside in
-    (c.self.invariant.0, c.self.invariant.1, c.self.invariant.2, drawn_stay i.number i.flows c.take_segment.new.self c.in-Alone.ensures.stays c.self.invariant.3, c.self.invariant.4, c.self.invariant.5, c.self.invariant.6, c.self.invariant.7)
+    let i = c.self.inside in (
+      c.self.invariant.0,
+      c.self.invariant.1,
+      c.self.invariant.2,
+      drawn_stay i.number i.flows c.take_segment.new.self c.in-Alone.ensures.stays c.self.invariant.3,
+      c.self.invariant.4,
+      c.self.invariant.5,
+      c.self.invariant.6,
+      c.self.invariant.7,
+    )
 
 pub invariant_of-self-in-Failed : goal.invariant_of-self-in-Failed
 invariant_of-self-in-Failed g c =
@@ -155,7 +260,8 @@ invariant_of-self-in-Done g c =
       below_up i.number i.associations.list c.self.invariant.0,
       c.self.invariant.1,
       c.self.invariant.2,
-      drawn_begun i.number c.take_segment.new.self c.begin.new.self c.begin.ensures.slots c.begin.ensures.opened c.begin.ensures.numbers (drawn_stay i.number i.flows c.take_segment.new.self c.in-Alone.ensures.stays c.self.invariant.3),
+      drawn_begun i.number c.take_segment.new.self c.begin.new.self c.begin.ensures.slots c.begin.ensures.opened c.begin.ensures.numbers
+          (drawn_stay i.number i.flows c.take_segment.new.self c.in-Alone.ensures.stays c.self.invariant.3),
       c.self.invariant.4,
       c.self.invariant.5,
       asked_up i.number (i.number + 1) i.policy i.questions (omega arith) c.self.invariant.6,

@@ -11,10 +11,25 @@ use Rattle.slirp_core.proofs.network.Slirp.tell_addresses.Goals as goal
 pub returns-clause-holds : goal.returns-clause-holds
 returns-clause-holds c config at aged link past holds =
     let i = c.self.inside in
-    let slirp : SlirpState = record { config = i.policy; known = i.guests; sent = i.sent; pending = i.outgoing; moment = i.moment; number = i.number; associations = i.associations.list; questions = i.questions.list; fragments = i.reasm; flows = i.flows; leases = i.leases.leases; forwards = i.forwards; transfers = i.files.transfers } in
+    let slirp : SlirpState = record {
+      config = i.policy;
+      known = i.guests;
+      sent = i.sent;
+      pending = i.outgoing;
+      moment = i.moment;
+      number = i.number;
+      associations = i.associations.list;
+      questions = i.questions.list;
+      fragments = i.reasm;
+      flows = i.flows;
+      leases = i.leases.leases;
+      forwards = i.forwards;
+      transfers = i.files.transfers;
+    } in
     let new = c.learn.new.self in
     flows_put config at slirp new (flowing aged new) link past
-    (addresses_told config at slirp aged i.flows new link past c.learn.ensures.learns c.learn.ensures.idle (subst (λ (s : SlirpState). Holds config at s (flowing aged s.flows) link past) (sym c.self.view_is) holds))
+    (addresses_told config at slirp aged i.flows new link past c.learn.ensures.learns c.learn.ensures.idle
+    (subst (λ (s : SlirpState). Holds config at s (flowing aged s.flows) link past) (sym c.self.view_is) holds))
 
 pub returns-clause-ahead : goal.returns-clause-ahead
 returns-clause-ahead c now n early = c.learn.ensures.ahead now n (subst (λ (s : SlirpState). IsInTime now s.flows.flows.slots n) (sym c.self.view_is) early)
@@ -24,8 +39,16 @@ returns-clause-calm c n unowed = c.learn.ensures.calm n (subst (λ (s : SlirpSta
 
 pub invariant_of-self : goal.invariant_of-self
 invariant_of-self c =
-    let i = c.self.inside in
-    (c.self.invariant.0, c.self.invariant.1, c.self.invariant.2, drawn_stay i.number i.flows c.learn.new.self c.learn.ensures.stays c.self.invariant.3, c.self.invariant.4, c.self.invariant.5, c.self.invariant.6, c.self.invariant.7)
+    let i = c.self.inside in (
+      c.self.invariant.0,
+      c.self.invariant.1,
+      c.self.invariant.2,
+      drawn_stay i.number i.flows c.learn.new.self c.learn.ensures.stays c.self.invariant.3,
+      c.self.invariant.4,
+      c.self.invariant.5,
+      c.self.invariant.6,
+      c.self.invariant.7,
+    )
 
 pub returns-clause-connects : goal.returns-clause-connects
 returns-clause-connects c =

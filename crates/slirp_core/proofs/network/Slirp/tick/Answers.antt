@@ -19,7 +19,21 @@ use Rattle.slirp_core.proofs.network.Slirp.tick.Goals as goal
 pub returns-clause-makes : goal.returns-clause-makes
 returns-clause-makes g c config count link few =
     let i = c.self.inside in
-    let slirp : SlirpState = record { config = i.policy; known = i.guests; sent = i.sent; pending = i.outgoing; moment = i.moment; number = i.number; associations = i.associations.list; questions = i.questions.list; fragments = i.reasm; flows = i.flows; leases = i.leases.leases; forwards = i.forwards; transfers = i.files.transfers } in
+    let slirp : SlirpState = record {
+      config = i.policy;
+      known = i.guests;
+      sent = i.sent;
+      pending = i.outgoing;
+      moment = i.moment;
+      number = i.number;
+      associations = i.associations.list;
+      questions = i.questions.list;
+      fragments = i.reasm;
+      flows = i.flows;
+      leases = i.leases.leases;
+      forwards = i.forwards;
+      transfers = i.files.transfers;
+    } in
     let begun = c.begin_turn.new.self in
     let mid = c.tell_time.new.self in
     brings_then (brings_none (λ past holds.
@@ -36,12 +50,28 @@ returns-clause-makes g c config count link few =
 pub returns-clause-rising : goal.returns-clause-rising
 returns-clause-rising g c =
     let i = c.self.inside in
-    let slirp : SlirpState = record { config = i.policy; known = i.guests; sent = i.sent; pending = i.outgoing; moment = i.moment; number = i.number; associations = i.associations.list; questions = i.questions.list; fragments = i.reasm; flows = i.flows; leases = i.leases.leases; forwards = i.forwards; transfers = i.files.transfers } in
+    let slirp : SlirpState = record {
+      config = i.policy;
+      known = i.guests;
+      sent = i.sent;
+      pending = i.outgoing;
+      moment = i.moment;
+      number = i.number;
+      associations = i.associations.list;
+      questions = i.questions.list;
+      fragments = i.reasm;
+      flows = i.flows;
+      leases = i.leases.leases;
+      forwards = i.forwards;
+      transfers = i.files.transfers;
+    } in
     let begun = c.begin_turn.new.self in
     subst (λ (s : SlirpState). Makes (g.W.World.tells c.args.world.now) (g.W.World.tells c.close_unanswered.new.world) (λ made. WhereItTicks s (ClosesByKind made))) c.self.view_is
-    (makes_then _ _ _ (λ made. (flows associations : List Entry) × (made ≡ associations ++ flows) × WhereItTicks c.tell_addresses.new.self (ClosesRising flows) × ClosesRising associations) ClosesRising (λ made. WhereItTicks slirp (ClosesByKind made))
+    (makes_then _ _ _ (λ made. (flows associations : List Entry) × (made ≡ associations ++ flows) × WhereItTicks c.tell_addresses.new.self
+    (ClosesRising flows) × ClosesRising associations) ClosesRising (λ made. WhereItTicks slirp (ClosesByKind made))
     (makes_then _ _ _ (λ made. WhereItTicks c.tell_addresses.new.self (ClosesRising made)) ClosesRising
-    (λ made. (flows associations : List Entry) × (made ≡ associations ++ flows) × WhereItTicks c.tell_addresses.new.self (ClosesRising flows) × ClosesRising associations) c.tell_time.ensures.rising c.close_unused.ensures.rising
+    (λ made. (flows associations : List Entry) × (made ≡ associations ++ flows) × WhereItTicks c.tell_addresses.new.self
+    (ClosesRising flows) × ClosesRising associations) c.tell_time.ensures.rising c.close_unused.ensures.rising
     (λ first second rise more. (first, second, refl, rise, more))) c.close_unanswered.ensures.rising
     (λ before third (flows, associations, is, rise, more) last config count link past few holds. record {
       flows = flows;
@@ -60,7 +90,21 @@ returns-clause-rising g c =
 pub returns-clause-ahead : goal.returns-clause-ahead
 returns-clause-ahead g c config at aged link past holds n unowed =
     let i = c.self.inside in
-    let slirp : SlirpState = record { config = i.policy; known = i.guests; sent = i.sent; pending = i.outgoing; moment = i.moment; number = i.number; associations = i.associations.list; questions = i.questions.list; fragments = i.reasm; flows = i.flows; leases = i.leases.leases; forwards = i.forwards; transfers = i.files.transfers } in
+    let slirp : SlirpState = record {
+      config = i.policy;
+      known = i.guests;
+      sent = i.sent;
+      pending = i.outgoing;
+      moment = i.moment;
+      number = i.number;
+      associations = i.associations.list;
+      questions = i.questions.list;
+      fragments = i.reasm;
+      flows = i.flows;
+      leases = i.leases.leases;
+      forwards = i.forwards;
+      transfers = i.files.transfers;
+    } in
     let begun : Kept = c.begin_turn.new.self in
     let same : begun.flows ≡ c.args.self.now.flows.flows = ap (λ (k : Kept). k.flows) c.begin_turn.ensures.turn ∙ ap (λ (s : SlirpState). s.flows.flows) c.self.view_is in
     let begins =
@@ -76,11 +120,14 @@ returns-clause-ahead g c config at aged link past holds n unowed =
 
 pub returns-clause-unserved : goal.returns-clause-unserved
 returns-clause-unserved g c k served =
-    let same : c.close_unanswered.new.self.flows ≡ c.tell_time.new.self.flows = ap (λ (s : SlirpState). s.flows) c.close_unanswered.ensures.same ∙ ap (λ (s : SlirpState). s.flows) c.close_unused.ensures.same ∙ ap (λ (s : SlirpState). s.flows) c.drop_fragments.ensures.same in
+    let same : c.close_unanswered.new.self.flows ≡ c.tell_time.new.self.flows = ap (λ (s : SlirpState). s.flows) c.close_unanswered.ensures.same ∙ ap
+    (λ (s : SlirpState). s.flows) c.close_unused.ensures.same ∙ ap (λ (s : SlirpState). s.flows) c.drop_fragments.ensures.same in
     c.begin_turn.ensures.unserved k
-    (sym (ap (λ (f : Kept). slice_get f.served k) same ∙ ap (λ (l : List ℕ). slice_get l k) (c.tell_time.ensures.served ∙ c.tell_addresses.ensures.served)) ∙ served ∙ ap (λ (f : Kept). Some f.turn) same
+    (sym (ap (λ (f : Kept). slice_get f.served k) same ∙ ap (λ (l : List ℕ). slice_get l k) (c.tell_time.ensures.served ∙ c.tell_addresses.ensures.served)) ∙ served ∙ ap
+    (λ (f : Kept). Some f.turn) same
     ∙ ap Some (c.tell_time.ensures.turn ∙ c.tell_addresses.ensures.turn))
 
 pub returns-clause-fresh : goal.returns-clause-fresh
 returns-clause-fresh g c =
-    subst (λ (s : SlirpState). AreFresh s.moment s.fragments) (sym c.close_unanswered.ensures.same) (subst (λ (s : SlirpState). AreFresh s.moment s.fragments) (sym c.close_unused.ensures.same) c.drop_fragments.ensures.fresh)
+    subst (λ (s : SlirpState). AreFresh s.moment s.fragments) (sym c.close_unanswered.ensures.same) (subst (λ (s : SlirpState). AreFresh s.moment s.fragments)
+    (sym c.close_unused.ensures.same) c.drop_fragments.ensures.fresh)

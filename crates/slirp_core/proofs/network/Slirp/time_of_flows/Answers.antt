@@ -16,14 +16,16 @@ returns-in_err-due-clause-suits c =
     let i = c.self.inside in
     subst (λ (s : SlirpState). Suits s c.args.blocked c.from_residual.result) c.self.view_is
     (λ config before past holds.
-    suits_due config i.moment c.args.blocked i.flows.flows.slots past None c.from_residual.result c.from_residual.ensures (c.in_err-due.ensures.for_some config before past holds) (c.in_err-due.ensures.in_time config before true past holds) (c.in_err-due.ensures.rests config before past holds))
+    suits_due config i.moment c.args.blocked i.flows.flows.slots past None c.from_residual.result c.from_residual.ensures (c.in_err-due.ensures.for_some config before past holds)
+    (c.in_err-due.ensures.in_time config before true past holds) (c.in_err-due.ensures.rests config before past holds))
 
 pub returns-clause-suits : goal.returns-clause-suits
 returns-clause-suits c =
     let i = c.self.inside in
     subst (λ (s : SlirpState). Suits s c.args.blocked (Some c.saturating_sub.result)) c.self.view_is
     (λ config before past holds.
-    suits_due config i.moment c.args.blocked i.flows.flows.slots past (Some c.in_ok-due.due) (Some c.saturating_sub.result) (ap Some c.saturating_sub.ensures) (c.in_ok-due.ensures.for_some config before past holds)
+    suits_due config i.moment c.args.blocked i.flows.flows.slots past (Some c.in_ok-due.due) (Some c.saturating_sub.result) (ap Some c.saturating_sub.ensures)
+    (c.in_ok-due.ensures.for_some config before past holds)
     (c.in_ok-due.ensures.in_time config before true past holds) (c.in_ok-due.ensures.rests config before past holds))
 
 -- where the link is blocked and the first is due already
@@ -33,7 +35,8 @@ returns-in_err-later-clause-suits c =
     let i = c.self.inside in
     subst (λ (s : SlirpState). Suits s c.args.blocked c.from_residual-in_err-later.result) c.self.view_is
     (λ config before past holds.
-    suits_after config i.moment c.args.blocked i.flows.flows.slots past None c.from_residual-in_err-later.result c.from_residual-in_err-later.ensures (c.in_err-later.ensures.for_some config before past holds) c.if-blocked.true
+    suits_after config i.moment c.args.blocked i.flows.flows.slots past None c.from_residual-in_err-later.result c.from_residual-in_err-later.ensures
+    (c.in_err-later.ensures.for_some config before past holds) c.if-blocked.true
     (c.in_err-later.ensures.in_time config before true past holds) (c.in_err-later.ensures.rests config before past holds))
 
 pub returns-then-due-self-clause-suits : goal.returns-then-due-self-clause-suits
@@ -41,5 +44,6 @@ returns-then-due-self-clause-suits c =
     let i = c.self.inside in
     subst (λ (s : SlirpState). Suits s c.args.blocked (Some (c.in_ok-later.later - i.moment))) c.self.view_is
     (λ config before past holds.
-    suits_after config i.moment c.args.blocked i.flows.flows.slots past (Some c.in_ok-later.later) (Some (c.in_ok-later.later - i.moment)) refl (c.in_ok-later.ensures.for_some config before past holds) c.if-blocked.true
+    suits_after config i.moment c.args.blocked i.flows.flows.slots past (Some c.in_ok-later.later) (Some (c.in_ok-later.later - i.moment)) refl
+    (c.in_ok-later.ensures.for_some config before past holds) c.if-blocked.true
     (c.in_ok-later.ensures.in_time config before true past holds) (c.in_ok-later.ensures.rests config before past holds))

@@ -16,6 +16,21 @@ returns c =
     let i = c.self.inside in
     let on = (coming_of c.args.came.now).on in
     let pending : c.put_segment.new.self ≡ frames_of old.config old.sent (reset_for on ∷ []) =
-    reset_frames old.config old.sent on (tcp_of c.reset_for-reset.result) c.course-course.result c.put_segment.new.self c.reset_for-reset.ensures c.course-course.ensures.course c.put_segment.ensures in
-    ap (λ (p : List (List ℕ)). record { config = i.policy; known = i.guests; sent = i.sent; pending = p; moment = i.moment; number = i.number; associations = i.associations.list; questions = i.questions.list; fragments = i.reasm; flows = i.flows; leases = i.leases.leases; forwards = i.forwards; transfers = i.files.transfers }) pending
+    reset_frames old.config old.sent on (tcp_of c.reset_for-reset.result) c.course-course.result c.put_segment.new.self c.reset_for-reset.ensures c.course-course.ensures.course
+    c.put_segment.ensures in
+    ap (λ (p : List (List ℕ)). record {
+      config = i.policy;
+      known = i.guests;
+      sent = i.sent;
+      pending = p;
+      moment = i.moment;
+      number = i.number;
+      associations = i.associations.list;
+      questions = i.questions.list;
+      fragments = i.reasm;
+      flows = i.flows;
+      leases = i.leases.leases;
+      forwards = i.forwards;
+      transfers = i.files.transfers;
+    }) pending
     ∙ ap (λ (s : SlirpState). record s { pending = frames_of old.config old.sent (reset_for on ∷ []) }) c.self.view_is

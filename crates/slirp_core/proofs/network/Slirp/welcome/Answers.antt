@@ -46,8 +46,16 @@ accept-requires-clause-count g c = let few = c.self.invariant.3.opened in let nu
 
 pub invariant_of-self : goal.invariant_of-self
 invariant_of-self g c =
-    let i = c.self.inside in
-    (below_up i.number i.associations.list c.self.invariant.0, c.self.invariant.1, c.self.invariant.2, drawn_up i.number (i.number + 1) i.flows (omega arith) c.self.invariant.3, c.self.invariant.4, c.self.invariant.5, asked_up i.number (i.number + 1) i.policy i.questions (omega arith) c.self.invariant.6, c.self.invariant.7)
+    let i = c.self.inside in (
+      below_up i.number i.associations.list c.self.invariant.0,
+      c.self.invariant.1,
+      c.self.invariant.2,
+      drawn_up i.number (i.number + 1) i.flows (omega arith) c.self.invariant.3,
+      c.self.invariant.4,
+      c.self.invariant.5,
+      asked_up i.number (i.number + 1) i.policy i.questions (omega arith) c.self.invariant.6,
+      c.self.invariant.7,
+    )
 
 pub returns-in_default-clause-closes : goal.returns-in_default-clause-closes
 returns-in_default-clause-closes g c = makes_one _ _ _ _ c.close.ensures (λ allowed. (true, ap (λ (s : SlirpState). Close s.number ∷ []) c.self.view_is))

@@ -17,5 +17,6 @@ invariant_of-self c =
       omega (arith, count, long, whole, sum),
       omega (arith, long),
       λ is. cc,
-      begun_in_parts c.args.read c.args.write c.args.listeners.now sockets c.begin-self-inside.result (length c.items.result.now) begun c.add_wanted.new.wants.items c.begin-self-inside.ensures.items all count long,
+      begun_in_parts c.args.read c.args.write c.args.listeners.now sockets c.begin-self-inside.result
+          (length c.items.result.now) begun c.add_wanted.new.wants.items c.begin-self-inside.ensures.items all count long,
     )

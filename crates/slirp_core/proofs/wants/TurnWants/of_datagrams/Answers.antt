@@ -16,4 +16,5 @@ returns-clause-part c =
 pub returns-clause-all : goal.returns-clause-all
 returns-clause-all c =
     let i = c.self.inside in
-    ap (λ l. take (i.before - i.front) (drop i.front l)) c.items.ensures ∙ middle_is i.front i.before i.list.items c.self.invariant.4 ∙ ap (λ (l : Listing). filter is_of_datagrams l.items) c.self.view_is
+    ap (λ l. take (i.before - i.front) (drop i.front l)) c.items.ensures ∙ middle_is i.front i.before i.list.items c.self.invariant.4 ∙ ap
+    (λ (l : Listing). filter is_of_datagrams l.items) c.self.view_is

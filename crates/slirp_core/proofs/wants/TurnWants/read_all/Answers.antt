@@ -24,8 +24,10 @@ returns-then-are_same-4-clause-few c =
     let forwards = sym c.as_slice-then-are_same.ensures.value ∙ c.are_same-then-are_same.ensures c.if-are_same-2.true in
     let some = sym c.as_slice-then-are_same-2.ensures.value ∙ c.are_same-then-are_same-2.ensures c.if-are_same-3.true in
     let others = sym c.as_slice-then-are_same-3.ensures.value ∙ c.are_same-then-are_same-3.ensures c.if-are_same-4.true in
-    let same = same_rows i.listeners.items i.forwards.items i.associations.items i.questions.items c.args.listeners.now carriers.forwards.now carriers.associations.now carriers.questions.now listeners forwards some others in
-    few_read c.truncate.new.self.items c.args.listeners.now carriers.forwards.now carriers.associations.now carriers.questions.now (c.truncate.ensures.items ∙ c.self.invariant.3 c.if-self.true ∙ same) c.requires.few c.requires.most.0 c.requires.most.1
+    let same = same_rows i.listeners.items i.forwards.items i.associations.items i.questions.items c.args.listeners.now carriers.forwards.now carriers.associations.now
+    carriers.questions.now listeners forwards some others in
+    few_read c.truncate.new.self.items c.args.listeners.now carriers.forwards.now carriers.associations.now carriers.questions.now
+    (c.truncate.ensures.items ∙ c.self.invariant.3 c.if-self.true ∙ same) c.requires.few c.requires.most.0 c.requires.most.1
 
 pub invariant_of-self : goal.invariant_of-self
 invariant_of-self c =

@@ -11,7 +11,8 @@ use Rattle.tcp_flows.proofs.Joining.{welcomes_again, welcomes_of}
 use Rattle.tcp_flows.proofs.flows.TcpFlows.accept.Goals as goal
 
 pub seat-requires-clause-room : goal.seat-requires-clause-room
-seat-requires-clause-room c = subst (λ n. n < length c.make_way.new.self.flows.table.slots) (sym c.make_way.ensures.room) (subst (λ n. in_use_slots c.args.self.now.flows.table.slots < n) (sym c.make_way.ensures.slots) c.requires.room)
+seat-requires-clause-room c = subst (λ n. n < length c.make_way.new.self.flows.table.slots) (sym c.make_way.ensures.room)
+    (subst (λ n. in_use_slots c.args.self.now.flows.table.slots < n) (sym c.make_way.ensures.slots) c.requires.room)
 
 pub seat-requires-clause-above : goal.seat-requires-clause-above
 seat-requires-clause-above c k p here =
@@ -23,7 +24,8 @@ seat-requires-clause-count c = subst (λ n. n + 1 < 18446744073709551616) (sym c
 
 pub seat-requires-clause-new : goal.seat-requires-clause-new
 seat-requires-clause-new c =
-    subst (λ n. HasBuffers c.called-conn.result (empty n) (downward [] 0 n)) (ap (λ (s : Kept). s.ring) c.self.view_is ∙ sym (ap (λ (s : Kept). s.ring) c.make_way.ensures.same)) c.called-conn.ensures.buffers
+    subst (λ n. HasBuffers c.called-conn.result (empty n) (downward [] 0 n)) (ap (λ (s : Kept). s.ring) c.self.view_is ∙ sym (ap (λ (s : Kept). s.ring) c.make_way.ensures.same))
+    c.called-conn.ensures.buffers
 
 pub returns-clause-welcomes : goal.returns-clause-welcomes
 returns-clause-welcomes c =

@@ -22,9 +22,12 @@ returns-clause-for_some c config before past holds = by c.due_after.result (retu
     by (Some at) is =
         let some = is.some in
         from_part config before true None c.args.self.now.flows past holds refl
-        (same_slots c.self.inside.slots.items c.args.self.now.flows.table.slots c.args.self.now.flows.slots (sym (ap (λ (s : Kept). s.flows.table.slots) c.self.view_is) ∙ c.self.invariant.0.slots_are) (ap (λ (s : Kept). s.flows.slots) c.self.view_is)) at
+        (same_slots c.self.inside.slots.items c.args.self.now.flows.table.slots c.args.self.now.flows.slots (sym (ap (λ (s : Kept). s.flows.table.slots) c.self.view_is)
+        ∙ c.self.invariant.0.slots_are) (ap (λ (s : Kept). s.flows.slots) c.self.view_is)) at
         some.0 some.1 some.2 some.3
 
 pub returns-clause-rests : goal.returns-clause-rests
 returns-clause-rests c config before past holds once =
-    rests_later config before None c.args.self.now.flows past holds (same_slots c.self.inside.slots.items c.args.self.now.flows.table.slots c.args.self.now.flows.slots (sym (ap (λ (s : Kept). s.flows.table.slots) c.self.view_is) ∙ c.self.invariant.0.slots_are) (ap (λ (s : Kept). s.flows.slots) c.self.view_is)) once c.args.now c.due_after.result (returns-clause-next c)
+    rests_later config before None c.args.self.now.flows past holds (same_slots c.self.inside.slots.items c.args.self.now.flows.table.slots c.args.self.now.flows.slots
+    (sym (ap (λ (s : Kept). s.flows.table.slots) c.self.view_is) ∙ c.self.invariant.0.slots_are) (ap (λ (s : Kept). s.flows.slots) c.self.view_is)) once c.args.now
+    c.due_after.result (returns-clause-next c)

@@ -26,8 +26,10 @@ returns-in_default-clause-unused c is = none_used_is _ c.args.ends.now (subst (�
 pub returns-in_default-clause-recorded : goal.returns-in_default-clause-recorded
 returns-in_default-clause-recorded c config now aged task past holds =
     let parts = c.self.inside.slots.items in
-    let sizes = subst (λ (s : Kept). length s.flows.slots ≡ length s.flows.table.slots) c.self.view_is (length-map parts part_of ∙ sym (length-map parts slot_of) ∙ sym (ap length c.self.invariant.0.slots_are)) in
-    sym (none_recorded config now aged task c.args.self.now.flows past holds sizes c.args.ends.now (subst (λ (s : Kept). NoneHas s.flows.table.slots c.args.ends.now) c.self.view_is c.in_default.ensures.none))
+    let sizes = subst (λ (s : Kept). length s.flows.slots ≡ length s.flows.table.slots) c.self.view_is (length-map parts part_of ∙ sym (length-map parts slot_of) ∙ sym
+    (ap length c.self.invariant.0.slots_are)) in
+    sym (none_recorded config now aged task c.args.self.now.flows past holds sizes c.args.ends.now
+    (subst (λ (s : Kept). NoneHas s.flows.table.slots c.args.ends.now) c.self.view_is c.in_default.ensures.none))
 
 pub returns-clause-used : goal.returns-clause-used
 returns-clause-used c is =
@@ -36,8 +38,11 @@ returns-clause-used c is =
     let back = tuple_back table.slots parts c.self.invariant.0.slots_are c.in-Some.slot c.args.ends.now c.in-Some.ensures.found in
     let read = read_here parts c.in-Some.slot back.0 c.index.result.now back.1 c.index.ensures in
     let slot = slot_raw table parts c.self.invariant.0.slots_are c.in-Some.slot back.0 back.1 ∙ ap (λ (t : Tuple). Some (slot_at back.0.place t)) back.3 in
-    let used = sym (ap (λ (x : Splice). is_in_use x.place) read) ∙ sym (ap is_in_use c.place.ensures) ∙ sym c.is_in_use.ensures ∙ is in
-    (c.in-Some.slot, subst (λ (s : Kept). slice_get s.flows.table.slots c.in-Some.slot ≡ Some (SlotInUse c.args.ends.now)) c.self.view_is (use_found table.slots c.args.ends.now c.in-Some.slot back.0.place slot used))
+    let used = sym (ap (λ (x : Splice). is_in_use x.place) read) ∙ sym (ap is_in_use c.place.ensures) ∙ sym c.is_in_use.ensures ∙ is in (
+      c.in-Some.slot,
+      subst (λ (s : Kept). slice_get s.flows.table.slots c.in-Some.slot ≡ Some (SlotInUse c.args.ends.now)) c.self.view_is
+          (use_found table.slots c.args.ends.now c.in-Some.slot back.0.place slot used),
+    )
 
 pub returns-clause-unused : goal.returns-clause-unused
 returns-clause-unused c is =
@@ -56,7 +61,8 @@ returns-clause-recorded c config now aged task past holds =
     let back = tuple_back table.slots parts c.self.invariant.0.slots_are c.in-Some.slot c.args.ends.now c.in-Some.ensures.found in
     let read = read_here parts c.in-Some.slot back.0 c.index.result.now back.1 c.index.ensures in
     let slot = slot_raw table parts c.self.invariant.0.slots_are c.in-Some.slot back.0 back.1 ∙ ap (λ (t : Tuple). Some (slot_at back.0.place t)) back.3 in
-    let sizes = subst (λ (s : Kept). length s.flows.slots ≡ length s.flows.table.slots) c.self.view_is (length-map parts part_of ∙ sym (length-map parts slot_of) ∙ sym (ap length c.self.invariant.0.slots_are)) in
+    let sizes = subst (λ (s : Kept). length s.flows.slots ≡ length s.flows.table.slots) c.self.view_is (length-map parts part_of ∙ sym (length-map parts slot_of) ∙ sym
+    (ap length c.self.invariant.0.slots_are)) in
     c.is_in_use.ensures ∙ ap is_in_use (c.place.ensures ∙ ap (λ (x : Splice). x.place) read)
     ∙ use_recorded config now aged task c.args.self.now.flows past holds sizes c.args.ends.now c.in-Some.slot back.0.place
     (subst (λ (s : Kept). slice_get s.flows.table.slots c.in-Some.slot ≡ Some (slot_at back.0.place c.args.ends.now)) c.self.view_is slot) back.2

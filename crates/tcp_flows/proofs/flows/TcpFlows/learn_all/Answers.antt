@@ -27,7 +27,8 @@ loop-slot-preserved c =
     let at = has_at c.loop-slot.self.flows.slots c.loop-slot.slot (omega (arith, long, slots, c.loop-slot-test.true)) in
     record {
       learns = learns_then c.args.guests.now c.args.self.now c.loop-slot.self c.learn_slot.new.self kept.learns c.learn_slot.ensures.learns;
-      below = learnt_next c.args.guests.now c.loop-slot.slot c.args.self.now.flows.slots c.loop-slot.self.flows.slots c.learn_slot.new.self.flows.slots at.0 at.1 (c.learn_slot.ensures.parts at.0 at.1) kept.below;
+      below = learnt_next c.args.guests.now c.loop-slot.slot c.args.self.now.flows.slots c.loop-slot.self.flows.slots c.learn_slot.new.self.flows.slots at.0 at.1
+          (c.learn_slot.ensures.parts at.0 at.1) kept.below;
       stays = stays_then c.args.self.now c.loop-slot.self c.learn_slot.new.self kept.stays c.learn_slot.ensures.stays;
       same = c.learn_slot.ensures.same ∙ ap (λ (s : Kept). with_flows c.learn_slot.new.self.flows c.learn_slot.new.self.owing s) kept.same;
     }
@@ -37,7 +38,8 @@ returns-clause-learnt c =
     let kept = c.loop-slot.invariant in
     let long = kept.stays.slots in
     let slots = c.len-slot-end.ensures ∙ c.self.inside.slots.ok.0 ∙ sym (length-map c.self.inside.slots.items part_of) ∙ ap (λ (s : Kept). length s.flows.slots) c.self.view_is in
-    learnt_whole c.args.guests.now c.loop-slot.slot c.args.self.now.flows.slots c.loop-slot.self.flows.slots (omega (arith, slots, c.loop-slot-test.false)) (omega (arith, long, slots, c.loop-slot-test.false)) kept.below
+    learnt_whole c.args.guests.now c.loop-slot.slot c.args.self.now.flows.slots c.loop-slot.self.flows.slots (omega (arith, slots, c.loop-slot-test.false))
+    (omega (arith, long, slots, c.loop-slot-test.false)) kept.below
 
 pub returns-clause-learns : goal.returns-clause-learns
 returns-clause-learns c = c.loop-slot.invariant.learns

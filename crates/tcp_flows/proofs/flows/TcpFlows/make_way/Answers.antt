@@ -32,7 +32,8 @@ returns-clause-way c =
     let parts = c.self.inside.slots.items in
     let k : ℕ = c.in-Some.slot in
     let back = tuple_back c.self.inside.rows.table.slots parts c.self.invariant.0.slots_are k c.args.ends.now c.in-Some.ensures.found in
-    let rests = rests_only c.args.self.now.flows.table.slots c.args.ends.now k (subst (λ (s : Kept). HasTuple s.flows.table.slots k c.args.ends.now) c.self.view_is c.in-Some.ensures.found) c.requires.unused in
+    let rests = rests_only c.args.self.now.flows.table.slots c.args.ends.now k
+    (subst (λ (s : Kept). HasTuple s.flows.table.slots k c.args.ends.now) c.self.view_is c.in-Some.ensures.found) c.requires.unused in
     inr (
       k,
       back.0,

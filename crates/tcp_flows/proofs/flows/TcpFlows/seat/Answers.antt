@@ -74,7 +74,8 @@ begin-requires-clause-rows c =
       parts,
       taken.0,
       table,
-      joins_are table parts c.self.invariant.0.slots_are c.in-Some.slot c.in-Some.ensures.which c.start.new.self c.args.number c.args.ends.now (ap is_open begins) (ap number_of begins) (ap (λ (x : Splice). ends_of x.face) begins) none
+      joins_are table parts c.self.invariant.0.slots_are c.in-Some.slot c.in-Some.ensures.which c.start.new.self c.args.number c.args.ends.now (ap is_open begins)
+          (ap number_of begins) (ap (λ (x : Splice). ends_of x.face) begins) none
           (λ k p at open_yet. c.requires.above k p (seen_open parts k p _ (ap (λ (s : Kept). s.flows.slots) c.self.view_is) at open_yet).here),
       roomy parts table.slots c.self.inside.rows.sockets.room c.self.invariant.0.slots_are c.self.invariant.1 room,
       c.self.invariant.0,
@@ -98,14 +99,17 @@ invariant_of-self-2 c =
     let is = read_here parts c.in-Some.slot taken.0 c.index_mut-part.result.now taken.1 c.index_mut-part.ensures.value in
     let none = subst (λ (s : Kept). NoneHas s.flows.table.slots c.args.ends.now) (sym c.self.view_is) c.requires.none in
     let joins =
-    joins_are table parts c.self.invariant.0.slots_are c.in-Some.slot c.in-Some.ensures.which q c.args.number c.args.ends.now (ap is_open begins) (ap number_of begins) (ap (λ (x : Splice). ends_of x.face) begins) none
+    joins_are table parts c.self.invariant.0.slots_are c.in-Some.slot c.in-Some.ensures.which q c.args.number c.args.ends.now (ap is_open begins) (ap number_of begins)
+    (ap (λ (x : Splice). ends_of x.face) begins) none
     (λ k p at open_yet. c.requires.above k p (seen_open parts k p _ (ap (λ (s : Kept). s.flows.slots) c.self.view_is) at open_yet).here) in (
       c.begin.ensures.rows parts taken.0 table joins (c.in-Some.ensures.taken ∙ ap (with_slot table c.in-Some.slot) (sym (ap (λ (x : Splice). slot_of x) begins))) c.self.invariant.0,
       c.begin.ensures.room ∙ c.self.invariant.1 ∙ sym (length-set parts c.in-Some.slot q),
       begun_ours c.self.inside.sizes.ring c.self.inside.sizes.mru c.self.inside.sizes.vhost.0 parts c.self.invariant.2 c.in-Some.slot taken.0 q taken.1
-          (ap (λ (x : Splice). x.up.size) begins ∙ ap (λ (x : Splice). x.up.size) is) (ap (λ (x : Splice). x.down.size) begins ∙ ap (λ (x : Splice). x.down.size) is) (ap (λ (x : Splice). x.mru) begins ∙ ap (λ (x : Splice). x.mru) is)
+          (ap (λ (x : Splice). x.up.size) begins ∙ ap (λ (x : Splice). x.up.size) is) (ap (λ (x : Splice). x.down.size) begins ∙ ap (λ (x : Splice). x.down.size) is)
+          (ap (λ (x : Splice). x.mru) begins ∙ ap (λ (x : Splice). x.mru) is)
           (ap (λ (x : Splice). x.face.vhost.0) begins),
-      begun_served c.self.inside.turn c.self.inside.served.items parts c.self.invariant.3 c.in-Some.slot taken.0 q taken.1 (ap (λ (x : Splice). x.up.written) begins) (ap (λ (x : Splice). octets_read x.down) begins),
+      begun_served c.self.inside.turn c.self.inside.served.items parts c.self.invariant.3 c.in-Some.slot taken.0 q taken.1 (ap (λ (x : Splice). x.up.written) begins)
+          (ap (λ (x : Splice). octets_read x.down) begins),
       c.self.invariant.4,
       c.self.invariant.5,
     )
@@ -134,7 +138,8 @@ returns-clause-seat c =
       mac_is = ap (λ (x : Splice). x.mac) begins;
       unasked = ap (λ (x : Splice). x.asked) begins;
       seated = flows_as (c.begin.ensures.table ∙ c.in-Some.ensures.taken) (set parts k q) (opened + 1)
-          ∙ ap (λ l. record { table = with_slot table k (SlotInUse c.args.ends.now); slots = l; opened = opened + 1 }) (map-set part_of parts k q ∙ ap (λ x. set (map part_of parts) k (part_at x q)) (ap (λ (x : Splice). x.place) begins))
+          ∙ ap (λ l. record { table = with_slot table k (SlotInUse c.args.ends.now); slots = l; opened = opened + 1 })
+          (map-set part_of parts k q ∙ ap (λ x. set (map part_of parts) k (part_at x q)) (ap (λ (x : Splice). x.place) begins))
           ∙ ap (λ (s : Kept). record { table = with_slot s.flows.table k (SlotInUse c.args.ends.now); slots = set s.flows.slots k (Some q); opened = s.flows.opened + 1 }) view;
       connects = λ config syn ours_first most for_it some most_is conn_is.
           let its = subst (IsFor config) (sym view) for_it in
@@ -161,4 +166,5 @@ pub returns-clause-numbers : goal.returns-clause-numbers
 returns-clause-numbers c =
     let parts = c.self.inside.slots.items in
     let taken = taken_unused c.self.inside.rows.table parts c.self.invariant.0.slots_are c.in-Some.slot c.in-Some.ensures.which in
-    begun_numbers c.args.number c.args.self.now.flows.slots parts c.in-Some.slot taken.0 c.start.new.self (ap (λ (s : Kept). s.flows.slots) c.self.view_is) taken.1 (ap number_of c.start.ensures.begins)
+    begun_numbers c.args.number c.args.self.now.flows.slots parts c.in-Some.slot taken.0 c.start.new.self (ap (λ (s : Kept). s.flows.slots) c.self.view_is) taken.1
+    (ap number_of c.start.ensures.begins)

@@ -33,7 +33,8 @@ guest_segment-requires-clause-few g c =
     let raw = raw_here parts c.args.slot o.0 (ap (λ (s : Kept). slice_get s.flows.slots c.args.slot) c.self.view_is ∙ o.1) in
     let some = raw_placed parts c.args.slot o.0 (ap (λ (s : Kept). slice_get s.flows.slots c.args.slot) c.self.view_is ∙ o.1) in
     let few = may_take c.self.inside.turn c.self.inside.served.items parts c.self.invariant.3 c.args.slot o.0 raw some c.self.invariant.5 (length c.args.segment.now.body.now) c.requires.body in
-    subst (λ (x : Splice). x.up.written + length c.args.segment.now.body.now + 2097152 < 4611686018427387904) (sym (read_here parts c.args.slot o.0 c.index_mut-part.result.now raw c.index_mut-part.ensures.value)) few
+    subst (λ (x : Splice). x.up.written + length c.args.segment.now.body.now + 2097152 < 4611686018427387904)
+    (sym (read_here parts c.args.slot o.0 c.index_mut-part.result.now raw c.index_mut-part.ensures.value)) few
 
 pub follow-requires-clause-some : goal.follow-requires-clause-some
 follow-requires-clause-some g c =
@@ -92,7 +93,8 @@ returns-clause-makes g c p here =
     let table_then = rested_table c.renews.result tcp c.args.now parts c.args.slot p _ q _ _ r c.renews.ensures rest.moves table _ c.self.invariant.0.slots_are c.follow.ensures.table in
     makes_quiet (c.guest_segment.ensures.quiet (ap is_open r.is ∙ rest_shut p rest.since rest.rests)) _
     (hears_rested c.args.now table parts c.self.inside.opened c.args.self.now _ (sym (ap (λ (s : Kept). s.flows) view)) c.self.invariant.0.slots_are c.self.invariant.0.kept c.args.slot p q r.at r.some
-    (λ config. settings_as view refl) as_old tcp c.acknowledgement-acknowledgement.ensures.bits rest.since rest.rests rest.heard (flows_as table_then (set parts c.args.slot q) c.self.inside.opened) c.taken_at.result
+    (λ config. settings_as view refl) as_old tcp c.acknowledgement-acknowledgement.ensures.bits rest.since rest.rests rest.heard
+    (flows_as table_then (set parts c.args.slot q) c.self.inside.opened) c.taken_at.result
     (λ empty. c.taken_at.ensures.left (c.place.ensures ∙ empty)) (λ placed. c.taken_at.ensures.stays (λ empty. placed (sym c.place.ensures ∙ empty))))
 
 pub returns-clause-none : goal.returns-clause-none
@@ -108,8 +110,10 @@ returns-clause-none g c p here alone =
     let at_rest = subst (λ (x : Splice). is_at_rest x.place ≡ true) (same_part o.0 p (sym o.1 ∙ here)) o.2 in
     let rest = rested c.renews.result tcp c.args.now parts c.args.slot p _ q _ _ r c.renews.ensures at_rest c.guest_segment.ensures.rests in
     let table_then = rested_table c.renews.result tcp c.args.now parts c.args.slot p _ q _ _ r c.renews.ensures rest.moves table _ c.self.invariant.0.slots_are c.follow.ensures.table in
-    let gone = alone_left q.place c.taken_at.result (λ empty. c.taken_at.ensures.left (c.place.ensures ∙ empty)) (λ placed. c.taken_at.ensures.stays (λ empty. placed (sym c.place.ensures ∙ empty))) alone in
-    subst (λ (t : Flows). NoneHas t.slots (ends_of p.face)) (sym table_then) (none_after table parts c.self.invariant.0.slots_are c.self.invariant.0.kept c.args.slot p q r.at rest.since rest.rests gone (renews tcp))
+    let gone = alone_left q.place c.taken_at.result (λ empty. c.taken_at.ensures.left (c.place.ensures ∙ empty))
+    (λ placed. c.taken_at.ensures.stays (λ empty. placed (sym c.place.ensures ∙ empty))) alone in
+    subst (λ (t : Flows). NoneHas t.slots (ends_of p.face)) (sym table_then)
+    (none_after table parts c.self.invariant.0.slots_are c.self.invariant.0.kept c.args.slot p q r.at rest.since rest.rests gone (renews tcp))
 
 pub returns-clause-stays : goal.returns-clause-stays
 returns-clause-stays g c =
@@ -117,5 +121,6 @@ returns-clause-stays g c =
     let parts = c.self.inside.slots.items in
     let r = reached parts c.args.slot _ o.0 c.index_mut-part.result.now _ _ (ap (λ (s : Kept). s.flows.slots) c.self.view_is) o.1
     c.index_mut-part.ensures.value c.of-before.ensures.place c.of-before.ensures.open in
-    stays_set c.args.self.now _ parts c.args.slot o.0 c.guest_segment.new.self (ap (λ (s : Kept). s.flows.slots) c.self.view_is) r.at r.some (c.guest_segment.ensures.stays.same.face ∙ ap (λ (x : Splice). x.face) r.is) refl
+    stays_set c.args.self.now _ parts c.args.slot o.0 c.guest_segment.new.self (ap (λ (s : Kept). s.flows.slots) c.self.view_is) r.at r.some
+    (c.guest_segment.ensures.stays.same.face ∙ ap (λ (x : Splice). x.face) r.is) refl
     (ap (λ (s : Kept). s.flows.opened) c.self.view_is)

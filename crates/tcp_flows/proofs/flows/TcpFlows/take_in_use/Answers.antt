@@ -35,7 +35,8 @@ guest_segment-unfit-requires-clause-few g c =
     let raw = raw_here parts c.args.slot o.0 (ap (λ (s : Kept). slice_get s.flows.slots c.args.slot) c.self.view_is ∙ o.1) in
     let some = raw_placed parts c.args.slot o.0 (ap (λ (s : Kept). slice_get s.flows.slots c.args.slot) c.self.view_is ∙ o.1) in
     let few = may_take c.self.inside.turn c.self.inside.served.items parts c.self.invariant.3 c.args.slot o.0 raw some c.self.invariant.5 (length c.args.segment.now.body.now) c.requires.body in
-    subst (λ (x : Splice). x.up.written + length c.args.segment.now.body.now + 2097152 < 4611686018427387904) (sym (read_here parts c.args.slot o.0 c.index_mut-part.result.now raw c.index_mut-part.ensures.value)) few
+    subst (λ (x : Splice). x.up.written + length c.args.segment.now.body.now + 2097152 < 4611686018427387904)
+    (sym (read_here parts c.args.slot o.0 c.index_mut-part.result.now raw c.index_mut-part.ensures.value)) few
 
 pub follow-requires-clause-rows : goal.follow-requires-clause-rows
 follow-requires-clause-rows g c =
@@ -70,7 +71,8 @@ invariant_of-self g c =
     c.index_mut-part.ensures.value c.of-before.ensures.place c.of-before.ensures.open in
     let used = in_use_is o.0 o.2 in
     let as_old = subst (λ (x : Splice). IsAsOld x q) r.is c.guest_segment-unfit.ensures.stays.same in
-    let moves = used_moves o.0 q used as_old.face (λ shut. c.guest_segment-unfit.ensures.closed (ap is_open r.is ∙ shut) (used_awake c.index_mut-part.result.now (ap (λ (x : Splice). x.place) r.is ∙ used)) ∙ r.is) in (
+    let moves = used_moves o.0 q used as_old.face (λ shut. c.guest_segment-unfit.ensures.closed (ap is_open r.is ∙ shut)
+    (used_awake c.index_mut-part.result.now (ap (λ (x : Splice). x.place) r.is ∙ used)) ∙ r.is) in (
       c.follow.ensures.rows parts o.0 r.at r.place_is r.open_is moves c.self.invariant.0,
       c.follow.ensures.room ∙ c.self.invariant.1 ∙ sym (length-set parts c.args.slot q),
       ours_as_old c.self.inside.sizes.ring c.self.inside.sizes.mru c.self.inside.sizes.vhost.0 parts c.self.invariant.2 c.args.slot o.0 r.at q r.some as_old,
@@ -91,7 +93,8 @@ returns-clause-makes g c p here =
     let o = c.requires.slot in
     let used = in_use_is p (subst (λ (x : Splice). is_in_use x.place ≡ true) (same_part o.0 p (sym o.1 ∙ here)) o.2) in
     let as_old = subst (λ (x : Splice). IsAsOld x q) r.is c.guest_segment-unfit.ensures.stays.same in
-    let moves = used_moves p q used as_old.face (λ shut. c.guest_segment-unfit.ensures.closed (ap is_open r.is ∙ shut) (used_awake c.index_mut-part.result.now (ap (λ (x : Splice). x.place) r.is ∙ used)) ∙ r.is) in
+    let moves = used_moves p q used as_old.face (λ shut. c.guest_segment-unfit.ensures.closed (ap is_open r.is ∙ shut)
+    (used_awake c.index_mut-part.result.now (ap (λ (x : Splice). x.place) r.is ∙ used)) ∙ r.is) in
     let slot = slot_raw table parts c.self.invariant.0.slots_are c.args.slot p r.at in
     let has = has_tuple false table c.args.slot p q moves r.some slot in
     let table_then = c.follow.ensures.table (ends_of p.face) has ∙ table_is r.place_is false q.place c.args.slot (ends_of p.face) table in
@@ -108,5 +111,6 @@ returns-clause-stays g c =
     let parts = c.self.inside.slots.items in
     let r = reached parts c.args.slot _ o.0 c.index_mut-part.result.now _ _ (ap (λ (s : Kept). s.flows.slots) c.self.view_is) o.1
     c.index_mut-part.ensures.value c.of-before.ensures.place c.of-before.ensures.open in
-    stays_set c.args.self.now _ parts c.args.slot o.0 c.guest_segment-unfit.new.self (ap (λ (s : Kept). s.flows.slots) c.self.view_is) r.at r.some (c.guest_segment-unfit.ensures.stays.same.face ∙ ap (λ (x : Splice). x.face) r.is) refl
+    stays_set c.args.self.now _ parts c.args.slot o.0 c.guest_segment-unfit.new.self (ap (λ (s : Kept). s.flows.slots) c.self.view_is) r.at r.some
+    (c.guest_segment-unfit.ensures.stays.same.face ∙ ap (λ (x : Splice). x.face) r.is) refl
     (ap (λ (s : Kept). s.flows.opened) c.self.view_is)

@@ -31,28 +31,38 @@ pub take_in_use-requires-clause-slot : goal.take_in_use-requires-clause-slot
 take_in_use-requires-clause-slot g c =
     let parts = c.self.inside.slots.items in
     let back = tuple_back c.self.inside.rows.table.slots parts c.self.invariant.0.slots_are c.in-Some.slot c.args.ends.now c.in-Some.ensures.found in
-    let is = read_here parts c.in-Some.slot back.0 c.index.result.now back.1 c.index.ensures in
-    (back.0, seen_here parts c.in-Some.slot back.0 _ (ap (λ (s : Kept). s.flows.slots) c.self.view_is) back.1 back.2, sym (ap (λ (x : Splice). is_in_use x.place) is) ∙ sym (ap is_in_use c.in-InUse.ensures))
+    let is = read_here parts c.in-Some.slot back.0 c.index.result.now back.1 c.index.ensures in (
+      back.0,
+      seen_here parts c.in-Some.slot back.0 _ (ap (λ (s : Kept). s.flows.slots) c.self.view_is) back.1 back.2,
+      sym (ap (λ (x : Splice). is_in_use x.place) is) ∙ sym
+          (ap is_in_use c.in-InUse.ensures),
+    )
 
 pub take_at_rest-requires-clause-slot : goal.take_at_rest-requires-clause-slot
 take_at_rest-requires-clause-slot g c =
     let parts = c.self.inside.slots.items in
     let back = tuple_back c.self.inside.rows.table.slots parts c.self.invariant.0.slots_are c.in-Some.slot c.args.ends.now c.in-Some.ensures.found in
-    let is = read_here parts c.in-Some.slot back.0 c.index.result.now back.1 c.index.ensures in
-    (back.0, seen_here parts c.in-Some.slot back.0 _ (ap (λ (s : Kept). s.flows.slots) c.self.view_is) back.1 back.2, sym (ap (λ (x : Splice). is_at_rest x.place) is) ∙ sym (ap is_at_rest c.in-Resting.ensures))
+    let is = read_here parts c.in-Some.slot back.0 c.index.result.now back.1 c.index.ensures in (
+      back.0,
+      seen_here parts c.in-Some.slot back.0 _ (ap (λ (s : Kept). s.flows.slots) c.self.view_is) back.1 back.2,
+      sym (ap (λ (x : Splice). is_at_rest x.place) is) ∙ sym
+          (ap is_at_rest c.in-Resting.ensures),
+    )
 
 pub returns-in-InUse-clause-makes : goal.returns-in-InUse-clause-makes
 returns-in-InUse-clause-makes g c =
     let parts = c.self.inside.slots.items in
     let back = tuple_back c.self.inside.rows.table.slots parts c.self.invariant.0.slots_are c.in-Some.slot c.args.ends.now c.in-Some.ensures.found in
-    subst (λ t. Makes (g.W.World.tells c.args.world.now) (g.W.World.tells c.take_in_use.new.world) (Hears c.args.now c.args.self.now c.take_in_use.new.self t (tcp_of c.args.segment.now) c.take_in_use.result)) back.3
+    subst (λ t. Makes (g.W.World.tells c.args.world.now) (g.W.World.tells c.take_in_use.new.world) (Hears c.args.now c.args.self.now c.take_in_use.new.self t
+    (tcp_of c.args.segment.now) c.take_in_use.result)) back.3
     (c.take_in_use.ensures.makes back.0 (seen_here parts c.in-Some.slot back.0 _ (ap (λ (s : Kept). s.flows.slots) c.self.view_is) back.1 back.2))
 
 pub returns-in-Resting-clause-makes : goal.returns-in-Resting-clause-makes
 returns-in-Resting-clause-makes g c =
     let parts = c.self.inside.slots.items in
     let back = tuple_back c.self.inside.rows.table.slots parts c.self.invariant.0.slots_are c.in-Some.slot c.args.ends.now c.in-Some.ensures.found in
-    subst (λ t. Makes (g.W.World.tells c.args.world.now) (g.W.World.tells c.take_at_rest.new.world) (Hears c.args.now c.args.self.now c.take_at_rest.new.self t (tcp_of c.args.segment.now) c.take_at_rest.result)) back.3
+    subst (λ t. Makes (g.W.World.tells c.args.world.now) (g.W.World.tells c.take_at_rest.new.world) (Hears c.args.now c.args.self.now c.take_at_rest.new.self t
+    (tcp_of c.args.segment.now) c.take_at_rest.result)) back.3
     (c.take_at_rest.ensures.makes back.0 (seen_here parts c.in-Some.slot back.0 _ (ap (λ (s : Kept). s.flows.slots) c.self.view_is) back.1 back.2))
 
 pub returns-in-Resting-clause-none : goal.returns-in-Resting-clause-none

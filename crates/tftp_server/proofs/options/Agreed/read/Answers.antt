@@ -12,8 +12,11 @@ loop-pair-preserved c =
     let pair = pair_of c.in-Some.pair in
     let rest = c.loop-pair.rest.now in
     let found = sym c.first_pair.ensures.pair ∙ ap (option_map pair_of) c.in-Some.is in
-    let step = goes_on c.args.length (pair.0, pair.1) (options_of pair.2) c.loop-pair.agreed c.take.new.self c.if-not-take.ensures in
-    (sym (pairs_more rest pair found) ∙ c.loop-pair.invariant.0, sym step ∙ sym (ap (terms_from c.args.length c.loop-pair.agreed) (options_more rest pair found c.loop-pair.invariant.0)) ∙ c.loop-pair.invariant.1)
+    let step = goes_on c.args.length (pair.0, pair.1) (options_of pair.2) c.loop-pair.agreed c.take.new.self c.if-not-take.ensures in (
+      sym (pairs_more rest pair found) ∙ c.loop-pair.invariant.0,
+      sym step ∙ sym (ap (terms_from c.args.length c.loop-pair.agreed)
+          (options_more rest pair found c.loop-pair.invariant.0)) ∙ c.loop-pair.invariant.1,
+    )
 
 pub returns : goal.returns
 returns c =

@@ -14,10 +14,17 @@ pub invariant_of-self : goal.invariant_of-self
 invariant_of-self c =
     let s = c.self.inside in
     let new = not_among BlockSize s.size s.timeout s.answered.items c.args.self.now c.self.view_is c.requires in
-    let range = in_its_range 8 65464 c.in-Some.n c.args.value.now c.in-Some.ensures in
-    (omega (arith, range.0, c.min-size.ensures), omega (arith, c.min-size.ensures), c.self.invariant.2, rw c.push.ensures.items (once_push s.answered.items BlockSize c.min-size.result c.self.invariant.3 new), c.self.invariant.4)
+    let range = in_its_range 8 65464 c.in-Some.n c.args.value.now c.in-Some.ensures in (
+      omega (arith, range.0, c.min-size.ensures),
+      omega (arith, c.min-size.ensures),
+      c.self.invariant.2,
+      rw c.push.ensures.items
+          (once_push s.answered.items BlockSize c.min-size.result c.self.invariant.3 new),
+      c.self.invariant.4,
+    )
 
 pub returns : goal.returns
 returns c =
     let s = c.self.inside in
-    sized s.size s.timeout c.min-size.result c.in-Some.n s.answered.items c.push.new.self.items c.args.self.now c.args.value.now c.self.view_is c.push.ensures.items c.min-size.ensures c.in-Some.ensures
+    sized s.size s.timeout c.min-size.result c.in-Some.n s.answered.items c.push.new.self.items c.args.self.now c.args.value.now c.self.view_is c.push.ensures.items
+    c.min-size.ensures c.in-Some.ensures

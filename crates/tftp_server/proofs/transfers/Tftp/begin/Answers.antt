@@ -25,7 +25,8 @@ returns-then-is_empty-clause-serves g c =
     ap (λ (v : Serving). seeks_next now (transfer_of v.folder row) v.transfers) c.make_room.ensures.list
     ∙ ap (λ (t : Transfer). seeks_next now t (with_room old.transfers)) (c.first_row-row.ensures.row old.folder s.options)
     ∙ begins_next now c.args.size s agreed (terms_of c.args.size s.options) old.transfers c.in-Some.ensures none in
-    subst (λ (o : Outcome). Makes (g.W.World.tells c.args.world.now) (g.W.World.tells c.send_next.new.world) (IsServed now o c.send_next.new.self.transfers (said_by c.send_next.result c.send_next.new.into))) comes c.send_next.ensures.serves
+    subst (λ (o : Outcome). Makes (g.W.World.tells c.args.world.now) (g.W.World.tells c.send_next.new.world)
+    (IsServed now o c.send_next.new.self.transfers (said_by c.send_next.result c.send_next.new.into))) comes c.send_next.ensures.serves
 
 pub returns-else-is_empty-clause-serves : goal.returns-else-is_empty-clause-serves
 returns-else-is_empty-clause-serves g c =

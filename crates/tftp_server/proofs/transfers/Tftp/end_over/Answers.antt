@@ -11,7 +11,8 @@ use Rattle.tftp_server.proofs.Waiting.{rows_sound}
 use Rattle.tftp_server.proofs.transfers.Tftp.end_over.Goals as goal
 
 -- the rows that are left, as transfers
-left : (c : goal.After-retain) → transfers_of (option_map (λ f. f.bytes) c.self.inside.folder) c.retain.new.self.items ≡ are_left c.args.now (transfers_of (option_map (λ f. f.bytes) c.self.inside.folder) c.self.inside.rows.items)
+left : (c : goal.After-retain) → transfers_of (option_map (λ f. f.bytes) c.self.inside.folder) c.retain.new.self.items ≡ are_left c.args.now
+    (transfers_of (option_map (λ f. f.bytes) c.self.inside.folder) c.self.inside.rows.items)
 left c =
     let folder = option_map (λ f. f.bytes) c.self.inside.folder in
     let stays : c.retain.new.self.items ≡ filter (λ (r : Row). not (nat_le r.due c.args.now) || nat_lt r.again 5) c.self.inside.rows.items =
@@ -22,7 +23,8 @@ pub invariant_of-self : goal.invariant_of-self
 invariant_of-self c = (
   omega (arith, c.retain.ensures.bound, c.self.invariant.0),
   omega (arith, c.retain.ensures.capacity, c.self.invariant.1),
-  subst AreApart (sym (left c)) (apart_filter (λ t. not (is_due c.args.now t) || nat_lt t.again 5) (transfers_of (option_map (λ f. f.bytes) c.self.inside.folder) c.self.inside.rows.items) c.self.invariant.2),
+  subst AreApart (sym (left c)) (apart_filter (λ t. not (is_due c.args.now t) || nat_lt t.again 5)
+      (transfers_of (option_map (λ f. f.bytes) c.self.inside.folder) c.self.inside.rows.items) c.self.invariant.2),
 )
 
 pub returns-clause-list : goal.returns-clause-list

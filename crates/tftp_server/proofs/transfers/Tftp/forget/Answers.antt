@@ -11,7 +11,8 @@ use Rattle.tftp_server.proofs.Listing.{apart_filter, filter_map_is, none_without
 use Rattle.tftp_server.proofs.transfers.Tftp.forget.Goals as goal
 
 -- the rows that are left, as transfers
-left : (c : goal.After-retain) → transfers_of (option_map (λ f. f.bytes) c.self.inside.folder) c.retain.new.self.items ≡ without c.args.guest (transfers_of (option_map (λ f. f.bytes) c.self.inside.folder) c.self.inside.rows.items)
+left : (c : goal.After-retain) → transfers_of (option_map (λ f. f.bytes) c.self.inside.folder) c.retain.new.self.items ≡ without c.args.guest
+    (transfers_of (option_map (λ f. f.bytes) c.self.inside.folder) c.self.inside.rows.items)
 left c =
     let folder = option_map (λ f. f.bytes) c.self.inside.folder in
     let stays : c.retain.new.self.items ≡ filter (λ (r : Row). not (same_endpoint r.guest c.args.guest)) c.self.inside.rows.items =

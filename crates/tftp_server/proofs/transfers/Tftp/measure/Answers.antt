@@ -16,7 +16,8 @@ returns-in-Length-clause-serves g c =
     let file : c.as_str.result.now ≡ s.file = c.as_str.ensures.value ∙ c.file-file.ensures in
     makes_asked (g.W.World.tells c.args.world.now) (g.W.World.tells c.file_len.new.self) (g.W.World.tells c.begin.new.world) c.args.now (seeking_length s old.transfers)
     (measured c.args.now c.in-Length.length s (terms_of c.in-Length.length s.options) old.transfers) c.begin.new.self.transfers _ (FileLen s.file (Length c.in-Length.length))
-    (subst (λ (f : List ℕ). Answers (g.W.World.tells c.args.world.now) (g.W.World.tells c.file_len.new.self) (FileLen f (Length c.in-Length.length))) file c.in-Length.ensures) refl refl c.begin.ensures.serves
+    (subst (λ (f : List ℕ). Answers (g.W.World.tells c.args.world.now) (g.W.World.tells c.file_len.new.self) (FileLen f (Length c.in-Length.length))) file c.in-Length.ensures) refl
+    refl c.begin.ensures.serves
 
 pub returns-in-Missing-clause-serves : goal.returns-in-Missing-clause-serves
 returns-in-Missing-clause-serves g c =

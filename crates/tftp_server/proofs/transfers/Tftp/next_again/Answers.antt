@@ -35,7 +35,8 @@ new_rows c = whole_new c.self.inside.rows.items c.count_again.new.rows c.self.in
 
 -- and the transfers
 new_transfers : (c : goal.After-slice_known-2-1) (d : Transfer) → transfers_of (option_map (λ f. f.bytes) c.self.inside.folder) c.count_again.new.rows
-    ≡ set (transfers_of (option_map (λ f. f.bytes) c.self.inside.folder) c.self.inside.rows.items) c.in-Some.place (sent_again c.args.now (get_or (transfers_of (option_map (λ f. f.bytes) c.self.inside.folder) c.self.inside.rows.items) c.in-Some.place d))
+    ≡ set (transfers_of (option_map (λ f. f.bytes) c.self.inside.folder) c.self.inside.rows.items) c.in-Some.place
+    (sent_again c.args.now (get_or (transfers_of (option_map (λ f. f.bytes) c.self.inside.folder) c.self.inside.rows.items) c.in-Some.place d))
 new_transfers c d =
     let folder = option_map (λ f. f.bytes) c.self.inside.folder in
     c.count_again.ensures folder d
@@ -89,7 +90,8 @@ returns-clause-says c =
     let there : i < length c.count_again.new.rows = omega (arith, within, same) in
     let at : row ≡ get_or c.count_again.new.rows i row = c.index-row.ensures ∙ ap (λ (l : List Row). get_or l i row) (new_rows c) in
     let again : transfer_of folder row ≡ sent_again now (get_or list i d) =
-    ap (transfer_of folder) at ∙ sym (get_or-map (transfer_of folder) c.count_again.new.rows i row d there) ∙ ap (λ (l : List Transfer). get_or l i d) (new_transfers c d) ∙ get_or-set_same list i (sent_again now (get_or list i d)) d low in
+    ap (transfer_of folder) at ∙ sym (get_or-map (transfer_of folder) c.count_again.new.rows i row d there) ∙ ap (λ (l : List Transfer). get_or l i d) (new_transfers c d)
+    ∙ get_or-set_same list i (sent_again now (get_or list i d)) d low in
     c.tell.ensures.says
     ∙ ap (λ (xs : List ℕ). Some (let s : Said = record { mac = row.mac.0; guest = row.guest; octets = xs } in s)) c.as_slice-2.ensures.value
     ∙ ap (λ (t : Transfer). Some (said_again t)) again

@@ -27,5 +27,9 @@ invariant_of-self c =
     let less : vec_len c.self.inside.rows < 20 = omega (arith, few, length-map rows (transfer_of folder), c.self.inside.rows.ok.0) in
     let most = at_most_one c.push.result (vec_len c.self.inside.rows) (vec_len c.push.new.self) c.push.ensures.len in
     let done = is_done c.push.result (vec_len c.self.inside.rows) (vec_capacity c.self.inside.rows) c.push.ensures.full (omega (arith, less, c.self.invariant.1)) in
-    let fresh : find (is_for c.args.row.guest) ts ≡ None = subst (λ (s : Serving). find (is_for c.args.row.guest) s.transfers ≡ None) (sym c.self.view_is) c.requires.fresh in
-    (omega (arith, most, less), omega (arith, c.push.ensures.capacity, c.self.invariant.1), apart_pushed folder rows c.push.new.self.items _ (is_ok c.push.result) c.push.ensures.items done c.self.invariant.2 fresh)
+    let fresh : find (is_for c.args.row.guest) ts ≡ None = subst (λ (s : Serving). find (is_for c.args.row.guest) s.transfers ≡ None) (sym c.self.view_is) c.requires.fresh in (
+      omega (arith, most, less),
+      omega (arith, c.push.ensures.capacity, c.self.invariant.1),
+      apart_pushed folder rows c.push.new.self.items _
+          (is_ok c.push.result) c.push.ensures.items done c.self.invariant.2 fresh,
+    )

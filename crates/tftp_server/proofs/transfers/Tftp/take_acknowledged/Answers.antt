@@ -38,10 +38,12 @@ returns-then-index-block c =
     subst (λ (s : Serving). TakesAcknowledged guest block s s None) c.self.view_is (refl, here)
 
 -- what is left
-left : (c : goal.After-remove) → transfers_of (option_map (λ f. f.bytes) c.self.inside.folder) c.remove.new.self.items ≡ without c.args.guest (transfers_of (option_map (λ f. f.bytes) c.self.inside.folder) c.self.inside.rows.items)
+left : (c : goal.After-remove) → transfers_of (option_map (λ f. f.bytes) c.self.inside.folder) c.remove.new.self.items ≡ without c.args.guest
+    (transfers_of (option_map (λ f. f.bytes) c.self.inside.folder) c.self.inside.rows.items)
 left c =
     let folder = option_map (λ f. f.bytes) c.self.inside.folder in
-    ap (transfers_of folder) c.remove.ensures.items ∙ taken_out c.args.guest folder c.self.inside.rows.items c.in_ok-place.place c.remove.result (sym (ap (position (is_row_of c.args.guest)) c.as_slice.ensures.value) ∙ sym c.in_ok-place.ensures) c.self.invariant.2
+    ap (transfers_of folder) c.remove.ensures.items ∙ taken_out c.args.guest folder c.self.inside.rows.items c.in_ok-place.place c.remove.result
+    (sym (ap (position (is_row_of c.args.guest)) c.as_slice.ensures.value) ∙ sym c.in_ok-place.ensures) c.self.invariant.2
 
 pub invariant_of-self : goal.invariant_of-self
 invariant_of-self c =
@@ -69,7 +71,13 @@ returns c =
     let for : row.guest ≡ guest = ap (λ (r : Row). r.guest) at ∙ guest_of guest rows place row there in
     let found : find (is_for guest) ts ≡ Some (transfer_of folder row) = rows_some guest folder rows place row there ∙ ap (λ (r : Row). Some (transfer_of folder r)) (sym at) in
     let new : Serving = record { vhost = vhost; folder = folder; transfers = transfers_of folder c.remove.new.self.items } in
-    let few : length (transfers_of folder c.remove.new.self.items) < 20 = omega (arith, length-map c.remove.new.self.items (transfer_of folder), c.remove.ensures.len, c.self.invariant.0, c.remove.new.self.ok.0) in
+    let few : length (transfers_of folder c.remove.new.self.items) < 20 = omega (
+      arith,
+      length-map c.remove.new.self.items (transfer_of folder),
+      c.remove.ensures.len,
+      c.self.invariant.0,
+      c.remove.new.self.ok.0,
+    ) in
     subst (λ (s : Serving). IsTakenOut guest block s new row) c.self.view_is
     (record {
       list = ap (λ (l : List Transfer). let s : Serving = record { vhost = vhost; folder = folder; transfers = l } in s) (left c);

@@ -12,4 +12,5 @@ returns-in-GivesUp-clause-serves g c =
     let old = c.args.self.now in
     let comes = ap (λ (p : Packet). taken_in old.folder c.args.now c.args.asker.mac.0 c.args.asker.guest p old.transfers) c.in-GivesUp.ensures in
     subst (λ (o : Outcome). Makes (g.W.World.tells c.args.world.now) (g.W.World.tells c.args.world.now) (IsServed c.args.now o c.forget-in-GivesUp.new.self.transfers None)) comes
-    (makes_at_once (g.W.World.tells c.args.world.now) c.args.now (leaves (without c.args.asker.guest old.transfers)) c.forget-in-GivesUp.new.self.transfers None refl (ap (λ (s : Serving). s.transfers) c.forget-in-GivesUp.ensures.list) refl)
+    (makes_at_once (g.W.World.tells c.args.world.now) c.args.now (leaves (without c.args.asker.guest old.transfers)) c.forget-in-GivesUp.new.self.transfers None refl
+    (ap (λ (s : Serving). s.transfers) c.forget-in-GivesUp.ensures.list) refl)

@@ -26,9 +26,11 @@ invariant_of-self c =
     let here = sym (ap (λ (l : List ℕ). get_or l place 0) c.as_slice.ensures.value) ∙ c.in-Some.ensures.1 in
     let in_rows = few_rows i.rows.items i.rising.items i.order i.keys.items i.owners.items i.since c.self.invariant.0 c.self.invariant.1 c.args.number place nobody few here in
     let same = c.remove-row.ensures.value ∙ get_or_default i.rows.items place c.remove-row.result nobody in_rows in
-    let taken = subst (λ k. IsTakenOut k i.keys.items i.owners.items c.forget_port.new.keys.items c.forget_port.new.owners.items) (c.key.ensures.number ∙ ap (λ (a : Association). key a.guest) same) c.forget_port.ensures in
+    let taken = subst (λ k. IsTakenOut k i.keys.items i.owners.items c.forget_port.new.keys.items c.forget_port.new.owners.items)
+    (c.key.ensures.number ∙ ap (λ (a : Association). key a.guest) same) c.forget_port.ensures in
     closed_keeps i.rows.items i.rising.items i.order i.keys.items i.owners.items i.since c.self.invariant.0 c.self.invariant.1 c.args.number place nobody few here
-    c.forget_port.new.keys.items c.forget_port.new.owners.items taken c.remove-row.new.self.items c.remove.new.self.items c.forget.new.self c.remove-row.ensures.items c.remove.ensures.items c.forget.ensures
+    c.forget_port.new.keys.items c.forget_port.new.owners.items taken c.remove-row.new.self.items c.remove.new.self.items c.forget.new.self c.remove-row.ensures.items
+    c.remove.ensures.items c.forget.ensures
 
 pub returns-in-Some : goal.returns-in-Some
 returns-in-Some c =
@@ -38,7 +40,8 @@ returns-in-Some c =
     let here = sym (ap (λ (l : List ℕ). get_or l place 0) c.as_slice.ensures.value) ∙ c.in-Some.ensures.1 in
     let in_rows = few_rows i.rows.items i.rising.items i.order i.keys.items i.owners.items i.since c.self.invariant.0 c.self.invariant.1 c.args.number place nobody few here in
     let same = c.remove-row.ensures.value ∙ get_or_default i.rows.items place c.remove-row.result nobody in_rows in
-    let taken = subst (λ k. IsTakenOut k i.keys.items i.owners.items c.forget_port.new.keys.items c.forget_port.new.owners.items) (c.key.ensures.number ∙ ap (λ (a : Association). key a.guest) same) c.forget_port.ensures in
+    let taken = subst (λ k. IsTakenOut k i.keys.items i.owners.items c.forget_port.new.keys.items c.forget_port.new.owners.items)
+    (c.key.ensures.number ∙ ap (λ (a : Association). key a.guest) same) c.forget_port.ensures in
     closed_without i.rows.items i.rising.items i.order i.keys.items i.owners.items i.since c.self.invariant.0 c.self.invariant.1 c.args.number place nobody few here
     c.forget_port.new.keys.items c.forget_port.new.owners.items taken c.remove-row.new.self.items c.forget.new.self c.remove-row.ensures.items c.forget.ensures
     ∙ ap (without c.args.number) c.self.view_is

@@ -55,10 +55,12 @@ invariant_of-self c =
     let i = c.self.inside in
     let a = c.args.association in
     let above = subst (λ (l : List Association). All (λ n. n < a.number) (numbers l)) (sym c.self.view_is) c.requires.above in
-    let room = subst (λ (l : List ℕ). IsRoomFor (key a.guest) l c.room_for-place.result) c.as_slice.ensures.value (subst (λ k. IsRoomFor k c.as_slice.result.now c.room_for-place.result) c.key-key.ensures.number c.room_for-place.ensures) in
+    let room = subst (λ (l : List ℕ). IsRoomFor (key a.guest) l c.room_for-place.result) c.as_slice.ensures.value
+    (subst (λ k. IsRoomFor k c.as_slice.result.now c.room_for-place.result) c.key-key.ensures.number c.room_for-place.ensures) in
     opened_keeps i.rows.items i.rising.items i.order i.keys.items i.owners.items i.since c.self.invariant.0 c.self.invariant.1 a above c.key-key.ensures.port c.room_for-place.result room
     c.push-3.new.self.items c.push-2.new.self.items c.push.new.self c.insert.new.self.items c.insert-2.new.self.items c.min-self-inside.result
-    c.push-3.ensures.items c.push-2.ensures.items c.push.ensures (c.insert.ensures.items ∙ ap (λ k. insert i.keys.items c.room_for-place.result k) c.key-key.ensures.number) c.insert-2.ensures.items c.min-self-inside.ensures
+    c.push-3.ensures.items c.push-2.ensures.items c.push.ensures (c.insert.ensures.items ∙ ap (λ k. insert i.keys.items c.room_for-place.result k) c.key-key.ensures.number)
+    c.insert-2.ensures.items c.min-self-inside.ensures
 
 pub returns : goal.returns
 returns c =

@@ -25,4 +25,5 @@ returns-in-Some c =
 pub returns-in_default : goal.returns-in_default
 returns-in_default c =
     let i = c.self.inside in
-    none_used i.rows.items i.rising.items i.order i.keys.items i.owners.items i.since c.self.invariant.0 c.self.invariant.1 c.args.number _ c.as_slice.ensures.value (heard_at c.args.now) c.args.self.now c.self.view_is c.in_default.ensures
+    none_used i.rows.items i.rising.items i.order i.keys.items i.owners.items i.since c.self.invariant.0 c.self.invariant.1 c.args.number _ c.as_slice.ensures.value
+    (heard_at c.args.now) c.args.self.now c.self.view_is c.in_default.ensures

@@ -19,11 +19,15 @@ invariant_of-self c =
     let found = placed m numbers place few here in
     let alike = are.same m in
     let out = remove_gone m numbers place few here (once m numbers are.rise) in
-    let as_many = ap length c.remove-in-Some.ensures.items ∙ both_shorter numbers c.take_out-neighbours.new.links.items place (c.take_out-neighbours.ensures.beside ∙ are.beside) ∙ sym (ap length c.remove.ensures.items) in
+    let as_many = ap length c.remove-in-Some.ensures.items ∙ both_shorter numbers c.take_out-neighbours.new.links.items place (c.take_out-neighbours.ensures.beside ∙ are.beside)
+    ∙ sym (ap length c.remove.ensures.items) in
     subst (λ (f : Option ℕ). AreLinks c.remove.new.self.items c.remove-in-Some.new.self.items f c.unless_none-self-inside-in-Some.result) (sym c.unless_none-self-inside.ensures)
-    (subst (λ (f : Option ℕ). AreLinks c.remove.new.self.items c.remove-in-Some.new.self.items (unless_none c.take_out-neighbours.result.before c.take_out-neighbours.result.behind i.first) f) (sym c.unless_none-self-inside-in-Some.ensures)
-    (forgotten numbers i.links.items i.first i.last are m (omega (arith, found, alike)) c.take_out-neighbours.result c.take_out-neighbours.ensures.neighbours c.take_out-neighbours.new.links.items c.take_out-neighbours.ensures.links
-    place few here c.take_out-neighbours.ensures.beside c.remove.new.self.items c.remove-in-Some.new.self.items (c.remove.ensures.items ∙ out) c.remove.ensures.items c.remove-in-Some.ensures.items as_many))
+    (subst (λ (f : Option ℕ). AreLinks c.remove.new.self.items c.remove-in-Some.new.self.items
+    (unless_none c.take_out-neighbours.result.before c.take_out-neighbours.result.behind i.first) f) (sym c.unless_none-self-inside-in-Some.ensures)
+    (forgotten numbers i.links.items i.first i.last are m (omega (arith, found, alike)) c.take_out-neighbours.result c.take_out-neighbours.ensures.neighbours
+    c.take_out-neighbours.new.links.items c.take_out-neighbours.ensures.links
+    place few here c.take_out-neighbours.ensures.beside c.remove.new.self.items c.remove-in-Some.new.self.items
+    (c.remove.ensures.items ∙ out) c.remove.ensures.items c.remove-in-Some.ensures.items as_many))
 
 pub returns-in-Some : goal.returns-in-Some
 returns-in-Some c =
@@ -37,11 +41,14 @@ returns-in-Some c =
     let found = placed m numbers place few here in
     let alike = are.same m in
     let out = remove_gone m numbers place few here (once m numbers are.rise) in
-    let as_many = ap length c.remove-in-Some.ensures.items ∙ both_shorter numbers c.take_out-neighbours.new.links.items place (c.take_out-neighbours.ensures.beside ∙ are.beside) ∙ sym (ap length c.remove.ensures.items) in
+    let as_many = ap length c.remove-in-Some.ensures.items ∙ both_shorter numbers c.take_out-neighbours.new.links.items place (c.take_out-neighbours.ensures.beside ∙ are.beside)
+    ∙ sym (ap length c.remove.ensures.items) in
     let l = c.take_out-neighbours.result in
     ap (walk (length c.remove.new.self.items) (neighbours_of c.remove.new.self.items c.remove-in-Some.new.self.items)) c.unless_none-self-inside.ensures
-    ∙ forgotten_list numbers i.links.items i.first i.last are m (omega (arith, found, alike)) l c.take_out-neighbours.ensures.neighbours c.take_out-neighbours.new.links.items c.take_out-neighbours.ensures.links
-    place few here c.take_out-neighbours.ensures.beside c.remove.new.self.items c.remove-in-Some.new.self.items (c.remove.ensures.items ∙ out) c.remove.ensures.items c.remove-in-Some.ensures.items as_many
+    ∙ forgotten_list numbers i.links.items i.first i.last are m (omega (arith, found, alike)) l c.take_out-neighbours.ensures.neighbours c.take_out-neighbours.new.links.items
+    c.take_out-neighbours.ensures.links
+    place few here c.take_out-neighbours.ensures.beside c.remove.new.self.items c.remove-in-Some.new.self.items
+    (c.remove.ensures.items ∙ out) c.remove.ensures.items c.remove-in-Some.ensures.items as_many
     ∙ ap (gone m) (sym (order_is numbers i.links.items i.first i.last are) ∙ c.self.view_is)
 
 pub returns-in_default : goal.returns-in_default

@@ -15,7 +15,8 @@ loop-smaller g c = c.close_idle.ensures.fewer c.loop-test.true
 pub loop-preserved : goal.loop-preserved
 loop-preserved g c =
     let now = c.args.now in
-    let closed = subst (λ (b : Bool). Makes (g.W.World.tells c.loop.world) (g.W.World.tells c.close_idle.new.world) (ClosesLeast (is_over now) b c.loop.self.list c.close_idle.new.self.list)) c.loop-test.true c.close_idle.ensures.closes in
+    let closed = subst (λ (b : Bool). Makes (g.W.World.tells c.loop.world) (g.W.World.tells c.close_idle.new.world)
+    (ClosesLeast (is_over now) b c.loop.self.list c.close_idle.new.self.list)) c.loop-test.true c.close_idle.ensures.closes in
     record {
       makes = makes_then _ _ _ _ _ _ c.loop.invariant.makes closed (λ first second before closes.
           subst (λ (m : List Entry). Ticks now c.args.self.now.list c.close_idle.new.self.list (m ++ first)) (sym closes.1) (c.loop.self.list, before, closes.2, closes.3));
@@ -25,7 +26,8 @@ loop-preserved g c =
 pub returns-clause-closes : goal.returns-clause-closes
 returns-clause-closes g c =
     let now = c.args.now in
-    let closed = subst (λ (b : Bool). Makes (g.W.World.tells c.loop.world) (g.W.World.tells c.close_idle.new.world) (ClosesLeast (is_over now) b c.loop.self.list c.close_idle.new.self.list)) c.loop-test.false c.close_idle.ensures.closes in
+    let closed = subst (λ (b : Bool). Makes (g.W.World.tells c.loop.world) (g.W.World.tells c.close_idle.new.world)
+    (ClosesLeast (is_over now) b c.loop.self.list c.close_idle.new.self.list)) c.loop-test.false c.close_idle.ensures.closes in
     makes_then _ _ _ _ _ _ c.loop.invariant.makes closed (λ first second before closes.
     subst (λ (m : List Entry). Ticks now c.args.self.now.list c.close_idle.new.self.list (m ++ first)) (sym closes.0)
     (subst (λ l. Ticks now c.args.self.now.list l first) (sym closes.2) before))
