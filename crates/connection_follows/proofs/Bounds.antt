@@ -1,5 +1,5 @@
 -- How long it may be waited for an open connection: its timer against the moments of its story.
-use Rattle.std.proofs.Common.{refl, ◌≡◌, ℕ, ◌+◌, ◌<◌, ◌≤◌, List, [], ◌∷◌, ◌++◌, Bool, true, false, not, ◌&&◌, ◌||◌, Some, nat_lt, if◌then◌else◌, max, arith, ap, subst, sym, ◌∙◌, inl, inr}
+use Rattle.std.proofs.Common.{refl, ◌≡◌, ℕ, ◌+◌, ◌<◌, ◌≤◌, List, [], ◌∷◌, ◌++◌, Bool, true, false, not, ◌&&◌, ◌||◌, Option, Some, nat_lt, if◌then◌else◌, max, arith, ap, subst, sym, ◌∙◌, inl, inr}
 use Rattle.std.proofs.lemmas.Bool.Decides.{nat_tests}
 use Rattle.retransmit.specs.Resending.{Resending, due_by, due_of as resend_due, is_expired, is_off}
 use Rattle.retransmit.specs.declared.Timer.{Timer}
@@ -13,11 +13,13 @@ use Rattle.flow_laws.specs.Settings.{Settings}
 use Rattle.flow_laws.specs.Event.{IsStory, Story}
 use Rattle.flow_laws.specs.Host.{acked, answered, owned, sent}
 use Rattle.flow_laws.specs.Flow.{acknowledged_at, host, is_accepted, is_closed, is_under_way, oldest_sendings, opened_at, sendings, syn_is_out, syn_sendings}
-use Rattle.flow_laws.specs.Dutiful.{connect_deadline, moment_if, newest_of, resend_deadline, waits_since, wakes}
+use Rattle.flow_laws.specs.Close.{asked_at, times_asked}
+use Rattle.flow_laws.specs.Dutiful.{connect_deadline, moment_if, newest_of, resend_deadline, seeks_guest, waits_since, wakes}
 use Rattle.halves_follow.specs.Bounds.{IsBy, IsFrom}
 use Rattle.halves_follow.specs.Resends.{Resends}
 use Rattle.halves_follow.proofs.Edges.{owned_is}
-use Rattle.halves_follow.proofs.InTime.{not_woken, opened_by}
+use Rattle.halves_follow.proofs.InTime.{not_woken, opened_by, seeks_none}
+use Rattle.halves_follow.proofs.Moments.{by_both}
 use Rattle.halves_follow.proofs.Sendings.{nothing_past}
 use Rattle.connection_follows.specs.Holding.{Holds}
 use Rattle.connection_follows.specs.Seen.{count_of, outward_of, resending_of, timer_by, timer_of}
@@ -39,11 +41,18 @@ pub from_second : (at : ℕ) (ms ns : List ℕ) → IsFrom (Some at) ns → IsFr
 from_second at [] ns f = f
 from_second at (m ∷ ms) ns f = inr (from_second at ms ns f)
 
+-- no guest's address is asked for
+by_none : (due : Option ℕ) (past : Story) → seeks_guest past ≡ false → IsBy due (moment_if (seeks_guest past && nat_lt 0 (times_asked past)) (asked_at past + 60000))
+by_none due past none = rw none tt
+
 -- ---- a timer
 
 -- it expires within a minute since what is under way went out
-within : (past : Story) (now k w : ℕ) (tm : Timer) → Resends past now (timer_by tm w) k w → (is_under_way past ≡ true → is_expired tm ≡ true → ⊥) → IsBy (due_by tm w) (resend_deadline past)
-within past now k w tm r unexpired = by (is_under_way past) (is_closed past) refl
+within : (past : Story) (now k w : ℕ) (tm : Timer) → Resends past now (timer_by tm w) k w → (is_under_way past ≡ true → is_expired tm ≡ true → ⊥) → seeks_guest past ≡ false
+    → IsBy (due_by tm w) (resend_deadline past)
+within past now k w tm r unexpired called =
+    by_both (due_by tm w) (moment_if (is_under_way past && not (is_closed past)) (waits_since past + 60000)) _ (by (is_under_way past) (is_closed past) refl)
+    (by_none (due_by tm w) past called)
   where
     by_timer : is_under_way past ≡ true → (t : Timer) → tm ≡ t → IsBy (due_by t w) ((waits_since past + 60000) ∷ [])
     by_timer under timer.Off is = absurd (r.set under (ap (λ (t : Timer). timer_by t w) is))
@@ -96,9 +105,9 @@ module _ (s : Settings) (c : Connection) (up : Upward) (down : Downward) (past :
     syn_ran : Resends past now (timer_of c.syn) (count_of (is_under_way past) c.syn) c.syn.estimate.wait
     syn_ran = ran c.syn (ap (λ (b : Bool). if b then c.syn else c.transmission.resend) opening)
 
-    pub opening_by : (has_gone c.sendings ≡ true → c.syn_owed ≡ false) → IsBy (resend_due c.syn) (resend_deadline past)
-    opening_by none = within past now (count_of (is_under_way past) c.syn) c.syn.estimate.wait c.syn.timer syn_ran
-        (λ under over. let not_it = sym (h.gives.owes_syn opening over) ∙ none (sym (syn_under_way s c past h.opened opening) ∙ under) in absurd cc)
+    pub opening_by : (has_gone c.sendings ≡ true → c.syn_owed ≡ false) → seeks_guest past ≡ false → IsBy (resend_due c.syn) (resend_deadline past)
+    opening_by none called = within past now (count_of (is_under_way past) c.syn) c.syn.estimate.wait c.syn.timer syn_ran
+        (λ under over. let not_it = sym (h.gives.owes_syn opening over) ∙ none (sym (syn_under_way s c past h.opened opening) ∙ under) in absurd cc) called
 
     pub opening_from : IsFrom (resend_due c.syn) (wakes past)
     opening_from = by (has_gone c.sendings) refl
@@ -119,6 +128,7 @@ module _ (s : Settings) (c : Connection) (up : Upward) (down : Downward) (past :
 
     pub synchronized_by : is_expired t.resend.timer ≡ false → IsBy (resend_due t.resend) (resend_deadline past)
     synchronized_by none = within past now (count_of (is_under_way past) t.resend) t.resend.estimate.wait t.resend.timer piece_ran (λ under over. let not_it = sym over ∙ none in absurd cc)
+        (seeks_none past (λ accepted. h.opened.out ∙ h.opened.sent synchronized))
 
     -- where nothing is under way, what waits for the window is unsent, and waits since the opening and the last acknowledgement at least
     waits : is_under_way past ≡ false → (base : ℕ) → t.resend.timer ≡ timer.Since base

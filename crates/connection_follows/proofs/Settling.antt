@@ -32,7 +32,7 @@ use Rattle.flow_laws.specs.Dutiful.{HasAcknowledged, HasSent}
 use Rattle.halves_follow.specs.Resends.{Expired, Until}
 use Rattle.halves_follow.specs.Settled.{IsSettledIf}
 use Rattle.halves_follow.proofs.Edges.{edge_is}
-use Rattle.halves_follow.proofs.InTime.{all_in_time}
+use Rattle.halves_follow.proofs.InTime.{HasCalled, all_in_time}
 use Rattle.halves_follow.proofs.Waiting.{acknowledged_is, settled_is}
 use Rattle.connection_follows.specs.Holding.{Holds, is_calls, is_connects}
 use Rattle.connection_follows.specs.Seen.{count_of, outward_of, part_of, resending_of, timer_by, timer_of, window_by}
@@ -175,7 +175,7 @@ module _ (s : Settings) (c : Connection) (up : Upward) (down : Downward) (past :
         (λ is. r.once (first_of (is_accepted past) (is_some (their_number past)) (not (is_closed past)) is) apart.0) (λ is. absurd cc)
         (open_owes_none past h.goes.open_yet)
         (λ is. h.opened.out ∙ h.opened.sent synchronized)
-        (λ is. or_first (syn_is_out past) (not known && nat_lt 0 (times_asked past)) (h.opened.out ∙ h.opened.sent synchronized))
+        (λ is. h.opened.out ∙ h.opened.sent synchronized)
         (edge_is s (outward_of c.transmission down) past (window_by c.transmission.window) h.gives.keeps h.gives.window)
         (λ is. octets_out)
         update_near
@@ -189,9 +189,6 @@ module _ (s : Settings) (c : Connection) (up : Upward) (down : Downward) (past :
         first_of : (a b d : Bool) → IsTrue (a && b && d) → a ≡ true
         first_of true b d is = refl
         first_of false b d is = absurd cc
-
-        or_first : (a b : Bool) → a ≡ true → IsTrue (a || b)
-        or_first a b is = rw is refl
 
   -- until our SYN is acknowledged
   module _ (opening : is_opening c.stage ≡ true) where
@@ -227,11 +224,18 @@ module _ (s : Settings) (c : Connection) (up : Upward) (down : Downward) (past :
     -- where nothing is owed, our SYN went out and isn't owed again, and no acknowledgement is owed
     module _ (unowed : c.ack_owed ≡ false) (gone : is_connects c.stage ≡ false → has_gone c.sendings ≡ true) (no_syn : has_gone c.sendings ≡ true → c.syn_owed ≡ false)
         (soon : Early → (d : ℕ) → resend_due c.syn ≡ Some d → now < d) where
+      calls_out : HasCalled past
+      calls_out = by (is_connects c.stage) refl
+        where
+          by : (b : Bool) → is_connects c.stage ≡ b → IsTrue (is_accepted past && not (is_closed past)) → IsTrue (syn_is_out past)
+          by true at is = absurd (no_both (is_accepted past) (not (is_closed past)) (connecting_none at).0 is)
+          by false at is = h.opened.out ∙ gone at
+
       sends_all : HasSent s past known
       sends_all = record {
         reset = open_owes_none past h.goes.open_yet;
         syn_ack = λ is. by_connects (is_connects c.stage) refl is;
-        syn = λ is. by_accepted (is_connects c.stage) refl is;
+        syn = λ is. or_first (syn_is_out past) (not known && nat_lt 0 (times_asked past)) (calls_out is);
         octets = λ is. absurd (no_both (answered (host past)) (not (is_closed past)) unanswered is);
       }
         where
@@ -241,10 +245,6 @@ module _ (s : Settings) (c : Connection) (up : Upward) (down : Downward) (past :
           by_connects : (b : Bool) → is_connects c.stage ≡ b → IsTrue (has_connected past && not (is_closed past)) → IsTrue (syn_is_out past)
           by_connects true at is = absurd (no_both (has_connected past) (not (is_closed past)) (connecting_none at).1 is)
           by_connects false at is = h.opened.out ∙ gone at
-
-          by_accepted : (b : Bool) → is_connects c.stage ≡ b → IsTrue (is_accepted past && not (is_closed past)) → IsTrue (syn_is_out past || (not known && nat_lt 0 (times_asked past)))
-          by_accepted true at is = absurd (no_both (is_accepted past) (not (is_closed past)) (connecting_none at).0 is)
-          by_accepted false at is = or_first (syn_is_out past) (not known && nat_lt 0 (times_asked past)) (h.opened.out ∙ gone at)
 
       acknowledges_all : HasAcknowledged s past false
       acknowledges_all = by (is_calls c.stage) refl
@@ -270,5 +270,5 @@ module _ (s : Settings) (c : Connection) (up : Upward) (down : Downward) (past :
             let expired = expires_by c.syn.timer c.syn.estimate.wait (sym (ap (λ (q : Resending). timer_of q) runs_syn) ∙ over) in
             let out = sym (syn_under_way s c past h.opened opening) ∙ under in
             let not_it = sym (h.gives.owes_syn opening expired) ∙ no_syn out in absurd cc)
-            (λ moment is. waits_for c.syn.timer c.syn.estimate.wait now moment (sym (ap (λ (q : Resending). timer_of q) runs_syn) ∙ is) (soon early));
+            (λ moment is. waits_for c.syn.timer c.syn.estimate.wait now moment (sym (ap (λ (q : Resending). timer_of q) runs_syn) ∙ is) (soon early)) calls_out;
       }

@@ -19,7 +19,7 @@ use Rattle.halves_follow.proofs.InTime.{asks_again, asks_first}
 use Rattle.connection_follows.proofs.Asking.{asks_address}
 use Rattle.flow_splice.specs.Asks.{AsksOnce}
 use Rattle.flow_splice.specs.Entries.{AreEvents, ident_after}
-use Rattle.flow_splice.specs.Follows.{Follows, FollowsAt, IsOpen}
+use Rattle.flow_splice.specs.Follows.{Follows, FollowsAt, IsAsking, IsOpen}
 use Rattle.flow_splice.specs.Frames.{request_frame}
 use Rattle.flow_splice.specs.Sends.{Sends, SendsOn, asked, asks_now, learnt, or_known}
 use Rattle.flow_splice.specs.Serves.{Serves}
@@ -48,6 +48,7 @@ learn_follows s f mac past now h = by f.place f.shut h
       unfinished = q.unfinished;
       unsent = λ none. q.unsent (or_none mac f.mac none);
       seeks = λ none some. q.seeks (or_none mac f.mac none) some;
+      asks = λ none. q.asks (or_none mac f.mac none);
       calm = q.calm;
     }
     by (Resting since) b q = record { rests = q.rests; mru = q.mru; known = λ none. q.known (or_none mac f.mac none) }
@@ -87,14 +88,14 @@ three true true false is = absurd cc
 three true false d is = absurd cc
 three false b d is = absurd cc
 
-module _ (f : Splice) (now : ℕ) (unknown : f.mac ≡ None) (asks : asks_now f now ≡ true) (result : Offered) (answer : Io) (result_is : result ≡ offered answer)
+module _ (f : Splice) (now : ℕ) (unknown : f.mac ≡ None) (asks : asks_now f ≡ true) (result : Offered) (answer : Io) (result_is : result ≡ offered answer)
     (allowed : Allowed (LinkWrite (spelling (request_frame f.face)) answer))
     (new : Splice) (new_is : new ≡ asked result f now) (first : ℕ) (small : first < 2 ^ 16) where
   abbrev octets : List ℕ
   octets = spelling (request_frame f.face)
 
-  parts : (is_open f ≡ true) × (nat_lt f.asked 9 ≡ true) × ((nat_eq f.asked 0 || nat_le f.ask_at now) ≡ true)
-  parts = three (is_open f) (nat_lt f.asked 9) (nat_eq f.asked 0 || nat_le f.ask_at now) asks
+  parts : (is_open f ≡ true) × (nat_lt f.asked 9 ≡ true) × (f.asks ≡ true)
+  parts = three (is_open f) (nat_lt f.asked 9) f.asks asks
 
   stays : first ≡ (first + 0) % 2 ^ 16
   stays = omega (arith, small)
@@ -106,12 +107,16 @@ module _ (f : Splice) (now : ℕ) (unknown : f.mac ≡ None) (asks : asks_now f 
     abbrev Result : Type 0
     Result = (serves : Serves s new false ended known first now past (LinkWrite octets answer ∷ [])) × (first ≡ ident_after first serves.beats)
 
-    seeks_now : (n at : ℕ) → f.asked ≡ n → (nat_eq n 0 || nat_le f.ask_at now) ≡ true → Seeks (At now AsksAddress ∷ past) (n + 1) (now + least_wait n)
-    seeks_now zero at is due = asks_first past now (least_wait 0) (let opened = first_opened past o.holds.goes.story in let moment = o.holds.goes.moment in omega
-        (arith, opened, moment, on)) (omega arith)
-    seeks_now (suc n) at is due =
-        let late : f.ask_at ≤ now = grind (arith, nat_tests) in
-        let again = asks_again past (suc n) f.ask_at now (least_wait (suc n)) late (omega arith) (subst (λ (k : ℕ). Seeks past k f.ask_at) is (o.seeks unknown (omega (arith, is)))) in
+    over : 0 < f.asked → f.ask_at ≤ now
+    over some = let late = (subst (λ (b : Bool). IsAsking b f.asked f.ask_at before) parts.2 (o.asks unknown)).1 some in omega (arith, late, on)
+
+    seeks_now : (n : ℕ) → f.asked ≡ n → Seeks (At now AsksAddress ∷ past) (n + 1) (now + least_wait n)
+    seeks_now zero is = asks_first past now (least_wait 0) (let opened = first_opened past o.holds.goes.story in let moment = o.holds.goes.moment in omega
+        (arith, opened, moment, on)) (omega arith) (omega arith)
+    seeks_now (suc n) is =
+        let late : f.ask_at ≤ now = over (omega (arith, is)) in
+        let again = asks_again past (suc n) f.ask_at now (least_wait (suc n)) late (omega arith) (omega arith)
+        (subst (λ (k : ℕ). Seeks past k f.ask_at) is (o.seeks unknown (omega (arith, is)))) in
         subst (λ (k : ℕ). Seeks (At now AsksAddress ∷ past) k (now + least_wait (suc n))) (omega arith) again
 
     taken : nat_lt 0 (count_of answer) ≡ true → new ≡ asked Taken f now → Result
@@ -140,7 +145,8 @@ module _ (f : Splice) (now : ℕ) (unknown : f.mac ≡ None) (asks : asks_now f 
               told = o.told;
               unfinished = o.unfinished;
               unsent = o.unsent;
-              seeks = λ none more. seeks_now f.asked f.ask_at refl parts.2;
+              seeks = λ none more. seeks_now f.asked refl;
+              asks = λ none. omega arith;
               calm = λ unowed. refl;
             }));
       },

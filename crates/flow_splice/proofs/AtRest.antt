@@ -202,10 +202,10 @@ open_awake f is_open_yet resting = by f.place is_open_yet resting
     by (Resting since) open_yet resting = cc
 
 -- nothing is asked for at rest
-pub asks_none : (f : Splice) (now : ℕ) → is_at_rest f.place ≡ true → asks_now f now ≡ true → ⊥
-asks_none f now resting asks = by f.place resting asks
+pub asks_none : (f : Splice) → is_at_rest f.place ≡ true → asks_now f ≡ true → ⊥
+asks_none f resting asks = by f.place resting asks
   where
-    by : (p : Place) → is_at_rest p ≡ true → ((is_in_use p && not f.shut) && nat_lt f.asked 9 && (nat_eq f.asked 0 || nat_le f.ask_at now)) ≡ true → ⊥
+    by : (p : Place) → is_at_rest p ≡ true → ((is_in_use p && not f.shut) && nat_lt f.asked 9 && f.asks) ≡ true → ⊥
     by Empty resting asks = cc
     by InUse resting asks = cc
     by (Resting since) resting asks = cc

@@ -1,5 +1,5 @@
 -- How long it may be waited for a flow, and how long it is waited at least: the moment at which it is to be looked at, against those of its story.
-use Rattle.std.proofs.Common.{refl, ◌≡◌, ℕ, ◌+◌, ◌<◌, ◌++◌, Bool, true, false, not, ◌&&◌, ◌||◌, Option, None, Some, is_some, nat_lt, if◌then◌else◌, arith, ap, subst, sym, ◌∙◌}
+use Rattle.std.proofs.Common.{refl, ◌≡◌, ℕ, ◌+◌, ◌<◌, ◌≤◌, ◌++◌, Bool, true, false, not, ◌&&◌, ◌||◌, Option, None, Some, is_some, nat_lt, if◌then◌else◌, arith, ap, subst, sym, ◌∙◌}
 use Rattle.std.proofs.lemmas.Bool.Decides.{nat_tests}
 use Rattle.net_octets.specs.declared.Mac.{Mac}
 use Rattle.retransmit.specs.Resending.{due_of as resend_due}
@@ -12,18 +12,20 @@ use Rattle.tcp_guest.specs.declared.Stage.TheVariants as stage
 use Rattle.flow_laws.specs.Settings.{Settings}
 use Rattle.flow_laws.specs.Event.{Story}
 use Rattle.flow_laws.specs.Flow.{has_connected, is_accepted, is_closed, is_connecting, is_under_way, opened_at, syn_is_out}
-use Rattle.flow_laws.specs.Dutiful.{connect_deadline, moment_if, resend_deadline, waits_since, wakes}
+use Rattle.flow_laws.specs.Close.{asked_at, times_asked}
+use Rattle.flow_laws.specs.Dutiful.{connect_deadline, moment_if, resend_deadline, seeks_guest, waits_since, wakes}
 use Rattle.halves_follow.specs.Bounds.{IsBy, IsFrom}
-use Rattle.halves_follow.proofs.InTime.{not_before}
+use Rattle.halves_follow.proofs.InTime.{not_before, seeks_none}
+use Rattle.halves_follow.proofs.Moments.{by_both}
 use Rattle.connection_follows.specs.Holding.{is_calls, is_connects, is_live}
 use Rattle.connection_follows.proofs.Bounds.{from_first, from_if, from_second, opening_by, opening_from, synchronized_by, synchronized_from}
 use Rattle.connection_follows.proofs.Settling.{not_expired}
 use Rattle.connection_follows.proofs.Watching.{syn_under_way}
-use Rattle.flow_splice.specs.Follows.{Follows, FollowsAt, IsOpen}
-use Rattle.flow_splice.specs.Sends.{IsClear, IsClearBy}
+use Rattle.flow_splice.specs.Follows.{Follows, FollowsAt, IsAsking, IsOpen}
+use Rattle.flow_splice.specs.Sends.{IsClear, IsClearBy, asks_now}
 use Rattle.flow_splice.specs.Splice.{Splice, is_in_use, is_open}
-use Rattle.flow_splice.specs.Wants.{connect_end, due_of, seeks}
-use Rattle.flow_splice.proofs.Stages.{calls_opens, if_none, in_use, no_connecting, no_way, takes}
+use Rattle.flow_splice.specs.Wants.{ask_due, connect_end, due_of, seeks}
+use Rattle.flow_splice.proofs.Stages.{calls_opens, if_none, in_use, no_connecting, resends_none, takes}
 use Rattle.flow_splice.specs.declared.Place.{Place}
 use Rattle.flow_splice.specs.declared.Place.TheVariants.{Empty, InUse, Resting}
 
@@ -32,28 +34,44 @@ use Rattle.flow_splice.specs.declared.Place.TheVariants.{Empty, InUse, Resting}
 shut_by : (f : Splice) (past : Story) → is_closed past ≡ true → IsBy (due_of f) (connect_deadline past) × IsBy (due_of f) (resend_deadline past)
 shut_by f past shut = (
   subst (λ (b : Bool). IsBy (due_of f) (moment_if b (opened_at past + 75000))) (sym (no_connecting (is_accepted past || has_connected past) (is_closed past) shut)) tt,
-  subst (λ (b : Bool). IsBy (due_of f) (moment_if b (waits_since past + 60000))) (sym (no_way (is_under_way past) (is_closed past) shut)) tt,
+  subst (λ ms. IsBy (due_of f) ms) (sym (resends_none past shut)) tt,
 )
 
 shut_from : (f : Splice) (past : Story) → is_open f ≡ false → IsFrom (due_of f) (wakes past)
 shut_from f past shut =
     subst (λ (o : Option ℕ). IsFrom o (wakes past))
-    (sym (ap (λ (b : Bool). if b then (if is_connects f.conn.stage then Some (connect_end f) else (if seeks f then Some f.ask_at else conn_due f.conn)) else None) shut)) tt
+    (sym (ap (λ (b : Bool). if b then (if is_connects f.conn.stage then Some (connect_end f) else (if seeks f then ask_due f else conn_due f.conn)) else None) shut)) tt
 
 -- ---- while it is open
 
+-- a guest whose hardware address isn't known was asked for it, where no request is owed
+pub waits_yet : (s : Settings) (f : Splice) (past : Story) (now : ℕ) → IsOpen s f past now → is_open f ≡ true → f.mac ≡ None → asks_now f ≡ false → (f.asks ≡ false) × (0 < f.asked)
+waits_yet s f past now o open_yet unknown none =
+    by f.asks refl (o.asks unknown) (sym (ap (λ (b : Bool). b && nat_lt f.asked 9 && f.asks) open_yet) ∙ none)
+  where
+    is_few : (n : ℕ) → n < 9 → nat_lt n 9 ≡ true
+    is_few n low = grind (arith, nat_tests)
+
+    apart : (b : Bool) → b ≡ true → (b && true) ≡ false → ⊥
+    apart true few missed = cc
+    apart false few missed = cc
+
+    by : (b : Bool) → f.asks ≡ b → IsAsking b f.asked f.ask_at now → (nat_lt f.asked 9 && b) ≡ false → (f.asks ≡ false) × (0 < f.asked)
+    by true is asking missed = absurd (apart (nat_lt f.asked 9) (is_few f.asked asking.0) missed)
+    by false is asked missed = (is, asked)
+
 module _ (s : Settings) (f : Splice) (past : Story) (now : ℕ) (o : IsOpen s f past now) (open_yet : is_open f ≡ true) where
-  due_open : due_of f ≡ (if is_connects f.conn.stage then Some (connect_end f) else (if seeks f then Some f.ask_at else conn_due f.conn))
-  due_open = ap (λ (b : Bool). if b then (if is_connects f.conn.stage then Some (connect_end f) else (if seeks f then Some f.ask_at else conn_due f.conn)) else None) open_yet
+  due_open : due_of f ≡ (if is_connects f.conn.stage then Some (connect_end f) else (if seeks f then ask_due f else conn_due f.conn))
+  due_open = ap (λ (b : Bool). if b then (if is_connects f.conn.stage then Some (connect_end f) else (if seeks f then ask_due f else conn_due f.conn)) else None) open_yet
 
   due_connects : is_connects f.conn.stage ≡ true → due_of f ≡ Some (connect_end f)
-  due_connects is = due_open ∙ ap (λ (b : Bool). if b then Some (connect_end f) else (if seeks f then Some f.ask_at else conn_due f.conn)) is
+  due_connects is = due_open ∙ ap (λ (b : Bool). if b then Some (connect_end f) else (if seeks f then ask_due f else conn_due f.conn)) is
 
-  due_apart : is_connects f.conn.stage ≡ false → due_of f ≡ (if seeks f then Some f.ask_at else conn_due f.conn)
-  due_apart is = due_open ∙ ap (λ (b : Bool). if b then Some (connect_end f) else (if seeks f then Some f.ask_at else conn_due f.conn)) is
+  due_apart : is_connects f.conn.stage ≡ false → due_of f ≡ (if seeks f then ask_due f else conn_due f.conn)
+  due_apart is = due_open ∙ ap (λ (b : Bool). if b then Some (connect_end f) else (if seeks f then ask_due f else conn_due f.conn)) is
 
   due_known : is_connects f.conn.stage ≡ false → seeks f ≡ false → due_of f ≡ conn_due f.conn
-  due_known apart none = due_apart apart ∙ ap (λ (b : Bool). if b then Some f.ask_at else conn_due f.conn) none
+  due_known apart none = due_apart apart ∙ ap (λ (b : Bool). if b then ask_due f else conn_due f.conn) none
 
   pub open_by_connect : IsBy (due_of f) (connect_deadline past)
   open_by_connect = by (is_connects f.conn.stage) refl
@@ -66,9 +84,29 @@ module _ (s : Settings) (f : Splice) (past : Story) (now : ℕ) (o : IsOpen s f 
       by false is = subst (λ (b : Bool). IsBy (due_of f) (moment_if b (opened_at past + 75000))) (sym (o.holds.opened.connects ∙ is)) tt
 
   -- nothing is under way before its SYN went out
-  none_by : is_opening f.conn.stage ≡ true → has_gone f.conn.sendings ≡ false → IsBy (due_of f) (resend_deadline past)
-  none_by opening unsent =
-      subst (λ (b : Bool). IsBy (due_of f) (moment_if (b && not (is_closed past)) (waits_since past + 60000))) (sym (syn_under_way s f.conn past o.holds.opened opening ∙ unsent)) tt
+  none_by : is_opening f.conn.stage ≡ true → has_gone f.conn.sendings ≡ false → (due : Option ℕ) → IsBy due (moment_if (is_under_way past && not (is_closed past)) (waits_since past + 60000))
+  none_by opening unsent due =
+      subst (λ (b : Bool). IsBy due (moment_if (b && not (is_closed past)) (waits_since past + 60000))) (sym (syn_under_way s f.conn past o.holds.opened opening ∙ unsent)) tt
+
+  -- its guest is called
+  called_by : has_gone f.conn.sendings ≡ true → seeks_guest past ≡ false
+  called_by gone = seeks_none past (λ accepted. o.holds.opened.out ∙ gone)
+
+  went : (b : Bool) → has_gone f.conn.sendings ≡ b → is_connects f.conn.stage ≡ false → is_opening f.conn.stage ≡ true → f.conn.syn_owed ≡ false → has_gone f.conn.sendings ≡ true
+  went true is apart opening none = is
+  went false is apart opening none = let not_it = sym (o.holds.opened.owes apart opening is) ∙ none in absurd cc
+
+  -- one that connects wasn't accepted
+  connects_by : is_connects f.conn.stage ≡ true → seeks_guest past ≡ false
+  connects_by is = by (is_accepted past) (has_connected past) (is_closed past) (syn_is_out past) (o.holds.opened.connects ∙ is)
+    where
+      by : (a b d e : Bool) → not (a || b || d) ≡ true → (a && not e && not d) ≡ false
+      by false b d e so = refl
+      by true b d e so = absurd (by_two b d so)
+        where
+          by_two : (b d : Bool) → not (true || b || d) ≡ true → ⊥
+          by_two true d so = cc
+          by_two false d so = cc
 
   known_seeks : (mac : Mac) → f.mac ≡ Some mac → seeks f ≡ false
   known_seeks mac is = ap (λ (m : Option Mac). not (is_some m) && nat_lt 0 f.asked) is
@@ -80,21 +118,27 @@ module _ (s : Settings) (f : Splice) (past : Story) (now : ℕ) (o : IsOpen s f 
       of_conn : (d : Option ℕ) → is_connects f.conn.stage ≡ false → conn_due f.conn ≡ d → IsBy d (resend_deadline past) → IsBy (due_of f) (resend_deadline past)
       of_conn d apart is within = subst (λ (x : Option ℕ). IsBy x (resend_deadline past)) (sym (due_known apart known ∙ is)) within
 
+      of_opening : f.conn.syn_owed ≡ false → is_connects f.conn.stage ≡ false → is_opening f.conn.stage ≡ true → conn_due f.conn ≡ resend_due f.conn.syn
+          → IsBy (due_of f) (resend_deadline past)
+      of_opening no_syn apart opening is = of_conn (resend_due f.conn.syn) apart is
+          (opening_by s f.conn f.up f.down past now o.holds opening (λ gone. no_syn) (called_by (went (has_gone f.conn.sendings) refl apart opening no_syn)))
+
       both : (a b : Bool) → (if a then Some SynAck else ack_if b) ≡ None → a ≡ false
       both true b is = absurd cc
       both false true is = absurd cc
       both false false is = refl
 
       by : (st : Stage) → f.conn.stage ≡ st → is_live st ≡ true → IsBy (due_of f) (resend_deadline past)
-      by stage.Connects at live = none_by (ap (λ (q : Stage). is_opening q) at) (o.holds.opened.unsent (ap (λ (q : Stage). is_connects q) at))
+      by stage.Connects at live =
+          by_both (due_of f) (moment_if (is_under_way past && not (is_closed past)) (waits_since past + 60000)) _
+          (none_by (ap (λ (q : Stage). is_opening q) at) (o.holds.opened.unsent (ap (λ (q : Stage). is_connects q) at)) (due_of f))
+          (rw (connects_by (ap (λ (q : Stage). is_connects q) at)) tt)
       by stage.Calls at live =
           let no_syn = if_none f.conn.syn_owed Syn (sym (ap (λ (q : Stage). owed_by q f.conn f.up f.down) at) ∙ nothing) in
-          of_conn (resend_due f.conn.syn) (ap (λ (q : Stage). is_connects q) at) (ap (λ (q : Stage). conn_due_by q f.conn) at)
-          (opening_by s f.conn f.up f.down past now o.holds (ap (λ (q : Stage). is_opening q) at) (λ gone. no_syn))
+          of_opening no_syn (ap (λ (q : Stage). is_connects q) at) (ap (λ (q : Stage). is_opening q) at) (ap (λ (q : Stage). conn_due_by q f.conn) at)
       by stage.Answers at live =
           let no_syn = both f.conn.syn_owed f.conn.ack_owed (sym (ap (λ (q : Stage). owed_by q f.conn f.up f.down) at) ∙ nothing) in
-          of_conn (resend_due f.conn.syn) (ap (λ (q : Stage). is_connects q) at) (ap (λ (q : Stage). conn_due_by q f.conn) at)
-          (opening_by s f.conn f.up f.down past now o.holds (ap (λ (q : Stage). is_opening q) at) (λ gone. no_syn))
+          of_opening no_syn (ap (λ (q : Stage). is_connects q) at) (ap (λ (q : Stage). is_opening q) at) (ap (λ (q : Stage). conn_due_by q f.conn) at)
       by stage.Synchronized at live =
           let opening = ap (λ (q : Stage). is_opening q) at in
           let synchronized = ap (λ (q : Stage). is_synchronized q) at in
@@ -110,14 +154,41 @@ module _ (s : Settings) (f : Splice) (past : Story) (now : ℕ) (o : IsOpen s f 
   open_by_resend clear = by f.mac refl clear
     where
       by : (m : Option Mac) → f.mac ≡ m → IsClearBy m f → IsBy (due_of f) (resend_deadline past)
-      by None is some = let two = o.unsent is in none_by (calls_opens f.conn.stage two.0).0 two.1
+      by None is none =
+          let two = o.unsent is in
+          let waits = waits_yet s f past now o open_yet is none in
+          let soon = (o.seeks is waits.1).soon in
+          let due : due_of f ≡ Some f.ask_at = due_apart (calls_apart f.conn.stage two.0) ∙ ap (λ (b : Bool). if b then ask_due f else conn_due f.conn) (seeking is waits.1)
+          ∙ ap (λ (b : Bool). if not b then Some f.ask_at else None) waits.0 in
+          by_both (due_of f) (moment_if (is_under_way past && not (is_closed past)) (waits_since past + 60000)) _ (none_by (calls_opens f.conn.stage two.0).0 two.1 (due_of f))
+          (subst (λ (d : Option ℕ). IsBy d (moment_if (seeks_guest past && nat_lt 0 (times_asked past)) (asked_at past + 60000))) (sym due)
+          (by_if (seeks_guest past && nat_lt 0 (times_asked past)) f.ask_at (asked_at past + 60000) soon))
+        where
+          by_if : (b : Bool) (at m : ℕ) → at ≤ m → IsBy (Some at) (moment_if b m)
+          by_if true at m low = (low, tt)
+          by_if false at m low = tt
+
+          calls_apart : (st : Stage) → is_calls st ≡ true → is_connects st ≡ false
+          calls_apart stage.Connects is = absurd cc
+          calls_apart stage.Calls is = refl
+          calls_apart stage.Answers is = refl
+          calls_apart stage.Synchronized is = refl
+          calls_apart stage.Rests is = refl
+          calls_apart (stage.Resets seq ack) is = refl
+          calls_apart stage.Gone is = refl
+
+          yes : (n : ℕ) → 0 < n → nat_lt 0 n ≡ true
+          yes n some = grind (arith, nat_tests)
+
+          seeking : f.mac ≡ None → 0 < f.asked → seeks f ≡ true
+          seeking is some = ap (λ (m : Option Mac). not (is_some m) && nat_lt 0 f.asked) is ∙ yes f.asked some
       by (Some mac) is none = known_by (known_seeks mac is) (takes f.place (owed_of f.conn f.up f.down) (in_use (is_in_use f.place) f.shut open_yet) none)
 
   -- ---- at least
 
   -- it asks for its guest's hardware address
-  seeking_from : seeks f ≡ true → IsFrom (Some f.ask_at) (wakes past)
-  seeking_from seeking = by f.mac refl seeking
+  seeking_from : seeks f ≡ true → IsFrom (ask_due f) (wakes past)
+  seeking_from seeking = if_waits f.asks refl
     where
       some : (n : ℕ) → nat_lt 0 n ≡ true → 0 < n
       some n is = grind (arith, nat_tests)
@@ -135,6 +206,10 @@ module _ (s : Settings) (f : Splice) (past : Story) (now : ℕ) (o : IsOpen s f 
           (from_if f.ask_at (opened_at past + 1000) (is_accepted past && not (syn_is_out past) && not (is_closed past))
           (three (is_accepted past) (syn_is_out past) (is_closed past) (o.holds.opened.calls two.0) (o.holds.opened.out ∙ two.1) o.holds.goes.open_yet)
           (not_before past f.asked f.ask_at asked (o.seeks is asked))))
+
+      if_waits : (b : Bool) → f.asks ≡ b → IsFrom (if not b then Some f.ask_at else None) (wakes past)
+      if_waits true is = tt
+      if_waits false is = by f.mac refl seeking
 
   -- its connection's timer
   conn_from : (st : Stage) → f.conn.stage ≡ st → is_connects st ≡ false → is_live st ≡ true → IsFrom (conn_due f.conn) (wakes past)
@@ -160,7 +235,7 @@ module _ (s : Settings) (f : Splice) (past : Story) (now : ℕ) (o : IsOpen s f 
           (from_first (connect_end f) (connect_deadline past ++ moment_if (is_accepted past && not (syn_is_out past) && not (is_closed past)) (opened_at past + 1000)) _
           (from_first (connect_end f) (connect_deadline past) _ (from_if (connect_end f) (opened_at past + 75000) (is_connecting past) (o.holds.opened.connects ∙ is) (omega (arith, since)))))
       by false true apart seeking =
-          subst (λ (d : Option ℕ). IsFrom d (wakes past)) (sym (due_apart apart ∙ ap (λ (b : Bool). if b then Some f.ask_at else conn_due f.conn) seeking)) (seeking_from seeking)
+          subst (λ (d : Option ℕ). IsFrom d (wakes past)) (sym (due_apart apart ∙ ap (λ (b : Bool). if b then ask_due f else conn_due f.conn) seeking)) (seeking_from seeking)
       by false false apart known = subst (λ (d : Option ℕ). IsFrom d (wakes past)) (sym (due_known apart known)) (conn_from f.conn.stage refl apart o.holds.opened.live)
 
 -- ---- by where it stands

@@ -245,7 +245,7 @@ module _ (f : Splice) (now first : ℕ) (what : Owed) (mac : Mac) (known_mac : f
             (went_out f what now) new made refl refl stays.0 stays.1
             (subst (λ (y : Connection). Follows s (record f { conn = y }) gone_out now) (sym (settled_same (gone what c f.up now) unfinished))
             (open_follows s (record f { conn = gone what c f.up now }) gone_out now open_yet
-            (goes_on s f (gone what c f.up now) f.up f.down f.told_end past before now (Departs (segment_out f.mru c f.up f.down what)) (λ none. none) o x_holds o.told unfinished
+            (goes_on s f (gone what c f.up now) f.up f.down f.told_end past before now (Departs (segment_out f.mru c f.up f.down what)) on (λ none. none) o x_holds o.told unfinished
             (λ none. absurd (no_mac none)) (λ unowed. refl))))
 
     -- it owes a reset

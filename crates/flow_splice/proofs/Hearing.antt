@@ -111,7 +111,7 @@ module _ (f : Splice) (now : ℕ) (tcp : Tcp) (open_yet : is_open f ≡ true) (l
       holds_on : Holds s x u d after now → is_done x ≡ false → (f.mac ≡ None → (is_calls x.stage ≡ true) × (has_gone x.sendings ≡ false)) →
           (x.ack_owed ≡ false → follows_reset true after ≡ false) → Result
       holds_on h unfinished unsent calm =
-          stays (as_heard (λ (g : Splice). IsOpen s g after now) (goes_on s f x u d f.told_end past before now (Arrives seg) (λ none. none) o h o.told unfinished unsent calm))
+          stays (as_heard (λ (g : Splice). IsOpen s g after now) (goes_on s f x u d f.told_end past before now (Arrives seg) on (λ none. none) o h o.told unfinished unsent calm))
 
     -- the connection is gone
     gone : verdict_of c f.up tcp ≡ Resets → HasCause true false known now after → Follows s (closed (record f { conn = record c { stage = stage.Gone } }) now)

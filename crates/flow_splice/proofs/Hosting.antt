@@ -75,7 +75,7 @@ module _ (f : Splice) (now : ℕ) (open_yet : is_open f ≡ true) where
           are = ([], refl, (refl, refl));
           follows = open_follows s (record f { conn = connected_by f.conn.stage f.conn }) (At now HostConnected ∷ past) now open_yet
               (subst (λ (c : Connection). IsOpen s (record f { conn = c }) (At now HostConnected ∷ past) now) (sym is)
-              (goes_on s f next f.up f.down f.told_end past before now HostConnected (λ none. none) o
+              (goes_on s f next f.up f.down f.told_end past before now HostConnected on (λ none. none) o
               (connects_now s f.conn f.up f.down past before now on at (subst (λ (c : Connection). HasBuffers c f.up f.down) is buffers) o.holds) o.told (opening_not_done next refl)
               (λ unknown. let two = o.unsent unknown in let not_it = sym two.0 ∙ (connects_opens f.conn.stage connects).2 in absurd cc) (λ unowed. refl)));
         }
@@ -87,7 +87,7 @@ module _ (f : Splice) (now : ℕ) (open_yet : is_open f ≡ true) where
           beats = At now ConnectsYet ∷ [];
           are = ([], refl, (refl, refl));
           follows = open_follows s f (At now ConnectsYet ∷ past) now open_yet
-              (goes_on s f f.conn f.up f.down f.told_end past before now ConnectsYet (λ none. none) o
+              (goes_on s f f.conn f.up f.down f.told_end past before now ConnectsYet on (λ none. none) o
               (connects_yet s f.conn f.up f.down past before now on connects o.holds) o.told o.unfinished o.unsent (λ unowed. refl));
         }
 
@@ -129,7 +129,7 @@ module _ (f : Splice) (now : ℕ) (open_yet : is_open f ≡ true) where
         → (s : Settings) (past : Story) (before : ℕ) → before ≤ now → IsOpen s f past before → Follows s (record f { up = without f.up n }) (At now (Writes front n) ∷ past) now
     takes n few buffers s past before on o =
         open_follows s (record f { up = without f.up n }) (At now (Writes front n) ∷ past) now open_yet
-        (goes_on s f f.conn (without f.up n) f.down f.told_end past before now (Writes front n) (λ none. none) o
+        (goes_on s f f.conn (without f.up n) f.down f.told_end past before now (Writes front n) on (λ none. none) o
         (writes s f.conn f.up f.down past before now on (reached s past before o) joined (min 16384 (length f.up.held)) n few refl buffers o.holds) o.told o.unfinished o.unsent (λ unowed. refl))
 
     pub host_takes : (answer : Io) → count_of answer ≤ min 16384 (length f.up.held) → HasBuffers f.conn (without f.up (count_of answer)) f.down → (answer ≡ Failed → ⊥)
@@ -245,7 +245,7 @@ module _ (f : Splice) (now : ℕ) (open_yet : is_open f ≡ true) where
           beats = At now EndsHost ∷ [];
           are = ([], refl, (refl, refl));
           follows = open_follows s (record f { conn = told; told_end = true }) (At now EndsHost ∷ past) now open_yet
-              (goes_on s f told f.up f.down true past before now EndsHost (λ none. none) o (ends_holds buffers s past before on o) refl (is_unfinished told unfinished) o.unsent (λ unowed. refl));
+              (goes_on s f told f.up f.down true past before now EndsHost on (λ none. none) o (ends_holds buffers s past before on o) refl (is_unfinished told unfinished) o.unsent (λ unowed. refl));
         })))
 
   -- ---- octets are read
@@ -276,7 +276,7 @@ module _ (f : Splice) (now : ℕ) (open_yet : is_open f ≡ true) where
     read_follows octets size few buffers s past before on o =
         let next = given f octets now in
         open_follows s next (At now (Reads octets) ∷ past) now open_yet
-        (goes_on s f next.conn f.up next.down f.told_end past before now (Reads octets) (λ none. none) o
+        (goes_on s f next.conn f.up next.down f.told_end past before now (Reads octets) on (λ none. none) o
         (reads s f.conn f.up f.down past before now on o.holds yet joined_yet octets
         (let long = length-append f.down.octets octets in let within = o.holds.within in let ring = size ∙ o.holds.buffers.size ∙ o.holds.suits.ring in omega
         (arith, long, ring, few, within)) buffers)
@@ -306,7 +306,7 @@ module _ (f : Splice) (now : ℕ) (open_yet : is_open f ≡ true) where
           are = ([], refl, (refl, asks s past before o size, refl));
           follows = subst (λ (c : Connection). Follows s (record f { conn = c }) (At now ReadsEnd ∷ past) now) (sym is)
               (open_follows s (record f { conn = next }) (At now ReadsEnd ∷ past) now open_yet
-              (goes_on s f next f.up f.down f.told_end past before now ReadsEnd (λ none. none) o
+              (goes_on s f next f.up f.down f.told_end past before now ReadsEnd on (λ none. none) o
               (reads_end s f.conn f.up f.down past before now on o.holds yet joined_yet (subst (λ (c : Connection). HasBuffers c f.up f.down) is buffers)) o.told o.unfinished
               o.unsent (λ unowed. refl)));
         }

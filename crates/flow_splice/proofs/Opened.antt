@@ -11,8 +11,8 @@ use Rattle.flow_laws.specs.Close.{follows_reset, host_was_ended}
 use Rattle.connection_follows.specs.Holding.{Holds, is_calls}
 use Rattle.connection_follows.specs.Over.{IsOver, IsResting, Runs}
 use Rattle.connection_follows.proofs.Quiet.{holds_later}
-use Rattle.connection_follows.proofs.Seeking.{seeks_on}
-use Rattle.flow_splice.specs.Follows.{Follows, FollowsAt, IsOpen}
+use Rattle.connection_follows.proofs.Seeking.{asked_before, seeks_on}
+use Rattle.flow_splice.specs.Follows.{Follows, FollowsAt, IsAsking, IsOpen}
 use Rattle.flow_splice.specs.Splice.{Splice, is_in_use, is_open}
 use Rattle.flow_splice.specs.declared.Place.{Place}
 use Rattle.flow_splice.specs.declared.Place.TheVariants.{Empty, InUse, Resting}
@@ -41,6 +41,11 @@ open_follows s f past now is h = by f.place f.shut is
 
 pub runs_later : (s : Settings) (past : Story) (now m : ℕ) → now ≤ m → Runs s past now → Runs s past m
 runs_later s past now m on r = record { story = r.story; moment = let low = r.moment in omega (arith, low, on); lawful = r.lawful; dutiful = r.dutiful }
+
+-- a request that is owed stays so
+pub asks_later : (asks : Bool) (asked at now m : ℕ) → now ≤ m → IsAsking asks asked at now → IsAsking asks asked at m
+asks_later true asked at now m on is = (is.0, λ some. let low = is.1 some in omega (arith, low, on))
+asks_later false asked at now m on is = is
 
 pub over_later : (s : Settings) (c : Connection) (past : Story) (now m : ℕ) → now ≤ m → IsOver s c past now → IsOver s c past m
 over_later s c past now m on h = record { runs = runs_later s past now m on h.runs; closed = h.closed; well = h.well; over = h.over; owes = h.owes; pays = h.pays; came = h.came }
@@ -75,6 +80,7 @@ open_later s f past now m on h = record {
   unfinished = h.unfinished;
   unsent = h.unsent;
   seeks = h.seeks;
+  asks = λ unknown. asks_later f.asks f.asked f.ask_at now m on (h.asks unknown);
   calm = h.calm;
 }
 
@@ -95,17 +101,18 @@ opened_still past m (Accepts ours) none = absurd (none tt)
 opened_still past m _ none = refl
 
 -- one after which the connection holds, and whether our SYN is to go out is as before
-pub goes_on : (s : Settings) (f : Splice) (c : Connection) (up : Upward) (down : Downward) (told : Bool) (past : Story) (before now : ℕ) (e : Event) → (Opens e → ⊥) → IsOpen s f past before
+pub goes_on : (s : Settings) (f : Splice) (c : Connection) (up : Upward) (down : Downward) (told : Bool) (past : Story) (before now : ℕ) (e : Event) → before ≤ now → (Opens e → ⊥) → IsOpen s f past before
     → Holds s c up down (At now e ∷ past) now → host_was_ended (At now e ∷ past) ≡ told → is_done c ≡ false
     → (f.mac ≡ None → (is_calls c.stage ≡ true) × (has_gone c.sendings ≡ false)) → (c.ack_owed ≡ false → follows_reset true (At now e ∷ past) ≡ false)
     → IsOpen s (record f { conn = c; up = up; down = down; told_end = told }) (At now e ∷ past) now
-goes_on s f c up down told past before now e none h holds told_is unfinished unsent calm = record {
+goes_on s f c up down told past before now e on none h holds told_is unfinished unsent calm = record {
   holds = holds;
   mru = h.mru;
   since = opened_still past now e none ∙ h.since;
   told = told_is;
   unfinished = unfinished;
   unsent = unsent;
-  seeks = λ unknown some. seeks_on now e past f.asked f.ask_at none (h.seeks unknown some);
+  seeks = λ unknown some. seeks_on now e past f.asked f.ask_at none (asked_before now e past holds.goes.story) (h.seeks unknown some);
+  asks = λ unknown. asks_later f.asks f.asked f.ask_at before now on (h.asks unknown);
   calm = calm;
 }

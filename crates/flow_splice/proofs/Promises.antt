@@ -1,5 +1,5 @@
 -- What follows where a flow follows its story.
-use Rattle.std.proofs.Common.{refl, ◌≡◌, ℕ, ◌+◌, ◌-◌, ◌<◌, ◌≤◌, [], ◌++◌, List, length, Bool, true, false, not, ◌&&◌, ◌||◌, Option, None, Some, nat_lt, IsTrue, if◌then◌else◌, arith, ap}
+use Rattle.std.proofs.Common.{refl, ◌≡◌, ℕ, ◌+◌, ◌-◌, ◌<◌, ◌≤◌, [], ◌++◌, List, length, Bool, true, false, not, ◌&&◌, ◌||◌, Option, None, Some, is_some, nat_lt, IsTrue, if◌then◌else◌, arith, ap}
 use Rattle.std.proofs.Common.{subst, sym, ◌∙◌, inl, inr, ◌⊎◌}
 use Rattle.std.proofs.lemmas.Bool.Decides.{nat_tests}
 use Rattle.net_octets.specs.declared.Mac.{Mac}
@@ -22,6 +22,7 @@ use Rattle.flow_laws.specs.Close.{host_was_ended, is_in_use as is_in_use_by_law,
 use Rattle.flow_laws.specs.Lawful.{IsLawful, IsPrefixOf}
 use Rattle.flow_laws.specs.Dutiful.{AreAhead, IsDutiful, MayWait, MayWaitToWrite, fin_is_answered, moment_if, must_wait_to_write, waits_since, waits_to_read}
 use Rattle.halves_follow.specs.Settled.{IsSettledIf}
+use Rattle.halves_follow.proofs.Waiting.{settled_if}
 use Rattle.halves_follow.proofs.Wanting.{acknowledged_few, begins_front}
 use Rattle.connection_follows.specs.Holding.{Holds, is_calls, is_connects, is_live}
 use Rattle.connection_follows.specs.Over.{is_resets}
@@ -29,13 +30,14 @@ use Rattle.connection_follows.specs.Seen.{part_of}
 use Rattle.connection_follows.proofs.Seeking.{seeking_settled}
 use Rattle.connection_follows.proofs.Settling.{opening_settled, synchronized_settled}
 use Rattle.connection_follows.proofs.Wanting.{may_wait, may_write as may_write_by, must_write, reads_where_room}
-use Rattle.flow_splice.specs.Ahead.{IsAhead}
+use Rattle.flow_splice.specs.Ahead.{IsAhead, IsTimely}
 use Rattle.flow_splice.specs.Follows.{Follows, FollowsAt, IsOpen}
 use Rattle.flow_splice.specs.Sends.{IsClear, IsClearBy, takes_part_at}
 use Rattle.flow_splice.specs.Splice.{Splice, is_at_rest, is_in_use, is_open}
-use Rattle.flow_splice.specs.Wants.{connect_end, may_read, may_write, reads, writes}
+use Rattle.flow_splice.specs.Wants.{connect_end, may_read, may_write, reads, seeks, writes}
+use Rattle.flow_splice.proofs.Bounds.{waits_yet}
 use Rattle.flow_splice.proofs.Restless.{open_none, owing_none}
-use Rattle.flow_splice.proofs.Stages.{calls_opens, if_none, in_use, no_connecting, no_way, takes}
+use Rattle.flow_splice.proofs.Stages.{calls_opens, if_none, in_use, no_connecting, resends_none, takes}
 use Rattle.flow_splice.specs.declared.Place.{Place}
 use Rattle.flow_splice.specs.declared.Place.TheVariants.{Empty, InUse, Resting}
 
@@ -132,7 +134,7 @@ module _ (in_time : Type 0) (s : Settings) (past : Story) (now : ℕ) (known res
       resting = answers;
     };
     window = λ honest is. absurd (closed_not (answered (host past)) (is_closed past) shut is);
-    resends = λ early. subst (λ (b : Bool). AreAhead now (moment_if b (waits_since past + 60000))) (sym (no_way (is_under_way past) (is_closed past) shut)) tt;
+    resends = λ early. subst (λ ms. AreAhead now ms) (sym (resends_none past shut)) tt;
   }
 
 -- ---- at a wait, while it is open
@@ -185,18 +187,24 @@ module _ (s : Settings) (f : Splice) (past : Story) (now : ℕ) (known : Bool) (
       by (stage.Resets seq ack) at live = absurd cc
       by stage.Gone at live = absurd cc
 
-  open_settled : is_open f ≡ true → (f.mac ≡ None → known ≡ false) → IsClearBy f.mac f → IsSettledIf (IsAhead f.conn now) s past known false now
+  open_settled : is_open f ≡ true → (f.mac ≡ None → known ≡ false) → IsClearBy f.mac f → IsSettledIf (IsTimely f now) s past known false now
   open_settled open_yet unknown clear = by f.mac refl clear
     where
-      by : (m : Option Mac) → f.mac ≡ m → IsClearBy m f → IsSettledIf (IsAhead f.conn now) s past known false now
-      by None is some =
+      by : (m : Option Mac) → f.mac ≡ m → IsClearBy m f → IsSettledIf (IsTimely f now) s past known false now
+      by None is none =
           let two = o.unsent is in
-          subst (λ (k : Bool). IsSettledIf (IsAhead f.conn now) s past k false now) (sym (unknown is))
-          (seeking_settled (IsAhead f.conn now) s c f.up f.down past now f.asked f.ask_at h two.0 two.1 (some open_yet) (o.seeks is (some open_yet)))
-      by (Some mac) is none = known_settled (takes f.place (owed_of c f.up f.down) (in_use (is_in_use f.place) f.shut open_yet) none)
+          let waits = waits_yet s f past now o open_yet is none in
+          let seeking : 0 < f.asked → seeks f ≡ true = λ some. ap (λ (m : Option Mac). not (is_some m) && nat_lt 0 f.asked) is ∙ yes f.asked some in
+          subst (λ (k : Bool). IsSettledIf (IsTimely f now) s past k false now) (sym (unknown is))
+          (seeking_settled (IsTimely f now) s c f.up f.down past now f.asked f.ask_at h two.0 two.1 waits.1 (o.seeks is waits.1) (λ early. early.1 open_yet (seeking waits.1) waits.0))
+        where
+          yes : (n : ℕ) → 0 < n → nat_lt 0 n ≡ true
+          yes n some = grind (arith, nat_tests)
+      by (Some mac) is none = settled_if (IsAhead f.conn now) (IsTimely f now) s past known false now (λ early. early.0)
+          (known_settled (takes f.place (owed_of c f.up f.down) (in_use (is_in_use f.place) f.shut open_yet) none))
 
 pub settled_is : (s : Settings) (f : Splice) (past : Story) (now : ℕ) (known : Bool) → Follows s f past now → IsClear f → (f.mac ≡ None → known ≡ false) → IsSettledIf
-    (IsAhead f.conn now) s past known (is_at_rest f.place) now
+    (IsTimely f now) s past known (is_at_rest f.place) now
 settled_is s f past now known h clear unknown = by f.place f.shut refl refl h
   where
     some_mac : (m : Option Mac) → f.mac ≡ m → (f.mac ≡ None → ⊥) → IsClearBy f.mac f → takes_part_at f.place (owed_of f.conn f.up f.down) ≡ None
@@ -216,8 +224,8 @@ settled_is s f past now known h clear unknown = by f.place f.shut refl refl h
     no_ack true is = absurd cc
     no_ack false is = refl
 
-    by : (p : Place) (b : Bool) → f.place ≡ p → f.shut ≡ b → FollowsAt p b s f past now → IsSettledIf (IsAhead f.conn now) s past known (is_at_rest p) now
-    by Empty b at shut q = closed_settled (IsAhead f.conn now) s past now known false q.over.closed (q.over.owes ∙ q.owes_none) (λ is. absurd cc)
+    by : (p : Place) (b : Bool) → f.place ≡ p → f.shut ≡ b → FollowsAt p b s f past now → IsSettledIf (IsTimely f now) s past known (is_at_rest p) now
+    by Empty b at shut q = closed_settled (IsTimely f now) s past now known false q.over.closed (q.over.owes ∙ q.owes_none) (λ is. absurd cc)
     by InUse true at shut q =
         let none = subst (λ (p : Place). takes_part_at p (owed_of f.conn f.up f.down) ≡ None) at (some_mac f.mac refl q.known clear) in
         absurd (owed_none f.conn.stage refl q.owes none)
@@ -225,7 +233,7 @@ settled_is s f past now known h clear unknown = by f.place f.shut refl refl h
     by (Resting since) b at shut q =
         let none = subst (λ (p : Place). takes_part_at p (owed_of f.conn f.up f.down) ≡ None) at (some_mac f.mac refl q.known clear) in
         let unowed = no_ack f.conn.ack_owed (sym (ap (λ (st : Stage). owed_by st f.conn f.up f.down) q.rests.at) ∙ none) in
-        closed_settled (IsAhead f.conn now) s past now known true q.rests.over.closed (q.rests.over.owes ∙ ap is_resets q.rests.at) (λ is. q.rests.answered unowed)
+        closed_settled (IsTimely f now) s past now known true q.rests.over.closed (q.rests.over.owes ∙ ap is_resets q.rests.at) (λ is. q.rests.answered unowed)
 
 -- ---- whether it may be waited at all
 

@@ -1,16 +1,20 @@
 -- What follows from the stage of a connection, from where its flow stands, and from tests of these.
-use Rattle.std.proofs.Common.{refl, ◌≡◌, not, ◌&&◌, ◌||◌, Bool, true, false, Option, None, Some, if◌then◌else◌, ap}
+use Rattle.std.proofs.Common.{refl, ◌≡◌, ◌+◌, [], ◌++◌, nat_lt, ◌∙◌, not, ◌&&◌, ◌||◌, Bool, true, false, Option, None, Some, if◌then◌else◌, ap}
 use Rattle.tcp_guest.specs.Connection.{is_opening}
 use Rattle.tcp_guest.specs.declared.Owed.{Owed}
 use Rattle.tcp_guest.specs.declared.Stage.{Stage}
 use Rattle.tcp_guest.specs.declared.Stage.TheVariants as stage
+use Rattle.flow_laws.specs.Event.{Story}
+use Rattle.flow_laws.specs.Close.{asked_at, times_asked}
+use Rattle.flow_laws.specs.Flow.{is_accepted, is_closed, is_under_way, syn_is_out}
+use Rattle.flow_laws.specs.Dutiful.{moment_if, resend_deadline, seeks_guest, waits_since}
 use Rattle.connection_follows.specs.Holding.{is_calls, is_connects}
 use Rattle.flow_splice.specs.Sends.{takes_part_at}
 use Rattle.flow_splice.specs.Splice.{is_in_use}
 use Rattle.flow_splice.specs.declared.Place.{Place}
 use Rattle.flow_splice.specs.declared.Place.TheVariants.{Empty, InUse, Resting}
 
--- of one that was closed nothing is under way, and it doesn't connect
+-- of one that was closed nothing is under way, it doesn't connect, and no guest is called
 pub no_way : (a b : Bool) → b ≡ true → (a && not b) ≡ false
 no_way true b is = ap not is
 no_way false b is = refl
@@ -18,6 +22,20 @@ no_way false b is = refl
 pub no_connecting : (a b : Bool) → b ≡ true → not (a || b) ≡ false
 no_connecting true b is = refl
 no_connecting false b is = ap not is
+
+pub no_seeking : (past : Story) → is_closed past ≡ true → seeks_guest past ≡ false
+no_seeking past shut = by (is_accepted past) (syn_is_out past) (is_closed past) shut
+  where
+    by : (a b d : Bool) → d ≡ true → (a && not b && not d) ≡ false
+    by false b d is = refl
+    by true true d is = refl
+    by true false d is = ap not is
+
+-- so nothing of it goes out again
+pub resends_none : (past : Story) → is_closed past ≡ true → resend_deadline past ≡ []
+resends_none past shut =
+    ap (λ b. moment_if b (waits_since past + 60000) ++ moment_if (seeks_guest past && nat_lt 0 (times_asked past)) (asked_at past + 60000)) (no_way (is_under_way past) (is_closed past) shut)
+    ∙ ap (λ b. moment_if (b && nat_lt 0 (times_asked past)) (asked_at past + 60000)) (no_seeking past shut)
 
 -- where one of these is owed if at all, and none is
 pub if_none : (b : Bool) (w : Owed) → (if b then Some w else None) ≡ None → b ≡ false

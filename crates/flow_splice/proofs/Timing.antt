@@ -1,5 +1,5 @@
 -- Time passes: what was awaited too long, and timers.
-use Rattle.std.proofs.Common.{◌||◌, refl, ◌≡◌, ℕ, ◌+◌, ◌≤◌, [], ◌∷◌, List, Bool, true, false, not, ◌&&◌, Option, None, Some, is_some, if◌then◌else◌, nat_eq, nat_le, nat_lt, IsTrue, arith}
+use Rattle.std.proofs.Common.{◌||◌, refl, ◌≡◌, ℕ, ◌+◌, ◌<◌, ◌≤◌, [], ◌∷◌, List, Bool, true, false, not, ◌&&◌, Option, None, Some, is_some, if◌then◌else◌, nat_eq, nat_le, nat_lt, IsTrue, arith}
 use Rattle.std.proofs.Common.{ap, subst, sym, ◌∙◌}
 use Rattle.std.proofs.lemmas.Bool.Decides.{nat_tests}
 use Rattle.retransmit.specs.Resending.{after_expired as resend_expired, due_of as resend_due, is_given_up}
@@ -24,11 +24,11 @@ use Rattle.connection_follows.specs.Holding.{Holds, is_calls, is_connects, is_li
 use Rattle.connection_follows.proofs.Causes.{gives_up_closes, late_cause, late_closes, unfound_cause, unfound_closes}
 use Rattle.connection_follows.proofs.Ticking.{piece_expires, piece_spent, syn_expires, syn_spent}
 use Rattle.flow_splice.specs.Entries.{AreEvents}
-use Rattle.flow_splice.specs.Follows.{Follows, IsOpen}
+use Rattle.flow_splice.specs.Follows.{Follows, IsAsking, IsOpen}
 use Rattle.flow_splice.specs.Hosts.{Sees, ends}
 use Rattle.flow_splice.specs.Serves.{GoesOnYet, Serves, TicksOn}
 use Rattle.flow_splice.specs.Splice.{Splice, closed, is_open}
-use Rattle.flow_splice.specs.Wants.{connect_end, seeks}
+use Rattle.flow_splice.specs.Wants.{asks_after, connect_end, seeks}
 use Rattle.flow_splice.proofs.Calm.{calm_either}
 use Rattle.flow_splice.proofs.Opened.{open_follows, open_is, open_later}
 use Rattle.flow_splice.proofs.Shutting.{reset_dead, reset_follows, shut_is}
@@ -96,6 +96,44 @@ module _ (f : Splice) (now : ℕ) (open_yet : is_open f ≡ true) where
       enough_is : (n at : ℕ) → (nat_eq n 9 && nat_le at now) ≡ true → (n ≡ 9) × (at ≤ now)
       enough_is n at is = (grind (arith, nat_tests), grind (arith, nat_tests))
 
+  -- once the wait for an answer is over, a request is owed
+  pub asks_on : (nat_eq f.asked 9 && nat_le f.ask_at now) ≡ false → f.asked ≤ 9 → TicksOn f (asks_after f now) now []
+  asks_on short few s past before ident directly known on unknown h =
+      let o = open_later s f past before now on (open_is s f past before open_yet h) in
+      record {
+        beats = [];
+        are = refl;
+        follows = open_follows s (asks_after f now) past now open_yet (record {
+          holds = o.holds;
+          mru = o.mru;
+          since = o.since;
+          told = o.told;
+          unfinished = o.unfinished;
+          unsent = o.unsent;
+          seeks = o.seeks;
+          asks = λ none. asking f.asks (nat_le f.ask_at now) refl (o.asks none);
+          calm = o.calm;
+        });
+      }
+    where
+      is_nine : (n : ℕ) → n ≡ 9 → nat_eq n 9 ≡ true
+      is_nine n is = grind (arith, nat_tests)
+
+      apart : (a b : Bool) → (a && b) ≡ false → b ≡ true → a ≡ true → ⊥
+      apart true b missed due many = let not_it = sym due ∙ missed in cc
+      apart false b missed due many = cc
+
+      less : (n : ℕ) → n ≤ 9 → (n ≡ 9 → ⊥) → n < 9
+      less n low other = omega (arith, low, other)
+
+      late : (at : ℕ) → nat_le at now ≡ true → at ≤ now
+      late at is = grind (arith, nat_tests)
+
+      asking : (a b : Bool) → nat_le f.ask_at now ≡ b → IsAsking a f.asked f.ask_at now → IsAsking (a || b) f.asked f.ask_at now
+      asking true b is asks = asks
+      asking false true is asks = (less f.asked few (λ nine. apart (nat_eq f.asked 9) (nat_le f.ask_at now) short is (is_nine f.asked nine)), λ some. late f.ask_at is)
+      asking false false is asks = asks
+
   -- ---- the connection's timer
 
   -- what is over is reset
@@ -131,7 +169,7 @@ module _ (f : Splice) (now : ℕ) (open_yet : is_open f ≡ true) where
             follows = subst (λ (g : Splice). Follows s g past now) (sym saw.1)
                 (subst (λ (c : Connection). Follows s (record f { conn = c }) past now) (sym is)
                 (open_follows s (record f { conn = x }) past now open_yet
-                (record { holds = h; mru = o.mru; since = o.since; told = o.told; unfinished = unfinished; unsent = unsent; seeks = o.seeks; calm = calm })));
+                (record { holds = h; mru = o.mru; since = o.since; told = o.told; unfinished = unfinished; unsent = unsent; seeks = later.seeks; asks = later.asks; calm = calm })));
           }
 
       -- it is given up, while no acknowledgement is owed

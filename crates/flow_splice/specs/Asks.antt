@@ -9,9 +9,9 @@ use Rattle.flow_splice.specs.Frames.{request_frame}
 use Rattle.flow_splice.specs.Sends.{asked, asks_now}
 use Rattle.flow_splice.specs.Splice.{Splice}
 
--- It was time to, and the request was offered to the link, once. Where the link took something of it an answer is waited for. The guest's address has 32 bits.
+-- One was owed, and was offered to the link, once. Where the link took something of it an answer is waited for. The guest's address has 32 bits.
 pub record Requests (old new : Splice) (now : ℕ) (made : List Entry) : Type 0 where
-  pub due : asks_now old now ≡ true
+  pub due : asks_now old ≡ true
   pub answer : Io
   pub one : made ≡ LinkWrite (spelling (request_frame old.face)) answer ∷ []
   pub change : new ≡ asked (offered answer) old now

@@ -1,5 +1,5 @@
 -- A flow that is spliced, against its story.
-use Rattle.std.specs.Prelude.{◌≡◌, ℕ, ◌<◌, Bool, true, false, None}
+use Rattle.std.specs.Prelude.{◌≡◌, ℕ, ◌<◌, ◌≤◌, Bool, true, false, None}
 use Rattle.tcp_guest.specs.Connection.{has_gone}
 use Rattle.tcp_guest.specs.Segments.{is_done}
 use Rattle.flow_laws.specs.Settings.{Settings}
@@ -13,8 +13,13 @@ use Rattle.flow_splice.specs.Splice.{Splice}
 use Rattle.flow_splice.specs.declared.Place.{Place}
 use Rattle.flow_splice.specs.declared.Place.TheVariants.{Empty, InUse, Resting}
 
+-- A request for the guest's hardware address is owed: fewer than nine went out, and the wait for an answer to the last is over. Else one went out.
+abbrev pub IsAsking : (asks : Bool) → (asked at now : ℕ) → Type 0
+IsAsking true asked at now = (asked < 9) × (0 < asked → at ≤ now)
+IsAsking false asked at now = 0 < asked
+
 -- Its socket is open: the connection and its buffers follow the story. As long as the guest's hardware address isn't known our SYN isn't out, and
--- the address was asked for so often. Not both ends passed. Where no acknowledgement is owed, a close that came next wouldn't follow a reset of the
+-- the address was asked for so often, and is to be asked for again. Not both ends passed. Where no acknowledgement is owed, a close that came next wouldn't follow a reset of the
 -- guest that was fatal.
 pub record IsOpen (s : Settings) (f : Splice) (past : Story) (now : ℕ) : Type 0 where
   pub holds : Holds s f.conn f.up f.down past now
@@ -24,6 +29,7 @@ pub record IsOpen (s : Settings) (f : Splice) (past : Story) (now : ℕ) : Type 
   pub unfinished : is_done f.conn ≡ false
   pub unsent : f.mac ≡ None → (is_calls f.conn.stage ≡ true) × (has_gone f.conn.sendings ≡ false)
   pub seeks : f.mac ≡ None → 0 < f.asked → Seeks past f.asked f.ask_at
+  pub asks : f.mac ≡ None → IsAsking f.asks f.asked f.ask_at now
   pub calm : f.conn.ack_owed ≡ false → follows_reset true past ≡ false
 
 -- Its socket was closed, and it owes a guest that it knows a reset.

@@ -75,19 +75,19 @@ takes_part_at (Resting since) what = what
 abbrev pub takes_part : Splice → Option Owed → Option Owed
 takes_part f what = takes_part_at f.place what
 
--- it is time to ask for the guest's hardware address: nine times at most, and again once the wait is over
-abbrev pub asks_now : Splice → ℕ → Bool
-asks_now f now = is_open f && nat_lt f.asked 9 && (nat_eq f.asked 0 || nat_le f.ask_at now)
+-- a request for the guest's hardware address is owed: nine times at most
+abbrev pub asks_now : Splice → Bool
+asks_now f = is_open f && nat_lt f.asked 9 && f.asks
 
 -- once a request was taken its answer is waited for
 abbrev pub asked : Offered → Splice → ℕ → Splice
-asked Taken f now = record f { asked = f.asked + 1; ask_at = now + least_wait f.asked }
+asked Taken f now = record f { asked = f.asked + 1; ask_at = now + least_wait f.asked; asks = false }
 asked Blocked f now = f
 asked Failed f now = f
 
--- nothing is owed, or, as long as the guest's hardware address isn't known, it was asked for
+-- nothing is owed, or, as long as the guest's hardware address isn't known, no request for it
 abbrev pub IsClearBy : Option Mac → Splice → Type 0
-IsClearBy None f = is_open f ≡ true → 0 < f.asked
+IsClearBy None f = asks_now f ≡ false
 IsClearBy (Some mac) f = takes_part f (owed_of f.conn f.up f.down) ≡ None
 
 abbrev pub IsClear : Splice → Type 0

@@ -19,7 +19,8 @@ pub record Face : Type 0 where
   pub vhost : Ip4
 
 -- Where it stands, and whether its socket was closed; its guest's hardware address, where it is known; since when it is open; whether the
--- host was told the guest's end; how often the guest's hardware address was asked for, and until when that waits for an answer. Further: the
+-- host was told the guest's end; how often the guest's hardware address was asked for, until when that waits for an answer, and whether it
+-- is to be asked for again. Further: the
 -- connection and its two buffers, and the most octets of a datagram that comes from the guest.
 pub record Splice : Type 0 where
   pub place : Place
@@ -30,6 +31,7 @@ pub record Splice : Type 0 where
   pub told_end : Bool
   pub asked : ℕ
   pub ask_at : ℕ
+  pub asks : Bool
   pub conn : Connection
   pub up : Upward
   pub down : Downward
@@ -101,6 +103,7 @@ begun now guest other number vhost mac c f = record f {
   told_end = false;
   asked = 0;
   ask_at = 0;
+  asks = true;
   conn = c;
   up = empty f.up.size;
   down = downward [] 0 f.down.size;

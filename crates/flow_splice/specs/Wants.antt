@@ -1,5 +1,5 @@
 -- What a flow waits for.
-use Rattle.std.specs.Prelude.{ℕ, ◌+◌, ◌-◌, Bool, ◌&&◌, ◌||◌, not, nat_lt, length, Option, None, Some, is_some, if◌then◌else◌}
+use Rattle.std.specs.Prelude.{ℕ, ◌+◌, ◌-◌, Bool, ◌&&◌, ◌||◌, not, nat_le, nat_lt, length, Option, None, Some, is_some, if◌then◌else◌}
 use Rattle.tcp_guest.specs.Hosts.{is_open as host_is_open}
 use Rattle.tcp_guest.specs.Timing.{due_of as conn_due}
 use Rattle.connection_follows.specs.Holding.{is_connects}
@@ -35,8 +35,16 @@ reads f = is_open f && may_read f
 abbrev pub writes : Splice → Bool
 writes f = is_open f && may_write f
 
+-- the moment at which the wait for the guest's answer is over; where it is, a request is owed, and has no moment
+abbrev pub ask_due : Splice → Option ℕ
+ask_due f = if not f.asks then Some f.ask_at else None
+
+-- the flow once that moment came
+abbrev pub asks_after : Splice → ℕ → Splice
+asks_after f now = record f { asks = f.asks || nat_le f.ask_at now }
+
 -- the moment at which it is to be looked at
 abbrev pub due_of : Splice → Option ℕ
 due_of f = if is_open f
-    then (if is_connects f.conn.stage then Some (connect_end f) else (if seeks f then Some f.ask_at else conn_due f.conn))
+    then (if is_connects f.conn.stage then Some (connect_end f) else (if seeks f then ask_due f else conn_due f.conn))
     else None

@@ -9,7 +9,7 @@ ghost use Rattle.flow_laws.specs.Lawful.{IsLawful, IsPrefixOf};
 ghost use Rattle.flow_laws.specs.Dutiful.{IsDutiful, MayWait};
 ghost use Rattle.halves_follow.specs.Settled.{IsSettledIf};
 ghost use Rattle.connection_follows.specs.Holding.{is_connects};
-ghost use Rattle.flow_splice.specs.Ahead.{IsAhead};
+ghost use Rattle.flow_splice.specs.Ahead.{IsTimely};
 ghost use Rattle.flow_splice.specs.Follows.{Follows};
 ghost use Rattle.flow_splice.specs.Sends.{IsClear};
 ghost use Rattle.flow_splice.specs.Splice.{Splice, is_at_rest, is_in_use, is_open};
@@ -23,12 +23,12 @@ pub fn what_a_flow_did_was_lawful()
 {}
 
 /// Where a pump cleared the flow, all holds of it that is to hold whenever the program waits, unless the link is blocked: all octets, ends and resets that may
-/// go out are out, what came is acknowledged, and the room is told. Where its connection's timer isn't due either (as after a tick at this moment with no
-/// acknowledgement owed, by `Spliced::tick` and `pump`: `ahead`), what is under way goes again within a minute. The guest's hardware address isn't known where
-/// the flow doesn't have it.
+/// go out are out, what came is acknowledged, and the room is told. Where no timer of it is due either (as after a tick at this moment with no
+/// acknowledgement owed, by `Spliced::tick` and `pump`: `ahead`), what is under way goes again within a minute, and so does a request for the guest's hardware
+/// address. The guest's hardware address isn't known where the flow doesn't have it.
 pub fn a_flow_that_is_clear_is_settled()
     ensures { (s : Settings) (f : Splice) (past : Story) (now : ℕ) (known : Bool) → Follows s f past now → IsClear f → (f.mac ≡ None → known ≡ false)
-        → IsSettledIf (IsAhead f.conn now) s past known (is_at_rest f.place) now }
+        → IsSettledIf (IsTimely f now) s past known (is_at_rest f.place) now }
 {}
 
 /// It may be waited at all, where the socket's time to connect isn't over: a flow of which both ends passed is closed.

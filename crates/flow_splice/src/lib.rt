@@ -71,6 +71,8 @@ pub struct Spliced {
     pub(crate) told_end: bool,
     pub(crate) asked: u8,
     pub(crate) ask_at: u64,
+    // a request for the guest's hardware address is owed
+    pub(crate) asks: bool,
     pub(crate) conn: Conn,
     pub(crate) up: Up,
     pub(crate) down: Down,
@@ -93,6 +95,7 @@ impl Model for Spliced {
       told_end = s.told_end;
       asked = s.asked;
       ask_at = s.ask_at;
+      asks = s.asks;
       conn = s.conn;
       up = s.up;
       down = s.down;
@@ -147,6 +150,7 @@ impl Spliced {
             told_end: false,
             asked: 0,
             ask_at: 0,
+            asks: true,
             conn: Conn::to_guest(Seq(0), 536, ring as u32, false),
             up,
             down,
@@ -193,6 +197,7 @@ impl Spliced {
         self.told_end = false;
         self.asked = 0;
         self.ask_at = 0;
+        self.asks = true;
         self.shut = false;
         self.place = Place::InUse;
     }
@@ -226,12 +231,13 @@ impl Spliced {
     }
 
     /// The moment at which the flow is to be looked at: the end of the time to connect, that of a wait for the guest's hardware address, or that of the
-    /// connection's timer. `None` exactly where there is none.
+    /// connection's timer. `None` exactly where there is none, as where a request for that address is owed, which goes out when the link takes it.
     pub fn due(&self) -> Option<u64>
         ensures due { result ≡ due_of self.now }
         // No later than 75,000 ms after the flow was opened, while it connects.
         ensures by_connect { (s : Settings) (past : Story) (now : ℕ) → Follows s self.now past now → IsBy result (connect_deadline past) }
-        // Where a pump cleared the flow, no later than a minute after what is under way went out, or after the last acknowledgement that moved.
+        // Where a pump cleared the flow, no later than a minute after what is under way went out, or after the last acknowledgement that moved, or after the
+        // guest's hardware address was asked for.
         ensures by_resend { (s : Settings) (past : Story) (now : ℕ) → Follows s self.now past now → IsClear self.now → IsBy result (resend_deadline past) }
         // Not before the earliest moment for which a wait may be cut short, and without end where there is none.
         ensures from { (s : Settings) (past : Story) (now : ℕ) → Follows s self.now past now → IsFrom result (wakes past) }
@@ -296,7 +302,7 @@ impl Spliced {
         } else if self.connects() {
             Some(self.connect_end())
         } else if self.seeks() {
-            Some(self.ask_at)
+            (!self.asks).then_some(self.ask_at)
         } else {
             self.conn.due()
         }

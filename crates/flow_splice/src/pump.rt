@@ -155,7 +155,7 @@ impl Spliced {
 
 // The pump.
 impl Spliced {
-    ghost use Rattle.flow_splice.specs.Ahead.{IsAhead, IsEarly};
+    ghost use Rattle.flow_splice.specs.Ahead.{HasPatience, IsEarly, IsTimely};
     ghost use Rattle.flow_splice.specs.Asks.{AsksOnce};
     ghost use Rattle.flow_splice.specs.Follows.{Follows};
     ghost use Rattle.flow_splice.specs.Stays.{Stays};
@@ -191,8 +191,8 @@ impl Spliced {
         ensures stays { IsPumped mac self.old self.new }
         ensures closed { is_open_by self.old ≡ false → is_open_by self.new ≡ false }
         ensures rests { is_at_rest self.old.place ≡ true → Acknowledges (learnt self.old mac) self.new now }
-        // Where the connection's timer wasn't due, it isn't due then.
-        ensures ahead { (s : Settings) (past : Story) (before : ℕ) → Follows s self.old past before → IsAhead self.old.conn now → IsAhead self.new.conn now }
+        // Where no timer of it was due, none is due then.
+        ensures ahead { (s : Settings) (past : Story) (before : ℕ) → Follows s self.old past before → IsTimely self.old now → IsTimely self.new now }
     {
         // for the prover: a read gives the range of the number.
         let _first = *ident;
@@ -246,14 +246,16 @@ impl Spliced {
         ensures blocked { result ≡ Blocked → link.new.blocked ≡ true }
         ensures free { result ≡ Clear → (link.new.blocked ≡ false) × (link.new.tail ≡ []) }
         ensures failed { result ≡ Failed → Rose (W.tells world.old).faults.link (W.tells world.new).faults.link }
-        ensures clear { result ≡ Clear → is_open_by self.new ≡ true → 0 < self.new.asked }
+        // Where the link took all, no request is owed any more.
+        ensures clear { result ≡ Clear → asks_now self.new ≡ false }
+        ensures waits { HasPatience self.old now → HasPatience self.new now }
         ensures same { under_way link.new ≡ under_way link.old }
         ensures stays { IsPumped None self.old self.new }
         ensures closed { is_open_by self.old ≡ false → is_open_by self.new ≡ false }
         ensures rests { is_at_rest self.old.place ≡ true → self.new ≡ self.old }
         ensures conn { self.new.conn ≡ self.old.conn }
     {
-        if !self.asks_now(now) {
+        if !self.asks_now() {
             return Pumped::Clear;
         }
         let offered = self.offer_request(world, link);
@@ -261,11 +263,11 @@ impl Spliced {
         outcome(offered, link.blocked())
     }
 
-    // Whether it is time to ask for the guest's hardware address.
-    fn asks_now(&self, now: u64) -> bool
-        ensures { result ≡ asks_now self.now now }
+    // Whether a request for the guest's hardware address is owed.
+    fn asks_now(&self) -> bool
+        ensures { result ≡ asks_now self.now }
     {
-        self.is_open() && self.asked < REQUESTS && (self.asked == 0 || self.ask_at <= now)
+        self.is_open() && self.asked < REQUESTS && self.asks
     }
 
     fn offer_request<W: World>(&mut self, world: &mut W, link: &mut Link) -> Offered
@@ -292,6 +294,7 @@ impl Spliced {
         if offered == Offered::Taken {
             self.ask_at = now + wait_after(self.asked);
             self.asked += 1;
+            self.asks = false;
         }
     }
 

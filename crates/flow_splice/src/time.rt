@@ -16,13 +16,13 @@ use world_face::World;
 pub(crate) const REQUESTS: u8 = 9;
 
 impl Spliced {
-    ghost use Rattle.flow_splice.specs.Ahead.{IsAhead};
+    ghost use Rattle.flow_splice.specs.Ahead.{IsTimely};
     ghost use Rattle.flow_splice.specs.Follows.{Follows};
     ghost use Rattle.flow_splice.specs.Stays.{Stays};
     ghost use Rattle.flow_splice.specs.Serves.{GoesOnYet, TicksOn};
     ghost use Rattle.flow_splice.specs.Shapes.{is_at_most_a_close};
     ghost use Rattle.flow_splice.specs.Splice.{is_open as is_open_by};
-    ghost use Rattle.flow_splice.specs.Wants.{connect_end as connect_end_by, seeks as seeks_by};
+    ghost use Rattle.flow_splice.specs.Wants.{asks_after, connect_end as connect_end_by, seeks as seeks_by};
 
     /// The moment came. A socket that didn't connect in 75,000 ms is closed; so is that of a flow whose guest wasn't found by nine requests and the waits
     /// after them, and that of one that is given up. Else what the connection's timer makes owed again is owed from now on.
@@ -34,15 +34,15 @@ impl Spliced {
         ensures makes { Makes (W.tells world.old) (W.tells world.new) (λ made. TicksOn self.old self.new now made × (is_at_most_a_close made ≡ true)) }
         ensures stays { Stays self.old self.new }
         ensures in_time { is_open_by self.new ≡ true → is_connects self.new.conn.stage ≡ true → now < connect_end_by self.new }
-        // A flow that calls a guest still has requests or waits left.
+        // A flow that calls a guest owes its request again once the wait for an answer is over.
         ensures waits { is_open_by self.old ≡ true → is_connects self.old.conn.stage ≡ false → seeks_by self.old ≡ true → is_open_by self.new ≡ true
-            → (nat_eq self.new.asked 9 && nat_le self.new.ask_at now) ≡ false }
+            → self.new ≡ asks_after self.old now }
         // What the connection's timer makes owed again is owed again.
         ensures again { is_open_by self.old ≡ true → is_connects self.old.conn.stage ≡ false → seeks_by self.old ≡ false → is_open_by self.new ≡ true
             → self.new ≡ record self.old { conn = after_tick self.old.conn now } }
-        // The connection's timer isn't due then, unless an acknowledgement is owed.
+        // No timer of it is due then, unless an acknowledgement is owed.
         ensures ahead { (s : Settings) (past : Story) (before : ℕ) → Follows s self.old past before → self.old.conn.ack_owed ≡ false
-            → IsAhead self.new.conn now }
+            → is_open_by self.new ≡ true → IsTimely self.new now }
         ensures closed { is_open_by self.old ≡ false → self.new ≡ self.old }
     {
         if !self.is_open() {
@@ -81,16 +81,26 @@ impl Spliced {
         ensures stays { Stays self.old self.new }
         ensures stage { is_open_by self.new ≡ true → self.new.conn.stage ≡ self.old.conn.stage }
         ensures conn { (self.new.conn ≡ self.old.conn) ⊎ (self.new.conn ≡ reset self.old.conn) }
-        ensures waits { is_open_by self.new ≡ true → (nat_eq self.new.asked 9 && nat_le self.new.ask_at now) ≡ false }
+        ensures waits { is_open_by self.new ≡ true → self.new ≡ asks_after self.old now }
     {
         if self.has_asked_enough(now) {
             self.fail(world, now);
+        } else {
+            self.ask_again(now);
         }
+    }
+
+    // Once the wait for an answer is over, a request is owed.
+    fn ask_again(&mut self, now: u64)
+        ensures { self.new ≡ asks_after self.old now }
+    {
+        self.asks = self.asks || self.ask_at <= now;
     }
 
     // Whether it was asked for nine times, and the last wait is over.
     fn has_asked_enough(&self, now: u64) -> bool
-        ensures { result ≡ (nat_eq self.now.asked 9 && nat_le self.now.ask_at now) }
+        ensures enough { result ≡ (nat_eq self.now.asked 9 && nat_le self.now.ask_at now) }
+        ensures few { self.now.asked ≤ 9 }
     {
         self.asked == REQUESTS && self.ask_at <= now
     }

@@ -1,13 +1,14 @@
 -- What the timer of what is under way is for: when a flow is given up, and that nothing waits longer than a minute, or goes again in a second.
-use Rattle.std.proofs.Common.{refl, ◌≡◌, ℕ, zero, suc, ◌+◌, ◌<◌, ◌≤◌, List, [], ◌∷◌, length, max, arith, Bool, true, false, not, ◌&&◌, if◌then◌else◌, nat_le, IsTrue}
+use Rattle.std.proofs.Common.{refl, ◌≡◌, ℕ, zero, suc, ◌+◌, ◌<◌, ◌≤◌, List, [], ◌∷◌, length, max, arith, Bool, true, false, not, ◌&&◌, if◌then◌else◌, nat_le, nat_lt, IsTrue}
 use Rattle.std.proofs.lemmas.Bool.Decides.{nat_tests}
 use Rattle.std.specs.Option.{unwrap_or}
 use Rattle.flow_laws.specs.Event.{Segment, AsksAddress, Connects, Accepts, Departs, At, Story, IsStory, newest_moment}
 use Rattle.flow_laws.specs.Host.{answered, acked}
 use Rattle.flow_laws.specs.Flow.{host, add_if, holds, sendings, syn_sendings, acknowledged_at, oldest, oldest_sendings, oldest_sent_again, is_under_way, is_closed, opened_at, is_accepted, syn_is_out}
-use Rattle.flow_laws.specs.Close.{gives_up, times_asked, finds_no_guest}
-use Rattle.flow_laws.specs.Dutiful.{waits_since, newest_of, moment_if, resend_deadline, AreAhead}
+use Rattle.flow_laws.specs.Close.{asked_at, gives_up, times_asked, finds_no_guest}
+use Rattle.flow_laws.specs.Dutiful.{waits_since, newest_of, moment_if, resend_deadline, seeks_guest, AreAhead}
 use Rattle.halves_follow.specs.Resends.{Seeks, least_wait, Timer, Off, Until, Expired, Resends, first_time}
+use Rattle.halves_follow.proofs.Moments.{both_ahead}
 use Rattle.halves_follow.proofs.Resent.{rests_now}
 use Rattle.halves_follow.proofs.Timers.{wait_low, gives_up_at, in_time, not_early}
 
@@ -37,10 +38,29 @@ gives_up_now past now at w r due = by_cases (is_under_way past)
     (oldest_sent_again past) now p.0 p.1 p.2)
     (λ none. absurd (let zero_k = r.idle none in omega (arith, zero_k)))
 
--- nothing waits longer than a minute: where nothing is owed again and the timer hasn't expired
+-- a flow that was accepted has called its guest
+abbrev pub HasCalled : Story → Type 0
+HasCalled past = IsTrue (is_accepted past && not (is_closed past)) → IsTrue (syn_is_out past)
+
+-- so its guest's address isn't asked for
+pub seeks_none : (past : Story) → HasCalled past → seeks_guest past ≡ false
+seeks_none past called = by (is_accepted past) (syn_is_out past) (is_closed past) called
+  where
+    by : (a b c : Bool) → (IsTrue (a && not c) → IsTrue b) → (a && not b && not c) ≡ false
+    by false b c f = refl
+    by true true c f = refl
+    by true false true f = refl
+    by true false false f = let not_it = f refl in cc
+
+pub none_asked : (past : Story) (now : ℕ) → seeks_guest past ≡ false → AreAhead now (moment_if (seeks_guest past && nat_lt 0 (times_asked past)) (asked_at past + 60000))
+none_asked past now none = rw none tt
+
+-- nothing waits longer than a minute: where nothing is owed again, the timer hasn't expired, and no guest's address is asked for
 pub all_in_time : (past : Story) (now : ℕ) (timer : Timer) (k w : ℕ) → Resends past now timer k w → (is_under_way past ≡ true → timer ≡ Expired → ⊥) →
-    ((at : ℕ) → timer ≡ Until at → now < at) → AreAhead now (resend_deadline past)
-all_in_time past now timer k w r sent_all before = by (is_under_way past) (is_closed past) (λ under. by_timer timer refl under)
+    ((at : ℕ) → timer ≡ Until at → now < at) → HasCalled past → AreAhead now (resend_deadline past)
+all_in_time past now timer k w r sent_all before called =
+    both_ahead now (moment_if (is_under_way past && not (is_closed past)) (waits_since past + 60000)) _
+    (by (is_under_way past) (is_closed past) (λ under. by_timer timer refl under)) (none_asked past now (seeks_none past called))
   where
     by_timer : (t : Timer) → timer ≡ t → is_under_way past ≡ true → now < waits_since past + 60000
     by_timer Off is under = absurd (r.set under is)
@@ -123,12 +143,12 @@ accepts m ours = rests_now (At m (Accepts ours) ∷ []) m 1000 Off (omega arith)
 
 -- ---- requests for the guest's address
 
-pub asks_first : (past : Story) (m w : ℕ) → opened_at past ≤ m → 1000 ≤ w → Seeks (At m AsksAddress ∷ past) 1 (m + w)
-asks_first past m w on low = record { many = omega arith; from = omega (arith, on, low) }
+pub asks_first : (past : Story) (m w : ℕ) → opened_at past ≤ m → 1000 ≤ w → w ≤ 60000 → Seeks (At m AsksAddress ∷ past) 1 (m + w)
+asks_first past m w on low high = record { many = omega arith; from = omega (arith, on, low); soon = omega (arith, high) }
 
 -- at its moment it is asked again, after a longer wait
-pub asks_again : (past : Story) (count at m w : ℕ) → at ≤ m → least_wait count ≤ w → Seeks past count at → Seeks (At m AsksAddress ∷ past) (suc count) (m + w)
-asks_again past count at m w due low a = record { many = omega (arith, a.many); from = omega (arith, a.from, due, low) }
+pub asks_again : (past : Story) (count at m w : ℕ) → at ≤ m → least_wait count ≤ w → w ≤ 60000 → Seeks past count at → Seeks (At m AsksAddress ∷ past) (suc count) (m + w)
+asks_again past count at m w due low high a = record { many = omega (arith, a.many); from = omega (arith, a.from, due, low); soon = omega (arith, high) }
 
 -- nine requests and the last wait: the guest isn't found
 pub not_found : (past : Story) (at now : ℕ) → Seeks past 9 at → at ≤ now → is_accepted past ≡ true → syn_is_out past ≡ false → IsTrue (finds_no_guest false now past)

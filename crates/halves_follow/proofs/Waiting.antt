@@ -1,5 +1,5 @@
 -- From what a flow keeps to what holds whenever the program waits.
-use Rattle.std.proofs.Common.{◌≡◌, ℕ, ◌+◌, ◌-◌, ◌<◌, ◌≤◌, length, min, Option, Some, is_some, Bool, true, false, not, ◌&&◌, ◌||◌, if◌then◌else◌, IsTrue, nat_lt}
+use Rattle.std.proofs.Common.{refl, ◌≡◌, ℕ, ◌+◌, ◌-◌, ◌<◌, ◌≤◌, length, min, Option, Some, is_some, Bool, true, false, not, ◌&&◌, ◌||◌, if◌then◌else◌, IsTrue, nat_lt}
 use Rattle.flow_laws.specs.Settings.{Settings}
 use Rattle.flow_laws.specs.Event.{Story}
 use Rattle.flow_laws.specs.Guest.{AckIsDue, was_acked, Honest}
@@ -16,7 +16,7 @@ use Rattle.halves_follow.specs.Sends.{Outward, Keeps}
 use Rattle.halves_follow.specs.Settled.{IsSettledIf}
 use Rattle.halves_follow.proofs.Steps.{answered as all_answered}
 use Rattle.halves_follow.proofs.Edges.{octets_out}
-use Rattle.halves_follow.proofs.InTime.{all_in_time}
+use Rattle.halves_follow.proofs.InTime.{all_in_time, HasCalled}
 use Rattle.halves_follow.proofs.Rests.{is_done_then}
 use Rattle.halves_follow.proofs.Windows.{told_of}
 
@@ -40,6 +40,12 @@ closes_when_done past p sure ours_first last e closed honest done = let d = is_d
 pub settled_in_time : (in_time : Type 0) (s : Settings) (past : Story) (known rests : Bool) (now : ℕ) → IsSettledIf in_time s past known rests now → in_time → IsSettled s past known rests now
 settled_in_time in_time s past known rests now all soon = record { sends = all.sends; acknowledges = all.acknowledges; window = all.window; resends = all.resends soon }
 
+-- one that is settled if one thing holds is settled if another does that brings it
+pub settled_if : (one other : Type 0) (s : Settings) (past : Story) (known rests : Bool) (now : ℕ) → (other → one) → IsSettledIf one s past known rests now
+    → IsSettledIf other s past known rests now
+settled_if one other s past known rests now brings all =
+    record { sends = all.sends; acknowledges = all.acknowledges; window = all.window; resends = λ is. all.resends (brings is) }
+
 -- all together: nothing is owed, and all that may go out is out; if the flow is in time, the timer runs on
 pub settled_is : (in_time : Type 0) (s : Settings) (past : Story) (p : Part) (o : Outward) (known rests : Bool) (now : ℕ) (timer : Timer) (k w e : ℕ) (told_edge : Option ℕ)
     → Follows s.ring p (guest past) → Keeps o (host past) → Resends past now timer k w → (Honest (guest past) → right_edge s past ≡ told_edge)
@@ -47,14 +53,17 @@ pub settled_is : (in_time : Type 0) (s : Settings) (past : Story) (p : Part) (o 
     → (IsTrue (is_accepted past && is_some (their_number past) && not (is_closed past)) → IsTrue (was_acked (guest past))) → (IsTrue rests → IsTrue (fin_is_answered past))
     → owes_reset past ≡ false
     → (IsTrue (has_connected past && not (is_closed past)) → IsTrue (syn_is_out past))
-    → (IsTrue (is_accepted past && not (is_closed past)) → IsTrue (syn_is_out past || (not known && nat_lt 0 (times_asked past))))
+    → HasCalled past
     → edge s past ≡ e → (IsTrue (answered (host past) && not (is_closed past)) → min e (o.before + length o.held + (if o.ended then 1 else 0)) ≤ o.sent)
     → (p.received.ended ≡ false → (r : ℕ) → told_edge ≡ Some r → p.received.taken + told (our_shift s past false) (s.ring - length p.up.held) < r + 2920)
     → (is_under_way past ≡ true → timer ≡ Expired → ⊥) → (in_time → (at : ℕ) → timer ≡ Until at → now < at)
     → IsSettledIf in_time s past known rests now
-settled_is in_time s past p o known rests now timer k w e told_edge f keeps r same none due opening resting reset syn_ack syn is out few sent_all before = record {
-  sends = record { reset = reset; syn_ack = syn_ack; syn = syn; octets = λ open_yet. octets_out s o past e keeps is (out open_yet) };
+settled_is in_time s past p o known rests now timer k w e told_edge f keeps r same none due opening resting reset syn_ack called is out few sent_all before = record {
+  sends = record { reset = reset; syn_ack = syn_ack; syn = λ accepted. called_or known (called accepted); octets = λ open_yet. octets_out s o past e keeps is (out open_yet) };
   acknowledges = acknowledged_is s past p rests f none due opening resting;
   window = told_of s past p now told_edge f none same few;
-  resends = λ soon. all_in_time past now timer k w r sent_all (before soon);
+  resends = λ soon. all_in_time past now timer k w r sent_all (before soon) called;
 }
+  where
+    called_or : (b : Bool) → IsTrue (syn_is_out past) → IsTrue (syn_is_out past || (not b && nat_lt 0 (times_asked past)))
+    called_or b is = rw is refl

@@ -24,7 +24,8 @@ EachFlow config past P = (number : ℕ) (f : Flow) → flow_of number (book conf
 abbrev pub is_at_rest : Config → List Entry → Flow → Bool
 is_at_rest config past f = rests_among (filter (is_young (moment past)) (book config past).rests) (Some f)
 
--- What can go out of a flow is out, what came is acknowledged, the room is told, and what is under way goes again within a minute.
+-- What can go out of a flow is out, what came is acknowledged, the room is told, and what is under way goes again within a minute, as
+-- does a request for a guest's hardware address.
 abbrev pub IsSettledNow : Config → List Entry → Flow → Type 0
 IsSettledNow config past f = IsSettled (flow_settings config) f.story (guest_is_known (scene config past) f) (is_at_rest config past f) (moment past)
 

@@ -36,6 +36,7 @@ use Rattle.slirp_laws.proofs.Listed.{AllQuestions}
 use Rattle.slirp_laws.proofs.Waiting.{IsUsed, are_waiting, same_waiting}
 use Rattle.stream_netdev.specs.State.{LinkState}
 use Rattle.flows_follow.specs.FlowsHold.{rests_at}
+use Rattle.flow_splice.proofs.Stages.{no_connecting, resends_none}
 use Rattle.flow_splice.specs.Splice.{Splice}
 use Rattle.flow_splice.proofs.Promises.{settled_is, waited_is}
 use Rattle.flows_follow.specs.Core.{Following, number_of}
@@ -43,7 +44,8 @@ use Rattle.flows_follow.proofs.Options.{true_false}
 use Rattle.run_duties.specs.Times.{alarms, association_lives, deadlines, drops, file_alarms, lives, of_flows, question_lives, rest_ends, unless_blocked, wait_end}
 use Rattle.run_duties.proofs.Lives.{at_front, drops_from, lives_by, lives_from, used_by_now}
 use Rattle.run_duties.proofs.Waited.{questions_by, questions_from}
-use Rattle.waiting_flows.proofs.Bounding.{by_any, by_both, by_earlier, flows_by, from_first, from_later, from_second}
+use Rattle.halves_follow.proofs.Moments.{by_both}
+use Rattle.waiting_flows.proofs.Bounding.{by_any, by_earlier, flows_by, from_first, from_later, from_second}
 use Rattle.waiting_flows.proofs.Placing.{each, not_in_use}
 use Rattle.tcp_flows.specs.Reading.{AllClear}
 use Rattle.tcp_flows.specs.Settled.{IsInTime}
@@ -245,14 +247,6 @@ waited_files config slirp past at none_again (inr f) =
 
 -- ---- a wait
 
-no_connecting : (a b : Bool) → b ≡ true → not (a || b) ≡ false
-no_connecting true b is = refl
-no_connecting false b is = ap not is
-
-no_way : (a b : Bool) → b ≡ true → (a && not b) ≡ false
-no_way true b is = ap not is
-no_way false b is = refl
-
 module _ (config : Config) (at : Standing) (slirp : SlirpState) (link : LinkState) (past : List Entry) (holds : Holds config at slirp (flowing true slirp.flows) link past) where
   abbrev now : ℕ
   now = slirp.moment
@@ -286,7 +280,7 @@ module _ (config : Config) (at : Standing) (slirp : SlirpState) (link : LinkStat
       (λ k p story here follows.
       (settled_is (flow_settings config) p story now false follows (clear k p here) (λ unknown. refl)).resends
       (story_ahead now p (have_stories config now true None slirp.flows.flows past holds.flows.holds k p here) (λ open_yet. soon (number_of p) k p (record { here = here; open_yet = open_yet }) refl)))
-      (λ story unused. subst (λ (b : Bool). AreAhead now (moment_if b (waits_since story + 60000))) (sym (no_way (is_under_way story) (is_closed story) (not_in_use story unused))) tt)
+      (λ story unused. subst (λ ms. AreAhead now ms) (sym (resends_none story (not_in_use story unused))) tt)
 
   -- ---- sockets
 

@@ -19,7 +19,8 @@ use Rattle.flows_follow.specs.FlowsHold.{FlowsState, rests_at}
 use Rattle.flows_follow.specs.Seats.{IsSlotOf}
 use Rattle.flows_follow.proofs.Seats.{differ, same_or_not}
 use Rattle.flows_follow.proofs.Tables.{get_set_at, get_set_other}
-use Rattle.flow_splice.specs.Ahead.{IsAhead}
+use Rattle.flow_splice.proofs.Patience.{learnt_patient}
+use Rattle.flow_splice.specs.Ahead.{HasPatience, IsAhead}
 use Rattle.flow_splice.specs.Follows.{FollowsAt}
 use Rattle.flow_splice.specs.Sends.{learnt, or_known}
 use Rattle.flow_splice.specs.Splice.{Splice, is_open}
@@ -56,6 +57,14 @@ learnt_keeps f same guests p = by (is_some p.mac)
     by : (b : Bool) → f (if b then p else learnt p (learnt_for p.face.guest.addr guests)) ≡ f p
     by true = refl
     by false = same p (learnt_for p.face.guest.addr guests)
+
+-- one that waits for an answer of its guest waits on, or no more
+learns_patient : (guests : List (Ip4 × Mac)) (p : Splice) (now : ℕ) → HasPatience p now → HasPatience (learnt_from guests p) now
+learns_patient guests p now patient = by (is_some p.mac)
+  where
+    by : (b : Bool) → HasPatience (if b then p else learnt p (learnt_for p.face.guest.addr guests)) now
+    by true = patient
+    by false = learnt_patient p (learnt_for p.face.guest.addr guests) now patient
 
 -- one that knows it already stays as it is
 pub learnt_same : (guests : List (Ip4 × Mac)) (p : Splice) → is_some p.mac ≡ true → learnt_from guests p ≡ p
@@ -188,8 +197,10 @@ module _ (guests : List (Ip4 × Mac)) (old new : List (Option Splice)) (are : Ha
   pub learnt_in_time : (now n : ℕ) → IsInTime now old n → IsInTime now new n
   learnt_in_time now n early k q at named =
       let had = are.only k q at.here in
-      subst (λ c. IsAhead c now) (sym (ap (λ (x : Splice). x.conn) had.2 ∙ learnt_keeps (λ (x : Splice). x.conn) (λ x m. refl) guests had.0))
-      (early k had.0 (learnt_open k q at) (learnt_number k q at ∙ named))
+      let timely = early k had.0 (learnt_open k q at) (learnt_number k q at ∙ named) in (
+        subst (λ c. IsAhead c now) (sym (ap (λ (x : Splice). x.conn) had.2 ∙ learnt_keeps (λ (x : Splice). x.conn) (λ x m. refl) guests had.0)) timely.0,
+        subst (λ (x : Splice). HasPatience x now) (sym had.2) (learns_patient guests had.0 now timely.1),
+      )
 
   pub learnt_calm : (n : ℕ) → OwesNoAck old n → OwesNoAck new n
   learnt_calm n calm k q at named =

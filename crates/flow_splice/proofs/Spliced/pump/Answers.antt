@@ -1,14 +1,15 @@
-use Rattle.std.proofs.Common.{◌≡◌, ℕ, [], None, refl, arith, subst, sym, ap, inl, ◌∙◌}
+use Rattle.std.proofs.Common.{◌≡◌, ℕ, [], None, Some, refl, arith, subst, sym, ap, inl, ◌∙◌}
 use Rattle.world_face.proofs.Telling.{makes_as, makes_none}
 use Rattle.stream_netdev.specs.State.{LinkState}
 use Rattle.flow_splice.specs.Asks.{AsksOnce}
 use Rattle.flow_splice.specs.Sends.{Acknowledges, SendsOn}
 use Rattle.flow_splice.specs.Splice.{Splice, is_at_rest, is_open}
 use Rattle.tcp_guest.specs.Connection.{Connection}
-use Rattle.flow_splice.specs.Ahead.{IsAhead, IsEarly}
+use Rattle.flow_splice.specs.Ahead.{HasPatience, IsAhead, IsEarly}
 use Rattle.flow_splice.proofs.Ahead.{follows_waits}
 use Rattle.flow_splice.proofs.Asking.{known_asks, learn_asks, learn_then, unknown_asks}
 use Rattle.flow_splice.proofs.Marking.{sends_none}
+use Rattle.flow_splice.proofs.Patience.{known_patient, learnt_patient}
 use Rattle.flow_splice.proofs.Spliced.pump.Goals as goal
 
 pub returns-then-blocked-clause-makes : goal.returns-then-blocked-clause-makes
@@ -58,19 +59,26 @@ pub returns-in-Some-clause-ahead : goal.returns-in-Some-clause-ahead
 returns-in-Some-clause-ahead g c s past before h ahead =
     let f : Splice = c.args.self.now in
     let same : c.learn.new.self.conn ≡ f.conn = ap (λ (x : Splice). x.conn) c.learn.ensures in
-    (c.send_all.ensures.early (subst (IsEarly c.args.now) (sym same) (ahead, follows_waits s f past before h))).0
+    let known : c.send_all.new.self.mac ≡ Some c.in-Some.mac = c.send_all.ensures.stays.same.mac ∙ sym c.mac.ensures ∙ c.in-Some.is in (
+      (c.send_all.ensures.early (subst (IsEarly c.args.now) (sym same) (ahead.0, follows_waits s f past before h))).0,
+      known_patient c.send_all.new.self c.args.now c.in-Some.mac known,
+    )
 
 pub returns-in-None-clause-ahead : goal.returns-in-None-clause-ahead
 returns-in-None-clause-ahead g c s past before h ahead =
     let f : Splice = c.args.self.now in
-    let same : c.learn.new.self.conn ≡ f.conn = ap (λ (x : Splice). x.conn) c.learn.ensures in
-    subst (λ (x : Connection). IsAhead x c.args.now) (sym (c.seek.ensures.conn ∙ same)) ahead
+    let same : c.learn.new.self.conn ≡ f.conn = ap (λ (x : Splice). x.conn) c.learn.ensures in (
+      subst (λ (x : Connection). IsAhead x c.args.now) (sym (c.seek.ensures.conn ∙ same)) ahead.0,
+      c.seek.ensures.waits (subst (λ (x : Splice). HasPatience x c.args.now) (sym c.learn.ensures) (learnt_patient f c.args.mac c.args.now ahead.1)),
+    )
 
 pub returns-then-blocked-clause-ahead : goal.returns-then-blocked-clause-ahead
 returns-then-blocked-clause-ahead g c s past before h ahead =
     let f : Splice = c.args.self.now in
-    let same : c.learn.new.self.conn ≡ f.conn = ap (λ (x : Splice). x.conn) c.learn.ensures in
-    subst (λ (x : Connection). IsAhead x c.args.now) (sym same) ahead
+    let same : c.learn.new.self.conn ≡ f.conn = ap (λ (x : Splice). x.conn) c.learn.ensures in (
+      subst (λ (x : Connection). IsAhead x c.args.now) (sym same) ahead.0,
+      subst (λ (x : Splice). HasPatience x c.args.now) (sym c.learn.ensures) (learnt_patient f c.args.mac c.args.now ahead.1),
+    )
 
 pub returns-in-Some-clause-closed : goal.returns-in-Some-clause-closed
 returns-in-Some-clause-closed g c shut = c.send_all.ensures.closed (ap is_open c.learn.ensures ∙ shut)

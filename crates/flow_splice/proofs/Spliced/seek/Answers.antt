@@ -8,12 +8,14 @@ use Rattle.stream_netdev.specs.State.{LinkState}
 use Rattle.stream_netdev.specs.declared.Offered.{Offered}
 use Rattle.flow_splice.specs.Frames.{request_frame}
 use Rattle.flow_splice.specs.Sends.{Sends, SendsOn, asked, asks_now}
+use Rattle.flow_splice.specs.Ahead.{HasPatience}
 use Rattle.flow_splice.specs.Shapes.{IsPumpWork}
 use Rattle.flow_splice.specs.Splice.{Splice}
 use Rattle.stream_netdev.specs.declared.Pumped.{Pumped}
 use Rattle.flow_splice.proofs.AtRest.{asks_none}
 use Rattle.flow_splice.proofs.Asking.{requests}
 use Rattle.flow_splice.proofs.Marking.{makes_allowed, sends_none}
+use Rattle.flow_splice.proofs.Patience.{asked_patient}
 use Rattle.flow_splice.proofs.Shaping.{request_works}
 use Rattle.flow_splice.proofs.Spliced.seek.Goals as goal
 
@@ -40,7 +42,7 @@ returns-clause-makes g c =
       wrote.0.1,
     ) in
     let works = request_works offer.result writes.0 c.blocked.result (spelling (request_frame f.face)) writes.2 in
-    let due : asks_now f now ≡ true = sym c.asks_now.ensures ∙ c.if-not-asks_now.false in
+    let due : asks_now f ≡ true = sym c.asks_now.ensures ∙ c.if-not-asks_now.false in
     let change : new ≡ asked (offered writes.0) f now = is ∙ ap (λ (r : Offered). asked r f now) writes.2 in (
       flow,
       subst (λ (es : List Entry). IsPumpWork c.outcome.result es) (sym writes.1) (subst (λ (p : Pumped). IsPumpWork p (LinkWrite (spelling (request_frame f.face)) writes.0 ∷ []))
@@ -48,5 +50,12 @@ returns-clause-makes g c =
       inr (record { due = due; answer = writes.0; one = writes.1; change = change; fits = offer.ensures.fits }),
     ))
 
+pub returns-clause-waits : goal.returns-clause-waits
+returns-clause-waits g c patient =
+    let f : Splice = c.args.self.now in
+    let offer = c.offer_request-offered in
+    let is : c.mark_asked.new.self ≡ asked offer.result f c.args.now = c.mark_asked.ensures ∙ ap (λ (x : Splice). asked offer.result x c.args.now) offer.ensures.change in
+    subst (λ (x : Splice). HasPatience x c.args.now) (sym is) (asked_patient f offer.result c.args.now patient)
+
 pub returns-clause-rests : goal.returns-clause-rests
-returns-clause-rests g c resting = absurd (asks_none c.args.self.now c.args.now resting (sym c.asks_now.ensures ∙ c.if-not-asks_now.false))
+returns-clause-rests g c resting = absurd (asks_none c.args.self.now resting (sym c.asks_now.ensures ∙ c.if-not-asks_now.false))

@@ -1,10 +1,11 @@
-use Rattle.std.proofs.Common.{◌≡◌, [], ℕ, refl, subst, sym, ◌∙◌, ◌⊎◌, inl, inr}
+use Rattle.std.proofs.Common.{◌≡◌, [], ℕ, true, false, refl, subst, sym, ◌∙◌, ◌⊎◌, inl, inr}
 use Rattle.tcp_guest.specs.Connection.{Connection}
 use Rattle.tcp_guest.specs.Hosts.{reset}
 use Rattle.world_face.proofs.Telling.{makes_as, makes_none}
-use Rattle.flow_splice.specs.Splice.{Splice}
-use Rattle.flow_splice.specs.Ahead.{IsAhead}
-use Rattle.flow_splice.proofs.Ahead.{connects_ahead, dead_ahead, seeking_ahead, shut_ahead, tick_ahead}
+use Rattle.flow_splice.specs.Splice.{Splice, is_open}
+use Rattle.flow_splice.specs.Ahead.{HasPatience, IsAhead}
+use Rattle.flow_splice.proofs.Ahead.{connects_ahead, dead_ahead, seeking_ahead, tick_ahead}
+use Rattle.flow_splice.proofs.Patience.{as_old_seeks, asks_patient, connects_known, no_seeker}
 use Rattle.flow_splice.proofs.Events.{none_yet, ticks_as}
 use Rattle.flow_splice.proofs.Opened.{open_is}
 use Rattle.flow_splice.proofs.Shutting.{reset_dead}
@@ -30,19 +31,30 @@ or_reset old new now ahead (inl is) = subst (λ (c : Connection). IsAhead c now)
 or_reset old new now ahead (inr is) = subst (λ (c : Connection). IsAhead c now) (sym is) (dead_ahead (reset old) now (reset_dead old))
 
 pub returns-then-seeks-clause-ahead : goal.returns-then-seeks-clause-ahead
-returns-then-seeks-clause-ahead g c s past before h unowed =
-    let f : Splice = c.args.self.now in
-    or_reset f.conn c.await_guest.new.self.conn c.args.now
-    (seeking_ahead s f past before c.args.now (open_is s f past before (sym c.is_open.ensures ∙ c.if-not-is_open.false) h) (sym c.seeks.ensures ∙ c.if-seeks.true)) c.await_guest.ensures.conn
+returns-then-seeks-clause-ahead g c s past before h unowed yet =
+    let f : Splice = c.args.self.now in (
+      or_reset f.conn c.await_guest.new.self.conn c.args.now
+          (seeking_ahead s f past before c.args.now (open_is s f past before (sym c.is_open.ensures ∙ c.if-not-is_open.false) h) (sym c.seeks.ensures ∙ c.if-seeks.true))
+          c.await_guest.ensures.conn,
+      subst (λ (x : Splice). HasPatience x c.args.now) (sym (c.await_guest.ensures.waits yet)) (asks_patient f c.args.now),
+    )
 
 pub returns-else-seeks-clause-ahead : goal.returns-else-seeks-clause-ahead
-returns-else-seeks-clause-ahead g c s past before h unowed =
-    subst (λ (x : Connection). IsAhead x c.args.now) (sym c.expire.ensures.conn) (tick_ahead c.args.self.now.conn c.args.now unowed)
+returns-else-seeks-clause-ahead g c s past before h unowed yet =
+    let f : Splice = c.args.self.now in (
+      subst (λ (x : Connection). IsAhead x c.args.now) (sym c.expire.ensures.conn) (tick_ahead f.conn c.args.now unowed),
+      no_seeker c.expire.new.self c.args.now (as_old_seeks f c.expire.new.self c.expire.ensures.stays.same ∙ sym c.seeks.ensures ∙ c.if-seeks.false),
+    )
 
 pub returns-then-not-is_open-clause-ahead : goal.returns-then-not-is_open-clause-ahead
-returns-then-not-is_open-clause-ahead g c s past before h unowed = shut_ahead s c.args.self.now past before c.args.now h (sym c.is_open.ensures ∙ c.if-not-is_open.true)
+returns-then-not-is_open-clause-ahead g c s past before h unowed yet =
+    let shut : is_open c.args.self.now ≡ false = sym c.is_open.ensures ∙ c.if-not-is_open.true in let not_it = sym shut ∙ yet in absurd cc
 
 pub returns-then-connects-clause-ahead : goal.returns-then-connects-clause-ahead
-returns-then-connects-clause-ahead g c s past before h unowed =
+returns-then-connects-clause-ahead g c s past before h unowed yet =
     let f : Splice = c.args.self.now in
-    or_reset f.conn c.await_host.new.self.conn c.args.now (connects_ahead f.conn c.args.now (sym c.connects.ensures ∙ c.if-connects.true)) c.await_host.ensures.conn
+    let connects = sym c.connects.ensures ∙ c.if-connects.true in (
+      or_reset f.conn c.await_host.new.self.conn c.args.now (connects_ahead f.conn c.args.now connects) c.await_host.ensures.conn,
+      no_seeker c.await_host.new.self c.args.now (as_old_seeks f c.await_host.new.self c.await_host.ensures.stays.same
+          ∙ connects_known s f past before (open_is s f past before (sym c.is_open.ensures ∙ c.if-not-is_open.false) h) connects),
+    )
