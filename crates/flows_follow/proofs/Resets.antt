@@ -7,7 +7,7 @@ use Rattle.net_octets.specs.declared.Endpoint.{Endpoint}
 use Rattle.net_octets.specs.Kinds.{icmp_proto, tcp_proto, udp_proto}
 use Rattle.net_octets.specs.Octets.{one_at, part, two_at, our_mac}
 use Rattle.world_face.specs.Journal.{Entry, AreAllowed}
-use Rattle.host_policy.specs.Addresses.{Config, address, is_ours}
+use Rattle.host_policy.specs.Addresses.{address, Config, is_answered_for, is_ours}
 use Rattle.host_policy.specs.Targets.{is_hidden}
 use Rattle.ipv4_head.specs.Ip.{Ip, ip_octets, is_unbroken, read_ip}
 use Rattle.icmp_echo.specs.Icmp.{Icmp, echo, unreachable, other as another}
@@ -99,7 +99,7 @@ by_segment false on = tt
 
 by_packet : (config : Config) (s : Serving) (stray : Bool) (packet : Packet) → AllAnswers (IsFor (answered (Came s stray packet))) (owed_for_packet config s stray packet)
 by_packet config s stray Unheard = tt
-by_packet config s stray (ArpPacket arp) = all_if (IsFor (if stray then None else None)) (not arp.is_reply && is_ours config arp.target) (arp_reply arp ∷ []) [] (tt, tt) tt
+by_packet config s stray (ArpPacket arp) = all_if (IsFor (if stray then None else None)) (not arp.is_reply && is_answered_for config arp.target) (arp_reply arp ∷ []) [] (tt, tt) tt
 by_packet config s stray (Message mac ip message) =
     all_if (IsFor (if stray then None else None)) (is_ours config ip.to) (owed_for_icmp mac ip message) [] (by_icmp (if stray then None else None) mac ip message) tt
 by_packet config s stray (DatagramPacket d) = by_fate (if stray then None else None) config s d (fate config d)

@@ -4,7 +4,7 @@ use Rattle.std.proofs.lemmas.Bool.Decides.{nat_tests}
 use Rattle.std.specs.Prelude.{find, slice_get}
 use Rattle.host_policy.specs.declared.config.Field.{Field}
 use Rattle.host_policy.specs.declared.config.Field.TheVariants.{Version, InEnabled, Vnetmask, Vnetwork, Vhost, Vnameserver, VdhcpStart, Vhostname, Vdomainname, TftpServerName, Bootfile}
-use Rattle.host_policy.specs.declared.config.Field.TheVariants.{TftpPath, IfMtu, IfMru, Flows, Ring, Resolver, Turns, Forwards, Outbound, DisableDns, DisableDhcp, Guestfwds, Control}
+use Rattle.host_policy.specs.declared.config.Field.TheVariants.{TftpPath, IfMtu, IfMru, Flows, Ring, Resolver, Turns, Forwards, Outbound, DisableDns, DisableDhcp, Guestfwds, Control, Denied}
 use Rattle.host_policy.specs.declared.config.Field.TheVariants.{Octets}
 use Rattle.host_policy.specs.Addresses.{Config}
 use Rattle.host_policy.specs.Ranges.{in_range, fields, first_broken, is_between, IsSound}
@@ -51,6 +51,7 @@ each_in_range config none DisableDns = passes (in_range config) fields 20 Disabl
 each_in_range config none DisableDhcp = passes (in_range config) fields 21 DisableDhcp refl none
 each_in_range config none Guestfwds = passes (in_range config) fields 22 Guestfwds refl none
 each_in_range config none Control = passes (in_range config) fields 23 Control refl none
+each_in_range config none Denied = passes (in_range config) fields 24 Denied refl none
 each_in_range config none Octets = refl
 
 pub none_broken : (config : Config) → IsSound config → first_broken config ≡ None

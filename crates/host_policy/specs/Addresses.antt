@@ -1,6 +1,8 @@
 -- The virtual network, and whose its addresses are.
 use Rattle.std.specs.Prelude.{ℕ, ◌+◌, ◌-◌, ◌/◌, ◌^◌, ◌==◌, ◌&&◌, ◌||◌, not, Bool, List, [], ◌∷◌, Option, map}
+use Rattle.std.specs.List.{list_any}
 use Rattle.net_octets.specs.declared.Endpoint.{Endpoint}
+use Rattle.host_policy.specs.declared.Denial.{Denial}
 use Rattle.host_policy.specs.declared.Forward.{Forward}
 use Rattle.host_policy.specs.declared.GuestFwd.{GuestFwd}
 
@@ -32,6 +34,7 @@ pub record Config : Type 0 where
   pub no_dhcp : Bool
   pub guest_forwards : List GuestFwd
   pub control : Option Endpoint
+  pub denied : List Denial
   pub congestion : Bool
 
 abbrev pub endpoint : ℕ → ℕ → Endpoint
@@ -57,6 +60,10 @@ is_of_one_host config a = in_network config a && not (a == config.network) && no
 
 abbrev pub is_ours : Config → ℕ → Bool
 is_ours config a = (a == config.vhost) || (a == config.vnameserver)
+
+-- the addresses at which the network answers: its own two, and those of forwards of guests
+abbrev pub is_answered_for : Config → ℕ → Bool
+is_answered_for config a = is_ours config a || list_any (λ f. address f.guest == a) config.guest_forwards
 
 -- an address of one host that is neither the virtual host's nor the name server's
 abbrev pub is_guest : Config → ℕ → Bool

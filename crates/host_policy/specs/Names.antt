@@ -1,10 +1,10 @@
 -- How fields and rules are printed.
 use Rattle.std.specs.Prelude.{ℕ, List, codes}
 use Rattle.host_policy.specs.declared.Rule.{Rule}
-use Rattle.host_policy.specs.declared.Rule.TheVariants.{Restricted, PortZero, NameServer, HostLoopback, Network, Reserved}
+use Rattle.host_policy.specs.declared.Rule.TheVariants.{Restricted, PortZero, NameServer, HostLoopback, Network, Reserved, DeniedNetwork}
 use Rattle.host_policy.specs.declared.config.Field.{Field}
 use Rattle.host_policy.specs.declared.config.Field.TheVariants.{Version, InEnabled, Vnetmask, Vnetwork, Vhost, Vnameserver, VdhcpStart, Vhostname, Vdomainname, TftpServerName, Bootfile}
-use Rattle.host_policy.specs.declared.config.Field.TheVariants.{TftpPath, IfMtu, IfMru, Flows, Ring, Resolver, Turns, Forwards, Outbound, DisableDns, DisableDhcp, Guestfwds, Control}
+use Rattle.host_policy.specs.declared.config.Field.TheVariants.{TftpPath, IfMtu, IfMru, Flows, Ring, Resolver, Turns, Forwards, Outbound, DisableDns, DisableDhcp, Guestfwds, Control, Denied}
 use Rattle.host_policy.specs.declared.config.Field.TheVariants.{Octets}
 
 abbrev pub field_name : Field → List ℕ
@@ -32,6 +32,7 @@ field_name DisableDns = codes "disable_dns"
 field_name DisableDhcp = codes "disable_dhcp"
 field_name Guestfwds = codes "guestfwds"
 field_name Control = codes "control"
+field_name Denied = codes "denied"
 field_name Octets = codes "octets"
 
 -- a rule's place among the rules
@@ -42,3 +43,4 @@ number_of NameServer = 3
 number_of HostLoopback = 4
 number_of Network = 5
 number_of Reserved = 6
+number_of DeniedNetwork = 7

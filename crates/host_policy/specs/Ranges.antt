@@ -3,13 +3,15 @@ use Rattle.std.specs.Prelude.{ℕ, ◌+◌, ◌-◌, ◌*◌, ◌%◌, ◌^◌, 
 use Rattle.std.specs.List.{list_any, list_all}
 use Rattle.std.specs.Option.{option_map_or}
 use Rattle.net_octets.specs.declared.Endpoint.{Endpoint}
+use Rattle.net_octets.specs.declared.Prefix.{Prefix}
+use Rattle.host_policy.specs.declared.Denial.{Denial}
 use Rattle.host_policy.specs.declared.Forward.{Forward}
 use Rattle.host_policy.specs.declared.GuestFwd.{GuestFwd}
 use Rattle.host_policy.specs.declared.Proto.{Proto}
 use Rattle.host_policy.specs.declared.Proto.TheVariants.{Tcp, Udp}
 use Rattle.host_policy.specs.declared.config.Field.{Field}
 use Rattle.host_policy.specs.declared.config.Field.TheVariants.{Version, InEnabled, Vnetmask, Vnetwork, Vhost, Vnameserver, VdhcpStart, Vhostname, Vdomainname, TftpServerName, Bootfile}
-use Rattle.host_policy.specs.declared.config.Field.TheVariants.{TftpPath, IfMtu, IfMru, Flows, Ring, Resolver, Turns, Forwards, Outbound, DisableDns, DisableDhcp, Guestfwds, Control}
+use Rattle.host_policy.specs.declared.config.Field.TheVariants.{TftpPath, IfMtu, IfMru, Flows, Ring, Resolver, Turns, Forwards, Outbound, DisableDns, DisableDhcp, Guestfwds, Control, Denied}
 use Rattle.host_policy.specs.declared.config.Field.TheVariants.{Octets}
 use Rattle.host_policy.specs.Addresses.{Config, address, network_size, is_of_one_host, is_guest, pool}
 use Rattle.host_policy.specs.Targets.{same_endpoint, first_octet, is_loopback, is_group_or_reserved}
@@ -79,6 +81,13 @@ is_taken config at = list_any (λ f. same_proto f.proto Tcp && same_endpoint f.h
 abbrev pub is_control : Config → Endpoint → Bool
 is_control config at = not (at.port == 0) && not (is_taken config at)
 
+-- a network by its first address: no bit is set behind its prefix of at most 32 (RFC 4632, 3.1)
+abbrev pub is_network : Prefix → Bool
+is_network prefix = nat_le prefix.length 32 && (prefix.net.0 % 2 ^ (32 - prefix.length) == 0)
+
+abbrev pub are_denied : List Denial → Bool
+are_denied list = nat_le (length list) 8 && list_all (λ d. is_network d.0) list
+
 -- only version 2 has the fields from outbound on
 abbrev pub is_second : Config → Bool
 is_second config = config.version == 2
@@ -108,13 +117,14 @@ in_range config DisableDns = not config.no_dns || is_second config
 in_range config DisableDhcp = not config.no_dhcp || is_second config
 in_range config Guestfwds = (length config.guest_forwards == 0) || (is_second config && are_guest_forwards config config.guest_forwards)
 in_range config Control = option_map_or (λ at. is_second config && is_control config at) config.control true
+in_range config Denied = (length config.denied == 0) || (is_second config && are_denied config.denied)
 in_range config Octets = true
 
 -- the fields of the settings, in the order in which they are checked; the octets of a drill are no field
 abbrev pub fields : List Field
 fields =
     Version ∷ InEnabled ∷ Vnetmask ∷ Vnetwork ∷ Vhost ∷ Vnameserver ∷ VdhcpStart ∷ Vhostname ∷ Vdomainname ∷ TftpServerName ∷ Bootfile ∷ TftpPath
-    ∷ IfMtu ∷ IfMru ∷ Flows ∷ Ring ∷ Resolver ∷ Turns ∷ Forwards ∷ Outbound ∷ DisableDns ∷ DisableDhcp ∷ Guestfwds ∷ Control ∷ []
+    ∷ IfMtu ∷ IfMru ∷ Flows ∷ Ring ∷ Resolver ∷ Turns ∷ Forwards ∷ Outbound ∷ DisableDns ∷ DisableDhcp ∷ Guestfwds ∷ Control ∷ Denied ∷ []
 
 -- the first field that breaks its range
 abbrev pub first_broken : Config → Option Field

@@ -32,6 +32,7 @@ settings c = record {
   no_dhcp = c.disable_dhcp;
   guest_forwards = c.guestfwds.items;
   control = c.control;
+  denied = c.denied.items;
   congestion = c.congestion;
 }
 
@@ -64,5 +65,6 @@ usual = record {
   no_dhcp = false;
   guest_forwards = [];
   control = None;
+  denied = [];
   congestion = false;
 }

@@ -2,16 +2,16 @@
 ghost use Rattle.std.specs.Prelude.{◌≡◌, ◌==◌, ◌&&◌, not, ◌<◌, OnOk, OnErr, find};
 ghost use Rattle.std.specs.List.{list_any, list_all};
 ghost use Rattle.std.specs.Result.{result_err};
-ghost use Rattle.host_policy.specs.Addresses.{in_network, network_size, is_of_one_host, is_guest, is_ours, pool};
+ghost use Rattle.host_policy.specs.Addresses.{address, in_network, network_size, is_of_one_host, is_guest, is_ours, pool};
 ghost use Rattle.host_policy.specs.Names.{field_name};
 ghost use Rattle.host_policy.specs.Ranges.{is_mask, is_of_one, is_word, none_twice, same_proto, same_host_port, same_guest_port, is_forward, are_forwards, is_guest_forward};
-ghost use Rattle.host_policy.specs.Ranges.{are_guest_forwards, is_control, is_taken, in_range, first_broken, IsSound};
-ghost use Rattle.host_policy.specs.Targets.{leads, same_endpoint, first_octet, is_loopback, is_group_or_reserved};
+ghost use Rattle.host_policy.specs.Ranges.{are_guest_forwards, is_control, is_taken, is_network, are_denied, in_range, first_broken, IsSound};
+ghost use Rattle.host_policy.specs.Targets.{leads, same_endpoint, first_octet, is_loopback, is_group_or_reserved, is_in, is_denied, has_control};
 ghost use Rattle.host_policy.specs.declared.Proto.TheVariants.{Tcp};
 
-use crate::{Forward, GuestFwd, Proto};
+use crate::{Denial, Forward, GuestFwd, Proto};
 use arrayvec::{ArrayString, ArrayVec};
-use net_octets::{Endpoint, Ip4};
+use net_octets::{Endpoint, Ip4, Prefix};
 
 /// A field of the settings, by which its fault is named.
 #[derive(Clone, Copy, Debug, PartialEq, Eq)]
@@ -40,12 +40,13 @@ pub enum Field {
     DisableDhcp,
     Guestfwds,
     Control,
+    Denied,
     /// The octets of a drill: no field of the settings, but checked with them.
     Octets,
 }
 
 /// The fields in the order in which they are checked.
-const FIELDS: [Field; 24] = [
+const FIELDS: [Field; 25] = [
     Field::Version,
     Field::InEnabled,
     Field::Vnetmask,
@@ -70,7 +71,14 @@ const FIELDS: [Field; 24] = [
     Field::DisableDhcp,
     Field::Guestfwds,
     Field::Control,
+    Field::Denied,
 ];
+
+/// 127.0.0.1, by which the host reaches itself (RFC 1122, 3.2.1.3).
+pub(crate) const LOOPBACK: Ip4 = Ip4(0x7f00_0001);
+
+/// 0.0.0.0, for every address of the host.
+const EVERY: Ip4 = Ip4(0);
 
 /// How many bits a network's prefix may have.
 const PREFIX_LENGTHS: [u32; 20] = [
@@ -110,6 +118,7 @@ impl Field {
             Field::DisableDhcp => "disable_dhcp",
             Field::Guestfwds => "guestfwds",
             Field::Control => "control",
+            Field::Denied => "denied",
             Field::Octets => "octets",
         }
     }
@@ -170,6 +179,8 @@ pub struct SlirpConfig {
     pub guestfwds: ArrayVec<GuestFwd, 16>,
     /// Where forwards are asked for while the network runs: no port 0, nor one of `forwards` with TCP.
     pub control: Option<Endpoint>,
+    /// The networks that guests don't reach, at most 8: each by its first address and a prefix of 0 to 32 bits.
+    pub denied: ArrayVec<Denial, 9>,
     /// Whether TCP keeps a congestion window (RFC 5681).
     pub congestion: bool,
 }
@@ -211,6 +222,7 @@ impl SlirpConfig {
             disable_dhcp: false,
             guestfwds: ArrayVec::new(),
             control: None,
+            denied: ArrayVec::new(),
             congestion: false,
         }
     }
@@ -258,6 +270,7 @@ impl SlirpConfig {
             disable_dhcp: self.disable_dhcp,
             guestfwds: copy_of(&self.guestfwds),
             control: self.control,
+            denied: copy_of(&self.denied),
             congestion: self.congestion,
         }
     }
@@ -324,6 +337,7 @@ impl SlirpConfig {
                 Some(at) => self.is_second() && self.is_control(at),
                 None => true,
             },
+            Field::Denied => self.denied.is_empty() || self.is_second() && self.are_denied(),
             Field::Octets => true,
         }
     }
@@ -423,6 +437,39 @@ impl SlirpConfig {
         let forwards = self.guestfwds.as_slice();
         let found = forwards.iter().find(|f| is_same(f.guest, to));
         found.map(|f| f.host)
+    }
+
+    /// Whether a forward of guests has this address of the network.
+    pub(crate) fn is_led(&self, a: Ip4) -> bool
+        ensures { result ≡ list_any (λ f. address f.guest == a.0) (settings self.now).guest_forwards }
+    {
+        let forwards = self.guestfwds.as_slice();
+        forwards.iter().any(|f| f.guest.addr == a)
+    }
+
+    /// Whether the control is reached at this port of the host's loopback.
+    pub(crate) fn has_control(&self, port: u16) -> bool
+        ensures { result ≡ has_control (settings self.now) port }
+    {
+        match self.control {
+            Some(at) => at.port == port && (at.addr == LOOPBACK || at.addr == EVERY),
+            None => false,
+        }
+    }
+
+    /// Whether the address is in a network that guests don't reach.
+    pub(crate) fn is_denied(&self, a: Ip4) -> bool
+        ensures { result ≡ is_denied (settings self.now) a.0 }
+    {
+        self.denied.as_slice().iter().any(|d| is_in(&d.0, a))
+    }
+
+    // Whether the networks that guests don't reach are networks, and not too many.
+    fn are_denied(&self) -> bool
+        ensures { result ≡ are_denied self.now.denied.items }
+    {
+        let denied = self.denied.as_slice();
+        denied.len() <= 8 && each_is_network(denied)
     }
 
     fn is_second(&self) -> bool
@@ -546,6 +593,26 @@ fn has_guest_port(forwards: &[GuestFwd], first: &GuestFwd) -> bool
     ensures { result ≡ list_any (same_guest_port first.now) forwards.now }
 {
     forwards.iter().any(|f| is_same(first.guest, f.guest))
+}
+
+fn each_is_network(denied: &[Denial]) -> bool
+    ensures { result ≡ list_all (λ d. is_network d.0) denied.now }
+{
+    denied.iter().all(|d| is_network(&d.0))
+}
+
+// Whether the prefix has at most 32 bits, and the address none behind them.
+fn is_network(network: &Prefix) -> bool
+    ensures { result ≡ is_network network.now }
+{
+    network.length <= 32 && network.net.0 as u64 % (1 << (32 - network.length)) == 0
+}
+
+// Whether the address is in a network.
+fn is_in(network: &Prefix, a: Ip4) -> bool
+    ensures { result ≡ is_in network.now a.0 }
+{
+    network.length <= 32 && network.holds(a)
 }
 
 /// Whether two endpoints are one.

@@ -3,13 +3,10 @@ ghost use Rattle.std.specs.Prelude.{◌≡◌, ◌≤◌, ◌==◌, ◌||◌, no
 ghost use Rattle.host_policy.specs.Ranges.{IsSound};
 ghost use Rattle.host_policy.specs.Targets.{is_group_or_reserved};
 
-use crate::config::{first_octet, is_group_or_reserved, is_loopback};
+use crate::config::{LOOPBACK, first_octet, is_group_or_reserved, is_loopback};
 use crate::{Proto, Rule, SlirpConfig, Verdict};
 use net_octets::{Endpoint, Ip4};
 use std::marker::Model;
-
-/// 127.0.0.1, by which the host reaches itself (RFC 1122, 3.2.1.3).
-const LOOPBACK: Ip4 = Ip4(0x7f00_0001);
 
 /// The port at which names are asked for (RFC 1035, 4.2).
 const NAMES: u16 = 53;
@@ -33,7 +30,7 @@ impl Model for Policy {
 }
 
 impl Policy {
-    ghost use Rattle.host_policy.specs.Addresses.{is_guest, in_network, is_ours, last_address};
+    ghost use Rattle.host_policy.specs.Addresses.{is_guest, in_network, is_answered_for, is_ours, last_address};
     ghost use Rattle.host_policy.specs.Settings.{settings};
     ghost use Rattle.host_policy.specs.Targets.{target, led_to, resolver_on, by_rules, shown, is_hidden};
 
@@ -50,6 +47,13 @@ impl Policy {
         ensures { result ≡ is_ours self.now a.0 }
     {
         self.config.is_ours(a.0 as u64)
+    }
+
+    /// Whether the network answers for the address: it is the host's or the name server's, or that of a forward of guests.
+    pub fn answers_for(&self, a: Ip4) -> bool
+        ensures { result ≡ is_answered_for self.now a.0 }
+    {
+        self.is_ours(a) || self.config.is_led(a)
     }
 
     /// Whether the address is the name server's.
@@ -83,8 +87,8 @@ impl Policy {
     }
 
     /// Where a packet of a guest to this endpoint goes. A forward of guests comes first, for TCP. Else the first rule that fits denies it: where guests are
-    /// restricted; to port 0; for the name server, unless a resolver answers on port 53; for the host, whose address is 127.0.0.1, where its loopback is shut;
-    /// for another address of the virtual network; for one in 0/8, 127/8, 224/4 or 240/4.
+    /// restricted; to port 0; for the name server, unless a resolver answers on port 53; for the host, whose address is 127.0.0.1, where its loopback is shut
+    /// or the control stands at the port; for another address of the virtual network; for one in 0/8, 127/8, 224/4 or 240/4; for one in a denied network.
     pub fn target(&self, proto: Proto, to: Endpoint) -> Verdict
         ensures { result ≡ target self.now proto to }
     {
@@ -117,7 +121,7 @@ impl Policy {
                 None => Verdict::Denied(Rule::NameServer),
             }
         } else if to.addr == self.config.vhost {
-            if self.config.disable_host_loopback {
+            if self.config.disable_host_loopback || self.config.has_control(to.port) {
                 Verdict::Denied(Rule::HostLoopback)
             } else {
                 Verdict::Go(Endpoint {
@@ -132,6 +136,8 @@ impl Policy {
             || is_group_or_reserved(to.addr)
         {
             Verdict::Denied(Rule::Reserved)
+        } else if self.config.is_denied(to.addr) {
+            Verdict::Denied(Rule::DeniedNetwork)
         } else {
             Verdict::Go(to)
         }

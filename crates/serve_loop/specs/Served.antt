@@ -22,9 +22,8 @@ pub record Stays (old new : ServiceState) : Type 0 where
   pub wants : new.wants ≡ old.wants
   pub ready : new.ready ≡ old.ready
 
--- No part is asked for that isn't built: no port of the network is forwarded, and there is no control.
+-- No part is asked for that isn't built: there is no control.
 pub record IsBuilt (config : Config) : Type 0 where
-  pub guest_forwards : config.guest_forwards ≡ []
   pub control : config.control ≡ None
 
 -- nothing was read or written, no datagram was sent, no guest is known, no socket is open, no moment was told, nothing is owed, no fragment waits, no address

@@ -36,23 +36,20 @@ other n m is differs same = let clash : ◌≡◌ {A = Bool} true false = sym (s
 
 -- what no option gives is not asked for
 is_built : (config : Config) (given : Word → Option Word) → AreSettings given config → IsBuilt config
-is_built config given set = record {
-  guest_forwards = ap (λ (k : Config). k.guest_forwards) set.rest;
-  control = ap (λ (k : Config). k.control) set.rest;
-}
+is_built config given set = record { control = ap (λ (k : Config). k.control) set.rest }
 
 built_replay : (config : Config) (behind : List Word) (file : Word) → MeansReplay behind file config → IsBuilt config
-built_replay config behind file (line, rules, same, all, alone, some, few, are, set) = is_built config (value_of line) set
+built_replay config behind file (line, rules, same, all, alone, some, few, are, set, denied) = is_built config (value_of line) set
 
 built_serve : (config : Config) (behind : List Word) (at : Place) (tap : Tap) → MeansServe behind config at tap → IsBuilt config
-built_serve config behind at tap (line, same, all, link, taps, are, set) = is_built config (value_of line) set
+built_serve config behind at tap (line, same, all, link, taps, are, set, denied) = is_built config (value_of line) set
 
 pub built : (words : List Word) (meaning : Meaning) → Means words meaning → IsBuilt (config_of meaning)
 built words (Replays file config) (behind, is, meant) = built_replay config behind file meant
 built words (Serves config at tap) (behind, is, meant) = built_serve config behind at tap meant
-built words (Drives number octets) means = record { guest_forwards = refl; control = refl }
-built words Helps means = record { guest_forwards = refl; control = refl }
-built words TellsVersion means = record { guest_forwards = refl; control = refl }
+built words (Drives number octets) means = record { control = refl }
+built words Helps means = record { control = refl }
+built words TellsVersion means = record { control = refl }
 
 named : (behind : List Word) (file : Word) (config : Config) → MeansReplay behind file config → (0 < length file) × (length file ≤ 1280)
 named behind file config (line, rules, same, all, alone, some, few, are, set) = (some, few)

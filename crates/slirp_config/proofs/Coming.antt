@@ -5,22 +5,24 @@ use Rattle.std.proofs.lemmas.List.{map-append, take-append-drop, take_more}
 use Rattle.slirp_config.specs.declared.options.Verb.{Verb}
 use Rattle.slirp_config.specs.declared.options.Verb.TheVariants.{Replay, Serve}
 use Rattle.slirp_config.specs.declared.line.Line.{Line as LineHere}
-use Rattle.slirp_config.specs.Options.{Word}
-use Rattle.slirp_config.specs.Walking.{Walk, AreWanted, Fits, HasWalked, IsGood, IsProper, Walks, finished, fresh, kept, kept_of, next, step, step_with, walk_of, walk_on, walked}
+use Rattle.slirp_config.specs.Options.{Word, Given, repeated}
+use Rattle.slirp_config.specs.Walking.{Walk, AreWanted, Fits, HasWalked, IsGood, IsProper, Walks, completed, finished, fresh, hold, kept, kept_denied, kept_of, listed, next, step, step_with, walk_of, walk_on, walked}
 use Rattle.slirp_config.proofs.Kept.{fits_kept, kept_fits, step_refused, step_taken}
 use Rattle.slirp_config.proofs.Wanted.{after_step}
 use Rattle.slirp_config.proofs.Good.{still_good, was_good}
 use Rattle.slirp_config.proofs.Proper.{fresh_proper, still_proper}
+use Rattle.slirp_config.proofs.Single.{repeated_append}
 use Rattle.slirp_config.proofs.Walks.{next_some, ended}
 
--- These words were read: whatever stands behind them goes on from a walk as all do from an empty one, and a line keeps it.
-pub record HasCome (verb : Verb) (words : List Word) (line : LineHere) : Type 0 where
+-- These words were read: whatever stands behind them goes on from a walk as all do from an empty one, and a line keeps it, and beside it denied networks are kept.
+pub record HasCome (verb : Verb) (words : List Word) (line : LineHere) (denied : List Word) : Type 0 where
   pub walk : Walk
   pub goes : (more : List Word) → walk_on more walk ≡ walk_on (words ++ more) (fresh verb)
   pub verb_is : walk.verb ≡ verb
   pub good : IsGood walk
   pub proper : IsProper walk
   pub keeps : kept_of walk ≡ walk_of line
+  pub denies : denied ≡ kept_denied (repeated walk.options)
 
 no_word : (verb : Verb) → AreWanted verb []
 no_word Replay = tt
@@ -29,8 +31,8 @@ no_word Serve = tt
 fresh_good : (verb : Verb) → IsGood (fresh verb)
 fresh_good verb = record { wanted = no_word verb; given = tt; one = refl; linked = λ ended. absurd (cc ended) }
 
-pub begun : (verb : Verb) (line : LineHere) → fresh verb ≡ walk_of line → HasCome verb [] line
-begun verb line is = record { walk = fresh verb; goes = λ more. refl; verb_is = refl; good = fresh_good verb; proper = fresh_proper verb; keeps = is }
+pub begun : (verb : Verb) (line : LineHere) (denied : List Word) → fresh verb ≡ walk_of line → denied ≡ [] → HasCome verb [] line denied
+begun verb line denied is none = record { walk = fresh verb; goes = λ more. refl; verb_is = refl; good = fresh_good verb; proper = fresh_proper verb; keeps = is; denies = none }
 
 -- what all words come to where they have a walk
 good_from : (words : List Word) (w v : Walk) → walk_on words w ≡ Some v → IsGood v → IsGood w
@@ -39,11 +41,12 @@ good_from (word ∷ words) w v is good =
     let n = next_some (walk_on words) (step w word) v is in
     (was_good w n.0 word n.1 (good_from words n.0 v n.2 good)).0
 
-module _ (verb : Verb) (words : List Word) (word : Word) (old : LineHere) (come : HasCome verb words old) where
+module _ (verb : Verb) (words : List Word) (word : Word) (old : LineHere) (denied : List Word) (come : HasCome verb words old denied) where
   -- one more was taken
-  pub come_on : (new : LineHere) → step_with kept (walk_of old) word ≡ Some (walk_of new) → Fits (walk_of old) word → HasCome verb (words ++ word ∷ []) new
-  come_on new is fits =
-      let on = step_taken come.walk (walk_of new) word (ap (λ (w : Walk). step_with kept w word) come.keeps ∙ is) in
+  pub come_on : (new : LineHere) (more : List Word) → step_with kept hold (walk_of old) word ≡ Some (walk_of new) → Fits (walk_of old) word
+      → ((all : List Word) → denied ≡ kept_denied all → more ≡ kept_denied (all ++ repeated (listed (completed (walk_of old) word)))) → HasCome verb (words ++ word ∷ []) new more
+  come_on new more is fits put =
+      let on = step_taken come.walk (walk_of new) word come.proper (ap (λ (w : Walk). step_with kept hold w word) come.keeps ∙ is) in
       let fit = fits_kept come.walk word (subst (λ (w : Walk). Fits w word) (sym come.keeps) fits) in
       record {
         walk = on.0;
@@ -52,14 +55,19 @@ module _ (verb : Verb) (words : List Word) (word : Word) (old : LineHere) (come 
         good = still_good come.walk on.0 word on.1 come.good fit;
         proper = still_proper come.walk on.0 word on.1 come.proper;
         keeps = on.2;
+        denies =
+            put (repeated come.walk.options) come.denies
+            ∙ ap (λ (w : Walk). kept_denied (repeated come.walk.options ++ repeated (listed (completed w word)))) (sym come.keeps)
+            ∙ ap kept_denied (sym (repeated_append come.walk.options (listed (completed come.walk word))))
+            ∙ ap (λ (o : List Given). kept_denied (repeated o)) (sym (after_step come.walk on.0 word on.1).options);
       }
 
-  cause_none : (step_with kept (walk_of old) word ≡ None) ⊎ ¬ Fits (walk_of old) word → (on : Walk) → step come.walk word ≡ Some on → Fits come.walk word → ⊥
-  cause_none (inl none) on is fit = step_refused come.walk on word (ap (λ (w : Walk). step_with kept w word) come.keeps ∙ none) is
+  cause_none : (step_with kept hold (walk_of old) word ≡ None) ⊎ ¬ Fits (walk_of old) word → (on : Walk) → step come.walk word ≡ Some on → Fits come.walk word → ⊥
+  cause_none (inl none) on is fit = step_refused come.walk on word come.proper (ap (λ (w : Walk). step_with kept hold w word) come.keeps ∙ none) is
   cause_none (inr unfit) on is fit = unfit (subst (λ (w : Walk). Fits w word) come.keeps (kept_fits come.walk word fit))
 
   -- one isn't taken, whatever stands behind it
-  pub come_none : (step_with kept (walk_of old) word ≡ None) ⊎ ¬ Fits (walk_of old) word → (more : List Word) (w : Walk) → walked verb ((words ++ word ∷ []) ++ more) ≡ Some w → ¬ IsGood w
+  pub come_none : (step_with kept hold (walk_of old) word ≡ None) ⊎ ¬ Fits (walk_of old) word → (more : List Word) (w : Walk) → walked verb ((words ++ word ∷ []) ++ more) ≡ Some w → ¬ IsGood w
   come_none why more w is good =
       let f = next_some finished (walk_on ((words ++ word ∷ []) ++ more) (fresh verb)) w is in
       let e = ended f.0 w f.2 in
@@ -69,7 +77,7 @@ module _ (verb : Verb) (words : List Word) (word : Word) (old : LineHere) (come 
       cause_none why n.0 n.1 (was_good come.walk n.0 word n.1 (good_from more n.0 w n.2 good)).1
 
 -- all words were taken; an option that waits for its value ends it
-module _ (verb : Verb) (words : List Word) (line : LineHere) (come : HasCome verb words line) where
+module _ (verb : Verb) (words : List Word) (line : LineHere) (denied : List Word) (come : HasCome verb words line denied) where
   waits_is : come.walk.waits ≡ option_copied line.waits
   waits_is = ap (λ (w : Walk). w.waits) come.keeps
 
@@ -79,7 +87,7 @@ module _ (verb : Verb) (words : List Word) (line : LineHere) (come : HasCome ver
   pub come_far : Walks verb words
   come_far = record { walk = come.walk; walks = walks_to; verb_is = come.verb_is; good = come.good; proper = come.proper }
 
-  pub come_all : option_copied line.waits ≡ None → HasWalked verb words line
+  pub come_all : option_copied line.waits ≡ None → HasWalked verb words line denied
   come_all none =
       let done : finished come.walk ≡ Some come.walk = ap (λ (o : Option Word). cond (is_some o) None (Some come.walk)) (waits_is ∙ none) in
       record {
@@ -89,6 +97,7 @@ module _ (verb : Verb) (words : List Word) (line : LineHere) (come : HasCome ver
         good = come.good;
         far = come_far;
         keeps = come.keeps;
+        denies = sym come.denies;
       }
 
   pub come_waiting : (name : Word) → option_copied line.waits ≡ Some name → (w : Walk) → walked verb words ≡ Some w → ⊥

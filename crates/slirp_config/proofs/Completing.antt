@@ -1,5 +1,5 @@
 -- Words that can go on begin a reading: what is missing is put behind them.
-use Rattle.std.proofs.Common.{◌≡◌, ◌<◌, Bool, true, false, cond, ◌&&◌, ◌||◌, List, [], ◌∷◌, ◌++◌, length, bytes_eq, codes, Option, Some, None, MatchOption, is_some, refl, sym, ◌∙◌, ap}
+use Rattle.std.proofs.Common.{◌≡◌, ◌<◌, Bool, true, false, cond, not, ◌&&◌, ◌||◌, List, [], ◌∷◌, ◌++◌, length, bytes_eq, codes, Option, Some, None, MatchOption, is_some, refl, sym, ◌∙◌, ap}
 use Rattle.std.proofs.Common.{subst, arith, append_assoc, append-nil}
 use Rattle.std.specs.Fmt.{digits}
 use Rattle.std.specs.Option.{option_map}
@@ -11,19 +11,22 @@ use Rattle.slirp_config.specs.declared.options.Kind.TheVariants.{Nothing, Text, 
 use Rattle.slirp_config.specs.declared.options.Verb.{Verb}
 use Rattle.slirp_config.specs.declared.options.Verb.TheVariants.{Replay, Serve}
 use Rattle.slirp_config.specs.Meaning.{is_capture, is_record}
-use Rattle.slirp_config.specs.Options.{Word, Given, has_value, is_dashed, kind_of, takes_value, value_in}
+use Rattle.slirp_config.specs.Options.{Word, Given, has_value, is_dashed, kind_of, repeated, single, takes_value, value_in}
 use Rattle.slirp_config.specs.Rules.{AreRuleWords}
 use Rattle.slirp_config.specs.Stops.{BeginsOne}
+use Rattle.host_policy.specs.declared.Denial.{Denial}
+use Rattle.slirp_config.specs.Texts.{AreDenials}
 use Rattle.slirp_config.specs.Values.{CanHave}
 use Rattle.address_text.specs.Texts.{address_text, endpoint_text}
-use Rattle.slirp_config.specs.Walking.{AreGiven, AreWanted, Fits, Walk, Walks, finished, fresh, has_link, is_both, next, step, walk_on, walked}
+use Rattle.slirp_config.specs.Walking.{AreGiven, AreWanted, Fits, Walk, Walks, finished, fresh, has_link, is_both, may_stand, next, step, walk_on, walked}
 use Rattle.slirp_config.proofs.Given.{more_given}
 use Rattle.slirp_config.proofs.Good.{still_good}
 use Rattle.slirp_config.proofs.Meant.{IsLinkAt, ReplayMeant, ServeMeant, replay_means, serve_means}
 use Rattle.slirp_config.proofs.Names.{same_text}
-use Rattle.slirp_config.proofs.Proper.{has_room, still_proper}
-use Rattle.slirp_config.proofs.Reading.{settings_of, value_read}
+use Rattle.slirp_config.proofs.Proper.{still_proper}
+use Rattle.slirp_config.proofs.Reading.{denials_of, settings_of, value_read}
 use Rattle.slirp_config.proofs.Settled.{with_forwards}
+use Rattle.slirp_config.proofs.Single.{both_single, single_given, single_value}
 use Rattle.slirp_config.proofs.Steps.{apart_step, at, given, joined_step, plain_step, put_fresh, waiting}
 use Rattle.slirp_config.proofs.Wanted.{after_step}
 use Rattle.slirp_config.proofs.Whole.{words_are_rules}
@@ -124,7 +127,7 @@ module _ (verb : Verb) (words : List Word) where
   settle w = by_waits w.walk.waits refl w.proper.waiting
     where
       by_waits : (t : Option Word) → w.walk.waits ≡ t → MatchOption t (Unit {0}) (λ name. (takes_value w.walk.verb name ≡ Some true) ×
-          (is_some (value_in w.walk.options name) ≡ false)) → Comes verb words
+          (may_stand w.walk.options name ≡ true)) → Comes verb words
       by_waits None e h = record { more = []; walks = none_more verb words w; quiet = e }
       by_waits (Some name) e h =
           let kind = valued w.walk.verb name h.0 in
@@ -140,9 +143,8 @@ module _ (verb : Verb) (words : List Word) where
           by_ended w.walk.ended refl) in
           let is : waiting w.walk.verb o a name ≡ w.walk = ap (λ (t : Option Word). record { verb = w.walk.verb; options = o; alone = a; waits = t; ended = false }) (sym e) ∙ ap
           (λ (b : Bool). record { verb = w.walk.verb; options = o; alone = a; waits = w.walk.waits; ended = b }) (sym open_still) in
-          let room = has_room w.walk.verb o name v.value true w.proper.once w.proper.known h.0 h.1 in
           let stepped : step (waiting w.walk.verb o a name) v.value ≡ Some
-          (at w.walk.verb (o ++ given name v.value ∷ []) a) = apart_step w.walk.verb o a name v.value v.some v.plain ∙ put_fresh w.walk.verb o a name v.value h.1 room in
+          (at w.walk.verb (o ++ given name v.value ∷ []) a) = apart_step w.walk.verb o a name v.value v.some v.plain ∙ put_fresh w.walk.verb o a name v.value h.1 in
           let fits : Fits (waiting w.walk.verb o a name) v.value = (tt, (rw (kind.1) v.can, still_one w.walk.verb o name v.value h.0 w.good.one), refl) in
           record {
             more = v.value ∷ [];
@@ -158,7 +160,9 @@ begins_further Read words more b = (more ++ b.0, subst Read (append_assoc words 
 replay_whole : (words : List Word) (w : Walks Replay words) → w.walk.waits ≡ None → (file : Word) (rules : List Word) → w.walk.alone ≡ file ∷ rules → ReplayMeant words
 replay_whole words w none file rules alone =
     let wanted : AreWanted Replay (file ∷ rules) = subst (λ (a : List Word). AreWanted Replay a) alone (subst (λ (v : Verb). AreWanted v w.walk.alone) w.verb_is w.good.wanted) in
-    let set = settings_of Replay w.walk.options (subst (λ (v : Verb). AreGiven v w.walk.options) w.verb_is w.good.given) in
+    let are : AreGiven Replay w.walk.options = subst (λ (v : Verb). AreGiven v w.walk.options) w.verb_is w.good.given in
+    let denied = denials_of Replay w.walk.options are in
+    let set = settings_of Replay (single w.walk.options) (single_given Replay w.walk.options are) denied.0 in
     let fs = words_are_rules rules set.0.dhcp_start wanted.1 in
     let config = record set.0 { forwards = fs.0 } in (
       file,
@@ -172,7 +176,8 @@ replay_whole words w none file rules alone =
         some = wanted.0.0;
         fits = wanted.0.1;
         forwards = fs.1;
-        settings = with_forwards (value_in w.walk.options) set.0 fs.0 set.1;
+        settings = with_forwards (value_in (single w.walk.options)) set.0 fs.0 set.1;
+        denied = subst (λ (ds : List Denial). AreDenials (repeated w.walk.options) ds) (sym set.2) denied.1;
       }),
     )
 
@@ -217,9 +222,10 @@ serve_whole : (words : List Word) (w : Walks Serve words) → w.walk.waits ≡ N
 serve_whole words w none text linked =
     let wanted : AreRuleWords w.walk.alone = subst (λ (v : Verb). AreWanted v w.walk.alone) w.verb_is w.good.wanted in
     let are : AreGiven Serve w.walk.options = subst (λ (v : Verb). AreGiven v w.walk.options) w.verb_is w.good.given in
-    let set = settings_of Serve w.walk.options are in
+    let denied = denials_of Serve w.walk.options are in
+    let set = settings_of Serve (single w.walk.options) (single_given Serve w.walk.options are) denied.0 in
     let link = value_read Serve w.walk.options are (codes "--link") text linked Link refl in
-    let tap = tap_for (is_some (value_in w.walk.options (codes "--record"))) (is_some (value_in w.walk.options (codes "--capture"))) w.good.one in
+    let tap = tap_for (is_some (value_in (single w.walk.options) (codes "--record"))) (is_some (value_in (single w.walk.options) (codes "--capture"))) (both_single w.walk.options ∙ w.good.one) in
     let fs = words_are_rules w.walk.alone set.0.dhcp_start wanted in
     let config = record set.0 { forwards = fs.0 } in (
       config,
@@ -229,10 +235,11 @@ serve_whole words w none text linked =
         walk = w.walk;
         read = finishes Serve words w none;
         good = w.good;
-        link = subst (λ (o : Option Word). IsLinkAt o link.0) (sym linked) link.1;
+        link = subst (λ (o : Option Word). IsLinkAt o link.0) (sym (single_value w.walk.options (codes "--link") refl ∙ linked)) link.1;
         taps = (tap.1, tap.2);
         forwards = fs.1;
-        settings = with_forwards (value_in w.walk.options) set.0 fs.0 set.1;
+        settings = with_forwards (value_in (single w.walk.options)) set.0 fs.0 set.1;
+        denied = subst (λ (ds : List Denial). AreDenials (repeated w.walk.options) ds) (sym set.2) denied.1;
       }),
     )
 
@@ -270,9 +277,9 @@ serve_quiet words w none = by_link (value_in w.walk.options (codes "--link")) re
         ∙ ap (λ (b : Bool). record { verb = w.walk.verb; options = o; alone = a; waits = w.walk.waits; ended = b }) (sym (not_ended w.walk.ended refl)) in
         let g = given (codes "--link") (codes "unix:s") in
         let behind = at Serve (o ++ g ∷ []) a in
-        let room = has_room Serve o (codes "--link") (codes "unix:s") true w.proper.once w.proper.known refl free in
+        let may : may_stand o (codes "--link") ≡ true = ap not free in
         let stepped : step (at Serve o a) link_word ≡ Some behind = joined_step Serve o a (codes "--link") (codes "unix:s") refl (omega arith) ∙ put_fresh Serve o a
-        (codes "--link") (codes "unix:s") free room in
+        (codes "--link") (codes "unix:s") may in
         let more = one_more Serve words w link_word behind (subst (λ (x : Walk). step x link_word ≡ Some behind) is stepped) (subst (λ (x : Walk). Fits x link_word) is (link_fits o a w.good.one)) in
         let there : is_some (value_in (o ++ g ∷ []) (codes "--link")) ≡ true = more_given o g (codes "--link") ∙ ap (λ (b : Bool). b || bytes_eq (codes "--link") (codes "--link")) free in
         let told = value_last o (codes "--link") (codes "unix:s") there free in

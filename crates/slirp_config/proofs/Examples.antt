@@ -30,7 +30,7 @@ plain : (given : Word → Option Word) (network mask vhost vnameserver dhcp_star
     → MatchOption (given (codes "--dhcpstart")) (dhcp_start ≡ (network + 15) % 2 ^ 32) (λ text. IsAddress text dhcp_start)
     → MatchOption (given (codes "--resolver")) (resolver ≡ None) (λ text. (at : Endpoint) × (resolver ≡ Some at) × IsEndpointText text at)
     → MatchOption (given (codes "--outbound")) (outbound ≡ None) (λ text. (a : ℕ) × (outbound ≡ Some a) × IsAddress text a)
-    → version ≡ version_of given
+    → version ≡ version_of given []
     → AreSettings given (record usual {
       network = network;
       mask = mask;
@@ -87,6 +87,7 @@ another_network = (
     tt,
     plain _ _ _ _ _ _ _ _ _ _ (refl, refl, refl, refl, refl, refl, refl, refl, refl, refl, refl, refl, refl, refl, refl)
         (16, refl, omega arith, omega arith, refl) (refl, omega arith) refl refl refl refl refl,
+    tt,
   ),
 )
 
@@ -122,6 +123,7 @@ first_guest = (
     ),
     plain _ _ _ _ _ _ _ _ _ _ (refl, refl, refl, refl, refl, refl, refl, refl, refl, refl, refl, refl, refl, refl, refl)
         (refl, refl) refl refl (refl, omega arith) refl refl refl,
+    tt,
   ),
 )
 
@@ -160,6 +162,7 @@ datagrams = (
     ),
     plain _ _ _ _ _ _ _ _ _ _ (refl, refl, refl, refl, refl, refl, refl, refl, refl, refl, refl, refl, refl, refl, refl)
         (refl, refl) refl refl refl (endpoint 0xc0000201 53, refl, (refl, (omega arith, omega arith))) (0xc0000209, refl, (refl, omega arith)) refl,
+    tt,
   ),
 )
 

@@ -3,10 +3,10 @@ use Rattle.std.proofs.Common.{◌≡◌, Bool, true, false, cond, not, ◌&&◌,
 use Rattle.slirp_config.specs.declared.options.Verb.{Verb}
 use Rattle.slirp_config.specs.declared.options.Verb.TheVariants.{Replay, Serve}
 use Rattle.slirp_config.specs.Options.{Word, Given, is_dashed, value_in}
-use Rattle.slirp_config.specs.Walking.{Walk, AreGiven, AreWanted, Fits, FitsAlone, IsGiven, IsGood, completed, ends, has_link, is_both, named, step}
+use Rattle.slirp_config.specs.Walking.{Walk, AreGiven, AreWanted, Fits, FitsAlone, IsGiven, IsGood, completed, ends, has_link, is_both, listed, named, step}
 use Rattle.slirp_config.proofs.Given.{more_given}
 use Rattle.slirp_config.proofs.Names.{same_text}
-use Rattle.slirp_config.proofs.Wanted.{After, after_step, listed, no_option, still_wanted, was_wanted}
+use Rattle.slirp_config.proofs.Wanted.{After, after_step, no_option, still_wanted, was_wanted}
 
 -- one option more
 given_more : (verb : Verb) (o : List Given) (g : Given) → AreGiven verb o → IsGiven verb g → AreGiven verb (o ++ g ∷ [])

@@ -1,14 +1,20 @@
 -- A line keeps the first words that stand by themselves, and takes the steps of the walk that keeps all.
-use Rattle.std.proofs.Common.{◌≡◌, ◌<◌, ◌≤◌, Bool, true, false, cond, not, ◌&&◌, ltb, List, [], ◌∷◌, ◌++◌, length, map, bytes_eq, codes, Option, Some, None, is_some, MatchBool, inl, inr}
+use Rattle.std.proofs.Common.{◌≡◌, ◌<◌, ◌≤◌, Bool, true, false, cond, not, ◌&&◌, ◌||◌, ltb, List, [], ◌∷◌, ◌++◌, length, map, bytes_eq, codes, Option, Some, None, is_some, MatchBool, MatchOption, inl, inr}
 use Rattle.std.proofs.Common.{refl, sym, ◌∙◌, ap, subst, arith, length-append}
 use denote.Ref.{Bor}
-use Rattle.std.specs.List.{position_or_len, before_first, after_first}
+use Rattle.std.specs.List.{list_all, list_any, position_or_len, before_first, after_first}
 use Rattle.std.specs.Option.{option_map}
 use Rattle.std.proofs.lemmas.Bool.{cases_lt}
 use Rattle.std.proofs.lemmas.List.{length-map, length-take, map-append, take_all, take-append-le}
-use Rattle.slirp_config.specs.Options.{Word, Given, takes_value, is_dashed, value_in}
-use Rattle.slirp_config.specs.Walking.{Walk, Fits, IsWanted, has_none, wants_file, stands_alone, is_replay, is_sign, kept, kept_of, put_option, put_alone, put_apart, put_joined, put_name}
-use Rattle.slirp_config.specs.Walking.{put_dashed, begin, step_with, step}
+use Rattle.std.proofs.lemmas.Bool.Decides.{nat_tests}
+use Rattle.host_policy.specs.Ranges.{none_twice}
+use Rattle.slirp_config.specs.declared.options.Verb.{Verb}
+use Rattle.slirp_config.specs.Options.{Word, Given, takes_value, is_dashed, is_repeated, same_name, single, value_in}
+use Rattle.slirp_config.specs.Walking.{Walk, Fits, IsGiven, IsProper, IsWanted, add_all, can_end, completed, ends, has_none, hold, is_both, wants_file, stands_alone, is_replay, is_sign, kept, kept_of, may_stand}
+use Rattle.slirp_config.specs.Walking.{option_names, put_option, put_alone, put_apart, put_joined, put_name, put_dashed, begin, step_with, step}
+use Rattle.slirp_config.proofs.Proper.{has_room}
+use Rattle.slirp_config.proofs.Single.{both_more, link_single, may_single, one_repeated, one_single}
+use Rattle.slirp_config.proofs.Steps.{given}
 
 pub kept_again : (a : List Word) (word : Word) → kept (kept a ++ word ∷ []) ≡ kept (a ++ word ∷ [])
 kept_again a word = elim (cases_lt (length a) 34) [
@@ -26,107 +32,149 @@ none_kept (word ∷ words) = refl
 pub wants_kept : (walk : Walk) → wants_file (kept_of walk) ≡ wants_file walk
 wants_kept walk = ap (λ (b : Bool). is_replay walk.verb && b) (none_kept walk.alone)
 
+option_kept : (verb : Verb) (o : List Given) (t : Option Given)
+    → MatchOption t (Unit {0}) (λ given. IsGiven verb given × (is_both (single o ++ given ∷ []) ≡ false)) → MatchOption t (Unit {0}) (λ given. IsGiven verb given × (is_both (o ++ given ∷ []) ≡ false))
+option_kept verb o None h = tt
+option_kept verb o (Some g) h = (h.0, sym (both_more o g) ∙ h.1)
+
+kept_option_fits : (verb : Verb) (o : List Given) (t : Option Given)
+    → MatchOption t (Unit {0}) (λ given. IsGiven verb given × (is_both (o ++ given ∷ []) ≡ false)) → MatchOption t (Unit {0}) (λ given. IsGiven verb given × (is_both (single o ++ given ∷ []) ≡ false))
+kept_option_fits verb o None h = tt
+kept_option_fits verb o (Some g) h = (h.0, both_more o g ∙ h.1)
+
+end_kept : (walk : Walk) (word : Word) → can_end (kept_of walk) word ≡ can_end walk word
+end_kept walk word = ap (λ (b : Bool). not (ends walk word) || b) (link_single walk.verb walk.options)
+
 pub fits_kept : (walk : Walk) (word : Word) → Fits (kept_of walk) word → Fits walk word
-fits_kept walk word h = (subst (λ (b : Bool). MatchBool (stands_alone walk word) (IsWanted b word) (Unit {0})) (wants_kept walk) h.0, h.1, h.2)
+fits_kept walk word h = (
+  subst (λ (b : Bool). MatchBool (stands_alone walk word) (IsWanted b word) (Unit {0})) (wants_kept walk) h.0,
+  option_kept walk.verb walk.options (completed walk word) h.1,
+  sym (end_kept walk word) ∙ h.2,
+)
 
 pub kept_fits : (walk : Walk) (word : Word) → Fits walk word → Fits (kept_of walk) word
-kept_fits walk word h = (subst (λ (b : Bool). MatchBool (stands_alone walk word) (IsWanted b word) (Unit {0})) (sym (wants_kept walk)) h.0, h.1, h.2)
+kept_fits walk word h = (
+  subst (λ (b : Bool). MatchBool (stands_alone walk word) (IsWanted b word) (Unit {0})) (sym (wants_kept walk)) h.0,
+  kept_option_fits walk.verb walk.options (completed walk word) h.1,
+  end_kept walk word ∙ h.2,
+)
 
-module _ (walk : Walk) where
-  kept_option : (name value : Word) → put_option (kept_of walk) name value ≡ option_map kept_of (put_option walk name value)
-  kept_option name value =
-      let put : List Given = walk.options ++ record { name = name; value = value } ∷ [] in
-      elim (not (is_some (value_in walk.options name)) && ltb (length walk.options) 24) as (λ b. cond b (Some (record (kept_of walk) { options = put })) None ≡ option_map kept_of
-      (cond b (Some (record walk { options = put })) None)) [
-        | true ↦ refl
-        | false ↦ refl
-      ]
+-- what is held of one option more, for which there is room
+held_more : (o : List Given) (g : Given) → (is_repeated g.name ≡ false → length (single o) < 25) → hold (single o) g ≡ Some (single (o ++ g ∷ []))
+held_more o g room = by_test (is_repeated g.name) refl
+  where
+    by_test : (t : Bool) → is_repeated g.name ≡ t → hold (single o) g ≡ Some (single (o ++ g ∷ []))
+    by_test true e = ap (λ (t : Bool). cond t (Some (single o)) (cond (ltb (length (single o)) 25) (Some (single o ++ g ∷ [])) None)) e ∙ ap (λ (l : List Given). Some l) (sym (one_repeated o g e))
+    by_test false e =
+        let fits = room e in
+        let is : ltb (length (single o)) 25 ≡ true = grind (arith, nat_tests, fits) in
+        ap (λ (t : Bool). cond t (Some (single o)) (cond (ltb (length (single o)) 25) (Some (single o ++ g ∷ [])) None)) e
+        ∙ ap (λ (t : Bool). cond t (Some (single o ++ g ∷ [])) None) is ∙ ap (λ (l : List Given). Some l) (sym (one_single o g [] e))
+
+abbrev put_kept : Walk → Option (List Given) → Option Walk
+put_kept walk o = option_map (λ options. record (kept_of walk) { options = options }) o
+
+module _ (walk : Walk) (once : none_twice same_name (single walk.options) ≡ true) (known : list_all (λ (given : Given). list_any (λ name. bytes_eq name given.name) option_names)
+    (single walk.options) ≡ true) where
+  kept_option : (name value : Word) (b : Bool) → takes_value walk.verb name ≡ Some b → put_option hold (kept_of walk) name value ≡ option_map kept_of (put_option add_all walk name value)
+  kept_option name value b takes = by_test (may_stand walk.options name) refl
+    where
+      by_test : (t : Bool) → may_stand walk.options name ≡ t → cond (may_stand (single walk.options) name) (put_kept walk (hold (single walk.options) (given name value))) None ≡ option_map kept_of
+          (cond (may_stand walk.options name) (Some (record walk { options = walk.options ++ given name value ∷ [] })) None)
+      by_test true e =
+          let room : is_repeated name ≡ false → length (single walk.options) < 25 = λ other. has_room walk.verb walk.options name value b once known takes other e in
+          ap (λ (t : Bool). cond t (put_kept walk (hold (single walk.options) (given name value))) None) (may_single walk.options name ∙ e)
+          ∙ ap (put_kept walk) (held_more walk.options (given name value) room)
+          ∙ sym (ap (λ (t : Bool). option_map kept_of (cond t (Some (record walk { options = walk.options ++ given name value ∷ [] })) None)) e)
+      by_test false e =
+          ap (λ (t : Bool). cond t (put_kept walk (hold (single walk.options) (given name value))) None) (may_single walk.options name ∙ e)
+          ∙ sym (ap (λ (t : Bool). option_map kept_of (cond t (Some (record walk { options = walk.options ++ given name value ∷ [] })) None)) e)
 
   kept_alone : (word : Word) → put_alone kept (kept_of walk) word ≡ option_map kept_of (put_alone (λ words. words) walk word)
-  kept_alone word = ap (λ (x : List Word). Some (record walk { alone = x })) (kept_again walk.alone word)
+  kept_alone word = ap (λ (x : List Word). Some (record (kept_of walk) { alone = x })) (kept_again walk.alone word)
 
-  kept_joined : (name value : Word) → put_joined (kept_of walk) name value ≡ option_map kept_of (put_joined walk name value)
-  kept_joined name value = elim (takes_value walk.verb name) as (λ t.
-      elim t [ None ↦ None | Some takes ↦ cond (takes && ltb 0 (length value)) (put_option (kept_of walk) name value) None ]
-      ≡ option_map kept_of (elim t [ None ↦ None | Some takes ↦ cond (takes && ltb 0 (length value)) (put_option walk name value) None ])) [
-        | None ↦ refl
-        | Some takes ↦ elim (takes && ltb 0 (length value)) as (λ b. cond b (put_option (kept_of walk) name value) None ≡ option_map kept_of (cond b (put_option walk name value) None)) [
-          | true ↦ kept_option name value
-          | false ↦ refl
-        ]
+  kept_joined : (name value : Word) → put_joined hold (kept_of walk) name value ≡ option_map kept_of (put_joined add_all walk name value)
+  kept_joined name value = by_kind (takes_value walk.verb name) refl
+    where
+      by_kind : (t : Option Bool) → takes_value walk.verb name ≡ t →
+          elim t [ None ↦ None | Some takes ↦ cond (takes && ltb 0 (length value)) (put_option hold (kept_of walk) name value) None ]
+          ≡ option_map kept_of (elim t [ None ↦ None | Some takes ↦ cond (takes && ltb 0 (length value)) (put_option add_all walk name value) None ])
+      by_kind None e = refl
+      by_kind (Some takes) e = elim (takes && ltb 0 (length value)) as (λ b. cond b (put_option hold (kept_of walk) name value) None ≡ option_map kept_of (cond b (put_option add_all walk name value) None)) [
+        | true ↦ kept_option name value takes e
+        | false ↦ refl
       ]
 
   kept_waits : (name : Word) (b : Bool) → cond b (Some (record (kept_of walk) { waits = Some name })) None ≡ option_map kept_of (cond b (Some (record walk { waits = Some name })) None)
   kept_waits name true = refl
   kept_waits name false = refl
 
-  kept_name : (name : Word) → put_name (kept_of walk) name ≡ option_map kept_of (put_name walk name)
-  kept_name name =
-      let free = not (is_some (value_in walk.options name)) in
-      elim (takes_value walk.verb name) as (λ t.
-      elim t [ None ↦ None | Some takes ↦ cond takes (cond free (Some (record (kept_of walk) { waits = Some name })) None) (put_option (kept_of walk) name []) ]
-      ≡ option_map kept_of (elim t [ None ↦ None | Some takes ↦ cond takes (cond free (Some (record walk { waits = Some name })) None) (put_option walk name []) ])) [
-        | None ↦ refl
-        | Some takes ↦ elim takes as (λ b. cond b (cond free (Some (record (kept_of walk) { waits = Some name })) None) (put_option (kept_of walk) name []) ≡ option_map kept_of
-            (cond b (cond free (Some (record walk { waits = Some name })) None) (put_option walk name []))) [
-              | true ↦ kept_waits name free
-              | false ↦ kept_option name []
-            ]
-      ]
+  kept_name : (name : Word) → put_name hold (kept_of walk) name ≡ option_map kept_of (put_name add_all walk name)
+  kept_name name = by_kind (takes_value walk.verb name) refl
+    where
+      by_kind : (t : Option Bool) → takes_value walk.verb name ≡ t →
+          elim t [ None ↦ None | Some takes ↦ cond takes (cond (may_stand (single walk.options) name) (Some (record (kept_of walk) { waits = Some name })) None) (put_option hold (kept_of walk) name []) ]
+          ≡ option_map kept_of (elim t [ None ↦ None | Some takes ↦ cond takes (cond (may_stand walk.options name) (Some (record walk { waits = Some name })) None) (put_option add_all walk name []) ])
+      by_kind None e = refl
+      by_kind (Some true) e = ap (λ (b : Bool). cond b (Some (record (kept_of walk) { waits = Some name })) None) (may_single walk.options name) ∙ kept_waits name (may_stand walk.options name)
+      by_kind (Some false) e = kept_option name [] false e
 
-  kept_dashed : (word : Word) → put_dashed (kept_of walk) word ≡ option_map kept_of (put_dashed walk word)
+  kept_dashed : (word : Word) → put_dashed hold (kept_of walk) word ≡ option_map kept_of (put_dashed add_all walk word)
   kept_dashed word = elim (ltb (position_or_len is_sign word) (length word)) as (λ b.
-      cond b (put_joined (kept_of walk) (before_first is_sign word) (after_first is_sign word)) (put_name (kept_of walk) word)
-      ≡ option_map kept_of (cond b (put_joined walk (before_first is_sign word) (after_first is_sign word)) (put_name walk word))) [
+      cond b (put_joined hold (kept_of walk) (before_first is_sign word) (after_first is_sign word)) (put_name hold (kept_of walk) word)
+      ≡ option_map kept_of (cond b (put_joined add_all walk (before_first is_sign word) (after_first is_sign word)) (put_name add_all walk word))) [
         | true ↦ kept_joined (before_first is_sign word) (after_first is_sign word)
         | false ↦ kept_name word
       ]
 
-  kept_begin : (word : Word) → begin kept (kept_of walk) word ≡ option_map kept_of (begin (λ words. words) walk word)
+  kept_begin : (word : Word) → begin kept hold (kept_of walk) word ≡ option_map kept_of (begin (λ words. words) add_all walk word)
   kept_begin word = elim (bytes_eq word (codes "--")) as (λ b.
-      cond b (Some (record (kept_of walk) { ended = true })) (cond (is_dashed word) (put_dashed (kept_of walk) word) (put_alone kept (kept_of walk) word))
-      ≡ option_map kept_of (cond b (Some (record walk { ended = true })) (cond (is_dashed word) (put_dashed walk word) (put_alone (λ words. words) walk word)))) [
+      cond b (Some (record (kept_of walk) { ended = true })) (cond (is_dashed word) (put_dashed hold (kept_of walk) word) (put_alone kept (kept_of walk) word))
+      ≡ option_map kept_of (cond b (Some (record walk { ended = true })) (cond (is_dashed word) (put_dashed add_all walk word) (put_alone (λ words. words) walk word)))) [
         | true ↦ refl
         | false ↦ elim (is_dashed word) as (λ b.
-            cond b (put_dashed (kept_of walk) word) (put_alone kept (kept_of walk) word)
-            ≡ option_map kept_of (cond b (put_dashed walk word) (put_alone (λ words. words) walk word))) [
+            cond b (put_dashed hold (kept_of walk) word) (put_alone kept (kept_of walk) word)
+            ≡ option_map kept_of (cond b (put_dashed add_all walk word) (put_alone (λ words. words) walk word))) [
               | true ↦ kept_dashed word
               | false ↦ kept_alone word
             ]
       ]
 
-kept_apart : (walk : Walk) (name value : Word) → put_apart (kept_of walk) name value ≡ option_map kept_of (put_apart walk name value)
-kept_apart walk name value =
+kept_apart : (walk : Walk) → IsProper walk → (name value : Word) → takes_value walk.verb name ≡ Some true
+    → put_apart hold (kept_of walk) name value ≡ option_map kept_of (put_apart add_all walk name value)
+kept_apart walk proper name value takes =
     let on : Walk = record walk { waits = None } in
-    elim (ltb 0 (length value) && not (is_dashed value)) as (λ b. cond b (put_option (kept_of on) name value) None ≡ option_map kept_of (cond b (put_option on name value) None)) [
-      | true ↦ kept_option on name value
+    elim (ltb 0 (length value) && not (is_dashed value)) as (λ b. cond b (put_option hold (kept_of on) name value) None ≡ option_map kept_of (cond b (put_option add_all on name value) None)) [
+      | true ↦ kept_option on proper.once proper.known name value true takes
       | false ↦ refl
     ]
 
-pub kept_step : (walk : Walk) (word : Word) → step_with kept (kept_of walk) word ≡ option_map kept_of (step walk word)
-kept_step walk word = elim walk.ended as (λ b.
-    cond b (put_alone kept (kept_of walk) word) (elim walk.waits [ None ↦ begin kept (kept_of walk) word | Some name ↦ put_apart (kept_of walk) name word ])
-    ≡ option_map kept_of (cond b (put_alone (λ words. words) walk word) (elim walk.waits [ None ↦ begin (λ words. words) walk word | Some name ↦ put_apart walk name word ]))) [
-      | true ↦ kept_alone walk word
-      | false ↦ elim walk.waits as (λ t.
-          elim t [ None ↦ begin kept (kept_of walk) word | Some name ↦ put_apart (kept_of walk) name word ]
-          ≡ option_map kept_of (elim t [ None ↦ begin (λ words. words) walk word | Some name ↦ put_apart walk name word ])) [
-            | None ↦ kept_begin walk word
-            | Some name ↦ kept_apart walk name word
-          ]
+pub kept_step : (walk : Walk) (word : Word) → IsProper walk → step_with kept hold (kept_of walk) word ≡ option_map kept_of (step walk word)
+kept_step walk word proper = elim walk.ended as (λ b.
+    cond b (put_alone kept (kept_of walk) word) (elim walk.waits [ None ↦ begin kept hold (kept_of walk) word | Some name ↦ put_apart hold (kept_of walk) name word ])
+    ≡ option_map kept_of (cond b (put_alone (λ words. words) walk word)
+    (elim walk.waits [ None ↦ begin (λ words. words) add_all walk word | Some name ↦ put_apart add_all walk name word ]))) [
+      | true ↦ kept_alone walk proper.once proper.known word
+      | false ↦ by_waits walk.waits proper.waiting
     ]
+  where
+    by_waits : (t : Option Word) → MatchOption t (Unit {0}) (λ name. (takes_value walk.verb name ≡ Some true) × (may_stand walk.options name ≡ true)) →
+        elim t [ None ↦ begin kept hold (kept_of walk) word | Some name ↦ put_apart hold (kept_of walk) name word ]
+        ≡ option_map kept_of (elim t [ None ↦ begin (λ words. words) add_all walk word | Some name ↦ put_apart add_all walk name word ])
+    by_waits None h = kept_begin walk proper.once proper.known word
+    by_waits (Some name) h = kept_apart walk proper name word h.0
 
 -- a step that is taken, and one that isn't
-pub step_taken : (walk on : Walk) (word : Word) → step_with kept (kept_of walk) word ≡ Some on → (next : Walk) × (step walk word ≡ Some next) × (kept_of next ≡ on)
-step_taken walk on word is = by_step (step walk word) refl (sym (kept_step walk word) ∙ is)
+pub step_taken : (walk on : Walk) (word : Word) → IsProper walk → step_with kept hold (kept_of walk) word ≡ Some on → (next : Walk) × (step walk word ≡ Some next) × (kept_of next ≡ on)
+step_taken walk on word proper is = by_step (step walk word) refl (sym (kept_step walk word proper) ∙ is)
   where
     by_step : (o : Option Walk) → step walk word ≡ o → option_map kept_of o ≡ Some on → (next : Walk) × (step walk word ≡ Some next) × (kept_of next ≡ on)
     by_step None e h = absurd (cc h)
     by_step (Some next) e h = (next, e, cc)
 
-pub step_refused : (walk on : Walk) (word : Word) → step_with kept (kept_of walk) word ≡ None → step walk word ≡ Some on → ⊥
-step_refused walk on word none is =
-    let clash : ◌≡◌ {A = Option Walk} None (Some (kept_of on)) = sym none ∙ kept_step walk word ∙ ap (option_map kept_of) is in cc clash
+pub step_refused : (walk on : Walk) (word : Word) → IsProper walk → step_with kept hold (kept_of walk) word ≡ None → step walk word ≡ Some on → ⊥
+step_refused walk on word proper none is =
+    let clash : ◌≡◌ {A = Option Walk} None (Some (kept_of on)) = sym none ∙ kept_step walk word proper ∙ ap (option_map kept_of) is in cc clash
 
 -- a word that is kept, and one for which there is no room
 pub keep_more : (items : List (Bor Word)) (word : Bor Word) → length items < 34 → kept (map (λ w. w.now) items ++ word.now ∷ []) ≡ map (λ w. w.now) (items ++ word ∷ [])

@@ -4,6 +4,8 @@ pub mod Finding
 pub mod Settled
 pub mod Names
 pub mod Few
+pub mod Single
+pub mod Denying
 pub mod Steps
 pub mod Back
 pub mod Walks

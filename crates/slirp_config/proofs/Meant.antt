@@ -8,14 +8,15 @@ use Rattle.slirp_config.specs.declared.options.Kind.TheVariants.{Link}
 use Rattle.slirp_config.specs.declared.options.Verb.{Verb}
 use Rattle.slirp_config.specs.declared.options.Verb.TheVariants.{Replay, Serve}
 use Rattle.slirp_config.specs.Meaning.{AreSettings, IsTap, MeansReplay, MeansServe, is_capture, is_record}
-use Rattle.slirp_config.specs.Options.{Word, Given, Piece, Apart, Joined, Flag, Plain, ArePieces, words_alone, options_of, takes_value, value_in}
+use Rattle.slirp_config.specs.Options.{Word, Given, Piece, Apart, Joined, Flag, Plain, ArePieces, words_alone, options_of, repeated, single, takes_value, value_in}
 use Rattle.slirp_config.specs.Rules.{AreRules}
-use Rattle.slirp_config.specs.Texts.{IsLink}
+use Rattle.slirp_config.specs.Texts.{AreDenials, IsLink}
 use Rattle.slirp_config.specs.Values.{CanHave}
 use Rattle.slirp_config.specs.Walking.{AreWanted, IsGood, Walk, walked}
 use Rattle.slirp_config.proofs.Names.{same_text}
 use Rattle.slirp_config.proofs.Reading.{all_given, settings_read, weaken}
 use Rattle.slirp_config.proofs.Back.{same_walk}
+use Rattle.slirp_config.proofs.Single.{both_single, link_single, none_repeated}
 use Rattle.slirp_config.proofs.Walks.{arrived, line_walked, walk_read}
 use Rattle.slirp_config.proofs.Whole.{rules_are_words}
 
@@ -43,7 +44,8 @@ pub record ReplayRead (words : List Word) (file : Word) (config : Config) : Type
   pub some : 0 < length file
   pub fits : length file ≤ 1280
   pub forwards : AreRules rules config.dhcp_start config.forwards
-  pub settings : AreSettings (value_in walk.options) config
+  pub settings : AreSettings (value_in (single walk.options)) config
+  pub denied : AreDenials (repeated walk.options) config.denied
 
 pub replay_means : (words : List Word) (file : Word) (config : Config) → ReplayRead words file config → MeansReplay words file config
 replay_means words file config r =
@@ -56,7 +58,8 @@ replay_means words file config r =
       r.some,
       r.fits,
       r.forwards,
-      subst (λ (o : List Given). AreSettings (value_in o) config) l.options r.settings,
+      subst (λ (o : List Given). AreSettings (value_in (single o)) config) l.options r.settings,
+      subst (λ (o : List Given). AreDenials (repeated o) config.denied) l.options r.denied,
     )
 
 pub replay_meant : (words : List Word) (file : Word) (config : Config) → MeansReplay words file config → ReplayRead words file config
@@ -65,7 +68,8 @@ replay_meant words file config m = record {
   read = ap (walked Replay) m.2 ∙ line_walked Replay m.0 m.3;
   good = record {
     wanted = subst (λ (a : List Word). AreWanted Replay a) (sym m.4) ((m.5, m.6), rules_are_words m.1 config.dhcp_start config.forwards m.7);
-    given = all_given Replay (options_of m.0.pieces) m.3.1 (settings_read Replay (value_in (options_of m.0.pieces)) config m.8 (λ is. absurd (cc is)));
+    given = all_given Replay (options_of m.0.pieces) config.denied m.3.1
+        (settings_read Replay (value_in (single (options_of m.0.pieces))) config m.8 (none_repeated (options_of m.0.pieces)) (λ is. absurd (cc is))) m.9;
     one = ap (λ (b : Bool). b && is_some (value_in (options_of m.0.pieces) (codes "--capture"))) (unnamed Replay (codes "--record") refl m.0.pieces m.3.0);
     linked = λ ended. refl;
   };
@@ -75,6 +79,7 @@ replay_meant words file config m = record {
   fits = m.6;
   forwards = m.7;
   settings = m.8;
+  denied = m.9;
 }
 
 -- the link is told, and is at this place
@@ -98,10 +103,11 @@ pub record ServeRead (words : List Word) (config : Config) (at : Place) (tap : T
   pub walk : Walk
   pub read : walked Serve words ≡ Some walk
   pub good : IsGood walk
-  pub link : IsLinkAt (value_in walk.options (codes "--link")) at
-  pub taps : IsTap (value_in walk.options) tap
+  pub link : IsLinkAt (value_in (single walk.options) (codes "--link")) at
+  pub taps : IsTap (value_in (single walk.options)) tap
   pub forwards : AreRules walk.alone config.dhcp_start config.forwards
-  pub settings : AreSettings (value_in walk.options) config
+  pub settings : AreSettings (value_in (single walk.options)) config
+  pub denied : AreDenials (repeated walk.options) config.denied
 
 pub serve_means : (words : List Word) (config : Config) (at : Place) (tap : Tap) → ServeRead words config at tap → MeansServe words config at tap
 serve_means words config at tap r =
@@ -109,10 +115,11 @@ serve_means words config at tap r =
       l.line,
       l.spelt,
       l.proper,
-      subst (λ (o : List Given). IsLinkAt (value_in o (codes "--link")) at) l.options r.link,
-      subst (λ (o : List Given). IsTap (value_in o) tap) l.options r.taps,
+      subst (λ (o : List Given). IsLinkAt (value_in (single o) (codes "--link")) at) l.options r.link,
+      subst (λ (o : List Given). IsTap (value_in (single o)) tap) l.options r.taps,
       subst (λ (a : List Word). AreRules a config.dhcp_start config.forwards) l.alone r.forwards,
-      subst (λ (o : List Given). AreSettings (value_in o) config) l.options r.settings,
+      subst (λ (o : List Given). AreSettings (value_in (single o)) config) l.options r.settings,
+      subst (λ (o : List Given). AreDenials (repeated o) config.denied) l.options r.denied,
     )
 
 pub serve_meant : (words : List Word) (config : Config) (at : Place) (tap : Tap) → MeansServe words config at tap → ServeRead words config at tap
@@ -121,15 +128,16 @@ serve_meant words config at tap m = record {
   read = ap (walked Serve) m.1 ∙ line_walked Serve m.0 m.2;
   good = record {
     wanted = rules_are_words (words_alone m.0) config.dhcp_start config.forwards m.5;
-    given = all_given Serve (options_of m.0.pieces) m.2.1 (settings_read Serve (value_in (options_of m.0.pieces)) config m.6
-        (λ is. weaken (value_in (options_of m.0.pieces) (codes "--link")) ⊥ (λ text. IsLink text at) (CanHave Link) (λ text h. (at, h)) m.3));
-    one = not_both (value_in (options_of m.0.pieces)) tap m.4;
-    linked = λ ended. is_told (value_in (options_of m.0.pieces) (codes "--link")) at m.3;
+    given = all_given Serve (options_of m.0.pieces) config.denied m.2.1 (settings_read Serve (value_in (single (options_of m.0.pieces))) config m.6 (none_repeated (options_of m.0.pieces))
+        (λ is. weaken (value_in (single (options_of m.0.pieces)) (codes "--link")) ⊥ (λ text. IsLink text at) (CanHave Link) (λ text h. (at, h)) m.3)) m.7;
+    one = sym (both_single (options_of m.0.pieces)) ∙ not_both (value_in (single (options_of m.0.pieces))) tap m.4;
+    linked = λ ended. sym (link_single Serve (options_of m.0.pieces)) ∙ is_told (value_in (single (options_of m.0.pieces)) (codes "--link")) at m.3;
   };
   link = m.3;
   taps = m.4;
   forwards = m.5;
   settings = m.6;
+  denied = m.7;
 }
 
 -- words have one walk

@@ -1,16 +1,18 @@
 -- Numbers that 32 bits don't hold, and more than 32 forwards, are out of range, and stay so when they are narrowed.
-use Rattle.std.proofs.Common.{◌≡◌, ℕ, ◌*◌, ◌<◌, ◌≤◌, Bool, true, false, cond, not, ◌&&◌, leb, List, [], ◌∷◌, ◌++◌, length, Option, Some, find, ◌⊎◌, inl, inr, refl, sym, ◌∙◌, ap, subst, arith}
+use Rattle.std.proofs.Common.{◌≡◌, ℕ, ◌*◌, ◌<◌, ◌≤◌, Bool, true, false, cond, not, ◌&&◌, ◌||◌, ◌==◌, leb, List, [], ◌∷◌, ◌++◌, length, take, Option, Some, find, ◌⊎◌, inl, inr, refl, sym, ◌∙◌, ap, subst, arith}
 use Rattle.std.proofs.lemmas.Bool.{cases_lt}
 use Rattle.std.proofs.lemmas.Bool.Decides.{nat_tests}
+use Rattle.std.proofs.lemmas.List.{length-take, take_all}
 use Rattle.std.proofs.lemmas.Nat.{mul-le}
 use Rattle.host_policy.specs.Addresses.{Config}
-use Rattle.host_policy.specs.Ranges.{is_between, are_forwards, in_range, fields, first_broken, IsSound}
+use Rattle.host_policy.specs.Ranges.{is_between, are_denied, are_forwards, in_range, fields, first_broken, IsSound}
+use Rattle.host_policy.specs.declared.Denial.{Denial}
 use Rattle.host_policy.specs.declared.Forward.{Forward}
 use Rattle.host_policy.specs.declared.config.Field.{Field}
 use Rattle.host_policy.specs.declared.config.Field.TheVariants.{Version, InEnabled, Vnetmask, Vnetwork, Vhost, Vnameserver, VdhcpStart, Vhostname, Vdomainname, TftpServerName, Bootfile}
-use Rattle.host_policy.specs.declared.config.Field.TheVariants.{TftpPath, IfMtu, IfMru, Flows, Ring, Resolver, Turns, Forwards, Outbound, DisableDns, DisableDhcp, Guestfwds, Control}
+use Rattle.host_policy.specs.declared.config.Field.TheVariants.{TftpPath, IfMtu, IfMru, Flows, Ring, Resolver, Turns, Forwards, Outbound, DisableDns, DisableDhcp, Guestfwds, Control, Denied}
 use Rattle.host_policy.specs.declared.config.Field.TheVariants.{Octets}
-use Rattle.slirp_config.specs.Narrowing.{narrowed, portless, held_forwards, narrowed_settings}
+use Rattle.slirp_config.specs.Narrowing.{narrowed, portless, held_denials, held_forwards, narrowed_settings}
 
 over : (x y : Bool) → y ≡ false → x && y ≡ false
 over true y h = h
@@ -97,6 +99,7 @@ same_range config DisableDns = refl
 same_range config DisableDhcp = refl
 same_range config Guestfwds = refl
 same_range config Control = refl
+same_range config Denied = refl
 same_range config Octets = refl
 
 -- the fields that are checked before the forwards
@@ -106,7 +109,7 @@ before =
     ∷ IfMtu ∷ IfMru ∷ Flows ∷ Ring ∷ Resolver ∷ Turns ∷ []
 
 abbrev behind : List Field
-behind = Outbound ∷ DisableDns ∷ DisableDhcp ∷ Guestfwds ∷ Control ∷ []
+behind = Outbound ∷ DisableDns ∷ DisableDhcp ∷ Guestfwds ∷ Control ∷ Denied ∷ []
 
 agree : (config : Config) (forwards : List Forward) → Agree (in_range (record (narrowed_numbers config) { forwards = forwards })) (in_range config) before
 agree config forwards = (
@@ -145,9 +148,9 @@ kept : (forwards : List Forward) (t : Bool) → leb (length forwards) 32 ≡ t �
 kept forwards true is = inl (rw is refl)
 kept forwards false is = inr (rw is refl, is)
 
--- the same field is the first that breaks its range
-pub same_broken : (config : Config) → first_broken (narrowed_settings config) ≡ first_broken config
-same_broken config = elim (kept config.forwards (leb (length config.forwards) 32) refl) [
+-- the same field is the first that breaks its range, of the numbers and the forwards
+same_others : (config : Config) → first_broken (record (narrowed_numbers config) { forwards = held_forwards config.forwards }) ≡ first_broken config
+same_others config = elim (kept config.forwards (leb (length config.forwards) 32) refl) [
   | inl few ↦ ap (λ (f : List Forward). first_broken (record (narrowed_numbers config) { forwards = f })) few ∙ same_find (in_range (narrowed_numbers config)) (in_range config)
       (same_range config) fields
   | inr many ↦
@@ -155,6 +158,64 @@ same_broken config = elim (kept config.forwards (leb (length config.forwards) 32
       ∙ same_until (in_range (record (narrowed_numbers config) { forwards = portless ∷ [] })) (in_range config) before Forwards behind (agree config (portless ∷ [])) refl
       (crowd config config.forwards many.1)
 ]
+
+-- more denied networks than there may be are too many, and stay so
+few_held : (ds : List Denial) → leb (length ds) 8 ≡ true → take 9 ds ≡ ds
+few_held ds few = let small : length ds ≤ 8 = grind (arith, nat_tests, few) in take_all 9 ds (omega (arith, small))
+
+many_held : (ds : List Denial) → leb (length ds) 8 ≡ false → leb (length (take 9 ds)) 8 ≡ false
+many_held ds many = let big : 8 < length ds = grind (arith, nat_tests, many) in let held : 8 < length (take 9 ds) = omega (arith, big, length-take 9 ds) in grind (arith, nat_tests, held)
+
+abbrev denied_range : Bool → List Denial → Bool
+denied_range second ds = (length ds == 0) || (second && are_denied ds)
+
+crowded : (second : Bool) (ds : List Denial) → leb (length ds) 8 ≡ false → denied_range second ds ≡ false
+crowded second ds many =
+    let big : 8 < length ds = grind (arith, nat_tests, many) in
+    let some : (length ds == 0) ≡ false = grind (arith, nat_tests, big) in
+    ap (λ (b : Bool). b || (second && are_denied ds)) some ∙ over second (are_denied ds) (rw many refl)
+
+same_denied : (second : Bool) (ds : List Denial) → denied_range second (take 9 ds) ≡ denied_range second ds
+same_denied second ds = by_test (leb (length ds) 8) refl
+  where
+    by_test : (t : Bool) → leb (length ds) 8 ≡ t → denied_range second (take 9 ds) ≡ denied_range second ds
+    by_test true few = ap (denied_range second) (few_held ds few)
+    by_test false many = crowded second (take 9 ds) (many_held ds many) ∙ sym (crowded second ds many)
+
+abbrev with_held : Config → Config
+with_held config = record config { denied = held_denials config.denied }
+
+denied_apart : (config : Config) (field : Field) → in_range (with_held config) field ≡ in_range config field
+denied_apart config Version = refl
+denied_apart config InEnabled = refl
+denied_apart config Vnetmask = refl
+denied_apart config Vnetwork = refl
+denied_apart config Vhost = refl
+denied_apart config Vnameserver = refl
+denied_apart config VdhcpStart = refl
+denied_apart config Vhostname = refl
+denied_apart config Vdomainname = refl
+denied_apart config TftpServerName = refl
+denied_apart config Bootfile = refl
+denied_apart config TftpPath = refl
+denied_apart config IfMtu = refl
+denied_apart config IfMru = refl
+denied_apart config Flows = refl
+denied_apart config Ring = refl
+denied_apart config Resolver = refl
+denied_apart config Turns = refl
+denied_apart config Forwards = refl
+denied_apart config Outbound = refl
+denied_apart config DisableDns = refl
+denied_apart config DisableDhcp = refl
+denied_apart config Guestfwds = refl
+denied_apart config Control = refl
+denied_apart config Denied = same_denied (config.version == 2) config.denied
+denied_apart config Octets = refl
+
+-- so the same field is the first of all
+pub same_broken : (config : Config) → first_broken (narrowed_settings config) ≡ first_broken config
+same_broken config = same_others (with_held config) ∙ same_find (in_range (with_held config)) (in_range config) (denied_apart config) fields
 
 held : (least most n : ℕ) → most < 4294967295 → is_between least (narrowed n) most ≡ true → narrowed n ≡ n
 held least most n small h = elim (cases_lt 4294967295 n) [
@@ -172,6 +233,13 @@ all_held config forwards are = elim (kept forwards (leb (length forwards) 32) re
   | inr many ↦ let no : are_forwards config (portless ∷ []) ≡ true = subst (λ (f : List Forward). are_forwards config f ≡ true) many.0 are in absurd (cc no)
 ]
 
+none_more : (second : Bool) (ds : List Denial) → denied_range second (take 9 ds) ≡ true → take 9 ds ≡ ds
+none_more second ds is = by_test (leb (length ds) 8) refl
+  where
+    by_test : (t : Bool) → leb (length ds) 8 ≡ t → take 9 ds ≡ ds
+    by_test true few = few_held ds few
+    by_test false many = absurd (let clash : true ≡ false = sym is ∙ crowded second (take 9 ds) (many_held ds many) in cc clash)
+
 -- in their ranges nothing was narrowed
 pub same_settings : (config : Config) → IsSound (narrowed_settings config) → narrowed_settings config ≡ config
 same_settings config sound =
@@ -179,6 +247,8 @@ same_settings config sound =
     let ring : narrowed config.ring ≡ config.ring = held 65535 1048576 config.ring (omega arith) (front (is_between 65535 (narrowed config.ring) 1048576)
     (leb (narrowed config.flows * narrowed config.ring) 268435456) (sound.each Ring)) in
     let forwards : held_forwards config.forwards ≡ config.forwards = all_held (narrowed_settings config) config.forwards (sound.each Forwards) in
-    ap (λ (n : ℕ). record config { flows = n; ring = narrowed config.ring; forwards = held_forwards config.forwards }) flows
-    ∙ ap (λ (n : ℕ). record config { ring = n; forwards = held_forwards config.forwards }) ring
-    ∙ ap (λ (f : List Forward). record config { forwards = f }) forwards
+    let denied : held_denials config.denied ≡ config.denied = none_more (config.version == 2) config.denied (sound.each Denied) in
+    ap (λ (n : ℕ). record config { flows = n; ring = narrowed config.ring; forwards = held_forwards config.forwards; denied = held_denials config.denied }) flows
+    ∙ ap (λ (n : ℕ). record config { ring = n; forwards = held_forwards config.forwards; denied = held_denials config.denied }) ring
+    ∙ ap (λ (f : List Forward). record config { forwards = f; denied = held_denials config.denied }) forwards
+    ∙ ap (λ (ds : List Denial). record config { denied = ds }) denied

@@ -5,20 +5,22 @@ use Rattle.net_octets.specs.declared.Endpoint.{Endpoint}
 use Rattle.host_policy.specs.Addresses.{Config}
 use Rattle.host_policy.specs.Settings.{usual}
 use Rattle.host_policy.specs.Ranges.{mask_of}
+use Rattle.host_policy.specs.declared.Denial.{Denial}
 use Rattle.host_policy.specs.declared.Forward.{Forward}
 use Rattle.world_face.specs.Journal.{Place, AtPath, AtEndpoint}
 use Rattle.slirp_config.specs.declared.Tap.{Tap}
 use Rattle.slirp_config.specs.declared.Tap.TheVariants.{Off, Record, Capture}
 use Rattle.slirp_config.specs.declared.options.Verb.TheVariants.{Replay, Serve}
-use Rattle.slirp_config.specs.Meaning.{AreSettings, IsTap, MeansReplay, MeansServe, is_capture, is_record}
-use Rattle.slirp_config.specs.Options.{Word, value_in}
+use Rattle.slirp_config.specs.Meaning.{AreSettings, IsTap, MeansReplay, MeansServe, is_capture, is_record, version_of}
+use Rattle.slirp_config.specs.Options.{Word, repeated, single, value_in}
 use Rattle.slirp_config.specs.Rules.{AreRules}
 use Rattle.address_text.specs.Texts.{IsNumber, IsAddress, IsEndpointText, endpoint_text, is_other}
 use Rattle.address_text.proofs.Parting.{parts_once, digit_is_no_slash}
 use Rattle.address_text.proofs.Addresses.{address, address_form, address_fits, same_address, same_endpoint}
 use Rattle.slirp_config.proofs.Networks.{network_form}
-use Rattle.slirp_config.specs.Texts.{IsNetwork, IsLink}
+use Rattle.slirp_config.specs.Texts.{AreDenials, IsNetwork, IsLink}
 use Rattle.slirp_config.specs.Walking.{Walk}
+use Rattle.slirp_config.proofs.Denying.{same_denials}
 use Rattle.slirp_config.proofs.Meant.{IsLinkAt, one_walk, replay_meant, serve_meant}
 use Rattle.slirp_config.proofs.Ruled.{same_forwards}
 use Rattle.slirp_config.proofs.Settled.{made}
@@ -64,9 +66,10 @@ one_start given c d h g =
     one_of (given (codes "--dhcpstart")) ((c.network + 15) % 2 ^ 32) ((d.network + 15) % 2 ^ 32) IsAddress
     (ap (λ (n : ℕ). (n + 15) % 2 ^ 32) net.0) same_at c.dhcp_start d.dhcp_start h.dhcp_start g.dhcp_start
 
-pub one_settings : (given : Word → Option Word) (rules : List Word) (c d : Config) → AreSettings given c → AreSettings given d
-    → AreRules rules c.dhcp_start c.forwards → AreRules rules d.dhcp_start d.forwards → c ≡ d
-one_settings given rules c d h g hf gf =
+pub one_settings : (given : Word → Option Word) (rules denials : List Word) (c d : Config) → AreSettings given c → AreSettings given d
+    → AreRules rules c.dhcp_start c.forwards → AreRules rules d.dhcp_start d.forwards
+    → AreDenials denials c.denied → AreDenials denials d.denied → c ≡ d
+one_settings given rules denials c d h g hf gf hd gd =
     let net = one_network (given (codes "--net")) usual.network usual.mask c.network c.mask d.network d.mask h.net g.net in
     let network : c.network ≡ d.network = net.0 in
     let mask : c.mask ≡ d.mask = net.1 in
@@ -92,57 +95,60 @@ one_settings given rules c d h g hf gf =
     let no_dns : c.no_dns ≡ d.no_dns = h.no_dns ∙ sym g.no_dns in
     let no_dhcp : c.no_dhcp ≡ d.no_dhcp = h.no_dhcp ∙ sym g.no_dhcp in
     let congestion : c.congestion ≡ d.congestion = h.congestion ∙ sym g.congestion in
-    let version : c.version ≡ d.version = h.version ∙ sym g.version in
+    let denied : c.denied ≡ d.denied = same_denials denials c.denied d.denied hd gd in
+    let version : c.version ≡ d.version = h.version ∙ ap (version_of given) denied ∙ sym g.version in
     let forwards : c.forwards ≡ d.forwards = same_forwards rules d.dhcp_start c.forwards d.forwards (subst (λ (n : ℕ). AreRules rules n c.forwards) dhcp_start hf) gf in
     h.rest
     ∙ ap (λ (x : ℕ). made usual x c.mask c.vhost c.vnameserver c.dhcp_start c.restricted c.no_loopback c.hostname c.domainname c.tftp_server_name c.bootfile c.tftp_path c.mtu c.mru
-    c.flows c.ring c.resolver c.turns c.outbound c.no_dns c.no_dhcp c.congestion c.version c.forwards) network
+    c.flows c.ring c.resolver c.turns c.outbound c.no_dns c.no_dhcp c.congestion c.version c.forwards c.denied) network
     ∙ ap (λ (x : ℕ). made usual d.network x c.vhost c.vnameserver c.dhcp_start c.restricted c.no_loopback c.hostname c.domainname c.tftp_server_name c.bootfile c.tftp_path c.mtu
-    c.mru c.flows c.ring c.resolver c.turns c.outbound c.no_dns c.no_dhcp c.congestion c.version c.forwards) mask
+    c.mru c.flows c.ring c.resolver c.turns c.outbound c.no_dns c.no_dhcp c.congestion c.version c.forwards c.denied) mask
     ∙ ap (λ (x : ℕ). made usual d.network d.mask x c.vnameserver c.dhcp_start c.restricted c.no_loopback c.hostname c.domainname c.tftp_server_name c.bootfile c.tftp_path c.mtu
-    c.mru c.flows c.ring c.resolver c.turns c.outbound c.no_dns c.no_dhcp c.congestion c.version c.forwards) vhost
+    c.mru c.flows c.ring c.resolver c.turns c.outbound c.no_dns c.no_dhcp c.congestion c.version c.forwards c.denied) vhost
     ∙ ap (λ (x : ℕ). made usual d.network d.mask d.vhost x c.dhcp_start c.restricted c.no_loopback c.hostname c.domainname c.tftp_server_name c.bootfile c.tftp_path c.mtu c.mru
-    c.flows c.ring c.resolver c.turns c.outbound c.no_dns c.no_dhcp c.congestion c.version c.forwards) vnameserver
+    c.flows c.ring c.resolver c.turns c.outbound c.no_dns c.no_dhcp c.congestion c.version c.forwards c.denied) vnameserver
     ∙ ap (λ (x : ℕ). made usual d.network d.mask d.vhost d.vnameserver x c.restricted c.no_loopback c.hostname c.domainname c.tftp_server_name c.bootfile c.tftp_path c.mtu c.mru
-    c.flows c.ring c.resolver c.turns c.outbound c.no_dns c.no_dhcp c.congestion c.version c.forwards) dhcp_start
+    c.flows c.ring c.resolver c.turns c.outbound c.no_dns c.no_dhcp c.congestion c.version c.forwards c.denied) dhcp_start
     ∙ ap (λ (x : Bool). made usual d.network d.mask d.vhost d.vnameserver d.dhcp_start x c.no_loopback c.hostname c.domainname c.tftp_server_name c.bootfile c.tftp_path c.mtu c.mru
-    c.flows c.ring c.resolver c.turns c.outbound c.no_dns c.no_dhcp c.congestion c.version c.forwards) restricted
+    c.flows c.ring c.resolver c.turns c.outbound c.no_dns c.no_dhcp c.congestion c.version c.forwards c.denied) restricted
     ∙ ap (λ (x : Bool). made usual d.network d.mask d.vhost d.vnameserver d.dhcp_start d.restricted x c.hostname c.domainname c.tftp_server_name c.bootfile c.tftp_path c.mtu c.mru
-    c.flows c.ring c.resolver c.turns c.outbound c.no_dns c.no_dhcp c.congestion c.version c.forwards) no_loopback
+    c.flows c.ring c.resolver c.turns c.outbound c.no_dns c.no_dhcp c.congestion c.version c.forwards c.denied) no_loopback
     ∙ ap (λ (x : List ℕ). made usual d.network d.mask d.vhost d.vnameserver d.dhcp_start d.restricted d.no_loopback x c.domainname c.tftp_server_name c.bootfile c.tftp_path c.mtu
-    c.mru c.flows c.ring c.resolver c.turns c.outbound c.no_dns c.no_dhcp c.congestion c.version c.forwards) hostname
+    c.mru c.flows c.ring c.resolver c.turns c.outbound c.no_dns c.no_dhcp c.congestion c.version c.forwards c.denied) hostname
     ∙ ap (λ (x : List ℕ). made usual d.network d.mask d.vhost d.vnameserver d.dhcp_start d.restricted d.no_loopback d.hostname x c.tftp_server_name c.bootfile c.tftp_path c.mtu
-    c.mru c.flows c.ring c.resolver c.turns c.outbound c.no_dns c.no_dhcp c.congestion c.version c.forwards) domainname
+    c.mru c.flows c.ring c.resolver c.turns c.outbound c.no_dns c.no_dhcp c.congestion c.version c.forwards c.denied) domainname
     ∙ ap (λ (x : List ℕ). made usual d.network d.mask d.vhost d.vnameserver d.dhcp_start d.restricted d.no_loopback d.hostname d.domainname x c.bootfile c.tftp_path c.mtu c.mru
-    c.flows c.ring c.resolver c.turns c.outbound c.no_dns c.no_dhcp c.congestion c.version c.forwards) tftp_server_name
+    c.flows c.ring c.resolver c.turns c.outbound c.no_dns c.no_dhcp c.congestion c.version c.forwards c.denied) tftp_server_name
     ∙ ap (λ (x : List ℕ). made usual d.network d.mask d.vhost d.vnameserver d.dhcp_start d.restricted d.no_loopback d.hostname d.domainname d.tftp_server_name x c.tftp_path c.mtu
-    c.mru c.flows c.ring c.resolver c.turns c.outbound c.no_dns c.no_dhcp c.congestion c.version c.forwards) bootfile
+    c.mru c.flows c.ring c.resolver c.turns c.outbound c.no_dns c.no_dhcp c.congestion c.version c.forwards c.denied) bootfile
     ∙ ap (λ (x : Option (List ℕ)). made usual d.network d.mask d.vhost d.vnameserver d.dhcp_start d.restricted d.no_loopback d.hostname d.domainname d.tftp_server_name d.bootfile x
-    c.mtu c.mru c.flows c.ring c.resolver c.turns c.outbound c.no_dns c.no_dhcp c.congestion c.version c.forwards) tftp_path
+    c.mtu c.mru c.flows c.ring c.resolver c.turns c.outbound c.no_dns c.no_dhcp c.congestion c.version c.forwards c.denied) tftp_path
     ∙ ap (λ (x : ℕ). made usual d.network d.mask d.vhost d.vnameserver d.dhcp_start d.restricted d.no_loopback d.hostname d.domainname d.tftp_server_name d.bootfile d.tftp_path x
-    c.mru c.flows c.ring c.resolver c.turns c.outbound c.no_dns c.no_dhcp c.congestion c.version c.forwards) mtu
+    c.mru c.flows c.ring c.resolver c.turns c.outbound c.no_dns c.no_dhcp c.congestion c.version c.forwards c.denied) mtu
     ∙ ap (λ (x : ℕ). made usual d.network d.mask d.vhost d.vnameserver d.dhcp_start d.restricted d.no_loopback d.hostname d.domainname d.tftp_server_name d.bootfile d.tftp_path
-    d.mtu x c.flows c.ring c.resolver c.turns c.outbound c.no_dns c.no_dhcp c.congestion c.version c.forwards) mru
+    d.mtu x c.flows c.ring c.resolver c.turns c.outbound c.no_dns c.no_dhcp c.congestion c.version c.forwards c.denied) mru
     ∙ ap (λ (x : ℕ). made usual d.network d.mask d.vhost d.vnameserver d.dhcp_start d.restricted d.no_loopback d.hostname d.domainname d.tftp_server_name d.bootfile d.tftp_path
-    d.mtu d.mru x c.ring c.resolver c.turns c.outbound c.no_dns c.no_dhcp c.congestion c.version c.forwards) flows
+    d.mtu d.mru x c.ring c.resolver c.turns c.outbound c.no_dns c.no_dhcp c.congestion c.version c.forwards c.denied) flows
     ∙ ap (λ (x : ℕ). made usual d.network d.mask d.vhost d.vnameserver d.dhcp_start d.restricted d.no_loopback d.hostname d.domainname d.tftp_server_name d.bootfile d.tftp_path
-    d.mtu d.mru d.flows x c.resolver c.turns c.outbound c.no_dns c.no_dhcp c.congestion c.version c.forwards) ring
+    d.mtu d.mru d.flows x c.resolver c.turns c.outbound c.no_dns c.no_dhcp c.congestion c.version c.forwards c.denied) ring
     ∙ ap (λ (x : Option Endpoint). made usual d.network d.mask d.vhost d.vnameserver d.dhcp_start d.restricted d.no_loopback d.hostname d.domainname d.tftp_server_name d.bootfile
-    d.tftp_path d.mtu d.mru d.flows d.ring x c.turns c.outbound c.no_dns c.no_dhcp c.congestion c.version c.forwards) resolver
+    d.tftp_path d.mtu d.mru d.flows d.ring x c.turns c.outbound c.no_dns c.no_dhcp c.congestion c.version c.forwards c.denied) resolver
     ∙ ap (λ (x : ℕ). made usual d.network d.mask d.vhost d.vnameserver d.dhcp_start d.restricted d.no_loopback d.hostname d.domainname d.tftp_server_name d.bootfile d.tftp_path
-    d.mtu d.mru d.flows d.ring d.resolver x c.outbound c.no_dns c.no_dhcp c.congestion c.version c.forwards) turns
+    d.mtu d.mru d.flows d.ring d.resolver x c.outbound c.no_dns c.no_dhcp c.congestion c.version c.forwards c.denied) turns
     ∙ ap (λ (x : Option ℕ). made usual d.network d.mask d.vhost d.vnameserver d.dhcp_start d.restricted d.no_loopback d.hostname d.domainname d.tftp_server_name d.bootfile
-    d.tftp_path d.mtu d.mru d.flows d.ring d.resolver d.turns x c.no_dns c.no_dhcp c.congestion c.version c.forwards) outbound
+    d.tftp_path d.mtu d.mru d.flows d.ring d.resolver d.turns x c.no_dns c.no_dhcp c.congestion c.version c.forwards c.denied) outbound
     ∙ ap (λ (x : Bool). made usual d.network d.mask d.vhost d.vnameserver d.dhcp_start d.restricted d.no_loopback d.hostname d.domainname d.tftp_server_name d.bootfile d.tftp_path
-    d.mtu d.mru d.flows d.ring d.resolver d.turns d.outbound x c.no_dhcp c.congestion c.version c.forwards) no_dns
+    d.mtu d.mru d.flows d.ring d.resolver d.turns d.outbound x c.no_dhcp c.congestion c.version c.forwards c.denied) no_dns
     ∙ ap (λ (x : Bool). made usual d.network d.mask d.vhost d.vnameserver d.dhcp_start d.restricted d.no_loopback d.hostname d.domainname d.tftp_server_name d.bootfile d.tftp_path
-    d.mtu d.mru d.flows d.ring d.resolver d.turns d.outbound d.no_dns x c.congestion c.version c.forwards) no_dhcp
+    d.mtu d.mru d.flows d.ring d.resolver d.turns d.outbound d.no_dns x c.congestion c.version c.forwards c.denied) no_dhcp
     ∙ ap (λ (x : Bool). made usual d.network d.mask d.vhost d.vnameserver d.dhcp_start d.restricted d.no_loopback d.hostname d.domainname d.tftp_server_name d.bootfile d.tftp_path
-    d.mtu d.mru d.flows d.ring d.resolver d.turns d.outbound d.no_dns d.no_dhcp x c.version c.forwards) congestion
+    d.mtu d.mru d.flows d.ring d.resolver d.turns d.outbound d.no_dns d.no_dhcp x c.version c.forwards c.denied) congestion
     ∙ ap (λ (x : ℕ). made usual d.network d.mask d.vhost d.vnameserver d.dhcp_start d.restricted d.no_loopback d.hostname d.domainname d.tftp_server_name d.bootfile d.tftp_path
-    d.mtu d.mru d.flows d.ring d.resolver d.turns d.outbound d.no_dns d.no_dhcp d.congestion x c.forwards) version
+    d.mtu d.mru d.flows d.ring d.resolver d.turns d.outbound d.no_dns d.no_dhcp d.congestion x c.forwards c.denied) version
     ∙ ap (λ (x : List Forward). made usual d.network d.mask d.vhost d.vnameserver d.dhcp_start d.restricted d.no_loopback d.hostname d.domainname d.tftp_server_name d.bootfile
-    d.tftp_path d.mtu d.mru d.flows d.ring d.resolver d.turns d.outbound d.no_dns d.no_dhcp d.congestion d.version x) forwards
+    d.tftp_path d.mtu d.mru d.flows d.ring d.resolver d.turns d.outbound d.no_dns d.no_dhcp d.congestion d.version x c.denied) forwards
+    ∙ ap (λ (x : List Denial). made usual d.network d.mask d.vhost d.vnameserver d.dhcp_start d.restricted d.no_loopback d.hostname d.domainname d.tftp_server_name d.bootfile
+    d.tftp_path d.mtu d.mru d.flows d.ring d.resolver d.turns d.outbound d.no_dns d.no_dhcp d.congestion d.version d.forwards x) denied
     ∙ sym g.rest
 
 -- the link is at one place
@@ -174,9 +180,10 @@ one_replay words f e c d h g =
     let b = replay_meant words e d g in
     let walk : a.walk ≡ b.walk = one_walk Replay words a.walk b.walk a.read b.read in
     let alone = tail_of f e a.rules b.rules (sym a.alone ∙ ap (λ (w : Walk). w.alone) walk ∙ b.alone) in
-    let set = subst (λ (w : Walk). AreSettings (value_in w.options) c) walk a.settings in
+    let set = subst (λ (w : Walk). AreSettings (value_in (single w.options)) c) walk a.settings in
     let given = subst (λ (r : List Word). AreRules r c.dhcp_start c.forwards) alone.1 a.forwards in
-    (alone.0, one_settings (value_in b.walk.options) b.rules c d set b.settings given b.forwards)
+    let denied = subst (λ (w : Walk). AreDenials (repeated w.options) c.denied) walk a.denied in
+    (alone.0, one_settings (value_in (single b.walk.options)) b.rules (repeated b.walk.options) c d set b.settings given b.forwards denied b.denied)
 
 -- of two flags at most one stands, and each says one thing
 same_tap : (s t : Tap) → is_record s ≡ is_record t → is_capture s ≡ is_capture t → s ≡ t
@@ -198,9 +205,10 @@ one_serve words c d p q s t h g =
     let a = serve_meant words c p s h in
     let b = serve_meant words d q t g in
     let walk : a.walk ≡ b.walk = one_walk Serve words a.walk b.walk a.read b.read in
-    let set = subst (λ (w : Walk). AreSettings (value_in w.options) c) walk a.settings in
-    let given = subst (λ (w : Walk). AreRules w.alone c.dhcp_start c.forwards) walk a.forwards in (
-      one_settings (value_in b.walk.options) b.walk.alone c d set b.settings given b.forwards,
-      one_link (value_in b.walk.options (codes "--link")) p q (subst (λ (w : Walk). IsLinkAt (value_in w.options (codes "--link")) p) walk a.link) b.link,
-      one_tap (value_in b.walk.options) s t (subst (λ (w : Walk). IsTap (value_in w.options) s) walk a.taps) b.taps,
+    let set = subst (λ (w : Walk). AreSettings (value_in (single w.options)) c) walk a.settings in
+    let given = subst (λ (w : Walk). AreRules w.alone c.dhcp_start c.forwards) walk a.forwards in
+    let denied = subst (λ (w : Walk). AreDenials (repeated w.options) c.denied) walk a.denied in (
+      one_settings (value_in (single b.walk.options)) b.walk.alone (repeated b.walk.options) c d set b.settings given b.forwards denied b.denied,
+      one_link (value_in (single b.walk.options) (codes "--link")) p q (subst (λ (w : Walk). IsLinkAt (value_in (single w.options) (codes "--link")) p) walk a.link) b.link,
+      one_tap (value_in (single b.walk.options)) s t (subst (λ (w : Walk). IsTap (value_in (single w.options)) s) walk a.taps) b.taps,
     )

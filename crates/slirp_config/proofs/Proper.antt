@@ -3,11 +3,12 @@ use Rattle.std.proofs.Common.{◌≡◌, ◌<◌, ◌≤◌, Bool, true, false, 
 use Rattle.std.specs.List.{list_any, list_all}
 use Rattle.host_policy.specs.Ranges.{none_twice}
 use Rattle.slirp_config.specs.declared.options.Verb.{Verb}
-use Rattle.slirp_config.specs.Options.{Word, Given, same_name, takes_value, value_in}
-use Rattle.slirp_config.specs.Walking.{IsProper, Walk, fresh, option_names, step}
+use Rattle.slirp_config.specs.Options.{Word, Given, is_repeated, same_name, single, takes_value}
+use Rattle.slirp_config.specs.Walking.{IsProper, Walk, fresh, may_stand, option_names, step}
 use Rattle.address_text.proofs.Parting.{both, pair}
 use Rattle.slirp_config.proofs.Back.{same_walk, stepped, Stepped, Ends, Alone, Joins, Waits, Flags, value_back}
-use Rattle.slirp_config.proofs.Few.{few, once_more}
+use Rattle.slirp_config.proofs.Few.{few}
+use Rattle.slirp_config.proofs.Single.{once_again, one_repeated, one_single}
 use Rattle.slirp_config.proofs.Names.{name_known}
 use Rattle.slirp_config.proofs.Steps.{given}
 
@@ -20,32 +21,39 @@ known_more (x ∷ xs) g all is =
     let parts = both (is_known x) (list_all is_known xs) all in
     pair (is_known x) (list_all is_known (xs ++ g ∷ [])) parts.0 (known_more xs g parts.1 is)
 
+known_again : (o : List Given) (g : Given) → list_all is_known (single o) ≡ true → is_known g ≡ true → list_all is_known (single (o ++ g ∷ [])) ≡ true
+known_again o g all is = by_test (is_repeated g.name) refl
+  where
+    by_test : (t : Bool) → is_repeated g.name ≡ t → list_all is_known (single (o ++ g ∷ [])) ≡ true
+    by_test true e = subst (λ (l : List Given). list_all is_known l ≡ true) (sym (one_repeated o g e)) all
+    by_test false e = subst (λ (l : List Given). list_all is_known l ≡ true) (sym (one_single o g [] e)) (known_more (single o) g all is)
+
 pub fresh_proper : (verb : Verb) → IsProper (fresh verb)
 fresh_proper verb = record { once = refl; known = refl; waiting = tt; quiet = λ ended. absurd (cc ended) }
 
--- there is room for one that wasn't given
-pub has_room : (verb : Verb) (o : List Given) (name value : Word) (b : Bool) → none_twice same_name o ≡ true → list_all is_known o ≡ true → takes_value verb name ≡ Some b → is_some
-    (value_in o name) ≡ false → length o < 24
-has_room verb o name value b once known takes free =
+-- there is room for one that may stand, and once alone
+pub has_room : (verb : Verb) (o : List Given) (name value : Word) (b : Bool) → none_twice same_name (single o) ≡ true → list_all is_known (single o) ≡ true → takes_value verb name ≡ Some b
+    → is_repeated name ≡ false → may_stand o name ≡ true → length (single o) < 25
+has_room verb o name value b once known takes other free =
     let g = given name value in
-    let more : length (o ++ g ∷ []) ≤ 24 = few option_names (o ++ g ∷ []) (once_more o g once free) (known_more o g known (name_known verb name b takes)) in
-    omega (arith, more, length-append o (g ∷ []))
+    let more : length (single (o ++ g ∷ [])) ≤ 25 = few option_names (single (o ++ g ∷ [])) (once_again o g once free) (known_again o g known (name_known verb name b takes)) in
+    omega (arith, more, ap length (one_single o g [] other), length-append (single o) (g ∷ []))
 
-module _ (verb : Verb) (o : List Given) (a : List Word) (once : none_twice same_name o ≡ true) (known : list_all is_known o ≡ true) where
+module _ (verb : Verb) (o : List Given) (a : List Word) (once : none_twice same_name (single o) ≡ true) (known : list_all is_known (single o) ≡ true) where
   -- between two pieces
   same_proper : (v : Walk) → v.options ≡ o → v.waits ≡ None → IsProper v
   same_proper v options waits = record {
-    once = subst (λ (l : List Given). none_twice same_name l ≡ true) (sym options) once;
-    known = subst (λ (l : List Given). list_all is_known l ≡ true) (sym options) known;
-    waiting = subst (λ (t : Option Word). MatchOption t (Unit {0}) (λ name. (takes_value v.verb name ≡ Some true) × (is_some (value_in v.options name) ≡ false))) (sym waits) tt;
+    once = subst (λ (l : List Given). none_twice same_name (single l) ≡ true) (sym options) once;
+    known = subst (λ (l : List Given). list_all is_known (single l) ≡ true) (sym options) known;
+    waiting = subst (λ (t : Option Word). MatchOption t (Unit {0}) (λ name. (takes_value v.verb name ≡ Some true) × (may_stand v.options name ≡ true))) (sym waits) tt;
     quiet = λ ended. waits;
   }
 
-  put_proper : (name value : Word) (b : Bool) → takes_value verb name ≡ Some b → is_some (value_in o name) ≡ false → (v : Walk) → v.options ≡ o ++ given name value ∷ [] → v.waits ≡ None → IsProper v
+  put_proper : (name value : Word) (b : Bool) → takes_value verb name ≡ Some b → may_stand o name ≡ true → (v : Walk) → v.options ≡ o ++ given name value ∷ [] → v.waits ≡ None → IsProper v
   put_proper name value b takes free v options waits = record {
-    once = subst (λ (l : List Given). none_twice same_name l ≡ true) (sym options) (once_more o (given name value) once free);
-    known = subst (λ (l : List Given). list_all is_known l ≡ true) (sym options) (known_more o (given name value) known (name_known verb name b takes));
-    waiting = subst (λ (t : Option Word). MatchOption t (Unit {0}) (λ n. (takes_value v.verb n ≡ Some true) × (is_some (value_in v.options n) ≡ false))) (sym waits) tt;
+    once = subst (λ (l : List Given). none_twice same_name (single l) ≡ true) (sym options) (once_again o (given name value) once free);
+    known = subst (λ (l : List Given). list_all is_known (single l) ≡ true) (sym options) (known_again o (given name value) known (name_known verb name b takes));
+    waiting = subst (λ (t : Option Word). MatchOption t (Unit {0}) (λ n. (takes_value v.verb n ≡ Some true) × (may_stand v.options n ≡ true))) (sym waits) tt;
     quiet = λ ended. waits;
   }
 

@@ -5,18 +5,20 @@ use Rattle.std.specs.Option.{option_map, option_map_or}
 use Rattle.net_octets.specs.declared.Endpoint.{Endpoint}
 use Rattle.host_policy.specs.Addresses.{Config}
 use Rattle.host_policy.specs.Settings.{usual}
-use Rattle.host_policy.specs.Ranges.{none_twice}
+use Rattle.host_policy.specs.Ranges.{mask_of, none_twice}
+use Rattle.host_policy.specs.declared.Denial.{Denial}
 use Rattle.slirp_config.specs.declared.options.Kind.{Kind}
 use Rattle.slirp_config.specs.declared.options.Kind.TheVariants.{Short, Number, Address, AddressPort, Network, Link}
 use Rattle.slirp_config.specs.declared.options.Verb.{Verb}
 use Rattle.slirp_config.specs.declared.options.Verb.TheVariants.{Replay, Serve}
 use Rattle.slirp_config.specs.Meaning.{AreSettings, version_of}
-use Rattle.slirp_config.specs.Options.{Word, Row, Given, has_row, is_row, kind_of, rows, same_name, value_in}
+use Rattle.slirp_config.specs.Options.{Word, Row, Given, has_row, is_repeated, is_row, kind_of, repeated, rows, same_name, single, value_in}
 use Rattle.slirp_config.specs.Values.{CanHave}
-use Rattle.slirp_config.specs.Walking.{AreGiven}
+use Rattle.slirp_config.specs.Walking.{AreGiven, IsGiven}
 use Rattle.address_text.specs.Texts.{IsNumber, IsAddress, IsEndpointText}
-use Rattle.slirp_config.specs.Texts.{IsNetwork, held_folder, held_text}
+use Rattle.slirp_config.specs.Texts.{AreDenials, IsDenial, IsNetwork, held_folder, held_text}
 use Rattle.address_text.proofs.Parting.{both}
+use Rattle.slirp_config.proofs.Denying.{denial_network, network_denial}
 use Rattle.slirp_config.proofs.Few.{fresh_there}
 use Rattle.slirp_config.proofs.Finding.{match_some}
 use Rattle.slirp_config.proofs.Given.{value_there}
@@ -30,6 +32,10 @@ weaken (Some x) D P Q f h = f x h
 free : (o : Option Word) → MatchOption o (Unit {0}) (λ value. Unit {0})
 free None = tt
 free (Some value) = tt
+
+none_read : (o : Option Word) (P : Word → Type 0) → is_some o ≡ false → MatchOption o (Unit {0}) P
+none_read None P h = tt
+none_read (Some value) P h = absurd (cc h)
 
 -- of each option that the command has the value can be had
 module _ (verb : Verb) (given : Word → Option Word) where
@@ -50,9 +56,9 @@ module _ (verb : Verb) (given : Word → Option Word) where
           subst (λ (n : Word). MatchOption (given n) (Unit {0}) (CanHave row.kind)) (same_text row.name name parts.0) (reads.0 parts.1)
       by_test rest false e = rest
 
-  pub settings_read : (config : Config) → AreSettings given config → (has_row verb (record { name = codes "--link"; kind = Link; serve_alone = true }) ≡ true → MatchOption
-      (given (codes "--link")) (Unit {0}) (CanHave Link)) → CanRead rows
-  settings_read config are link = (
+  pub settings_read : (config : Config) → AreSettings given config → is_some (given (codes "--deny")) ≡ false
+      → (has_row verb (record { name = codes "--link"; kind = Link; serve_alone = true }) ≡ true → MatchOption (given (codes "--link")) (Unit {0}) (CanHave Link)) → CanRead rows
+  settings_read config are none link = (
     link,
     (
       (λ _. free (given (codes "--record"))),
@@ -102,7 +108,7 @@ module _ (verb : Verb) (given : Word → Option Word) where
                                                     (λ t h. (h.0, h.2)) are.outbound),
                                                 (
                                                   (λ _. free (given (codes "--tftp"))),
-                                                  tt,
+                                                  ((λ _. none_read (given (codes "--deny")) (CanHave Network) none), tt),
                                                 ),
                                               ),
                                             ),
@@ -145,8 +151,43 @@ given_read verb front (g ∷ rest) once reads =
     by_kind there None h = tt
     by_kind there (Some kind) h = match_some (value_in (front ++ g ∷ rest) g.name) g.value (Unit {0}) (CanHave kind) there h
 
-pub all_given : (verb : Verb) (o : List Given) → none_twice same_name o ≡ true → CanRead verb (value_in o) rows → AreGiven verb o
-all_given verb o once reads = given_read verb [] o once reads
+-- those that may stand several times are networks
+deny_kind : (verb : Verb) → kind_of verb (codes "--deny") ≡ Some Network
+deny_kind Replay = refl
+deny_kind Serve = refl
+
+denied_given : (verb : Verb) (g : Given) (d : Denial) → is_repeated g.name ≡ true → IsDenial g.value d → IsGiven verb g
+denied_given verb g d is denial =
+    let kind : kind_of verb g.name ≡ Some Network = ap (kind_of verb) (same_text g.name (codes "--deny") is) ∙ deny_kind verb in
+    let n = denial_network g.value d denial in
+    subst (λ (k : Option Kind). MatchOption k (Unit {0}) (λ kind. CanHave kind g.value)) (sym kind) (d.0.net.0, mask_of d.0.length, n)
+
+all_of : (verb : Verb) (o : List Given) (ds : List Denial) → AreGiven verb (single o) → AreDenials (repeated o) ds → AreGiven verb o
+all_of verb [] ds are denied = tt
+all_of verb (g ∷ rest) ds are denied = by_test (all_of verb rest) (is_repeated g.name) refl ds are denied
+  where
+    by_test : ((es : List Denial) → AreGiven verb (single rest) → AreDenials (repeated rest) es → AreGiven verb rest) → (t : Bool) → is_repeated g.name ≡ t → (es : List Denial)
+        → AreGiven verb (cond t (single rest) (g ∷ single rest)) → AreDenials (cond t (g.value ∷ repeated rest) (repeated rest)) es → IsGiven verb g × AreGiven verb rest
+    by_test behind true e [] are denied = absurd denied
+    by_test behind true e (d ∷ es) are denied = (denied_given verb g d e denied.0, behind es are denied.1)
+    by_test behind false e es are denied = (are.0, behind es are.1 denied)
+
+pub all_given : (verb : Verb) (o : List Given) (ds : List Denial) → none_twice same_name (single o) ≡ true → CanRead verb (value_in (single o)) rows → AreDenials (repeated o) ds → AreGiven verb o
+all_given verb o ds once reads denied = all_of verb o ds (given_read verb [] (single o) once reads) denied
+
+given_denial : (verb : Verb) (g : Given) → is_repeated g.name ≡ true → IsGiven verb g → (d : Denial) × IsDenial g.value d
+given_denial verb g is are =
+    let kind : kind_of verb g.name ≡ Some Network = ap (kind_of verb) (same_text g.name (codes "--deny") is) ∙ deny_kind verb in
+    let can : CanHave Network g.value = match_some (kind_of verb g.name) Network (Unit {0}) (λ kind. CanHave kind g.value) kind are in
+    network_denial g.value can.0 can.1 can.2
+
+pub denials_of : (verb : Verb) (o : List Given) → AreGiven verb o → (ds : List Denial) × AreDenials (repeated o) ds
+denials_of verb [] are = ([], tt)
+denials_of verb (g ∷ rest) are = by_test (denials_of verb rest are.1) (is_repeated g.name) refl
+  where
+    by_test : ((ds : List Denial) × AreDenials (repeated rest) ds) → (t : Bool) → is_repeated g.name ≡ t → (ds : List Denial) × AreDenials (cond t (g.value ∷ repeated rest) (repeated rest)) ds
+    by_test behind true e = let d = given_denial verb g e are.0 in (d.0 ∷ behind.0, (d.1, behind.1))
+    by_test behind false e = behind
 
 -- and back: of values that can be had settings are given
 pick : {X : Type 0} (o : Option Word) (d : X) (P : Word → X → Type 0) → ((value : Word) → o ≡ Some value → (x : X) × P value x) → (x : X) × MatchOption o (x ≡ d) (λ value. P value x)
@@ -180,8 +221,8 @@ module _ (verb : Verb) where
           subst (CanHave kind) same (match_some (kind_of verb g.name) kind (Unit {0}) (λ k. CanHave k g.value) known are.0)
       by_test behind false e h = behind h
 
-  pub settings_of : (o : List Given) → AreGiven verb o → (config : Config) × AreSettings (value_in o) config
-  settings_of o are =
+  pub settings_of : (o : List Given) → AreGiven verb o → (ds : List Denial) → (config : Config) × AreSettings (value_in o) config × (config.denied ≡ ds)
+  settings_of o are ds =
       let given = value_in o in
       let net = pick_two (given (codes "--net")) usual.network usual.mask (λ text n m. IsNetwork text n m) (λ v e. value_read o are (codes "--net") v e Network
       (of_both (λ b. kind_of b (codes "--net") ≡ Some Network) refl refl)) in
@@ -209,7 +250,7 @@ module _ (verb : Verb) where
             (option_map_or held_text (given (codes "--hostname")) []) (option_map_or held_text (given (codes "--domainname")) [])
             (option_map_or held_text (given (codes "--tftp-server-name")) []) (option_map_or held_text (given (codes "--bootfile")) [])
             (option_map held_folder (given (codes "--tftp"))) mtu.0 mru.0 flows.0 ring.0 resolver.0 turns.0 outbound.0 (is_some (given (codes "--no-dns")))
-            (is_some (given (codes "--no-dhcp"))) (is_some (given (codes "--congestion"))) (version_of given) [],
+            (is_some (given (codes "--no-dhcp"))) (is_some (given (codes "--congestion"))) (version_of given ds) [] ds,
         record {
           net = net.2;
           host = host.1;
@@ -235,4 +276,5 @@ module _ (verb : Verb) where
           version = refl;
           rest = refl;
         },
+        refl,
       )

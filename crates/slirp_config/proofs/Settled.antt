@@ -1,16 +1,19 @@
 -- Settings that options give, field by field.
-use Rattle.std.proofs.Common.{ℕ, Bool, List, Option, ap}
+use Rattle.std.proofs.Common.{◌≡◌, ℕ, Bool, List, Option, sym, ◌∙◌, ap}
 use Rattle.net_octets.specs.declared.Endpoint.{Endpoint}
 use Rattle.host_policy.specs.Addresses.{Config}
+use Rattle.host_policy.specs.declared.Denial.{Denial}
 use Rattle.host_policy.specs.declared.Forward.{Forward}
-use Rattle.slirp_config.specs.Meaning.{AreSettings}
+use Rattle.slirp_config.specs.Meaning.{AreSettings, version_of}
+use Rattle.slirp_config.specs.Narrowing.{held_denials}
 use Rattle.slirp_config.specs.Options.{Word}
+use Rattle.slirp_config.proofs.Denying.{held_version}
 
 abbrev pub made : Config → (network mask vhost vnameserver dhcp_start : ℕ) (restricted no_loopback : Bool) (hostname domainname tftp_server_name bootfile : List ℕ)
     (tftp_path : Option (List ℕ)) (mtu mru flows ring : ℕ) (resolver : Option Endpoint) (turns : ℕ) (outbound : Option ℕ) (no_dns no_dhcp congestion : Bool) (version : ℕ)
-    (forwards : List Forward) → Config
+    (forwards : List Forward) (denied : List Denial) → Config
 made base network mask vhost vnameserver dhcp_start restricted no_loopback hostname domainname tftp_server_name bootfile tftp_path mtu mru flows ring resolver turns outbound no_dns
-    no_dhcp congestion version forwards = record base {
+    no_dhcp congestion version forwards denied = record base {
       network = network;
       mask = mask;
       vhost = vhost;
@@ -35,6 +38,7 @@ made base network mask vhost vnameserver dhcp_start restricted no_loopback hostn
       congestion = congestion;
       version = version;
       forwards = forwards;
+      denied = denied;
     }
 
 -- forwards are given by no option
@@ -64,3 +68,44 @@ with_forwards given config forwards are = record {
   version = are.version;
   rest = ap (λ (c : Config). record c { forwards = forwards }) are.rest;
 }
+
+-- nor are denied networks
+abbrev pub with_lists : Config → List Forward → List Denial → Config
+with_lists config forwards denied = record config { forwards = forwards; denied = denied }
+
+lists_are : (given : Word → Option Word) (config : Config) (forwards : List Forward) (denied : List Denial) → version_of given config.denied ≡ version_of given denied → AreSettings given config
+    → AreSettings given (with_lists config forwards denied)
+lists_are given config forwards denied same are = record {
+  net = are.net;
+  host = are.host;
+  dns = are.dns;
+  dhcp_start = are.dhcp_start;
+  restricted = are.restricted;
+  no_loopback = are.no_loopback;
+  hostname = are.hostname;
+  domainname = are.domainname;
+  tftp_server_name = are.tftp_server_name;
+  bootfile = are.bootfile;
+  tftp_path = are.tftp_path;
+  mtu = are.mtu;
+  mru = are.mru;
+  flows = are.flows;
+  ring = are.ring;
+  resolver = are.resolver;
+  turns = are.turns;
+  outbound = are.outbound;
+  no_dns = are.no_dns;
+  no_dhcp = are.no_dhcp;
+  congestion = are.congestion;
+  version = are.version ∙ same;
+  rest = ap (λ (c : Config). record c { forwards = forwards; denied = denied }) are.rest;
+}
+
+-- with those that are held, and with those of which as much is held
+pub with_both : (given : Word → Option Word) (config : Config) (forwards : List Forward) → AreSettings given config → AreSettings given (with_lists config forwards (held_denials config.denied))
+with_both given config forwards are = lists_are given config forwards (held_denials config.denied) (sym (held_version given config.denied)) are
+
+pub with_all : (given : Word → Option Word) (config : Config) (forwards : List Forward) (denied : List Denial) → held_denials config.denied ≡ held_denials denied → AreSettings given config
+    → AreSettings given (with_lists config forwards denied)
+with_all given config forwards denied same are =
+    lists_are given config forwards denied (sym (held_version given config.denied) ∙ ap (version_of given) same ∙ held_version given denied) are

@@ -7,7 +7,7 @@ use Rattle.slirp_config.specs.declared.options.Verb.{Verb}
 use Rattle.slirp_config.specs.Options.{Word, Given, takes_value, is_dashed, value_in}
 use Rattle.address_text.specs.Texts.{is_other}
 use Rattle.address_text.proofs.Parting.{both, no_part}
-use Rattle.slirp_config.specs.Walking.{Walk, put_option, put_joined, put_name, step, is_sign}
+use Rattle.slirp_config.specs.Walking.{Walk, add_all, may_stand, put_option, put_joined, put_name, step, is_sign}
 use Rattle.slirp_config.proofs.Names.{is_name, name_is, same_text}
 use Rattle.slirp_config.proofs.Few.{refuted}
 
@@ -46,18 +46,18 @@ name_parts name is =
     record { dashed = b.0; other = refuted (bytes_eq name (codes "--")) b.1; plain = a.1 }
 
 module _ (verb : Verb) (o : List Given) (a : List Word) where
-  begins_name : (name : Word) → NameIs name → step (at verb o a) name ≡ put_name (at verb o a) name
+  begins_name : (name : Word) → NameIs name → step (at verb o a) name ≡ put_name add_all (at verb o a) name
   begins_name name n =
       let none : ltb (position_or_len is_sign name) (length name) ≡ false = rw (no_sign name n.plain) (grind (arith, nat_tests)) in
       rw (n.other, n.dashed, none) refl
 
-  pub flag_step : (name : Word) → takes_value verb name ≡ Some false → step (at verb o a) name ≡ put_option (at verb o a) name []
+  pub flag_step : (name : Word) → takes_value verb name ≡ Some false → step (at verb o a) name ≡ put_option add_all (at verb o a) name []
   flag_step name is = begins_name name (name_parts name (name_is verb name false is)) ∙ rw is refl
 
-  pub waits_step : (name : Word) → takes_value verb name ≡ Some true → is_some (value_in o name) ≡ false → step (at verb o a) name ≡ Some (waiting verb o a name)
+  pub waits_step : (name : Word) → takes_value verb name ≡ Some true → may_stand o name ≡ true → step (at verb o a) name ≡ Some (waiting verb o a name)
   waits_step name is free = begins_name name (name_parts name (name_is verb name true is)) ∙ rw (is, free) refl
 
-  pub apart_step : (name value : Word) → 0 < length value → is_dashed value ≡ false → step (waiting verb o a name) value ≡ put_option (at verb o a) name value
+  pub apart_step : (name value : Word) → 0 < length value → is_dashed value ≡ false → step (waiting verb o a name) value ≡ put_option add_all (at verb o a) name value
   apart_step name value some plain = let is : ltb 0 (length value) ≡ true = grind (arith, nat_tests, some) in rw (is, plain) refl
 
   pub plain_step : (word : Word) → is_dashed word ≡ false → step (at verb o a) word ≡ Some (at verb o (a ++ word ∷ []))
@@ -74,7 +74,7 @@ module _ (verb : Verb) (o : List Given) (a : List Word) where
   dashed_joined [] value h = absurd (cc h)
   dashed_joined (x ∷ xs) value h = h
 
-  pub joined_step : (name value : Word) → takes_value verb name ≡ Some true → 0 < length value → step (at verb o a) (name ++ 61 ∷ value) ≡ put_option (at verb o a) name value
+  pub joined_step : (name value : Word) → takes_value verb name ≡ Some true → 0 < length value → step (at verb o a) (name ++ 61 ∷ value) ≡ put_option add_all (at verb o a) name value
   joined_step name value is some =
       let n = name_parts name (name_is verb name true is) in
       let word = name ++ 61 ∷ value in
@@ -90,9 +90,9 @@ module _ (verb : Verb) (o : List Given) (a : List Word) where
       let front : before_first is_sign word ≡ name = rw place (take-append_seam name (61 ∷ value)) in
       let back : after_first is_sign word ≡ value = rw place (drop-append-add name (61 ∷ value) 1) in
       let full : ltb 0 (length value) ≡ true = grind (arith, nat_tests, some) in
-      let begun : step (at verb o a) word ≡ put_joined (at verb o a) (before_first is_sign word) (after_first is_sign word) = rw (other, dashed_joined name value n.dashed, there) refl in
-      begun ∙ ap (λ (w : Word). put_joined (at verb o a) w (after_first is_sign word)) front ∙ ap (λ (w : Word). put_joined (at verb o a) name w) back ∙ rw (is, full) refl
+      let begun : step (at verb o a) word ≡ put_joined add_all (at verb o a) (before_first is_sign word) (after_first is_sign word) = rw (other, dashed_joined name value n.dashed, there) refl in
+      begun ∙ ap (λ (w : Word). put_joined add_all (at verb o a) w (after_first is_sign word)) front ∙ ap (λ (w : Word). put_joined add_all (at verb o a) name w) back ∙ rw (is, full) refl
 
-  -- an option whose name isn't there is put
-  pub put_fresh : (name value : Word) → is_some (value_in o name) ≡ false → length o < 24 → put_option (at verb o a) name value ≡ Some (at verb (o ++ given name value ∷ []) a)
-  put_fresh name value free room = let is : ltb (length o) 24 ≡ true = grind (arith, nat_tests, room) in rw (free, is) refl
+  -- an option that may stand is put
+  pub put_fresh : (name value : Word) → may_stand o name ≡ true → put_option add_all (at verb o a) name value ≡ Some (at verb (o ++ given name value ∷ []) a)
+  put_fresh name value free = rw free refl

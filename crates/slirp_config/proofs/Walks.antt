@@ -5,12 +5,10 @@ use Rattle.std.specs.List.{list_any, list_all}
 use Rattle.host_policy.specs.Ranges.{none_twice}
 use Rattle.slirp_config.specs.declared.options.Verb.{Verb}
 use Rattle.slirp_config.specs.Options.{Word, Row, Given, Piece, Apart, Joined, Flag, Plain, Line, ArePieces, IsLine, pieces_words, words_behind, line_words, options_of, plain_words}
-use Rattle.slirp_config.specs.Options.{alone_behind, words_alone, same_name, rows, takes_value}
+use Rattle.slirp_config.specs.Options.{alone_behind, words_alone, same_name, single, takes_value}
 use Rattle.slirp_config.specs.Walking.{Walk, step, next, walk_on, finished, fresh, walked}
 use Rattle.slirp_config.proofs.Back.{same_walk, stepped, Stepped, Ends, Alone, Joins, Waits, Flags, value_back}
-use Rattle.slirp_config.proofs.Few.{few, fresh_there, once_more}
-use Rattle.slirp_config.proofs.Names.{name_known}
-use Rattle.address_text.proofs.Parting.{pair}
+use Rattle.slirp_config.proofs.Single.{fresh_single, once_again}
 use Rattle.slirp_config.proofs.Steps.{at, waiting, behind_end, given, flag_step, waits_step, apart_step, plain_step, joined_step, put_fresh}
 
 -- what the walk comes to
@@ -29,57 +27,43 @@ module _ (verb : Verb) (o : List Given) where
       end_kept words (a ++ word ∷ []) ∙ ap (λ (x : List Word). Some (behind_end verb o x)) moved
 
 pub line_kept : (verb : Verb) (pieces : List Piece) (behind : Option (List Word)) (o : List Given) (a : List Word) → ArePieces verb pieces
-    → none_twice same_name (o ++ options_of pieces) ≡ true → length (o ++ options_of pieces) ≤ 24
+    → none_twice same_name (single (o ++ options_of pieces)) ≡ true
     → walk_on (pieces_words pieces ++ words_behind behind) (at verb o a) ≡ Some (arrived verb (o ++ options_of pieces) (a ++ (plain_words pieces ++ alone_behind behind)) (is_some behind))
-line_kept verb [] None o a p once few = ap (λ (x : List Word). Some (arrived verb o x false)) (sym (append-nil a)) ∙ ap (λ (x : List Given). Some (arrived verb x (a ++ []) false)) (sym (append-nil o))
-line_kept verb [] (Some words) o a p once few = end_kept verb o words a ∙ ap (λ (x : List Given). Some (arrived verb x (a ++ words) true)) (sym (append-nil o))
-line_kept verb (Plain word ∷ pieces) behind o a p once few =
+line_kept verb [] None o a p once = ap (λ (x : List Word). Some (arrived verb o x false)) (sym (append-nil a)) ∙ ap (λ (x : List Given). Some (arrived verb x (a ++ []) false)) (sym (append-nil o))
+line_kept verb [] (Some words) o a p once = end_kept verb o words a ∙ ap (λ (x : List Given). Some (arrived verb x (a ++ words) true)) (sym (append-nil o))
+line_kept verb (Plain word ∷ pieces) behind o a p once =
     let left = plain_words pieces ++ alone_behind behind in
     let moved : (a ++ word ∷ []) ++ left ≡ a ++ word ∷ left = append_assoc a (word ∷ []) left in
     go (walk_on (pieces_words pieces ++ words_behind behind)) (step (at verb o a) word) (at verb o (a ++ word ∷ [])) _
     (plain_step verb o a word p.0)
-    (line_kept verb pieces behind o (a ++ word ∷ []) p.1 once few ∙ ap (λ (x : List Word). Some (arrived verb (o ++ options_of pieces) x (is_some behind))) moved)
-line_kept verb (Flag name ∷ pieces) behind o a p once few =
+    (line_kept verb pieces behind o (a ++ word ∷ []) p.1 once ∙ ap (λ (x : List Word). Some (arrived verb (o ++ options_of pieces) x (is_some behind))) moved)
+line_kept verb (Flag name ∷ pieces) behind o a p once =
     let g = given name [] in
     let all = a ++ (plain_words pieces ++ alone_behind behind) in
     let moved : (o ++ g ∷ []) ++ options_of pieces ≡ o ++ g ∷ options_of pieces = append_assoc o (g ∷ []) (options_of pieces) in
-    let room : length o < 24 = omega (arith, few, length-append o (g ∷ options_of pieces)) in
     go (walk_on (pieces_words pieces ++ words_behind behind)) (step (at verb o a) name) (at verb (o ++ g ∷ []) a) _
-    (flag_step verb o a name p.0 ∙ put_fresh verb o a name [] (fresh_there o g (options_of pieces) once) room)
-    (line_kept verb pieces behind (o ++ g ∷ []) a p.1 (rw moved once) (rw moved few) ∙ ap (λ (x : List Given). Some (arrived verb x all (is_some behind))) moved)
-line_kept verb (Joined name value ∷ pieces) behind o a p once few =
+    (flag_step verb o a name p.0 ∙ put_fresh verb o a name [] (fresh_single o g (options_of pieces) once))
+    (line_kept verb pieces behind (o ++ g ∷ []) a p.1 (rw moved once) ∙ ap (λ (x : List Given). Some (arrived verb x all (is_some behind))) moved)
+line_kept verb (Joined name value ∷ pieces) behind o a p once =
     let g = given name value in
     let all = a ++ (plain_words pieces ++ alone_behind behind) in
     let moved : (o ++ g ∷ []) ++ options_of pieces ≡ o ++ g ∷ options_of pieces = append_assoc o (g ∷ []) (options_of pieces) in
-    let room : length o < 24 = omega (arith, few, length-append o (g ∷ options_of pieces)) in
     go (walk_on (pieces_words pieces ++ words_behind behind)) (step (at verb o a) (name ++ codes "=" ++ value)) (at verb (o ++ g ∷ []) a) _
-    (ap (step (at verb o a)) (append_assoc name (61 ∷ []) value) ∙ joined_step verb o a name value p.0.0 p.0.1 ∙ put_fresh verb o a name value (fresh_there o g (options_of pieces) once) room)
-    (line_kept verb pieces behind (o ++ g ∷ []) a p.1 (rw moved once) (rw moved few) ∙ ap (λ (x : List Given). Some (arrived verb x all (is_some behind))) moved)
-line_kept verb (Apart name value ∷ pieces) behind o a p once few =
+    (ap (step (at verb o a)) (append_assoc name (61 ∷ []) value) ∙ joined_step verb o a name value p.0.0 p.0.1 ∙ put_fresh verb o a name value (fresh_single o g (options_of pieces) once))
+    (line_kept verb pieces behind (o ++ g ∷ []) a p.1 (rw moved once) ∙ ap (λ (x : List Given). Some (arrived verb x all (is_some behind))) moved)
+line_kept verb (Apart name value ∷ pieces) behind o a p once =
     let g = given name value in
     let all = a ++ (plain_words pieces ++ alone_behind behind) in
     let moved : (o ++ g ∷ []) ++ options_of pieces ≡ o ++ g ∷ options_of pieces = append_assoc o (g ∷ []) (options_of pieces) in
-    let room : length o < 24 = omega (arith, few, length-append o (g ∷ options_of pieces)) in
     go (walk_on (value ∷ pieces_words pieces ++ words_behind behind)) (step (at verb o a) name) (waiting verb o a name) _
-    (waits_step verb o a name p.0.0 (fresh_there o g (options_of pieces) once))
+    (waits_step verb o a name p.0.0 (fresh_single o g (options_of pieces) once))
     (go (walk_on (pieces_words pieces ++ words_behind behind)) (step (waiting verb o a name) value) (at verb (o ++ g ∷ []) a) _
-    (apart_step verb o a name value p.0.1 p.0.2 ∙ put_fresh verb o a name value (fresh_there o g (options_of pieces) once) room)
-    (line_kept verb pieces behind (o ++ g ∷ []) a p.1 (rw moved once) (rw moved few) ∙ ap (λ (x : List Given). Some (arrived verb x all (is_some behind))) moved))
-
-abbrev names : List Word
-names = map (λ (row : Row). row.name) rows
-
-all_known : (verb : Verb) (pieces : List Piece) → ArePieces verb pieces → list_all (λ (g : Given). list_any (λ n. bytes_eq n g.name) names) (options_of pieces) ≡ true
-all_known verb [] p = refl
-all_known verb (Plain word ∷ pieces) p = all_known verb pieces p.1
-all_known verb (Flag name ∷ pieces) p = pair _ _ (name_known verb name false p.0) (all_known verb pieces p.1)
-all_known verb (Joined name value ∷ pieces) p = pair _ _ (name_known verb name true p.0.0) (all_known verb pieces p.1)
-all_known verb (Apart name value ∷ pieces) p = pair _ _ (name_known verb name true p.0.0) (all_known verb pieces p.1)
+    (apart_step verb o a name value p.0.1 p.0.2 ∙ put_fresh verb o a name value (fresh_single o g (options_of pieces) once))
+    (line_kept verb pieces behind (o ++ g ∷ []) a p.1 (rw moved once) ∙ ap (λ (x : List Given). Some (arrived verb x all (is_some behind))) moved))
 
 pub line_walked : (verb : Verb) (line : Line) → IsLine verb line → walked verb (line_words line) ≡ Some (arrived verb (options_of line.pieces) (words_alone line) (is_some line.behind))
 line_walked verb line is =
-    let fits : length (options_of line.pieces) ≤ 24 = few names (options_of line.pieces) is.1 (all_known verb line.pieces is.0) in
-    ap (next finished) (line_kept verb line.pieces line.behind [] [] is.0 is.1 fits)
+    ap (next finished) (line_kept verb line.pieces line.behind [] [] is.0 is.1)
 
 -- and back
 pub next_some : (f : Walk → Option Walk) (o : Option Walk) (w : Walk) → next f o ≡ Some w → (s : Walk) × (o ≡ Some s) × (f s ≡ Some w)
@@ -92,7 +76,7 @@ pub record Split (verb : Verb) (words : List Word) (o : List Given) (a : List Wo
   pub spelt : words ≡ pieces_words pieces ++ words_behind behind
   pub proper : ArePieces verb pieces
   pub options : w.options ≡ o ++ options_of pieces
-  pub once : none_twice same_name w.options ≡ true
+  pub once : none_twice same_name (single w.options) ≡ true
   pub alone : w.alone ≡ a ++ (plain_words pieces ++ alone_behind behind)
 
 record EndSplit (o : List Given) (words a : List Word) (w : Walk) : Type 0 where
@@ -111,7 +95,7 @@ end_split verb o (word ∷ words) a w is =
     record { alone = r.alone ∙ append_assoc a (word ∷ []) words; options = r.options }
 
 abbrev Splits : Verb → List Word → Walk → Type 0
-Splits verb words w = (o : List Given) (a : List Word) → none_twice same_name o ≡ true → walk_on words (at verb o a) ≡ Some w → Split verb words o a w
+Splits verb words w = (o : List Given) (a : List Word) → none_twice same_name (single o) ≡ true → walk_on words (at verb o a) ≡ Some w → Split verb words o a w
 
 abbrev SplitsBehind : Verb → List Word → Walk → Type 0
 SplitsBehind verb [] w = Unit {0}
@@ -119,7 +103,7 @@ SplitsBehind verb (value ∷ words) w = Splits verb words w
 
 module _ (verb : Verb) (w : Walk) (done : w.waits ≡ None) where
   -- behind the name of an option
-  with_value : (name : Word) (words : List Word) (o : List Given) (a : List Word) → SplitsBehind verb words w → none_twice same_name o ≡ true → takes_value verb name ≡ Some true →
+  with_value : (name : Word) (words : List Word) (o : List Given) (a : List Word) → SplitsBehind verb words w → none_twice same_name (single o) ≡ true → takes_value verb name ≡ Some true →
       walk_on words (waiting verb o a name) ≡ Some w → Split verb (name ∷ words) o a w
   with_value name [] o a later once takes is =
       let e = same_walk (waiting verb o a name) w is in
@@ -129,7 +113,7 @@ module _ (verb : Verb) (w : Walk) (done : w.waits ≡ None) where
       let n = next_some (walk_on words) (step (waiting verb o a name) value) w is in
       let v = value_back verb o a name value n.0 n.1 in
       let g = given name value in
-      let r = later (o ++ g ∷ []) a (once_more o g once v.free) (subst (λ (x : Walk). walk_on words x ≡ Some w) v.after n.2) in
+      let r = later (o ++ g ∷ []) a (once_again o g once v.free) (subst (λ (x : Walk). walk_on words x ≡ Some w) v.after n.2) in
       record {
         pieces = Apart name value ∷ r.pieces;
         behind = r.behind;
@@ -140,7 +124,7 @@ module _ (verb : Verb) (w : Walk) (done : w.waits ≡ None) where
         alone = r.alone;
       }
 
-  one : (word : Word) (words : List Word) → Splits verb words w → SplitsBehind verb words w → (o : List Given) (a : List Word) → none_twice same_name o ≡ true → (s : Walk) →
+  one : (word : Word) (words : List Word) → Splits verb words w → SplitsBehind verb words w → (o : List Given) (a : List Word) → none_twice same_name (single o) ≡ true → (s : Walk) →
       Stepped verb o a word s → walk_on words s ≡ Some w → Split verb (word ∷ words) o a w
   one word words rest later o a once s (Ends is after) on =
       let e = end_split verb o words a w (subst (λ (x : Walk). walk_on words x ≡ Some w) after on) in
@@ -150,7 +134,7 @@ module _ (verb : Verb) (w : Walk) (done : w.waits ≡ None) where
         spelt = ap (λ (t : Word). t ∷ words) is;
         proper = tt;
         options = e.options ∙ sym (append-nil o);
-        once = subst (λ (x : List Given). none_twice same_name x ≡ true) (sym e.options) once;
+        once = subst (λ (x : List Given). none_twice same_name (single x) ≡ true) (sym e.options) once;
         alone = e.alone;
       }
   one word words rest later o a once s (Alone plain after) on =
@@ -166,7 +150,7 @@ module _ (verb : Verb) (w : Walk) (done : w.waits ≡ None) where
       }
   one word words rest later o a once s (Joins name value is takes some free after) on =
       let g = given name value in
-      let r = rest (o ++ g ∷ []) a (once_more o g once free) (subst (λ (x : Walk). walk_on words x ≡ Some w) after on) in
+      let r = rest (o ++ g ∷ []) a (once_again o g once free) (subst (λ (x : Walk). walk_on words x ≡ Some w) after on) in
       record {
         pieces = Joined name value ∷ r.pieces;
         behind = r.behind;
@@ -179,7 +163,7 @@ module _ (verb : Verb) (w : Walk) (done : w.waits ≡ None) where
   one word words rest later o a once s (Waits takes free after) on = with_value word words o a later once takes (subst (λ (x : Walk). walk_on words x ≡ Some w) after on)
   one word words rest later o a once s (Flags takes free after) on =
       let g = given word [] in
-      let r = rest (o ++ g ∷ []) a (once_more o g once free) (subst (λ (x : Walk). walk_on words x ≡ Some w) after on) in
+      let r = rest (o ++ g ∷ []) a (once_again o g once free) (subst (λ (x : Walk). walk_on words x ≡ Some w) after on) in
       record {
         pieces = Flag word ∷ r.pieces;
         behind = r.behind;
@@ -204,7 +188,7 @@ module _ (verb : Verb) (w : Walk) (done : w.waits ≡ None) where
         spelt = refl;
         proper = tt;
         options = sym (ap (λ (x : Walk). x.options) e) ∙ sym (append-nil o);
-        once = subst (λ (x : Walk). none_twice same_name x.options ≡ true) e once;
+        once = subst (λ (x : Walk). none_twice same_name (single x.options) ≡ true) e once;
         alone = sym (ap (λ (x : Walk). x.alone) e) ∙ sym (append-nil a);
       }
   split (word ∷ []) o a once is = next_one word [] (split []) tt o a once is
@@ -233,7 +217,7 @@ walk_read verb words w is =
     record {
       line = record { pieces = r.pieces; behind = r.behind };
       spelt = r.spelt;
-      proper = (r.proper, subst (λ (x : List Given). none_twice same_name x ≡ true) r.options r.once);
+      proper = (r.proper, subst (λ (x : List Given). none_twice same_name (single x) ≡ true) r.options r.once);
       options = r.options;
       alone = r.alone;
     }

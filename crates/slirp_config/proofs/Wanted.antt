@@ -6,15 +6,11 @@ use Rattle.slirp_config.specs.declared.options.Verb.{Verb}
 use Rattle.slirp_config.specs.declared.options.Verb.TheVariants.{Replay, Serve}
 use Rattle.slirp_config.specs.Options.{Word, Given, takes_value, is_dashed, value_in}
 use Rattle.slirp_config.specs.Rules.{AreRuleWords, IsRuleWord}
-use Rattle.slirp_config.specs.Walking.{Walk, AreWanted, FitsAlone, IsWanted, completed, ends, flag_of, has_none, is_replay, is_sign, named, put_dashed, put_joined, put_name, put_option}
+use Rattle.slirp_config.specs.Walking.{Walk, AreWanted, FitsAlone, IsWanted, add_all, completed, ends, flag_of, has_none, is_replay, is_sign, listed, may_stand, named, put_dashed, put_joined, put_name, put_option}
 use Rattle.slirp_config.specs.Walking.{stands_alone, step, wants_file}
 use Rattle.slirp_config.proofs.Back.{chosen, put_back, same_walk, stepped, Stepped, Ends, Alone, Joins, Waits, Flags, value_back}
 use Rattle.slirp_config.proofs.Names.{dashed_name, same_text}
 use Rattle.slirp_config.proofs.Steps.{at, behind_end, dashed_joined, given, waiting}
-
-abbrev pub listed : Option Given → List Given
-listed None = []
-listed (Some given) = given ∷ []
 
 -- what a step changes
 pub record After (walk : Walk) (word : Word) (next : Walk) : Type 0 where
@@ -50,37 +46,37 @@ module _ (verb : Verb) (o : List Given) (a : List Word) where
   abbrev Puts : Walk → List Given → Type 0
   Puts v given = (v.options ≡ o ++ given) × (v.ended ≡ false)
 
-  by_option : (name value : Word) (v : Walk) → put_option (at verb o a) name value ≡ Some v → Puts v (given name value ∷ [])
+  by_option : (name value : Word) (v : Walk) → put_option add_all (at verb o a) name value ≡ Some v → Puts v (given name value ∷ [])
   by_option name value v h = let same = (put_back verb o a name value v h).1 in (ap (λ (w : Walk). w.options) same, ap (λ (w : Walk). w.ended) same)
 
   by_joined : (name value : Word) (t : Option Bool) (v : Walk) →
-      (elim t [ None ↦ None | Some takes ↦ cond (takes && ltb 0 (length value)) (put_option (at verb o a) name value) None ]) ≡ Some v → Puts v (given name value ∷ [])
+      (elim t [ None ↦ None | Some takes ↦ cond (takes && ltb 0 (length value)) (put_option add_all (at verb o a) name value) None ]) ≡ Some v → Puts v (given name value ∷ [])
   by_joined name value None v h = absurd (cc h)
-  by_joined name value (Some takes) v h = let c = chosen (takes && ltb 0 (length value)) (put_option (at verb o a) name value) v h in by_option name value v c.1
+  by_joined name value (Some takes) v h = let c = chosen (takes && ltb 0 (length value)) (put_option add_all (at verb o a) name value) v h in by_option name value v c.1
 
   by_name : (word : Word) (t : Option Bool) (v : Walk)
-      → (elim t [ None ↦ None | Some takes ↦ cond takes (cond (not (is_some (value_in o word))) (Some (waiting verb o a word)) None) (put_option (at verb o a) word []) ]) ≡ Some v
+      → (elim t [ None ↦ None | Some takes ↦ cond takes (cond (may_stand o word) (Some (waiting verb o a word)) None) (put_option add_all (at verb o a) word []) ]) ≡ Some v
       → Puts v (listed (elim t [ None ↦ None | Some takes ↦ cond takes None (Some (given word [])) ]))
   by_name word None v h = absurd (cc h)
   by_name word (Some true) v h =
-      let c = chosen (not (is_some (value_in o word))) (Some (waiting verb o a word)) v h in
+      let c = chosen (may_stand o word) (Some (waiting verb o a word)) v h in
       let same = same_walk (waiting verb o a word) v c.1 in
       (sym (ap (λ (w : Walk). w.options) same) ∙ sym (append-nil o), sym (ap (λ (w : Walk). w.ended) same))
   by_name word (Some false) v h = by_option word [] v h
 
-  by_dashed : (word : Word) (t : Bool) (v : Walk) → cond t (put_joined (at verb o a) (before_first is_sign word) (after_first is_sign word)) (put_name (at verb o a) word) ≡ Some v
+  by_dashed : (word : Word) (t : Bool) (v : Walk) → cond t (put_joined add_all (at verb o a) (before_first is_sign word) (after_first is_sign word)) (put_name add_all (at verb o a) word) ≡ Some v
       → Puts v (listed (cond t (Some (given (before_first is_sign word) (after_first is_sign word))) (flag_of verb word)))
   by_dashed word true v h = by_joined (before_first is_sign word) (after_first is_sign word) (takes_value verb (before_first is_sign word)) v h
   by_dashed word false v h = by_name word (takes_value verb word) v h
 
-  by_word : (word : Word) (d : Bool) (v : Walk) → cond d (put_dashed (at verb o a) word) (Some (at verb o (a ++ word ∷ []))) ≡ Some v → Puts v (listed (cond d (named verb word) None))
+  by_word : (word : Word) (d : Bool) (v : Walk) → cond d (put_dashed add_all (at verb o a) word) (Some (at verb o (a ++ word ∷ []))) ≡ Some v → Puts v (listed (cond d (named verb word) None))
   by_word word true v h = by_dashed word (ltb (position_or_len is_sign word) (length word)) v h
   by_word word false v h =
       let same = same_walk (at verb o (a ++ word ∷ [])) v h in
       (sym (ap (λ (w : Walk). w.options) same) ∙ sym (append-nil o), sym (ap (λ (w : Walk). w.ended) same))
 
   by_begin : (word : Word) (e : Bool) → bytes_eq word (codes "--") ≡ e → (v : Walk)
-      → cond e (Some (behind_end verb o a)) (cond (is_dashed word) (put_dashed (at verb o a) word) (Some (at verb o (a ++ word ∷ [])))) ≡ Some v
+      → cond e (Some (behind_end verb o a)) (cond (is_dashed word) (put_dashed add_all (at verb o a) word) (Some (at verb o (a ++ word ∷ [])))) ≡ Some v
       → (v.options ≡ o ++ listed (cond (is_dashed word) (named verb word) None)) × (v.ended ≡ e)
   by_begin word true is v h =
       let same = same_walk (behind_end verb o a) v h in

@@ -1,11 +1,12 @@
 -- What the words of a command line mean.
-use Rattle.std.specs.Prelude.{◌≡◌, ◌⊎◌, ℕ, ◌+◌, ◌%◌, ◌^◌, ◌<◌, ◌≤◌, ◌||◌, nat_lt, Bool, true, false, List, [], ◌∷◌, length, codes, Option, Some, None, is_some, Result, Ok, Err}
+use Rattle.std.specs.Prelude.{◌≡◌, ◌⊎◌, ℕ, ◌+◌, ◌%◌, ◌^◌, ◌<◌, ◌≤◌, ◌||◌, ◌==◌, not, nat_lt, Bool, true, false, List, [], ◌∷◌, length, codes, Option, Some, None, is_some, Result, Ok, Err}
 use Rattle.std.specs.Prelude.{MatchOption, if◌then◌else◌}
 use Rattle.std.specs.Option.{option_map, option_map_or}
 use Rattle.net_octets.specs.declared.Endpoint.{Endpoint}
 use Rattle.host_policy.specs.Addresses.{Config}
 use Rattle.host_policy.specs.Settings.{settings, usual}
 use Rattle.host_policy.specs.Ranges.{first_broken}
+use Rattle.host_policy.specs.declared.Denial.{Denial}
 use Rattle.host_policy.specs.declared.config.Field.{Field}
 use Rattle.host_policy.specs.declared.config.Field.TheVariants.{Octets}
 use Rattle.world_face.specs.Journal.{IsPlace, Place, place_of}
@@ -16,10 +17,10 @@ use Rattle.slirp_config.specs.declared.Tap.TheVariants.{Record, Capture}
 use Rattle.slirp_config.specs.declared.WordFault.{WordFault}
 use Rattle.slirp_config.specs.declared.WordFault.TheVariants.{BadConfig}
 use Rattle.slirp_config.specs.declared.options.Verb.TheVariants.{Replay, Serve}
-use Rattle.slirp_config.specs.Options.{Word, Line, IsLine, line_words, words_alone, value_of}
+use Rattle.slirp_config.specs.Options.{Word, Line, IsLine, line_words, words_alone, value_of, denied_of}
 use Rattle.slirp_config.specs.Rules.{AreRules}
 use Rattle.address_text.specs.Texts.{IsNumber, IsAddress, IsEndpointText}
-use Rattle.slirp_config.specs.Texts.{IsNetwork, IsLink, held_folder, held_text}
+use Rattle.slirp_config.specs.Texts.{AreDenials, IsNetwork, IsLink, held_folder, held_text}
 
 -- A schedule in a file is replayed, or the link at a place is served, with these settings, and perhaps what is called is recorded or the link's frames are
 -- captured; or a drill of so many octets is run, on a World that is made from a number; or how the words are written is told, or the version.
@@ -47,10 +48,11 @@ broken_in Helps = None
 broken_in TellsVersion = None
 
 -- a command with an option that only version 2 of the settings has is of that version
-abbrev pub version_of : (given : Word → Option Word) → ℕ
-version_of given = if is_some (given (codes "--outbound")) || is_some (given (codes "--no-dns")) || is_some (given (codes "--no-dhcp")) then 2 else 1
+abbrev pub version_of : (given : Word → Option Word) (denied : List Denial) → ℕ
+version_of given denied =
+    if is_some (given (codes "--outbound")) || is_some (given (codes "--no-dns")) || is_some (given (codes "--no-dhcp")) || not (length denied == 0) then 2 else 1
 
--- the settings that options give, by the value that each name has; what no option gives is usual. No option gives forwards
+-- the settings that options give, by the value that each name has; what no option gives is usual. None of these gives forwards or denied networks
 pub record AreSettings (given : Word → Option Word) (config : Config) : Type 0 where
   pub net : MatchOption (given (codes "--net")) ((config.network ≡ usual.network) × (config.mask ≡ usual.mask)) (λ text. IsNetwork text config.network config.mask)
   pub host : MatchOption (given (codes "--host")) (config.vhost ≡ (config.network + 2) % 2 ^ 32) (λ text. IsAddress text config.vhost)
@@ -73,7 +75,7 @@ pub record AreSettings (given : Word → Option Word) (config : Config) : Type 0
   pub no_dns : config.no_dns ≡ is_some (given (codes "--no-dns"))
   pub no_dhcp : config.no_dhcp ≡ is_some (given (codes "--no-dhcp"))
   pub congestion : config.congestion ≡ is_some (given (codes "--congestion"))
-  pub version : config.version ≡ version_of given
+  pub version : config.version ≡ version_of given config.denied
   pub rest : config ≡ record usual {
     network = config.network;
     mask = config.mask;
@@ -99,14 +101,15 @@ pub record AreSettings (given : Word → Option Word) (config : Config) : Type 0
     congestion = config.congestion;
     version = config.version;
     forwards = config.forwards;
+    denied = config.denied;
   }
 
--- the words behind `replay`: the first that stands by itself names the file, and all others that do are RULEs
+-- the words behind `replay`: the first that stands by itself names the file, all others that do are RULEs, and networks are denied
 abbrev pub MeansReplay : List Word → (file : Word) (config : Config) → Type 0
 MeansReplay words file config =
     (line : Line) × (rules : List Word) × (words ≡ line_words line) × IsLine Replay line
     × (words_alone line ≡ file ∷ rules) × (0 < length file) × (length file ≤ 1280)
-    × AreRules rules config.dhcp_start config.forwards × AreSettings (value_of line) config
+    × AreRules rules config.dhcp_start config.forwards × AreSettings (value_of line) config × AreDenials (denied_of line) config.denied
 
 abbrev pub is_record : Tap → Bool
 is_record Record = true
@@ -120,11 +123,11 @@ is_capture _ = false
 abbrev pub IsTap : (given : Word → Option Word) → Tap → Type 0
 IsTap given tap = (is_some (given (codes "--record")) ≡ is_record tap) × (is_some (given (codes "--capture")) ≡ is_capture tap)
 
--- the words behind `serve`: those that stand by themselves are RULEs, and the link is told
+-- the words behind `serve`: those that stand by themselves are RULEs, the link is told, and networks are denied
 abbrev pub MeansServe : List Word → (config : Config) (at : Place) (tap : Tap) → Type 0
 MeansServe words config at tap =
     (line : Line) × (words ≡ line_words line) × IsLine Serve line × MatchOption (value_of line (codes "--link")) ⊥ (λ text. IsLink text at) × IsTap (value_of line) tap
-    × AreRules (words_alone line) config.dhcp_start config.forwards × AreSettings (value_of line) config
+    × AreRules (words_alone line) config.dhcp_start config.forwards × AreSettings (value_of line) config × AreDenials (denied_of line) config.denied
 
 -- the words behind `drive` are two numbers
 abbrev pub MeansDrive : List Word → (number octets : ℕ) → Type 0

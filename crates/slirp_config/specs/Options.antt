@@ -1,5 +1,5 @@
 -- The options, and what a command line is made of.
-use Rattle.std.specs.Prelude.{◌≡◌, ℕ, ◌==◌, ◌&&◌, ◌<◌, not, Bool, true, false, List, [], ◌∷◌, ◌++◌, length, bytes_eq, codes, Option, Some, None, find}
+use Rattle.std.specs.Prelude.{◌≡◌, ℕ, ◌==◌, ◌&&◌, ◌<◌, not, Bool, true, false, List, [], ◌∷◌, ◌++◌, length, bytes_eq, codes, Option, Some, None, find, if◌then◌else◌}
 use Rattle.std.specs.Option.{option_map}
 use Rattle.host_policy.specs.Ranges.{none_twice}
 use Rattle.slirp_config.specs.declared.options.Kind.{Kind}
@@ -53,6 +53,7 @@ rows =
     ∷ of_all (codes "--no-dns") Nothing
     ∷ of_all (codes "--outbound") Address
     ∷ of_all (codes "--tftp") Text
+    ∷ of_all (codes "--deny") Network
     ∷ []
 
 abbrev pub has_row : Verb → Row → Bool
@@ -149,13 +150,30 @@ words_alone line = plain_words line.pieces ++ alone_behind line.behind
 abbrev pub same_name : Given → Given → Bool
 same_name a b = bytes_eq a.name b.name
 
--- each option stands at most once
-abbrev pub IsLine : Verb → Line → Type 0
-IsLine verb line = ArePieces verb line.pieces × (none_twice same_name (options_of line.pieces) ≡ true)
+-- one option may stand several times
+abbrev pub is_repeated : Word → Bool
+is_repeated name = bytes_eq name (codes "--deny")
 
--- the value with which the option of this name is given; None where it isn't
+-- the options that stand once, and the values of the one that may stand several times
+abbrev pub single : List Given → List Given
+single [] = []
+single (given ∷ options) = if is_repeated given.name then single options else given ∷ single options
+
+abbrev pub repeated : List Given → List Word
+repeated [] = []
+repeated (given ∷ options) = if is_repeated given.name then given.value ∷ repeated options else repeated options
+
+-- each other option stands at most once
+abbrev pub IsLine : Verb → Line → Type 0
+IsLine verb line = ArePieces verb line.pieces × (none_twice same_name (single (options_of line.pieces)) ≡ true)
+
+-- the value with which the option of this name is given, of those that stand once; None where it isn't
 abbrev pub value_in : List Given → Word → Option Word
 value_in options name = option_map (λ given. given.value) (find (λ given. bytes_eq given.name name) options)
 
 abbrev pub value_of : Line → Word → Option Word
-value_of line name = value_in (options_of line.pieces) name
+value_of line name = value_in (single (options_of line.pieces)) name
+
+-- the networks that are denied
+abbrev pub denied_of : Line → List Word
+denied_of line = repeated (options_of line.pieces)

@@ -3,11 +3,24 @@ use Rattle.std.specs.Prelude.{◌≡◌, ℕ, ◌^◌, ◌<◌, ◌≤◌, nat_l
 use Rattle.world_face.specs.Journal.{IsEndpoint, Place, AtPath, AtEndpoint}
 use Rattle.address_text.specs.Texts.{address_text, place_text}
 use Rattle.host_policy.specs.Ranges.{mask_of}
+use Rattle.host_policy.specs.declared.Denial.{Denial}
 
 -- an address, a slash, and how many ones its mask has (RFC 4632, 3.1)
 abbrev pub IsNetwork : (text : List ℕ) (network mask : ℕ) → Type 0
 IsNetwork text network mask =
     (ones : ℕ) × (text ≡ address_text network ++ codes "/" ++ decimal ones) × (network < 2 ^ 32) × (ones ≤ 32) × (mask ≡ mask_of ones)
+
+-- a network that is denied: an address, a slash, and how many bits its prefix has
+abbrev pub IsDenial : (text : List ℕ) (denial : Denial) → Type 0
+IsDenial text denial =
+    (text ≡ address_text denial.0.net.0 ++ codes "/" ++ decimal denial.0.length) × (denial.0.net.0 < 2 ^ 32) × (denial.0.length ≤ 32)
+
+-- each text is one, in their order
+abbrev pub AreDenials : (texts : List (List ℕ)) (denials : List Denial) → Type 0
+AreDenials [] [] = Unit {0}
+AreDenials [] (denial ∷ denials) = ⊥
+AreDenials (text ∷ texts) [] = ⊥
+AreDenials (text ∷ texts) (denial ∷ denials) = IsDenial text denial × AreDenials texts denials
 
 -- a path has 1 to 107 octets, as many as the system's name of a socket holds
 abbrev pub IsLinkPlace : Place → Type 0

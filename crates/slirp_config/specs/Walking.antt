@@ -1,6 +1,7 @@
 -- The walk over the words behind a command: what is kept of those that were read, and what the next one adds.
 use Rattle.std.specs.Prelude.{◌≡◌, ℕ, ◌+◌, ◌==◌, ◌&&◌, ◌||◌, not, nat_lt, Bool, true, false, List, [], ◌∷◌, ◌++◌, length, take, bytes_eq, codes, map, MatchBool, MatchOption, Option, Some}
 use Rattle.std.specs.Prelude.{None, is_some, option_copied, if◌then◌else◌}
+use Rattle.std.specs.Option.{option_map}
 use Rattle.std.specs.List.{before_first, after_first, list_all, list_any, position_or_len}
 use Rattle.host_policy.specs.Ranges.{none_twice}
 use Rattle.slirp_config.specs.declared.options.Verb.{Verb}
@@ -10,7 +11,7 @@ use Rattle.slirp_config.specs.declared.line.Line.{Line as LineHere}
 use Rattle.slirp_config.specs.declared.options.Row.{Row as RowHere}
 use Rattle.slirp_config.specs.declared.Stop.{Stop}
 use Rattle.slirp_config.specs.declared.Stop.TheVariants.{Word as AtWord, End as AtEnd}
-use Rattle.slirp_config.specs.Options.{Word, Given, Row, is_dashed, kind_of, rows, same_name, takes_value, value_in}
+use Rattle.slirp_config.specs.Options.{Word, Given, Row, is_dashed, is_repeated, kind_of, repeated, rows, same_name, single, takes_value, value_in}
 use Rattle.slirp_config.specs.Values.{CanHave}
 use Rattle.slirp_config.specs.Rules.{AreRuleWords, IsRuleWord}
 use Rattle.slirp_config.specs.Texts.{IsFile}
@@ -35,11 +36,15 @@ given_of given = record { name = given.name.now; value = given.value.now }
 abbrev pub walk_of : LineHere → Walk
 walk_of line = record { verb = line.verb; options = map given_of line.options.items; alone = map (λ word. word.now) line.alone.items; waits = option_copied line.waits; ended = line.ended }
 
--- an option stands once, and there are twenty-four
-abbrev pub put_option : Walk → Word → Word → Option Walk
-put_option walk name value =
-    if not (is_some (value_in walk.options name)) && nat_lt (length walk.options) 24
-    then Some (record walk { options = walk.options ++ record { name = name; value = value } ∷ [] })
+-- an option may stand where none of its name does, or where it may stand several times
+abbrev pub may_stand : List Given → Word → Bool
+may_stand options name = is_repeated name || not (is_some (value_in options name))
+
+-- one more option; `add` says what becomes of the options with it
+abbrev pub put_option : (add : List Given → Given → Option (List Given)) → Walk → Word → Word → Option Walk
+put_option add walk name value =
+    if may_stand walk.options name
+    then option_map (λ options. record walk { options = options }) (add walk.options (record { name = name; value = value }))
     else None
 
 -- one more word stands by itself; `keep` says how many of these are kept
@@ -47,54 +52,65 @@ abbrev pub put_alone : (keep : List Word → List Word) → Walk → Word → Op
 put_alone keep walk word = Some (record walk { alone = keep (walk.alone ++ word ∷ []) })
 
 -- a value that stands apart
-abbrev pub put_apart : Walk → Word → Word → Option Walk
-put_apart walk name value = if nat_lt 0 (length value) && not (is_dashed value) then put_option (record walk { waits = None }) name value else None
+abbrev pub put_apart : (add : List Given → Given → Option (List Given)) → Walk → Word → Word → Option Walk
+put_apart add walk name value = if nat_lt 0 (length value) && not (is_dashed value) then put_option add (record walk { waits = None }) name value else None
 
 -- a value behind the name and a sign
-abbrev pub put_joined : Walk → Word → Word → Option Walk
-put_joined walk name value =
+abbrev pub put_joined : (add : List Given → Given → Option (List Given)) → Walk → Word → Word → Option Walk
+put_joined add walk name value =
     elim (takes_value walk.verb name) [
       | None ↦ None
-      | Some takes ↦ if takes && nat_lt 0 (length value) then put_option walk name value else None
+      | Some takes ↦ if takes && nat_lt 0 (length value) then put_option add walk name value else None
     ]
 
--- a name alone: a flag, or an option that wasn't given yet and waits for its value
-abbrev pub put_name : Walk → Word → Option Walk
-put_name walk name =
+-- a name alone: a flag, or an option that may stand and waits for its value
+abbrev pub put_name : (add : List Given → Given → Option (List Given)) → Walk → Word → Option Walk
+put_name add walk name =
     elim (takes_value walk.verb name) [
       | None ↦ None
-      | Some takes ↦ if takes then (if not (is_some (value_in walk.options name)) then Some (record walk { waits = Some name }) else None) else put_option walk name []
+      | Some takes ↦ if takes then (if may_stand walk.options name then Some (record walk { waits = Some name }) else None) else put_option add walk name []
     ]
 
 abbrev pub is_sign : ℕ → Bool
 is_sign octet = octet == 61
 
-abbrev pub put_dashed : Walk → Word → Option Walk
-put_dashed walk word =
+abbrev pub put_dashed : (add : List Given → Given → Option (List Given)) → Walk → Word → Option Walk
+put_dashed add walk word =
     if nat_lt (position_or_len is_sign word) (length word)
-    then put_joined walk (before_first is_sign word) (after_first is_sign word)
-    else put_name walk word
+    then put_joined add walk (before_first is_sign word) (after_first is_sign word)
+    else put_name add walk word
 
-abbrev pub begin : (keep : List Word → List Word) → Walk → Word → Option Walk
-begin keep walk word =
+abbrev pub begin : (keep : List Word → List Word) (add : List Given → Given → Option (List Given)) → Walk → Word → Option Walk
+begin keep add walk word =
     if bytes_eq word (codes "--") then Some (record walk { ended = true })
-    else (if is_dashed word then put_dashed walk word else put_alone keep walk word)
+    else (if is_dashed word then put_dashed add walk word else put_alone keep walk word)
 
-abbrev pub step_with : (keep : List Word → List Word) → Walk → Word → Option Walk
-step_with keep walk word =
+abbrev pub step_with : (keep : List Word → List Word) (add : List Given → Given → Option (List Given)) → Walk → Word → Option Walk
+step_with keep add walk word =
     if walk.ended then put_alone keep walk word
-    else elim walk.waits [ None ↦ begin keep walk word | Some name ↦ put_apart walk name word ]
+    else elim walk.waits [ None ↦ begin keep add walk word | Some name ↦ put_apart add walk name word ]
 
--- all words that stand by themselves are kept
+-- all options and all words that stand by themselves are kept
+abbrev pub add_all : List Given → Given → Option (List Given)
+add_all options given = Some (options ++ given ∷ [])
+
 abbrev pub step : Walk → Word → Option Walk
-step walk word = step_with (λ words. words) walk word
+step walk word = step_with (λ words. words) add_all walk word
 
 -- A line has room for the first 34 of them: a file, and one RULE more than the settings have room for.
 abbrev pub kept : List Word → List Word
 kept words = take 34 words
 
+-- It has room for one option of each name, of which there are twenty-five, and for none that may stand several times.
+abbrev pub hold : List Given → Given → Option (List Given)
+hold options given = if is_repeated given.name then Some options else (if nat_lt (length options) 25 then Some (options ++ given ∷ []) else None)
+
 abbrev pub kept_of : Walk → Walk
-kept_of walk = record walk { alone = kept walk.alone }
+kept_of walk = record walk { options = single walk.options; alone = kept walk.alone }
+
+-- The first 9 networks that are denied are kept beside it: one more than the settings may have.
+abbrev pub kept_denied : List Word → List Word
+kept_denied words = take 9 words
 
 abbrev pub is_replay : Verb → Bool
 is_replay Replay = true
@@ -132,6 +148,10 @@ abbrev pub completed : Walk → Word → Option Given
 completed walk word =
     if walk.ended then None
     else elim walk.waits [ None ↦ if is_dashed word then named walk.verb word else None | Some name ↦ Some (record { name = name; value = word }) ]
+
+abbrev pub listed : Option Given → List Given
+listed None = []
+listed (Some given) = given ∷ []
 
 -- its value is one that it can have
 abbrev pub IsGiven : Verb → Given → Type 0
@@ -196,11 +216,11 @@ pub record IsGood (walk : Walk) : Type 0 where
 abbrev pub option_names : List Word
 option_names = map (λ (row : Row). row.name) rows
 
--- what every walk keeps: no option stands twice, each is in the table, and one that waits for its value has one and wasn't given
+-- what every walk keeps: no option stands twice that may not, each is in the table, and one that waits for its value has one and may stand
 pub record IsProper (walk : Walk) : Type 0 where
-  pub once : none_twice same_name walk.options ≡ true
-  pub known : list_all (λ (given : Given). list_any (λ name. bytes_eq name given.name) option_names) walk.options ≡ true
-  pub waiting : MatchOption walk.waits (Unit {0}) (λ name. (takes_value walk.verb name ≡ Some true) × (is_some (value_in walk.options name) ≡ false))
+  pub once : none_twice same_name (single walk.options) ≡ true
+  pub known : list_all (λ (given : Given). list_any (λ name. bytes_eq name given.name) option_names) (single walk.options) ≡ true
+  pub waiting : MatchOption walk.waits (Unit {0}) (λ name. (takes_value walk.verb name ≡ Some true) × (may_stand walk.options name ≡ true))
   pub quiet : walk.ended ≡ true → walk.waits ≡ None
 
 -- Words are walked so far, and can go on.
@@ -211,14 +231,15 @@ pub record Walks (verb : Verb) (words : List Word) : Type 0 where
   pub good : IsGood walk
   pub proper : IsProper walk
 
--- the walk over words, of which a line keeps what it has room for
-pub record HasWalked (verb : Verb) (words : List Word) (line : LineHere) : Type 0 where
+-- the walk over words, of which a line keeps what it has room for, and the denied networks are kept beside it
+pub record HasWalked (verb : Verb) (words : List Word) (line : LineHere) (denied : List Word) : Type 0 where
   pub walk : Walk
   pub walks : walked verb words ≡ Some walk
   pub verb_is : walk.verb ≡ verb
   pub good : IsGood walk
   pub far : Walks verb words
   pub keeps : kept_of walk ≡ walk_of line
+  pub denies : kept_denied (repeated walk.options) ≡ denied
 
 -- The walk stops at a word: those before it can go on, and nothing that begins with the words up to it can. Or all can go on, and an option waits for its value.
 abbrev pub WalkStops : Verb → List Word → Stop → Type 0

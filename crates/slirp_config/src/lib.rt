@@ -1,7 +1,7 @@
 //! The words of the command line, and the settings that they give. Nothing is allocated.
 //!
 //! `replay FILE [OPTIONS] [RULE]...`, `serve --link AT [OPTIONS] [RULE]...` and `drive NUMBER OCTETS` have a reading; FILE has 1 to 1,280 octets. An option is written
-//! `--name value` or `--name=value`, a flag `--name`, each once and anywhere behind the command. Behind the word `--` no word is an option. No name is
+//! `--name value` or `--name=value`, a flag `--name`, each but `--deny` once, and anywhere behind the command. Behind the word `--` no word is an option. No name is
 //! shortened and no value is empty; numbers are decimal digits without a needless zero in front. Of the words that stand by themselves
 //! the first of `replay` is FILE, and each other is a RULE.
 //!
@@ -18,6 +18,7 @@
 //! | `--resolver` | an endpoint: an address, `:` and a number up to 65,535 | none |
 //! | `--outbound` | an address | none |
 //! | `--tftp` | a folder: a text | none |
+//! | `--deny`, up to 8 times | a network as in `--net`: guests don't reach it | none |
 //!
 //! RULE is `[hostfwd=][tcp|udp]:[hostaddr]:hostport-[guestaddr]:guestport`, with addresses and numbers up to 65,535: this port of the host leads to that one
 //! of a guest, of TCP where no type is said. Without an address it is every one of the host's, 0.0.0.0, and the first that is lent to guests, whether
@@ -25,10 +26,11 @@
 //!
 //! `drive` has neither options nor RULEs: NUMBER and OCTETS are numbers up to 2^64 - 1, and its settings are the usual ones. OCTETS over 10,000,000 is out of its range.
 //!
-//! A setting out of its range is named, the first in the order of `host_policy`: a text of over 127 octets too, a folder of over 1,024, and more than 32 RULEs.
-//! With `--no-dhcp`, `--no-dns` or `--outbound` the settings are of version 2.
+//! A setting out of its range is named, the first in the order of `host_policy`: a text of over 127 octets too, a folder of over 1,024, more than 32 RULEs, and more than 8 denied networks.
+//! With `--no-dhcp`, `--no-dns`, `--outbound` or `--deny` the settings are of version 2.
 #![tactic(auto)]
 
+mod denied;
 mod line;
 mod options;
 mod rules;
@@ -245,14 +247,14 @@ fn replay_of(words: &[String]) -> Result<Command, Stop>
     ensures place { IfOk result (λ command. HasPlace (said command)) }
     ensures refused { IfErr result (λ stop. StopsBehind (λ words. (file : List ℕ) × (config : Config) × MeansReplay words file config) (map string_bytes words.now) stop) }
 {
-    let line = Line::read(Verb::Replay, words)?;
+    let (line, denied) = Line::read(Verb::Replay, words)?;
     let Some((file, rules)) = line.alone().split_first() else {
         return Err(Stop::End);
     };
     let Ok(file) = file_of(file) else {
         return Err(Stop::End);
     };
-    let Ok(config) = line.settings(rules) else {
+    let Ok(config) = line.settings(rules, denied.as_slice()) else {
         return Err(Stop::End);
     };
     Ok(Command::Replay(file, config))
@@ -279,7 +281,7 @@ fn serve_of(words: &[String]) -> Result<Command, Stop>
     ensures place { IfOk result (λ command. HasPlace (said command)) }
     ensures refused { IfErr result (λ stop. StopsBehind (λ words. (config : Config) × (at : Place) × (tap : ATap) × MeansServe words config at tap) (map string_bytes words.now) stop) }
 {
-    let line = Line::read(Verb::Serve, words)?;
+    let (line, denied) = Line::read(Verb::Serve, words)?;
     let Some(link) = line.value("--link") else {
         return Err(Stop::End);
     };
@@ -289,7 +291,7 @@ fn serve_of(words: &[String]) -> Result<Command, Stop>
     let Ok(tap) = tap_of(line.has("--record"), line.has("--capture")) else {
         return Err(Stop::End);
     };
-    let Ok(config) = line.settings(line.alone()) else {
+    let Ok(config) = line.settings(line.alone(), denied.as_slice()) else {
         return Err(Stop::End);
     };
     Ok(Command::Serve(config, at, tap))

@@ -1,13 +1,13 @@
 //! The walk over the words behind a command.
-ghost use Rattle.std.specs.Prelude.{◌≡◌, ◌⊎◌, ◌++◌, ◌∷◌, [], bytes_eq, ◌≤◌, ◌&&◌, ◌<◌, nat_lt, not, false, length, map, MatchBool, None, Some, OnOk, OnErr, IfErr, IfOk, is_some};
+ghost use Rattle.std.specs.Prelude.{◌≡◌, ◌⊎◌, List, ◌++◌, ◌∷◌, [], bytes_eq, ◌≤◌, ◌&&◌, ◌<◌, nat_lt, not, false, length, map, MatchBool, None, Some, OnOk, OnErr, IfErr, IfOk, is_some};
 ghost use Rattle.std.specs.Prelude.{option_copied, option_map, find};
 ghost use Rattle.std.specs.String.{string_bytes};
-ghost use Rattle.slirp_config.specs.Options.{is_dashed, value_in};
-ghost use Rattle.slirp_config.specs.Walking.{Fits, FitsAlone, FitsOption, HasWalked, IsGiven, IsWanted, WalkStops, begin, can_end, completed, ends, flag_of, given_of, has_link, is_both};
-ghost use Rattle.slirp_config.specs.Walking.{kept, named, put_alone, put_apart, put_dashed, put_joined, put_name, put_option, stands_alone, step_with, walk_of, wants_file};
+ghost use Rattle.slirp_config.specs.Options.{Word, is_dashed, repeated, value_in};
+ghost use Rattle.slirp_config.specs.Walking.{Fits, FitsAlone, FitsOption, HasWalked, IsGiven, IsWanted, WalkStops, begin, can_end, completed, ends, flag_of, given_of, has_link, hold, is_both};
+ghost use Rattle.slirp_config.specs.Walking.{kept, kept_denied, listed, may_stand, named, put_alone, put_apart, put_dashed, put_joined, put_name, put_option, stands_alone, step_with, walk_of, wants_file};
 
 use crate::Stop;
-use crate::options::{COUNT, Verb, kind_of, takes_value};
+use crate::options::{COUNT, Verb, is_repeated, kind_of, takes_value};
 use crate::rules::is_rule;
 use crate::values::{can_have, is_file_name};
 use address_text::NoReading;
@@ -15,6 +15,12 @@ use arrayvec::ArrayVec;
 
 /// How many of the words that stand by themselves are kept: a file, and one RULE more than the settings have room for.
 const ALONE: usize = 34;
+
+/// How many of the networks that are denied are kept: one more than there may be.
+const DENIED: usize = 9;
+
+/// The values of the option that may stand several times.
+pub(crate) type Denied<'a> = ArrayVec<&'a str, DENIED>;
 
 /// An option that was given, with its value; that of a flag is empty.
 #[derive(Clone, Copy, Default)]
@@ -37,9 +43,9 @@ pub(crate) struct Line<'a> {
 }
 
 impl<'a> Line<'a> {
-    /// Reads the words behind a command, from the front.
-    pub(crate) fn read(verb: Verb, words: &'a [String]) -> Result<Line<'a>, Stop>
-        ensures read { IfOk result (λ line. HasWalked verb (map string_bytes words.now) line) }
+    /// Reads the words behind a command, from the front: and beside the line the first 9 networks that are denied.
+    pub(crate) fn read(verb: Verb, words: &'a [String]) -> Result<(Line<'a>, Denied<'a>), Stop>
+        ensures read { IfOk result (λ read. HasWalked verb (map string_bytes words.now) read.0 (map (λ word. word.now) read.1.items)) }
         ensures refused { IfErr result (λ stop. WalkStops verb (map string_bytes words.now) stop) }
     {
         let mut line = Line {
@@ -49,22 +55,35 @@ impl<'a> Line<'a> {
             waits: None,
             ended: false,
         };
+        let mut denied = ArrayVec::new();
         for (place, word) in words.iter().enumerate() {
-            if line.take(word.as_str()).is_err() {
+            let word = word.as_str();
+            line.deny(word, &mut denied);
+            if line.take(word).is_err() {
                 return Err(Stop::Word(place + 1));
             }
         }
         match line.waits {
             Some(_) => Err(Stop::End),
-            None => Ok(line),
+            None => Ok((line, denied)),
+        }
+    }
+
+    // Puts the network that the next word denies, where it does, and where there is room.
+    fn deny(&self, word: &'a str, denied: &mut Denied<'a>)
+        ensures { (all : List Word) → map (λ word. word.now) denied.old.items ≡ kept_denied all
+            → map (λ word. word.now) denied.new.items ≡ kept_denied (all ++ repeated (listed (completed (walk_of self.now) word.now))) }
+    {
+        if let Some(given) = self.completed(word) {
+            deny_given(&given, denied);
         }
     }
 
     // Takes the next word.
     fn take(&mut self, word: &'a str) -> Result<(), NoReading>
-        ensures taken { OnOk result (step_with kept (walk_of self.old) word.now ≡ Some (walk_of self.new)) }
+        ensures taken { OnOk result (step_with kept hold (walk_of self.old) word.now ≡ Some (walk_of self.new)) }
         ensures fits { OnOk result (Fits (walk_of self.old) word.now) }
-        ensures refused { OnErr result ((step_with kept (walk_of self.old) word.now ≡ None) ⊎ ¬ Fits (walk_of self.old) word.now) }
+        ensures refused { OnErr result ((step_with kept hold (walk_of self.old) word.now ≡ None) ⊎ ¬ Fits (walk_of self.old) word.now) }
     {
         if !self.fits(word) {
             return Err(NoReading);
@@ -168,8 +187,8 @@ impl<'a> Line<'a> {
 
     // Puts the next word.
     fn step(&mut self, word: &'a str) -> Result<(), NoReading>
-        ensures taken { OnOk result (step_with kept (walk_of self.old) word.now ≡ Some (walk_of self.new)) }
-        ensures refused { OnErr result (step_with kept (walk_of self.old) word.now ≡ None) }
+        ensures taken { OnOk result (step_with kept hold (walk_of self.old) word.now ≡ Some (walk_of self.new)) }
+        ensures refused { OnErr result (step_with kept hold (walk_of self.old) word.now ≡ None) }
     {
         if self.ended {
             self.put_alone(word);
@@ -201,8 +220,8 @@ impl<'a> Line<'a> {
     }
 
     fn put_apart(&mut self, name: &'a str, value: &'a str) -> Result<(), NoReading>
-        ensures taken { OnOk result (put_apart (walk_of self.old) name.now value.now ≡ Some (walk_of self.new)) }
-        ensures refused { OnErr result (put_apart (walk_of self.old) name.now value.now ≡ None) }
+        ensures taken { OnOk result (put_apart hold (walk_of self.old) name.now value.now ≡ Some (walk_of self.new)) }
+        ensures refused { OnErr result (put_apart hold (walk_of self.old) name.now value.now ≡ None) }
     {
         if value.is_empty() || is_dashed(value) {
             return Err(NoReading);
@@ -211,13 +230,16 @@ impl<'a> Line<'a> {
         self.put_option(name, value)
     }
 
-    // Puts an option that isn't there yet.
+    // Puts an option that may stand. One that may stand several times isn't kept here.
     fn put_option(&mut self, name: &'a str, value: &'a str) -> Result<(), NoReading>
-        ensures taken { OnOk result (put_option (walk_of self.old) name.now value.now ≡ Some (walk_of self.new)) }
-        ensures refused { OnErr result (put_option (walk_of self.old) name.now value.now ≡ None) }
+        ensures taken { OnOk result (put_option hold (walk_of self.old) name.now value.now ≡ Some (walk_of self.new)) }
+        ensures refused { OnErr result (put_option hold (walk_of self.old) name.now value.now ≡ None) }
     {
-        if self.has(name) {
+        if !self.may_stand(name) {
             return Err(NoReading);
+        }
+        if is_repeated(name) {
+            return Ok(());
         }
         match self.options.try_push(Given { name, value }) {
             Ok(()) => Ok(()),
@@ -225,10 +247,17 @@ impl<'a> Line<'a> {
         }
     }
 
+    // Whether an option of this name may stand.
+    fn may_stand(&self, name: &str) -> bool
+        ensures { result ≡ may_stand (walk_of self.now).options name.now }
+    {
+        is_repeated(name) || !self.has(name)
+    }
+
     // Takes what stands neither behind `--` nor behind an option that waits.
     fn begin(&mut self, word: &'a str) -> Result<(), NoReading>
-        ensures taken { OnOk result (begin kept (walk_of self.old) word.now ≡ Some (walk_of self.new)) }
-        ensures refused { OnErr result (begin kept (walk_of self.old) word.now ≡ None) }
+        ensures taken { OnOk result (begin kept hold (walk_of self.old) word.now ≡ Some (walk_of self.new)) }
+        ensures refused { OnErr result (begin kept hold (walk_of self.old) word.now ≡ None) }
     {
         if word == "--" {
             self.ended = true;
@@ -242,8 +271,8 @@ impl<'a> Line<'a> {
     }
 
     fn put_dashed(&mut self, word: &'a str) -> Result<(), NoReading>
-        ensures taken { OnOk result (put_dashed (walk_of self.old) word.now ≡ Some (walk_of self.new)) }
-        ensures refused { OnErr result (put_dashed (walk_of self.old) word.now ≡ None) }
+        ensures taken { OnOk result (put_dashed hold (walk_of self.old) word.now ≡ Some (walk_of self.new)) }
+        ensures refused { OnErr result (put_dashed hold (walk_of self.old) word.now ≡ None) }
     {
         match word.split_once('=') {
             Some((name, value)) => self.put_joined(name, value),
@@ -252,8 +281,8 @@ impl<'a> Line<'a> {
     }
 
     fn put_joined(&mut self, name: &'a str, value: &'a str) -> Result<(), NoReading>
-        ensures taken { OnOk result (put_joined (walk_of self.old) name.now value.now ≡ Some (walk_of self.new)) }
-        ensures refused { OnErr result (put_joined (walk_of self.old) name.now value.now ≡ None) }
+        ensures taken { OnOk result (put_joined hold (walk_of self.old) name.now value.now ≡ Some (walk_of self.new)) }
+        ensures refused { OnErr result (put_joined hold (walk_of self.old) name.now value.now ≡ None) }
     {
         match takes_value(self.verb, name) {
             Some(true) if !value.is_empty() => self.put_option(name, value),
@@ -262,11 +291,11 @@ impl<'a> Line<'a> {
     }
 
     fn put_name(&mut self, name: &'a str) -> Result<(), NoReading>
-        ensures taken { OnOk result (put_name (walk_of self.old) name.now ≡ Some (walk_of self.new)) }
-        ensures refused { OnErr result (put_name (walk_of self.old) name.now ≡ None) }
+        ensures taken { OnOk result (put_name hold (walk_of self.old) name.now ≡ Some (walk_of self.new)) }
+        ensures refused { OnErr result (put_name hold (walk_of self.old) name.now ≡ None) }
     {
         match takes_value(self.verb, name) {
-            Some(true) if self.has(name) => Err(NoReading),
+            Some(true) if !self.may_stand(name) => Err(NoReading),
             Some(true) => {
                 self.waits = Some(name);
                 Ok(())
@@ -298,6 +327,25 @@ impl<'a> Line<'a> {
         ensures { result ≡ is_some (value_in (walk_of self.now).options name.now) }
     {
         self.value(name).is_some()
+    }
+}
+
+// Puts the value of an option that may stand several times, where there is room.
+fn deny_given<'a>(given: &Given<'a>, denied: &mut Denied<'a>)
+    ensures { (all : List Word) → map (λ word. word.now) denied.old.items ≡ kept_denied all
+        → map (λ word. word.now) denied.new.items ≡ kept_denied (all ++ repeated (given_of given.now ∷ [])) }
+{
+    if is_repeated(given.name) {
+        keep_denied(given.value, denied);
+    }
+}
+
+// Puts a word where there is room.
+fn keep_denied<'a>(word: &'a str, denied: &mut Denied<'a>)
+    ensures { (all : List Word) → map (λ word. word.now) denied.old.items ≡ kept_denied all → map (λ word. word.now) denied.new.items ≡ kept_denied (all ++ word.now ∷ []) }
+{
+    if !denied.is_full() {
+        denied.push(word);
     }
 }
 

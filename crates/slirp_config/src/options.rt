@@ -1,7 +1,7 @@
 //! The table of the options.
 ghost use Rattle.std.specs.Prelude.{◌≡◌, find, map, option_copied};
 ghost use Rattle.std.specs.Option.{option_map};
-ghost use Rattle.slirp_config.specs.Options.{takes_value, kind_of, has_value, has_row, is_row};
+ghost use Rattle.slirp_config.specs.Options.{takes_value, kind_of, has_value, has_row, is_repeated, is_row};
 ghost use Rattle.slirp_config.specs.Walking.{row_of};
 
 /// The commands that have options.
@@ -59,7 +59,7 @@ macro_rules! rows {
 }
 
 /// How many options there are.
-pub(crate) const COUNT: usize = 24;
+pub(crate) const COUNT: usize = 25;
 
 const OPTIONS: [Row; COUNT] = rows![
     "--link" link of serve,
@@ -86,7 +86,15 @@ const OPTIONS: [Row; COUNT] = rows![
     "--no-dns" flag of all,
     "--outbound" address of all,
     "--tftp" text of all,
+    "--deny" network of all,
 ];
+
+/// Whether the option of this name may stand several times.
+pub(crate) fn is_repeated(name: &str) -> bool
+    ensures { result ≡ is_repeated name.now }
+{
+    name == "--deny"
+}
 
 /// Whether a value goes with the command's option of this name; None where it has no such option.
 pub(crate) fn takes_value(verb: Verb, name: &str) -> Option<bool>

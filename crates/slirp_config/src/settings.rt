@@ -1,44 +1,48 @@
 //! The settings that options give.
-ghost use Rattle.std.specs.Prelude.{◌≡◌, ℕ, ◌+◌, ◌%◌, ◌^◌, ◌||◌, [], IfOk, MatchOption, None, OnErr, OnOk, Option, Some, codes, is_some, map, min, option_copied};
+ghost use Rattle.std.specs.Prelude.{◌≡◌, ℕ, ◌+◌, ◌%◌, ◌^◌, ◌||◌, List, [], IfOk, MatchOption, None, OnErr, OnOk, Option, Some, codes, is_some, map, min, option_copied};
 ghost use Rattle.std.specs.Option.{option_map, option_map_or};
 ghost use Rattle.host_policy.specs.Addresses.{Config};
 ghost use Rattle.host_policy.specs.Settings.{settings, usual as usual_settings};
 ghost use Rattle.net_octets.specs.declared.Endpoint.{Endpoint as AnEndpoint};
 ghost use Rattle.slirp_config.specs.Meaning.{AreSettings, version_of};
+ghost use Rattle.host_policy.specs.declared.Denial.{Denial as ADenial};
 ghost use Rattle.slirp_config.specs.Options.{value_in};
 ghost use Rattle.slirp_config.specs.Rules.{AreRules};
 ghost use Rattle.address_text.specs.Texts.{IsAddress, IsEndpointText, IsNumber};
-ghost use Rattle.slirp_config.specs.Texts.{IsNetwork, held_folder, held_text};
-ghost use Rattle.slirp_config.specs.Narrowing.{narrowed, narrowed_settings};
+ghost use Rattle.slirp_config.specs.Texts.{AreDenials, IsNetwork, held_folder, held_text};
+ghost use Rattle.slirp_config.specs.Narrowing.{held_denials, narrowed, narrowed_settings};
 ghost use Rattle.slirp_config.specs.Walking.{walk_of};
 
+use crate::denied::put_denied;
 use crate::line::Line;
 use crate::rules::put_forwards;
 use crate::values::{held_folder, held_text, read_network};
 use address_text::{NoReading, read_address, read_endpoint, read_number, read_short};
 use arrayvec::{ArrayString, ArrayVec};
-use host_policy::SlirpConfig;
+use host_policy::{Denial, SlirpConfig};
 use net_octets::{Endpoint, Ip4};
 
 impl<'a> Line<'a> {
-    /// The settings that the options and these RULEs give; what none gives is usual.
-    pub(crate) fn settings(&self, rules: &[&str]) -> Result<SlirpConfig, NoReading>
+    /// The settings that the options, these RULEs and these denied networks give; what none gives is usual.
+    pub(crate) fn settings(&self, rules: &[&str], denied: &[&str]) -> Result<SlirpConfig, NoReading>
         ensures set { IfOk result (λ c. (config : Config) × AreSettings (value_in (walk_of self.now).options) config
-            × AreRules (map (λ rule. rule.now) rules.now) config.dhcp_start config.forwards × (settings c ≡ narrowed_settings config)) }
+            × AreRules (map (λ rule. rule.now) rules.now) config.dhcp_start config.forwards × AreDenials (map (λ text. text.now) denied.now) config.denied
+            × (settings c ≡ narrowed_settings config)) }
         ensures refused { OnErr result ((config : Config) → AreSettings (value_in (walk_of self.now).options) config
-            → ¬ AreRules (map (λ rule. rule.now) rules.now) config.dhcp_start config.forwards) }
+            → AreRules (map (λ rule. rule.now) rules.now) config.dhcp_start config.forwards → ¬ AreDenials (map (λ text. text.now) denied.now) config.denied) }
     {
         let mut config = SlirpConfig::usual();
+        put_denied(denied, &mut config.denied)?;
         self.put_settings(&mut config)?;
         put_forwards(rules, config.vdhcp_start, &mut config.forwards)?;
         Ok(config)
     }
 
-    // Puts the settings that the options give in the place of the usual ones. No forward is among them.
+    // Puts the settings that the options give in the place of the usual ones, where networks may be denied already. No forward is among them.
     fn put_settings(&self, config: &mut SlirpConfig) -> Result<(), NoReading>
-        requires { settings config.old ≡ usual_settings }
-        ensures set { OnOk result ((given : Config) × AreSettings (value_in (walk_of self.now).options) given
-            × (settings config.new ≡ narrowed_settings given)) }
+        requires { settings config.old ≡ record usual_settings { denied = config.old.denied.items } }
+        ensures set { OnOk result ((all : List ADenial) → config.old.denied.items ≡ held_denials all → (given : Config)
+            × AreSettings (value_in (walk_of self.now).options) given × (given.denied ≡ all) × (settings config.new ≡ narrowed_settings given)) }
         ensures none { OnOk result (config.new.forwards.items ≡ []) }
         ensures refused { OnErr result ((given : Config) → ¬ AreSettings (value_in (walk_of self.now).options) given) }
     {
@@ -65,7 +69,7 @@ impl<'a> Line<'a> {
         config.disable_dns = self.has("--no-dns");
         config.disable_dhcp = self.has("--no-dhcp");
         config.congestion = self.has("--congestion");
-        config.version = self.version();
+        config.version = self.version(config.denied.as_slice());
         Ok(())
     }
 
@@ -165,11 +169,15 @@ impl<'a> Line<'a> {
         Ok(Some(address))
     }
 
-    // 2 where an option is given that only version 2 has.
-    fn version(&self) -> u32
-        ensures { result ≡ version_of (value_in (walk_of self.now).options) }
+    // 2 where an option is given that only version 2 has, or a network is denied.
+    fn version(&self, denied: &[Denial]) -> u32
+        ensures { result ≡ version_of (value_in (walk_of self.now).options) denied.now }
     {
-        if self.has("--outbound") || self.has("--no-dns") || self.has("--no-dhcp") {
+        if self.has("--outbound")
+            || self.has("--no-dns")
+            || self.has("--no-dhcp")
+            || !denied.is_empty()
+        {
             2
         } else {
             1

@@ -60,7 +60,7 @@ impl Slirp {
 fn arp_reply(policy: &Policy, packet: &ArpView) -> Option<ArpView>
     ensures { packets_of result ≡ owed_for_arp policy.now (arp_of packet.now) }
 {
-    if packet.reply || !policy.is_ours(packet.target_ip) {
+    if packet.reply || !policy.answers_for(packet.target_ip) {
         return None;
     }
     Some(ArpView {

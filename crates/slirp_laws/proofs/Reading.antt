@@ -22,7 +22,7 @@ use Rattle.net_octets.specs.declared.Mac.{Mac}
 use Rattle.net_octets.specs.Kinds.{arp_kind, ipv4_kind, icmp_proto, udp_proto, tcp_proto}
 use Rattle.net_octets.specs.Octets.{two_at, four_at, part, our_mac}
 use Rattle.net_octets.proofs.Parts.{length-part}
-use Rattle.host_policy.specs.Addresses.{Config, endpoint, is_guest, is_ours}
+use Rattle.host_policy.specs.Addresses.{Config, endpoint, is_answered_for, is_guest}
 use Rattle.host_policy.specs.declared.Reply.TheVariants.{Nothing, Datagram as ADatagram}
 use Rattle.host_policy.specs.Targets.{is_hidden}
 use Rattle.ether_frame.specs.Ether.{Ether, read_ether, ether_octets}
@@ -734,7 +734,7 @@ six_fate config s d (GoesTo to) serves is = tt
 
 pub six_owed_for : (config : Config) (s : Serving) (stray : Bool) (packet : Packet) → SixServing s → SixPacket packet → AllAnswers SixAnswer (owed_for_packet config s stray packet)
 six_owed_for config s stray Unheard serves is = tt
-six_owed_for config s stray (ArpPacket arp) serves is = all_if SixAnswer (not arp.is_reply && is_ours config arp.target) (arp_reply arp ∷ []) [] ((is, our_six arp.target), tt) tt
+six_owed_for config s stray (ArpPacket arp) serves is = all_if SixAnswer (not arp.is_reply && is_answered_for config arp.target) (arp_reply arp ∷ []) [] ((is, our_six arp.target), tt) tt
 six_owed_for config s stray (Message mac ip message) serves is = all_if SixAnswer _ (owed_for_icmp mac ip message) [] (all_six _ (ours_icmp mac ip message is)) tt
 six_owed_for config s stray (DatagramPacket d) serves is = six_fate config s d (fate config d) serves is
 six_owed_for config s stray (Segment mac ip tcp) serves is = all_if SixAnswer stray (reset_for (from_guest mac ip tcp) ∷ []) [] (is, tt) tt
@@ -753,7 +753,7 @@ is_for_service config _ = false
 
 pub ours_packet : (config : Config) (s : Serving) (stray : Bool) (packet : Packet) → is_for_service config packet ≡ false → SixPacket packet → AllAnswers IsOurs (owed_for_packet config s stray packet)
 ours_packet config s stray Unheard other is = tt
-ours_packet config s stray (ArpPacket arp) other is = all_if IsOurs (not arp.is_reply && is_ours config arp.target) (arp_reply arp ∷ []) [] (((is, our_six arp.target), tt), tt) tt
+ours_packet config s stray (ArpPacket arp) other is = all_if IsOurs (not arp.is_reply && is_answered_for config arp.target) (arp_reply arp ∷ []) [] (((is, our_six arp.target), tt), tt) tt
 ours_packet config s stray (Message mac ip message) other is = all_if IsOurs _ (owed_for_icmp mac ip message) [] (ours_icmp mac ip message is) tt
 ours_packet config s stray (DatagramPacket d) other is = ours_fate config s d (fate config d) other is
 ours_packet config s stray (Segment mac ip tcp) other is = all_if IsOurs stray (reset_for (from_guest mac ip tcp) ∷ []) [] ((is, no_segment), tt) tt

@@ -9,7 +9,7 @@ use Rattle.net_octets.specs.declared.Fault.{Fault}
 use Rattle.net_octets.specs.Kinds.{icmp_proto, ipv4_kind, tcp_proto, udp_proto}
 use Rattle.net_octets.specs.Octets.{one_at, part, two_at, our_mac}
 use Rattle.world_face.specs.Journal.{Entry}
-use Rattle.host_policy.specs.Addresses.{Config, address, is_ours}
+use Rattle.host_policy.specs.Addresses.{address, Config, is_answered_for, is_ours}
 use Rattle.host_policy.specs.Targets.{is_hidden}
 use Rattle.ether_frame.specs.Ether.{Ether, read_ether}
 use Rattle.ipv4_head.specs.Ip.{Ip, ip_octets, is_unbroken, read_ip}
@@ -79,7 +79,7 @@ by_fate config s d (GoesTo to) = tt
 
 by_packet : (config : Config) (s : Serving) (stray : Bool) (packet : Packet) → AllAnswers IsReset (owed_for_packet config s stray packet)
 by_packet config s stray Unheard = tt
-by_packet config s stray (ArpPacket arp) = all_if IsReset (not arp.is_reply && is_ours config arp.target) (arp_reply arp ∷ []) [] (tt, tt) tt
+by_packet config s stray (ArpPacket arp) = all_if IsReset (not arp.is_reply && is_answered_for config arp.target) (arp_reply arp ∷ []) [] (tt, tt) tt
 by_packet config s stray (Message mac ip message) = all_if IsReset (is_ours config ip.to) (owed_for_icmp mac ip message) [] (by_icmp mac ip message) tt
 by_packet config s stray (DatagramPacket d) = by_fate config s d (fate config d)
 by_packet config s stray (SegmentPacket mac ip tcp) =

@@ -12,7 +12,7 @@ use Rattle.world_face.specs.declared.Got.TheVariants.{From, NotYet as GotNotYet,
 use Rattle.net_octets.specs.declared.Endpoint.{Endpoint}
 use Rattle.net_octets.specs.Kinds.{arp_kind, ipv4_kind, icmp_proto, tcp_proto, udp_proto}
 use Rattle.net_octets.specs.Octets.{two_at, four, our_mac}
-use Rattle.host_policy.specs.Addresses.{Config, address, endpoint, last_address, is_ours}
+use Rattle.host_policy.specs.Addresses.{address, Config, endpoint, is_answered_for, is_ours, last_address}
 use Rattle.host_policy.specs.Targets.{is_group_or_reserved, shown, is_hidden}
 use Rattle.ether_frame.specs.Ether.{ether_octets}
 use Rattle.arp_table.specs.Arp.{Arp, arp_octets}
@@ -45,12 +45,12 @@ pub data Answer : Type 0 where
   ArpAnswer : (to : List ℕ) → Arp → Answer
   IpAnswer : (to : List ℕ) (proto from guest : ℕ) (body : List ℕ) → Answer
 
--- we answer for the addresses of the virtual host and name server (RFC 826)
+-- we answer for the addresses of the virtual host, of the name server and of forwards of guests (RFC 826)
 abbrev pub arp_reply : Arp → Answer
 arp_reply arp = ArpAnswer arp.sender_mac (record { is_reply = true; sender_mac = our_mac arp.target; sender = arp.target; target_mac = arp.sender_mac; target = arp.sender })
 
 abbrev pub owed_for_arp : Config → Arp → List Answer
-owed_for_arp config arp = if not arp.is_reply && is_ours config arp.target then arp_reply arp ∷ [] else []
+owed_for_arp config arp = if not arp.is_reply && is_answered_for config arp.target then arp_reply arp ∷ [] else []
 
 -- an echo is answered with its own identifier, number and payload, to the hardware address from which it came (RFC 792; RFC 1122, 3.2.2.6)
 abbrev pub owed_for_icmp : List ℕ → Ip → Icmp → List Answer

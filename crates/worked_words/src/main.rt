@@ -2,7 +2,7 @@
 //! mean is printed, with all settings that an option or a RULE can name; a drill has none. A line that begins with `#` is a remark, an empty one nothing.
 #![tactic(auto)]
 
-use host_policy::{Forward, Proto, SlirpConfig};
+use host_policy::{Denial, Forward, Proto, SlirpConfig};
 use net_octets::{Endpoint, Ip4};
 use slirp_config::{Command, Stop, Tap, WordFault, read_words};
 use std::alloc::{AllocError, Global};
@@ -97,6 +97,9 @@ fn push_settings(alloc: Global, text: &mut String, config: &SlirpConfig) -> Resu
     push_version(alloc, text, config.version)?;
     push_names(text, config)?;
     push_ways(alloc, text, config)?;
+    for denial in config.denied.as_slice() {
+        push_denial(alloc, text, denial)?;
+    }
     for forward in config.forwards.as_slice() {
         push_forward(alloc, text, forward)?;
     }
@@ -176,6 +179,13 @@ fn push_ways(alloc: Global, text: &mut String, config: &SlirpConfig) -> Result<(
         push_addr(alloc, text, ", outbound ", outbound)?;
     }
     Ok(())
+}
+
+// A network that is denied to guests.
+fn push_denial(alloc: Global, text: &mut String, denial: &Denial) -> Result<(), AllocError> {
+    push_addr(alloc, text, ", deny ", denial.0.net)?;
+    let length = format!(in alloc; "/{}", denial.0.length)?;
+    text.push_str(length.as_str())
 }
 
 // A port of the host that is given to a guest.

@@ -1,21 +1,25 @@
 use Rattle.std.proofs.Common.{◌≡◌, length, take, ◌∷◌, List, map, string_bytes, sym, ◌∙◌, ap, subst, arith}
 use Rattle.std.proofs.lemmas.List.{length-map, length-take}
 use Rattle.std.proofs.lemmas.Result.{err_from_is_err_and}
+use Rattle.host_policy.specs.declared.Denial.{Denial}
 use Rattle.host_policy.specs.declared.Forward.{Forward}
 use Rattle.slirp_config.specs.declared.Stop.{Stop}
 use Rattle.slirp_config.specs.declared.options.Verb.{Verb}
 use Rattle.slirp_config.specs.declared.options.Verb.TheVariants.{Replay}
 use Rattle.slirp_config.specs.Meaning.{AreSettings, Replays}
 use Rattle.slirp_config.specs.Narrowing.{narrowed_settings}
-use Rattle.slirp_config.specs.Options.{Word, Given, value_in}
+use Rattle.slirp_config.specs.Options.{Word, Given, repeated, single, value_in}
 use Rattle.slirp_config.specs.Rules.{AreRules}
 use Rattle.slirp_config.specs.Stops.{StopsBehind}
-use Rattle.slirp_config.specs.Walking.{AreWanted, Walk, kept, walk_of}
+use Rattle.slirp_config.specs.Walking.{AreGiven, AreWanted, Walk, kept, walk_of}
 use Rattle.slirp_config.proofs.Completing.{replay_begins}
+use Rattle.slirp_config.proofs.Denying.{denials_front, whole_denials}
+use Rattle.slirp_config.proofs.Reading.{denials_of}
+use Rattle.slirp_config.specs.Texts.{AreDenials}
 use Rattle.slirp_config.proofs.Meant.{ReplayMeant, one_walk, replay_means, replay_meant}
 use Rattle.slirp_config.proofs.Only.{tail_of}
 use Rattle.slirp_config.proofs.Ruled.{rule_words}
-use Rattle.slirp_config.proofs.Settled.{with_forwards}
+use Rattle.slirp_config.proofs.Settled.{with_all, with_both, with_lists}
 use Rattle.slirp_config.proofs.Stopping.{replay_stops}
 use Rattle.slirp_config.proofs.Whole.{front_of, rules_front, whole_rules}
 use Rattle.slirp_config.proofs.replay_of.Goals as goal
@@ -47,11 +51,15 @@ returns-in_default-settings-clause-refused c = (
       let same = one_walk Replay (map string_bytes c.args.words.now) read.walk r.walk read.walks r.read in
       let alone = tail_of c.in-Some.file.now.now file (rule_words c.in-Some.rules.now) (take 33 r.rules)
       (ap rule_words (sym c.in-Some.ensures.cases.0) ∙ c.alone.ensures ∙ sym (ap (λ (w : Walk). w.alone) read.keeps) ∙ ap (λ (w : Walk). kept w.alone) same ∙ ap kept r.alone) in
-      let options : r.walk.options ≡ (walk_of c.in_ok-line.line).options = sym (ap (λ (w : Walk). w.options) same) ∙ ap (λ (w : Walk). w.options) read.keeps in
+      let options : single r.walk.options ≡ (walk_of c.in_ok-line.line).options = sym (ap (λ (w : Walk). single w.options) same) ∙ ap (λ (w : Walk). w.options) read.keeps in
+      let texts : take 9 (repeated r.walk.options) ≡ rule_words c.in_ok-line.denied.items = sym (ap (λ (w : Walk). take 9 (repeated w.options)) same) ∙ read.denies in
+      let held = take 9 config.denied in
+      let set = subst (λ (o : List Given). AreSettings (value_in o) config) options r.settings in
       let front = take 33 config.forwards in
-      c.in_default-settings.ensures.refused (record config { forwards = front })
-      (with_forwards (value_in (walk_of c.in_ok-line.line).options) config front (subst (λ (o : List Given). AreSettings (value_in o) config) options r.settings))
-      (subst (λ (t : List Word). AreRules t config.dhcp_start front) (sym alone.1) (rules_front 33 r.rules config.dhcp_start config.forwards r.forwards))),
+      c.in_default-settings.ensures.refused (with_lists config front held)
+      (with_both (value_in (walk_of c.in_ok-line.line).options) config front set)
+      (subst (λ (t : List Word). AreRules t config.dhcp_start front) (sym alone.1) (rules_front 33 r.rules config.dhcp_start config.forwards r.forwards))
+      (subst (λ (t : List Word). AreDenials t held) (texts ∙ ap rule_words (sym c.as_slice.ensures.value)) (denials_front 9 (repeated r.walk.options) config.denied r.denied))),
 )
 
 pub returns-clause-meant : goal.returns-clause-meant
@@ -64,8 +72,10 @@ returns-clause-meant c =
     (ap (λ (w : Walk). w.alone) read.keeps)) in
     let wanted = subst (λ (a : List Word). AreWanted Replay a) front.1 (subst (λ (v : Verb). AreWanted v read.walk.alone) read.verb_is read.good.wanted) in
     let whole = whole_rules 33 front.0 (rule_words c.in-Some.rules.now) set.0.dhcp_start set.0.forwards (omega arith) front.2 wanted.1 set.2 in
-    let settings = with_forwards (value_in (walk_of c.in_ok-line.line).options) set.0 whole.0 set.1 in
-    let config = record set.0 { forwards = whole.0 } in (
+    let all = denials_of Replay read.walk.options (subst (λ (v : Verb). AreGiven v read.walk.options) read.verb_is read.good.given) in
+    let held = whole_denials (repeated read.walk.options) _ set.0.denied all.0 (read.denies ∙ ap rule_words (sym c.as_slice.ensures.value)) set.3 all.1 in
+    let settings = with_all (value_in (walk_of c.in_ok-line.line).options) set.0 whole.0 all.0 held set.1 in
+    let config = with_lists set.0 whole.0 all.0 in (
       file,
       config,
       replay_means (map string_bytes c.args.words.now) file config (record {
@@ -78,6 +88,8 @@ returns-clause-meant c =
         fits = named.2;
         forwards = whole.1;
         settings = subst (λ (o : List Given). AreSettings (value_in o) config) (sym (ap (λ (w : Walk). w.options) read.keeps)) settings;
+        denied = all.1;
       }),
-      ap (Replays file) (set.3 ∙ ap (λ (f : List Forward). record (narrowed_settings set.0) { forwards = f }) whole.2),
+      ap (Replays file) (set.4 ∙ ap (λ (f : List Forward). record (narrowed_settings set.0) { forwards = f }) whole.2 ∙ ap
+          (λ (ds : List Denial). record (narrowed_settings (record set.0 { forwards = whole.0 })) { denied = ds }) held),
     )

@@ -1,6 +1,7 @@
-use Rattle.std.proofs.Common.{◌≡◌, map, codes, List, Option, string_bytes, take, sym, ◌∙◌, ap, subst, arith}
+use Rattle.std.proofs.Common.{◌≡◌, ◌&&◌, Bool, true, false, is_some, map, codes, List, Option, string_bytes, take, sym, ◌∙◌, ap, subst, arith}
 use Rattle.std.proofs.lemmas.Result.{err_from_is_err_and}
 use Rattle.host_policy.specs.Addresses.{Config}
+use Rattle.host_policy.specs.declared.Denial.{Denial}
 use Rattle.host_policy.specs.declared.Forward.{Forward}
 use Rattle.world_face.specs.Journal.{place_of}
 use Rattle.slirp_config.specs.declared.Stop.{Stop}
@@ -8,16 +9,21 @@ use Rattle.slirp_config.specs.declared.options.Verb.{Verb}
 use Rattle.slirp_config.specs.declared.options.Verb.TheVariants.{Serve}
 use Rattle.slirp_config.specs.Meaning.{AreSettings, IsTap, Serves}
 use Rattle.slirp_config.specs.Narrowing.{narrowed_settings}
-use Rattle.slirp_config.specs.Options.{Word, Given, value_in}
+use Rattle.slirp_config.specs.Options.{Word, Given, repeated, single, value_in}
 use Rattle.slirp_config.specs.Rules.{AreRules}
 use Rattle.slirp_config.specs.Stops.{StopsBehind}
 use Rattle.slirp_config.specs.Texts.{IsLink}
-use Rattle.slirp_config.specs.Walking.{AreWanted, Walk, kept, walk_of}
+use Rattle.slirp_config.specs.Walking.{AreGiven, AreWanted, Walk, is_both, kept, walk_of}
 use Rattle.slirp_config.proofs.Finding.{match_some}
 use Rattle.slirp_config.proofs.Completing.{serve_begins}
+use Rattle.slirp_config.proofs.Denying.{denials_front, whole_denials}
+use Rattle.slirp_config.proofs.Reading.{denials_of}
+use Rattle.slirp_config.specs.Texts.{AreDenials}
 use Rattle.slirp_config.proofs.Meant.{IsLinkAt, ServeMeant, one_walk, serve_means, serve_meant}
+use Rattle.slirp_config.proofs.Single.{both_single}
 use Rattle.slirp_config.proofs.Stopping.{serve_stops}
-use Rattle.slirp_config.proofs.Settled.{with_forwards}
+use Rattle.slirp_config.proofs.Settled.{with_all, with_both, with_lists}
+use Rattle.slirp_config.proofs.Ruled.{rule_words}
 use Rattle.slirp_config.proofs.Whole.{rules_front, whole_rules}
 use Rattle.slirp_config.proofs.serve_of.Goals as goal
 
@@ -34,7 +40,7 @@ returns-in_default-clause-refused c = (
       let r = serve_meant _ config at tap m in
       let read = c.in_ok-line.ensures.read in
       let same = one_walk Serve (map string_bytes c.args.words.now) r.walk read.walk r.read read.walks in
-      let options : r.walk.options ≡ (walk_of c.in_ok-line.line).options = ap (λ (w : Walk). w.options) same ∙ ap (λ (w : Walk). w.options) read.keeps in
+      let options : single r.walk.options ≡ (walk_of c.in_ok-line.line).options = ap (λ (w : Walk). single w.options) same ∙ ap (λ (w : Walk). w.options) read.keeps in
       let link = subst (λ (o : List Given). IsLinkAt (value_in o (codes "--link")) at) options r.link in
       subst (λ (o : Option Word). IsLinkAt o at) (sym c.in_default.ensures) link),
 )
@@ -47,10 +53,19 @@ returns-in_default-read_link-clause-refused c = (
       let r = serve_meant _ config at tap m in
       let read = c.in_ok-line.ensures.read in
       let same = one_walk Serve (map string_bytes c.args.words.now) r.walk read.walk r.read read.walks in
-      let options : r.walk.options ≡ (walk_of c.in_ok-line.line).options = ap (λ (w : Walk). w.options) same ∙ ap (λ (w : Walk). w.options) read.keeps in
+      let options : single r.walk.options ≡ (walk_of c.in_ok-line.line).options = ap (λ (w : Walk). single w.options) same ∙ ap (λ (w : Walk). w.options) read.keeps in
       let link = subst (λ (o : List Given). IsLinkAt (value_in o (codes "--link")) at) options r.link in
       c.in_default-read_link.ensures.refused at (match_some _ c.in-Some.link.now ⊥ (λ text. IsLink text at) (sym c.in-Some.ensures) link)),
 )
+
+pub returns-in_default-tap_of-clause-refused : goal.returns-in_default-tap_of-clause-refused
+returns-in_default-tap_of-clause-refused c =
+    let read = c.in_ok-line.ensures.read in
+    let given = value_in (walk_of c.in_ok-line.line).options in
+    let both = c.in_default-tap_of.ensures.refused in
+    let none : is_both (walk_of c.in_ok-line.line).options ≡ false = ap (λ (w : Walk). is_both w.options) (sym read.keeps) ∙ both_single read.walk.options ∙ read.good.one in
+    let all : is_both (walk_of c.in_ok-line.line).options ≡ true = ap (λ (b : Bool). b && is_some (given (codes "--capture"))) (sym c.has.ensures ∙ both.0) ∙ sym c.has-2.ensures ∙ both.1 in
+    (serve_begins (map string_bytes c.args.words.now) read.far, (λ read_as. absurd (let clash : true ≡ false = sym all ∙ none in cc clash)))
 
 pub returns-in_default-settings-clause-refused : goal.returns-in_default-settings-clause-refused
 returns-in_default-settings-clause-refused c = (
@@ -60,12 +75,16 @@ returns-in_default-settings-clause-refused c = (
       let r = serve_meant _ config at tap m in
       let read = c.in_ok-line.ensures.read in
       let same = one_walk Serve (map string_bytes c.args.words.now) r.walk read.walk r.read read.walks in
-      let options : r.walk.options ≡ (walk_of c.in_ok-line.line).options = ap (λ (w : Walk). w.options) same ∙ ap (λ (w : Walk). w.options) read.keeps in
+      let options : single r.walk.options ≡ (walk_of c.in_ok-line.line).options = ap (λ (w : Walk). single w.options) same ∙ ap (λ (w : Walk). w.options) read.keeps in
       let front = take 34 config.forwards in
-      c.in_default-settings.ensures.refused (record config { forwards = front })
-      (with_forwards (value_in (walk_of c.in_ok-line.line).options) config front (subst (λ (o : List Given). AreSettings (value_in o) config) options r.settings))
+      let texts : take 9 (repeated r.walk.options) ≡ rule_words c.in_ok-line.denied.items = ap (λ (w : Walk). take 9 (repeated w.options)) same ∙ read.denies in
+      let held = take 9 config.denied in
+      let set = subst (λ (o : List Given). AreSettings (value_in o) config) options r.settings in
+      c.in_default-settings.ensures.refused (with_lists config front held)
+      (with_both (value_in (walk_of c.in_ok-line.line).options) config front set)
       (subst (λ (t : List Word). AreRules t config.dhcp_start front) (ap (λ (w : Walk). kept w.alone) same ∙ ap (λ (w : Walk). w.alone) read.keeps ∙ sym c.alone.ensures)
-      (rules_front 34 r.walk.alone config.dhcp_start config.forwards r.forwards))),
+      (rules_front 34 r.walk.alone config.dhcp_start config.forwards r.forwards))
+      (subst (λ (t : List Word). AreDenials t held) (texts ∙ ap rule_words (sym c.as_slice.ensures.value)) (denials_front 9 (repeated r.walk.options) config.denied r.denied))),
 )
 
 pub returns-clause-meant : goal.returns-clause-meant
@@ -74,13 +93,15 @@ returns-clause-meant c =
     let set = c.in-Ok-settings.ensures.set in
     let read = c.in_ok-line.ensures.read in
     let given = value_in (walk_of c.in_ok-line.line).options in
-    let options : (walk_of c.in_ok-line.line).options ≡ read.walk.options = sym (ap (λ (w : Walk). w.options) read.keeps) in
+    let options : (walk_of c.in_ok-line.line).options ≡ single read.walk.options = sym (ap (λ (w : Walk). w.options) read.keeps) in
     let link : IsLinkAt (given (codes "--link")) at = subst (λ (o : Option Word). IsLinkAt o at) c.in-Some.ensures c.in-Ok.ensures.link in
     let taps : IsTap given c.in-Ok-tap_of.tap = (sym c.has.ensures ∙ c.in-Ok-tap_of.ensures.recorded, sym c.has-2.ensures ∙ c.in-Ok-tap_of.ensures.captured) in
     let whole = whole_rules 34 read.walk.alone _ set.0.dhcp_start set.0.forwards (omega arith) (ap (λ (w : Walk). w.alone) read.keeps ∙ sym c.alone.ensures)
     (subst (λ (v : Verb). AreWanted v read.walk.alone) read.verb_is read.good.wanted) set.2 in
-    let config = record set.0 { forwards = whole.0 } in
-    let settings : AreSettings given config = with_forwards given set.0 whole.0 set.1 in (
+    let all = denials_of Serve read.walk.options (subst (λ (v : Verb). AreGiven v read.walk.options) read.verb_is read.good.given) in
+    let held = whole_denials (repeated read.walk.options) _ set.0.denied all.0 (read.denies ∙ ap rule_words (sym c.as_slice.ensures.value)) set.3 all.1 in
+    let config = with_lists set.0 whole.0 all.0 in
+    let settings : AreSettings given config = with_all given set.0 whole.0 all.0 held set.1 in (
       config,
       at,
       c.in-Ok-tap_of.tap,
@@ -92,6 +113,8 @@ returns-clause-meant c =
         taps = subst (λ (o : List Given). IsTap (value_in o) c.in-Ok-tap_of.tap) options taps;
         forwards = whole.1;
         settings = subst (λ (o : List Given). AreSettings (value_in o) config) options settings;
+        denied = all.1;
       }),
-      ap (λ (config : Config). Serves config at c.in-Ok-tap_of.tap) (set.3 ∙ ap (λ (f : List Forward). record (narrowed_settings set.0) { forwards = f }) whole.2),
+      ap (λ (config : Config). Serves config at c.in-Ok-tap_of.tap) (set.4 ∙ ap (λ (f : List Forward). record (narrowed_settings set.0) { forwards = f }) whole.2 ∙ ap
+          (λ (ds : List Denial). record (narrowed_settings (record set.0 { forwards = whole.0 })) { denied = ds }) held),
     )

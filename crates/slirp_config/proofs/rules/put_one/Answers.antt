@@ -6,9 +6,9 @@ use Rattle.slirp_config.proofs.rules.put_one.Goals as goal
 pub returns-then-not-is_full : goal.returns-then-not-is_full
 returns-then-not-is_full c = λ all is.
     let room : length c.args.forwards.now.items < 32 = grind (arith, nat_tests) in
-    c.push.ensures.items ∙ put_more all c.args.forward c.args.forwards.now.items is room
+    c.push.ensures.items ∙ put_more 32 all c.args.forward c.args.forwards.now.items is room
 
 pub returns-else-not-is_full : goal.returns-else-not-is_full
 returns-else-not-is_full c = λ all is.
     let full : length c.args.forwards.now.items ≡ 32 = grind (arith, nat_tests) in
-    put_none all c.args.forward c.args.forwards.now.items is full
+    put_none 32 all c.args.forward c.args.forwards.now.items is full
