@@ -30,10 +30,6 @@ MayFetch name past (CallFileRead asked place count) = (asked ≡ name) × (place
     × IsSomeAnd (file_length past) (λ whole. (place < whole) × (whole ≤ 67108864) × (count ≡ min (whole - place) 16384))
 MayFetch name past _ = ⊥
 
--- the octets up to a place were read
-abbrev pub Fetched : (name : List ℕ) (whole have : ℕ) (octets : List ℕ) → List Entry → Type 0
-Fetched name whole have octets past = Follows (MayFetch name) past × (file_length past ≡ Some whole) × (octets_read past ≡ take have octets)
-
 -- as many octets were read as the length said
 abbrev pub IsWhole : List Entry → Type 0
 IsWhole past = file_length past ≡ Some (length (octets_read past))
@@ -55,6 +51,11 @@ is_unreadable _ = false
 
 abbrev pub IsUnreadable : List Entry → Type 0
 IsUnreadable past = is_unreadable past ≡ true
+
+-- the octets up to a place were read, and no call on the file failed
+abbrev pub Fetched : (name : List ℕ) (whole have : ℕ) (octets : List ℕ) → List Entry → Type 0
+Fetched name whole have octets past = Follows (MayFetch name) past × (file_length past ≡ Some whole) × (octets_read past ≡ take have octets)
+    × (is_unreadable past ≡ false)
 
 -- FILE was read to its end: not where the words have no reading, their settings aren't sound, FILE can't be read, and where there was no memory
 abbrev pub is_read : ℕ → Bool

@@ -1,9 +1,9 @@
 // The schedule's octets, through the outer World.
-ghost use Rattle.std.specs.Prelude.{◌≡◌, ℕ, ◌+◌, ◌<◌, ◌≤◌, ◌++◌, List, IfOk, IfErr, IfSome, MatchOption, true, length, take};
+ghost use Rattle.std.specs.Prelude.{◌≡◌, ℕ, ◌+◌, ◌<◌, ◌≤◌, ◌++◌, List, IfOk, IfErr, IfSome, MatchOption, ◌↔◌, false, true, length, take};
 ghost use Rattle.std.specs.Bool.{MatchBool};
 ghost use Rattle.world_face.specs.Journal.{Follows, FileRead, count_of};
 ghost use Rattle.world_face.specs.Tells.{Makes, Brings, Answers};
-ghost use Rattle.app_edges.specs.Fetching.{MayFetch, Fetched, IsWhole, IsUnreadable, is_unmeasured, octets_read};
+ghost use Rattle.app_edges.specs.Fetching.{MayFetch, Fetched, IsWhole, IsUnreadable, is_unmeasured, is_unreadable, octets_read};
 
 use std::alloc::Global;
 use world_face::{FileSize, Io, World};
@@ -27,7 +27,8 @@ pub fn read_file<W: World>(alloc: Global, world: &mut W, name: &str) -> Result<V
     requires some { 0 < length name.now }
     requires fits { length name.now ≤ 1280 }
     ensures makes { Makes (W.tells world.old) (W.tells world.new) (λ made. Follows (MayFetch name.now) made
-        × IfOk result (λ octets. (octets.items ≡ octets_read made) × IsWhole made) × IfErr result (λ fault. fault ≡ Unread.Unreadable → IsUnreadable made)) }
+        × IfOk result (λ octets. (octets.items ≡ octets_read made) × IsWhole made × (is_unreadable made ≡ false))
+        × IfErr result (λ fault. (fault ≡ Unread.Unreadable) ↔ IsUnreadable made)) }
     ensures few { IfOk result (λ octets. length octets.items ≤ 67108864) }
 {
     let Some(length) = measured(world.file_len(name)) else {
@@ -60,7 +61,7 @@ fn fetch<W: World>(world: &mut W, name: &str, octets: &mut [u8]) -> bool
     requires fits { length name.now ≤ 1280 }
     requires few { length octets.old ≤ 67108864 }
     ensures brings { Brings (W.tells world.old) (W.tells world.new) (Fetched name.now (length octets.old) 0 octets.old)
-        (λ past. Follows (MayFetch name.now) past × MatchBool result ((octets.new ≡ octets_read past) × IsWhole past) (IsUnreadable past)) }
+        (λ past. Follows (MayFetch name.now) past × MatchBool result ((octets.new ≡ octets_read past) × IsWhole past × (is_unreadable past ≡ false)) (IsUnreadable past)) }
 {
     let mut have = 0;
     while have < octets.len() {

@@ -132,7 +132,7 @@ module _ (config : Config) (world world_new : Telling) (file : List ℕ) (old ne
         told = makes.told;
         counted = makes.counted;
         holds = inl
-            (cannot_read world world_new makes.made makes.allowed makes.counted (makes.holds.1.unreadable is));
+            (cannot_read world world_new makes.made makes.allowed makes.counted (makes.holds.1.unreadable.0 is));
       }
   unreadable_by outcome makes (inr is) = makes_as world world_new _ _ makes (λ made holds. inr (holds.1.large is))
 

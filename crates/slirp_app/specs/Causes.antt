@@ -1,5 +1,5 @@
 -- What an outcome tells of the calls on the outer World, of the schedule, and of what was put.
-use Rattle.std.specs.Prelude.{◌≡◌, ◌⊎◌, ℕ, IsTrue, List, ◌∷◌, Option, Bool, true, false, nat_lt}
+use Rattle.std.specs.Prelude.{◌≡◌, ◌↔◌, ◌⊎◌, ℕ, IsTrue, List, ◌∷◌, Option, Bool, true, false, nat_lt}
 use Rattle.world_face.specs.Journal.{Entry, FileLen, FileRead}
 use Rattle.world_face.specs.declared.FileSize.{FileSize}
 use Rattle.world_face.specs.declared.FileSize.TheVariants.{Length, Missing, Failed}
@@ -39,7 +39,7 @@ abbrev pub IsTooLarge : List Entry → Type 0
 IsTooLarge made = IsWhole made × TakesTooMuch (octets_read made)
 
 pub record Caused (config : Config) (outcome : Outcome) (made : List Entry) (old new : Option (List ℕ)) : Type 0 where
-  pub unreadable : outcome ≡ ScheduleRead → IsUnreadable made
+  pub unreadable : (outcome ≡ ScheduleRead) ↔ IsUnreadable made
   pub large : outcome ≡ ScheduleTooLarge → IsTooLarge made
   pub whole : IsTrue (is_read (code_of outcome)) → IsWhole made
   pub came : IsTrue (is_read (code_of outcome)) → Came config outcome (octets_read made) old new

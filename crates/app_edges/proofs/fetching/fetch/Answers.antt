@@ -17,7 +17,7 @@ loop-have-preserved g c =
     let asked : c.min-asked.result ≡ min (whole - have) 16384 = c.min-asked.ensures ∙ ap (λ n. min (n - have) 16384) size in
     record {
       brings = brings_then c.loop-have.invariant.brings (brings_one read.1 (λ allowed past fetched. read_more name whole have c.min-asked.result
-          (Done c.in-Done.count) before c.read_part.new.octets read.0 past fetched less c.requires.few size asked read.2));
+          (Done c.in-Done.count) before c.read_part.new.octets read.0 past fetched less c.requires.few size asked read.2 refl));
       within = omega (arith, c.in-Done.ensures.count, c.min-asked.ensures, c.read_part.auto.octets, c.loop-have-test.true);
       size = c.read_part.auto.octets ∙ size;
     }
@@ -42,5 +42,5 @@ pub returns : goal.returns
 returns g c = record {
   brings = brings_as c.loop-have.invariant.brings (λ past fetched.
       let all = fetched.2 ∙ take_all c.loop-have.have c.loop-have.octets c.loop-have-test.false in
-      (fetched.0, (sym all, fetched.1 ∙ ap Some (sym (ap length all ∙ c.loop-have.invariant.size)))));
+      (fetched.0, (sym all, fetched.1 ∙ ap Some (sym (ap length all ∙ c.loop-have.invariant.size)), fetched.3)));
 }

@@ -1,4 +1,4 @@
-use Rattle.std.proofs.Common.{◌≡◌, ◌⊎◌, inl, inr, ℕ, IsTrue, sym, subst}
+use Rattle.std.proofs.Common.{◌≡◌, ◌⊎◌, inl, inr, ℕ, IsTrue, sym, subst, true, false, ◌∙◌}
 use Rattle.host_policy.specs.Settings.{settings}
 use Rattle.replay.specs.Rows.{TakesTooMuch}
 use Rattle.replay.specs.Unread.{IsFirstUnread}
@@ -19,7 +19,7 @@ returns-in-Ok-clause-calls g c =
     makes_as _ _ _ _ c.in-Ok.ensures.makes (λ made read. (
       read.0,
       record {
-        unreadable = λ is. absurd (c.replay.ensures.read.2 is);
+        unreadable = ((λ is. absurd (c.replay.ensures.read.2 is)), λ is. let not_it = sym is ∙ read.1.2 in absurd cc);
         large = λ is. (read.1.1, subst TakesTooMuch read.1.0 (c.replay.ensures.large is));
         whole = λ is. read.1.1;
         first = λ line is. subst (λ l. IsFirstUnread l line) read.1.0 (c.replay.ensures.first line is);
@@ -30,8 +30,8 @@ returns-in-Ok-clause-calls g c =
 
 pub returns-in-Err-Unreadable-clause-calls : goal.returns-in-Err-Unreadable-clause-calls
 returns-in-Err-Unreadable-clause-calls g c = makes_as _ _ _ _ c.in-Err-Unreadable.ensures.makes
-    (λ made read. (read.0, record { unreadable = λ is. read.2 c.in-Err-Unreadable.field-0-is; large = λ is. cc; whole = λ is. cc; came = λ is. cc; first = λ line is. cc; misspelt = λ is. cc }))
+    (λ made read. (read.0, record { unreadable = ((λ is. read.2.0 c.in-Err-Unreadable.field-0-is), λ is. refl); large = λ is. cc; whole = λ is. cc; came = λ is. cc; first = λ line is. cc; misspelt = λ is. cc }))
 
 pub returns-in-Err-NoMemory-clause-calls : goal.returns-in-Err-NoMemory-clause-calls
 returns-in-Err-NoMemory-clause-calls g c = makes_as _ _ _ _ c.in-Err-NoMemory.ensures.makes
-    (λ made read. (read.0, record { unreadable = λ is. cc; large = λ is. cc; whole = λ is. cc; came = λ is. cc; first = λ line is. cc; misspelt = λ is. cc }))
+    (λ made read. (read.0, record { unreadable = ((λ is. cc), λ is. let not_it = sym c.in-Err-NoMemory.field-0-is ∙ read.2.1 is in absurd cc); large = λ is. cc; whole = λ is. cc; came = λ is. cc; first = λ line is. cc; misspelt = λ is. cc }))
