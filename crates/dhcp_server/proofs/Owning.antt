@@ -24,7 +24,7 @@ use Rattle.dhcp_server.specs.Serving.{leaves, asked_place, offers, discovered, i
 use Rattle.dhcp_server.specs.Messages.{read_message}
 use Rattle.dhcp_server.specs.Replies.{IsPlaced}
 
-same_is : (a b : Mac) → same_mac a b ≡ true → a ≡ b
+pub same_is : (a b : Mac) → same_mac a b ≡ true → a ≡ b
 same_is a b same = ap (λ (xs : List ℕ). let mac : Mac = record { 0 = xs } in mac) ((bytes_eq-Decides a.0 b.0).0 same)
 
 -- an entry that is of no other hardware address
@@ -77,19 +77,19 @@ set_none leases k lease none within one m i j hi hj = one m i j (by i (cases_eq 
     by i (inr ni) is = sym (ap (is_of m) (get_or-set_other leases k i lease Free ni)) ∙ is
 
 -- a change of each entry, which makes none another's
-lease_at-map : (f : Lease → Lease) (leases : List Lease) (i : ℕ) → f Free ≡ Free → lease_at (map f leases) i ≡ f (lease_at leases i)
+pub lease_at-map : (f : Lease → Lease) (leases : List Lease) (i : ℕ) → f Free ≡ Free → lease_at (map f leases) i ≡ f (lease_at leases i)
 lease_at-map f [] i free = sym free
 lease_at-map f (lease ∷ leases) zero free = refl
 lease_at-map f (lease ∷ leases) (suc i) free = lease_at-map f leases i free
 
-map_one : (f : Lease → Lease) (leases : List Lease) → f Free ≡ Free → ((m : Mac) (lease : Lease) → is_of m (f lease) ≡ true → is_of m lease ≡ true) → IsOneToOne leases → IsOneToOne (map f leases)
+pub map_one : (f : Lease → Lease) (leases : List Lease) → f Free ≡ Free → ((m : Mac) (lease : Lease) → is_of m (f lease) ≡ true → is_of m lease ≡ true) → IsOneToOne leases → IsOneToOne (map f leases)
 map_one f leases free frees one m i j hi hj =
     one m i j
     (frees m (lease_at leases i) (sym (ap (is_of m) (lease_at-map f leases i free)) ∙ hi))
     (frees m (lease_at leases j) (sym (ap (is_of m) (lease_at-map f leases j free)) ∙ hj))
 
 -- an entry or none
-or_free : (b : Bool) (m : Mac) (lease : Lease) → is_of m (if b then Free else lease) ≡ true → is_of m lease ≡ true
+pub or_free : (b : Bool) (m : Mac) (lease : Lease) → is_of m (if b then Free else lease) ≡ true → is_of m lease ≡ true
 or_free true m lease is = absurd (false≢true is)
 or_free false m lease is = is
 
@@ -97,7 +97,7 @@ if_free : (b : Bool) (m : Mac) (lease : Lease) → is_of m (if b then lease else
 if_free true m lease is = is
 if_free false m lease is = absurd (false≢true is)
 
-moment_frees : (now : ℕ) (m : Mac) (lease : Lease) → is_of m (at_moment now lease) ≡ true → is_of m lease ≡ true
+pub moment_frees : (now : ℕ) (m : Mac) (lease : Lease) → is_of m (at_moment now lease) ≡ true → is_of m lease ≡ true
 moment_frees now m Free is = is
 moment_frees now m (Reserved owner until) is = if_free (nat_lt now until) m (Reserved owner until) is
 moment_frees now m (Bound owner until) is = if_free (nat_lt now until) m (Bound owner until) is
@@ -112,7 +112,7 @@ not_of_freed mac lease is = by (is_of mac lease) refl is
     by false other is = false≢true (sym other ∙ is)
 
 -- none is found
-none_found : (mac : Mac) (leases : List Lease) → position (is_of mac) leases ≡ None → (j : ℕ) → is_of mac (lease_at leases j) ≡ true → ⊥
+pub none_found : (mac : Mac) (leases : List Lease) → position (is_of mac) leases ≡ None → (j : ℕ) → is_of mac (lease_at leases j) ≡ true → ⊥
 none_found mac leases none j is = by (nat_lt (position_or_len (is_of mac) leases) (length leases)) refl none (cases_lt j (length leases))
   where
     never : (k : ℕ) → ◌≡◌ {A = Option ℕ} (Some k) None → ⊥
@@ -128,15 +128,15 @@ none_found mac leases none j is = by (nat_lt (position_or_len (is_of mac) leases
     by false lt missing (inr past) = false≢true (ap (is_of mac) (sym (get_or_past leases j Free past)) ∙ is)
 
 -- what an offered place is
-record IsOffered (mac : Mac) (leases : List Lease) (k : ℕ) : Type 0 where
-  can : (is_of mac (lease_at leases k) ≡ true) ⊎ (is_free (lease_at leases k) ≡ true)
-  alone : (j : ℕ) → is_of mac (lease_at leases j) ≡ true → j ≡ k
-  within : k < length leases
+pub record IsOffered (mac : Mac) (leases : List Lease) (k : ℕ) : Type 0 where
+  pub can : (is_of mac (lease_at leases k) ≡ true) ⊎ (is_free (lease_at leases k) ≡ true)
+  pub alone : (j : ℕ) → is_of mac (lease_at leases j) ≡ true → j ≡ k
+  pub within : k < length leases
 
 some_is : (a b : ℕ) → ◌≡◌ {A = Option ℕ} (Some a) (Some b) → a ≡ b
 some_is a b is = cc
 
-is_offered : (mac : Mac) (asked : Option ℕ) (leases : List Lease) (k : ℕ) → IsOneToOne leases → IfSome asked (λ p. p < length leases) → offered mac asked leases ≡ Some k → IsOffered mac leases k
+pub is_offered : (mac : Mac) (asked : Option ℕ) (leases : List Lease) (k : ℕ) → IsOneToOne leases → IfSome asked (λ p. p < length leases) → offered mac asked leases ≡ Some k → IsOffered mac leases k
 is_offered mac asked leases k one within is = by (position (is_of mac) leases) refl is
   where
     free_found : position is_free leases ≡ Some k → position (is_of mac) leases ≡ None → IsOffered mac leases k
@@ -183,7 +183,7 @@ either false x y other good = good
 silent : (leases : List Lease) → length leases ≡ 16 → IsOneToOne leases → IsGood (leaves leases Silence)
 silent leases long one = record { many = long; one = one; placed = tt }
 
-place_within : (config : Config) (a : ℕ) → IfSome (place_of config a) (λ k. k < 16)
+pub place_within : (config : Config) (a : ℕ) → IfSome (place_of config a) (λ k. k < 16)
 place_within config a = by (nat_le config.dhcp_start a && nat_lt a (config.dhcp_start + 16)) refl
   where
     below : (s a : ℕ) → (nat_le s a && nat_lt a (s + 16)) ≡ true → a - s < 16
@@ -193,7 +193,7 @@ place_within config a = by (nat_le config.dhcp_start a && nat_lt a (config.dhcp_
     by true is = below config.dhcp_start a is
     by false is = tt
 
-asked_within : (config : Config) (m : Message) → IfSome (asked_place config m) (λ k. k < 16)
+pub asked_within : (config : Config) (m : Message) → IfSome (asked_place config m) (λ k. k < 16)
 asked_within config m = by m.asked
   where
     by : (o : Option Ip4) → IfSome (option_and_then (λ (a : Ip4). place_of config a.0) o) (λ k. k < 16)

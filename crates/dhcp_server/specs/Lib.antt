@@ -4,3 +4,4 @@ pub mod Messages
 pub mod Replies
 pub mod Serving
 pub mod Writing
+pub mod History

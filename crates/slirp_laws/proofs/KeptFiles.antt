@@ -140,7 +140,7 @@ pub record Kept (config : Config) (past : List Entry) (t : Transfer) : Type 0 wh
   pub soon : t.due ≤ moment past + t.timeout
 
 -- a moment is in force until a later one is
-rises : (e : Entry) (past : List Entry) → moment past ≤ moment (e ∷ past)
+pub rises : (e : Entry) (past : List Entry) → moment past ≤ moment (e ∷ past)
 rises (Now told) past = omega arith
 rises _ past = omega arith
 

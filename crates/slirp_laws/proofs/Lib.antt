@@ -19,6 +19,7 @@ pub mod FragmentRows
 pub mod Framing
 pub mod Giving
 pub mod Hearing
+mod Histories
 pub mod Joining
 pub mod KeepingFlows
 pub mod KeptFiles
@@ -39,6 +40,7 @@ pub mod Parting
 pub mod Peers
 pub mod Phases
 pub mod Policy
+mod Premises
 pub mod Ranges
 pub mod ReadBack
 pub mod Reading
