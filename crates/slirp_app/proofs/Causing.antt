@@ -270,6 +270,7 @@ module _ (config : Config) (world world_new : Telling) (file : List ℕ) (old ne
   -- all of it
   pub replays : (Told : Outcome → Type 0) (outcome : Outcome) → By_calls outcome → Told outcome → ReplaysFile file config (code_of outcome) world world_new old new Told
   replays Told outcome makes told = record {
+    only_unreadable = makes_as world world_new _ _ makes (λ made holds unread. ap code_of (holds.1.unreadable.1 unread));
     calls = makes_as world world_new _ _ makes (λ made ran. ran.0);
     unreadable = unreadable outcome makes;
     whole = λ is. makes_as world world_new _ _ makes (λ made ran. ran.1.whole is);

@@ -110,7 +110,7 @@ counts_first : (yes : Bool) (n : ℕ) → yes ≡ true → 0 < cond yes 1 0 + n
 counts_first true n is = omega arith
 counts_first false n is = cc
 
-some_among : (of : Entry → Bool) (later past : List Entry) (e : Entry) → of e ≡ true → 0 < failures of (later ++ e ∷ past)
+pub some_among : (of : Entry → Bool) (later past : List Entry) (e : Entry) → of e ≡ true → 0 < failures of (later ++ e ∷ past)
 some_among of [] past e is = some_failed of e past is
 some_among of (d ∷ later) past e is = let before = some_among of later past e is in omega arith
 
@@ -131,7 +131,7 @@ read_failed IoEnd (x ∷ octets) is = cc
 read_failed NotYet octets is = cc
 read_failed IoFailed octets is = refl
 
-fails_link : (e : Entry) (so_far : List ℕ) → ending e so_far ≡ Some LinkFailed → link_failed e ≡ true
+pub fails_link : (e : Entry) (so_far : List ℕ) → ending e so_far ≡ Some LinkFailed → link_failed e ≡ true
 fails_link (LinkRead asked answer octets) so_far is = ap (λ a. link_failed (LinkRead asked a octets)) (read_failed answer (so_far ++ octets) is)
 fails_link (LinkWrite octets (IoDone n)) so_far is = cc
 fails_link (LinkWrite octets IoEnd) so_far is = cc
@@ -153,7 +153,7 @@ read_waits IoEnd (x ∷ octets) is = cc
 read_waits NotYet octets is = cc
 read_waits IoFailed octets is = cc
 
-fails_wait : (e : Entry) (so_far : List ℕ) → ending e so_far ≡ Some WaitFailed → wait_failed e ≡ true
+pub fails_wait : (e : Entry) (so_far : List ℕ) → ending e so_far ≡ Some WaitFailed → wait_failed e ≡ true
 fails_wait (LinkRead asked answer octets) so_far is = absurd (read_waits answer (so_far ++ octets) is)
 fails_wait (LinkWrite octets (IoDone n)) so_far is = cc
 fails_wait (LinkWrite octets IoEnd) so_far is = cc
@@ -209,7 +209,7 @@ refused_after : (e : Entry) (o : Option Ending) (p : Phase) (forward : ℕ) → 
 refused_after e None p forward is = refused_by e p forward is
 refused_after e (Some why) p forward is = inr (refused_unless p why forward is)
 
-refused_failed : (config : Config) (journal : List Entry) (forward : ℕ) → phase config journal ≡ Over (Refused forward) → 0 < failures socket_failed journal
+pub refused_failed : (config : Config) (journal : List Entry) (forward : ℕ) → phase config journal ≡ Over (Refused forward) → 0 < failures socket_failed journal
 refused_failed config [] forward is = cc
 refused_failed config (e ∷ past) forward is = elim (refused_after e (ending e (partial past)) (phase config past) forward is) [
   | inl failed ↦ some_failed socket_failed e past failed

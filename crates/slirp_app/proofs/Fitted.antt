@@ -170,7 +170,7 @@ module _ (at : Place) (answer : Made) where
   fits_behind (LinkWrite octets answer ∷ run) fits = (fits.0, fits_behind run fits.1)
   fits_behind (_ ∷ run) fits = (tt, fits_behind run fits.1)
 
-allowed_later : (later past : List Entry) → AreAllowed (later ++ past) → AreAllowed later
+pub allowed_later : (later past : List Entry) → AreAllowed (later ++ past) → AreAllowed later
 allowed_later [] past all = tt
 allowed_later (e ∷ later) past all = (all.0, allowed_later later past all.1)
 

@@ -1,3 +1,4 @@
+mod Attended
 mod Carried
 mod Causing
 mod Completed
@@ -11,5 +12,6 @@ mod Halted
 mod Lined
 mod Opened
 mod Repeated
+mod Risen
 mod Served
 mod Tapped

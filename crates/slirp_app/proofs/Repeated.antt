@@ -114,10 +114,6 @@ module _ (file : List ℕ) (config : Config) (status : ℕ) (world world_new : T
 
 -- ---- what was recorded is replayed
 
-allowed_later : (later past : List Entry) → AreAllowed (later ++ past) → AreAllowed later
-allowed_later [] past all = tt
-allowed_later (e ∷ later) past all = (all.0, allowed_later later past all.1)
-
 abbrev held : Option (List ℕ) → List ℕ
 held None = []
 held (Some octets) = octets

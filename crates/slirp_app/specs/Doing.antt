@@ -23,9 +23,9 @@ use Rattle.slirp_config.specs.declared.WordFault.TheVariants.{Usage as Misread, 
 use Rattle.serve_loop.specs.Ends.{end_of}
 use Rattle.slirp_laws.specs.Laws.{Finished}
 use Rattle.slirp_app.specs.Causes.{CannotRead, Caused, IsTooLarge, RanOn}
-use Rattle.app_edges.specs.Fetching.{IsWhole, MayFetch, is_read, octets_read}
+use Rattle.app_edges.specs.Fetching.{IsUnreadable, IsWhole, MayFetch, is_read, octets_read}
 use Rattle.slirp_app.specs.Ran.{Ceased, EndsBy}
-use Rattle.slirp_app.specs.Serving.{ServesAt}
+use Rattle.slirp_app.specs.Serving.{IsCounted, ServesAt}
 use Rattle.app_edges.specs.Statuses.{code_of, is_run}
 use Rattle.app_edges.specs.Texts.{help_text, version_text}
 use Rattle.slirp_app.specs.Statuses.{outcome_of}
@@ -36,8 +36,11 @@ use Rattle.app_edges.specs.declared.status.Outcome.TheVariants.{BadConfig, Diver
 pub record ReplaysFile (file : Word) (config : Config) (status : ℕ) (world world_new : Telling) (old new : Option (List ℕ)) (Told : Outcome → Type 0) : Type 0 where
   -- only FILE is read, from its start on and without a gap
   pub calls : Makes world world_new (Follows (MayFetch file))
-  -- 3 comes only where FILE is missing, has over 64 MiB or ended before its length, or the count of the files' faults rose; or else where each line has a reading and the stars take over 1 GiB of room
+  -- 3 comes only where FILE is missing, has over 64 MiB or ended before its length, or the count of the files' faults rose; or else where each line has a
+  -- reading and the stars take over 1 GiB of room
   pub unreadable : status ≡ 3 → Makes world world_new (λ made. CannotRead world world_new made ⊎ IsTooLarge made)
+  -- where FILE can't be read it is 3, and no other
+  pub only_unreadable : Makes world world_new (λ made. IsUnreadable made → status ≡ 3)
   -- else, 13 aside, as many octets were read as FILE's length says
   pub whole : IsTrue (is_read status) → Makes world world_new IsWhole
   -- 4 comes exactly where a line of FILE has no reading, and the text has the first such line
@@ -63,12 +66,15 @@ pub record ReplaysFile (file : Word) (config : Config) (status : ℕ) (world wor
   pub forward_refused : status ≡ 11 → RanOn config world world_new 11 old new (λ schedule journal. (forward : ℕ) × (phase config journal ≡ Over (Refused forward)) × Told (ListenRefused forward))
 
 -- What `serve --link AT` does: the link is opened, and then the calls are those of one lawful, finished run with the settings of the words; what the words ask
--- for is put of these calls, the same ones whether `world` tells them or not; and `err` got the text of the outcome.
+-- for is put of these calls, the same ones whether `world` tells them or not; `err` got the text of the outcome; and the count of the fault that ended it
+-- rose.
 pub record ServesLink (config : Config) (at : Place) (tap : Tap) (status : ℕ) (world world_new : Telling) (old new : Option (List ℕ)) (Told : Outcome → Type 0) : Type 0 where
   pub outcome : Outcome
   pub is : status ≡ code_of outcome
   pub told : Told outcome
   pub makes : Makes world world_new (ServesAt config at tap outcome old new)
+  -- with 8 the count of the link's faults rose, with 9 that of the waits', with 11 that of the sockets'
+  pub counted : IsCounted outcome world.faults world_new.faults
 
 -- What `drive NUMBER OCTETS` does: the network runs on a World that is made from NUMBER, whose guest sends OCTETS octets.
 pub record DrivesRun (number octets : ℕ) (status : ℕ) (world world_new : Telling) (old new : Option (List ℕ)) : Type 0 where

@@ -2,6 +2,7 @@
 use Rattle.std.specs.Prelude.{◌≡◌, ℕ, List, [], ◌∷◌, ◌++◌, Option}
 use Rattle.world_face.specs.Journal.{Entry, Place, LinkOpen}
 use Rattle.world_face.specs.Puts.{added}
+use Rattle.world_face.specs.Tells.{Counts, Rose}
 use Rattle.world_face.specs.declared.Made.TheVariants.{Done, Failed}
 use Rattle.host_policy.specs.Addresses.{Config}
 use Rattle.run_laws.specs.Shape.{phase}
@@ -13,7 +14,7 @@ use Rattle.slirp_config.specs.declared.Tap.{Tap}
 use Rattle.slirp_config.specs.declared.Tap.TheVariants.{Off, Record, Capture}
 use Rattle.slirp_app.specs.Statuses.{outcome_of}
 use Rattle.app_edges.specs.declared.status.Outcome.{Outcome}
-use Rattle.app_edges.specs.declared.status.Outcome.TheVariants.{LinkFault, NoMemory, SinkFault}
+use Rattle.app_edges.specs.declared.status.Outcome.TheVariants.{LinkFault, ListenRefused, NoMemory, SinkFault, WaitFault}
 use Rattle.taps.specs.Capturing.{capture}
 
 -- The calls of a whole run: each is lawful, each wait is as it must be, and nothing more is to be done; the outcome is that of the end which they tell.
@@ -22,6 +23,13 @@ pub record IsRun (config : Config) (outcome : Outcome) (run : List Entry) : Type
   pub dutiful : Dutiful config run
   pub finished : Finished config run
   pub ends : outcome ≡ outcome_of (end_of config (phase config run))
+
+-- The count of the fault by which a run ended rose: of the link's, of the waits', or, where a port of the host was refused, of the sockets'.
+abbrev pub IsCounted : Outcome → (old new : Counts) → Type 0
+IsCounted LinkFault old new = Rose old.link new.link
+IsCounted WaitFault old new = Rose old.wait new.wait
+IsCounted (ListenRefused forward) old new = Rose old.socket new.socket
+IsCounted _ old new = Unit {0}
 
 -- The link was opened, and behind that a run was made; or it couldn't be opened.
 pub data OpensAt (config : Config) (at : Place) (outcome : Outcome) (made : List Entry) : Type 0 where

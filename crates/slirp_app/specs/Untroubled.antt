@@ -6,9 +6,10 @@ use Rattle.run_laws.specs.Moments.{waits}
 use Rattle.slirp_laws.specs.Laws.{Lawful}
 use Rattle.world_face.specs.Faults.{failures, link_failed, socket_failed, wait_failed}
 use Rattle.world_face.specs.Frames.{spelling}
-use Rattle.world_face.specs.Journal.{AreAllowed, Entry, LinkRead}
+use Rattle.world_face.specs.Journal.{AreAllowed, Entry, LinkOpen, LinkRead, Place}
 use Rattle.world_face.specs.Limits.{most_from_link}
 use Rattle.world_face.specs.declared.Io.TheVariants.{End}
+use Rattle.world_face.specs.declared.Made.TheVariants.{Done as Opened}
 
 -- the octets that were read on the link, in the order of the reads
 abbrev pub link_octets : List Entry → List ℕ
@@ -54,6 +55,12 @@ pub record Untroubled (config : Config) (journal : List Entry) : Type 0 where
   pub ports : failures socket_failed (before_waits journal) ≡ 0
   -- fewer waits were made than the settings allow
   pub fewer : waits journal < config.turns
+
+-- behind the opening of the link an untroubled run was made
+pub record IsUntroubledBehind (config : Config) (at : Place) (made : List Entry) : Type 0 where
+  pub run : List Entry
+  pub is : made ≡ run ++ LinkOpen at Opened ∷ []
+  pub untroubled : Untroubled config run
 
 -- so is each lawful run that fits the lines of a schedule from the first, however many of them
 abbrev pub CanBeFollowed : Config → List ℕ → Type 0

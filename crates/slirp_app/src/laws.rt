@@ -17,10 +17,11 @@ ghost use Rattle.slirp_app.specs.Serving.{IsRun};
 ghost use Rattle.app_edges.specs.Statuses.{code_of, is_run};
 ghost use Rattle.slirp_app.specs.Statuses.{outcome_of};
 ghost use Rattle.app_edges.specs.Texts.{Got};
-ghost use Rattle.slirp_app.specs.Untroubled.{CanBeFollowed, SaysUntroubled, Untroubled};
+ghost use Rattle.slirp_app.specs.Untroubled.{CanBeFollowed, IsUntroubledBehind, SaysUntroubled, Untroubled};
 ghost use Rattle.app_edges.specs.declared.status.Outcome.{Outcome};
 ghost use Rattle.app_edges.specs.declared.status.Outcome.TheVariants.{Done};
-ghost use Rattle.slirp_config.specs.declared.Tap.TheVariants.{Record};
+ghost use Rattle.slirp_config.specs.declared.Tap.{Tap};
+ghost use Rattle.slirp_config.specs.declared.Tap.TheVariants.{Off, Record};
 ghost use Rattle.world_face.specs.Journal.{AreAllowed, Call, Entry, Place, call_of};
 ghost use Rattle.world_face.specs.Puts.{added};
 ghost use Rattle.world_face.specs.Tells.{Makes, Telling, Told};
@@ -34,6 +35,18 @@ pub fn an_untroubled_run_is_made_to_its_end()
     // So with `serve`, behind the opening of the link.
     ensures served { (config : Config) (outcome : Outcome) (run : List Entry) → IsRun config outcome run → AreAllowed run → Untroubled config run
         → outcome ≡ Done }
+{}
+
+/// A link that is served without trouble is served to its end: `serve --link AT` comes to 0; or, where the run is put, to 12 if a put failed.
+pub fn a_link_that_is_served_untroubled_is_served_to_its_end()
+    ensures plain { (words : List (List ℕ)) (forwards : List Forward) (config : Config) (at : Place) (status : ℕ) (live live_new : Telling)
+        (old new said said_new : Option (List ℕ)) (told told_new : ℕ)
+        → ServesLink config at Off status live live_new old new (Got words forwards said said_new told told_new)
+        → Makes live live_new (λ made. IsUntroubledBehind config at made → status ≡ 0) }
+    ensures tapped { (words : List (List ℕ)) (forwards : List Forward) (config : Config) (at : Place) (tap : Tap) (status : ℕ) (live live_new : Telling)
+        (old new said said_new : Option (List ℕ)) (told told_new : ℕ)
+        → ServesLink config at tap status live live_new old new (Got words forwards said said_new told told_new)
+        → Makes live live_new (λ made. IsUntroubledBehind config at made → (status ≡ 0) ⊎ (status ≡ 12)) }
 {}
 
 /// A schedule that can be followed is followed to its end: `replay FILE` comes to 0.
