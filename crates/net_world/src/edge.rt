@@ -1,13 +1,15 @@
 // The sockets of a World, the clock, and what the system tells of them.
-ghost use Rattle.std.specs.Prelude.{◌≡◌, ◌≤◌, ◌<◌, ℕ, false, [], length};
+ghost use Rattle.std.specs.Prelude.{◌≡◌, ◌≤◌, ◌<◌, ◌++◌, ℕ, false, [], length, take, min};
 ghost use Rattle.std.specs.Bool.{OnFalse};
 ghost use Rattle.poll_list.specs.Listing.{AreWants};
 ghost use Rattle.poll_list.specs.Picks.{IsPickedFrom};
 ghost use Rattle.world_face.specs.Journal.{MayRead, MayWrite, MayWait};
 ghost use Rattle.world_face.specs.Limits.{most_ready, most_wants};
 
+use crate::clock::Moments;
 use crate::gathering::{gather, gather_link};
-use crate::link::{LINK, Link};
+use crate::link::Link;
+use crate::place::{LINK, Peer};
 use crate::sockets::{Known, MOST, Sockets};
 use mio::{Events, Poll};
 use net_octets::NoMemory;
@@ -15,11 +17,8 @@ use poll_list::{ReadyList, Want, Wants, Who};
 use std::alloc::Global;
 use std::fs::Files;
 use std::net::Net;
-use std::time::{Clock, Duration, Instant};
+use std::time::{Clock, Duration};
 use world_face::{Accepted, Endpoint, Io, LinkAt, Waited};
-
-/// A moment is at most this.
-const LAST_MOMENT: u64 = 1 << 62;
 
 /// How many waits in a row are answered from what is known, before the system is asked; one more where short frames wait then.
 const MOST_KNOWN: u32 = 64;
@@ -30,13 +29,12 @@ const MOST_ASKED: u32 = 1024;
 /// The link, the sockets and the clock of a World, and the poll by which the system tells what is ready.
 #[derive(Drop)]
 pub(crate) struct Edge {
-    pub link: Link,
+    pub link: Link<Peer>,
     pub sockets: Sockets,
     // None where the system gave none.
     poll: Option<Poll>,
     events: Events,
-    start: Option<Instant>,
-    moment: u64,
+    clock: Moments,
     /// How many waits in a row were answered from what was known.
     answered: u32,
 }
@@ -54,15 +52,16 @@ impl Edge {
             sockets,
             poll: Poll::new(rt).ok(),
             events,
-            start: Instant::now(rt).ok(),
-            moment: 0,
+            clock: Moments::begin(rt),
             answered: 0,
         })
     }
 
     /// The moment of the last wait that asked the system, in milliseconds since it was opened.
-    pub fn moment(&self) -> u64 {
-        self.moment
+    pub fn moment(&self) -> u64
+        ensures { result ≡ self.now.clock.moment }
+    {
+        self.clock.last()
     }
 
     /// Listens for the link at a place. False where that isn't done, or the system gave no poll.
@@ -76,7 +75,10 @@ impl Edge {
     /// Reads octets of the link, whose first peer is taken before where one came.
     pub fn link_read<R: Net + Files>(&mut self, rt: &R, into: &mut [u8]) -> Io
         requires { 0 < length into.old }
-        ensures { MayRead (length into.old) result }
+        ensures may { MayRead (length into.old) result }
+        // What was read ahead comes first, in its order.
+        ensures ahead { 0 < length self.old.link.inbox.octets → result ≡ Io.Done (min (length into.old) (length self.old.link.inbox.octets)) }
+        ensures order { 0 < length self.old.link.inbox.octets → (count : ℕ) → result ≡ Io.Done count → self.old.link.inbox.octets ≡ take count into.new ++ self.new.link.inbox.octets }
     {
         if let Some(poll) = &self.poll {
             self.link.take_peer(rt, poll.registry());
@@ -127,6 +129,8 @@ impl Edge {
         requires few { length wants.now.items ≤ most_wants }
         requires room { most_ready ≤ ready.old.capacity }
         ensures answer { MayWait wants.now.items result ready.new.items }
+        // The moment never falls.
+        ensures moment { self.old.clock.moment ≤ self.new.clock.moment }
         ensures picked { IsPickedFrom wants.now.items ready.new.items }
         ensures capacity { ready.new.capacity ≡ ready.old.capacity }
     {
@@ -151,6 +155,7 @@ impl Edge {
         requires { length wants.now.items ≤ ready.old.capacity }
         ensures picked { IsPickedFrom wants.now.items ready.new.items }
         ensures none { OnFalse result (ready.new.items ≡ []) }
+        ensures moment { self.old.clock.moment ≤ self.new.clock.moment }
         ensures few { length ready.new.items ≤ length wants.now.items }
         ensures capacity { ready.new.capacity ≡ ready.old.capacity }
     {
@@ -169,6 +174,7 @@ impl Edge {
         ensures picked { IsPickedFrom wants.now.items ready.new.items }
         ensures few { length ready.new.items ≤ length wants.now.items }
         ensures out { OnFalse result (self.new.link.pace.holds ≡ false) }
+        ensures moment { self.new.clock ≡ self.old.clock }
         ensures capacity { ready.new.capacity ≡ ready.old.capacity }
     {
         self.offer_known(wants, ready);
@@ -219,20 +225,21 @@ impl Edge {
         requires room { length wants.now.items ≤ ready.old.capacity }
         ensures picked { IsPickedFrom wants.now.items ready.new.items }
         ensures none { OnFalse result (ready.new.items ≡ []) }
+        ensures moment { self.old.clock.moment ≤ self.new.clock.moment }
         ensures few { length ready.new.items ≤ length wants.now.items }
         ensures capacity { ready.new.capacity ≡ ready.old.capacity }
     {
-        let until = end_of(self.moment, timeout);
+        let until = end_of(self.clock.last(), timeout);
         self.flush();
         self.offer_all(wants, ready);
         for _ in 0..MOST_ASKED {
-            let limit = time_left(self.moment, until, !ready.items().is_empty());
+            let limit = time_left(self.clock.last(), until, !ready.items().is_empty());
             if !self.ask(rt, limit) {
                 ready.clear();
                 return false;
             }
             self.offer_all(wants, ready);
-            if is_over(self.moment, until) || !ready.items().is_empty() {
+            if is_over(self.clock.last(), until) || !ready.items().is_empty() {
                 return true;
             }
         }
@@ -255,14 +262,18 @@ impl Edge {
     }
 
     // Writes what was gathered, as much as is taken at once.
-    fn flush(&mut self) {
+    fn flush(&mut self)
+        ensures moment { self.new.clock ≡ self.old.clock }
+    {
         if let Some(poll) = &self.poll {
             self.link.flush(poll.registry());
         }
     }
 
     // Asks the system what is ready, for at most so long.
-    fn ask<R: Net + Files + Clock>(&mut self, rt: &R, limit: Option<Duration>) -> bool {
+    fn ask<R: Net + Files + Clock>(&mut self, rt: &R, limit: Option<Duration>) -> bool
+        ensures moment { self.old.clock.moment ≤ self.new.clock.moment }
+    {
         let Some(poll) = &mut self.poll else {
             return false;
         };
@@ -272,15 +283,8 @@ impl Edge {
         note_events(&self.events, &mut self.link, &mut self.sockets);
         self.link.take_peer(rt, poll.registry());
         self.link.flush(poll.registry());
-        self.look(rt);
+        self.clock.ask(rt);
         true
-    }
-
-    // Asks for the moment. It never falls.
-    fn look<R: Clock>(&mut self, rt: &R) {
-        if let Some(moment) = moment_since(rt, self.start) {
-            self.moment = self.moment.max(moment.min(LAST_MOMENT));
-        }
     }
 
     /// Ends what stands: what was gathered goes out, as much as is taken at once, and no file of a listener stays.
@@ -315,7 +319,7 @@ fn is_link_read(wants: &[Want]) -> bool {
 }
 
 // Notes what the system told.
-fn note_events(events: &Events, link: &mut Link, sockets: &mut Sockets) {
+fn note_events(events: &Events, link: &mut Link<Peer>, sockets: &mut Sockets) {
     for event in events {
         if event.token() == LINK {
             link.note(event);
@@ -323,10 +327,4 @@ fn note_events(events: &Events, link: &mut Link, sockets: &mut Sockets) {
             sockets.note(event);
         }
     }
-}
-
-// How long ago that was, in milliseconds.
-fn moment_since<R: Clock>(rt: &R, start: Option<Instant>) -> Option<u64> {
-    let passed = start?.elapsed(rt).ok()?;
-    Some(u64::try_from(passed.as_millis()).unwrap_or(u64::MAX))
 }

@@ -2,13 +2,18 @@
 //! ready only where nothing is known to be.
 #![tactic(auto)]
 
+mod clock;
 mod counting;
 mod edge;
 mod files;
 mod gathering;
+mod laws;
 mod link;
 mod net_world;
+mod place;
 mod socket_file;
 mod sockets;
+mod stream_calls;
 
+pub use laws::{what_comes_is_handed_out_in_order, what_is_put_goes_out_in_order};
 pub use net_world::NetWorld;

@@ -1,28 +1,29 @@
 // The stream to the guest.
-ghost use Rattle.std.specs.Prelude.{◌≡◌, ℕ, ◌+◌, ◌<◌, ◌≤◌, ◌++◌, true, false, length, take, min, IfOk, OnErr};
-ghost use Rattle.world_face.specs.Journal.{MayRead, MayWrite};
+ghost use Rattle.std.specs.Prelude.{◌≡◌, ℕ, ◌+◌, ◌<◌, ◌≤◌, ◌==◌, ◌++◌, not, [], true, false, length, take, drop, min, IfOk, OnErr};
+ghost use Rattle.std.specs.Io.KnownBytes.{Keeps};
+ghost use Rattle.octet_buffer.specs.Streams.{Calls};
+ghost use Rattle.world_face.specs.Journal.{MayRead, MayWrite, filled};
 ghost use Rattle.world_face.specs.Limits.{most_to_link};
-ghost use Rattle.ack_pace.specs.Paces.{let_out};
-ghost use Rattle.net_world.specs.Linking.{is_open, is_told_readable, is_told_writable, listens, after_read, after_write, at_end, read_answer};
+ghost use Rattle.ack_pace.specs.Paces.{let_out, turned};
+ghost use Rattle.net_world.specs.Places.{IsNoted, has_guest, of_guest};
+ghost use Rattle.net_world.specs.Linking.{is_open, is_told_readable, is_told_writable, after_read, after_write, after_event, at_end};
+ghost use Rattle.net_world.specs.Linking.{read_answer, fault_by, ahead_by, read_by, outlet_by, moved, MayRest, IsWaitWatched};
+ghost use Rattle.net_world.specs.Keeping.{HandsOn, SendsOn, TellsBy, put_of};
 
+use crate::place::{Peer, Place, Watched, bind, first_guest, register};
 use crate::socket_file;
-use crate::sockets::{address, send_at_once};
 use ack_pace::Pace;
 use arrayvec::ArrayString;
+use mio::Registry;
 use mio::event::Event;
-use mio::net::{TcpListener, TcpStream, UnixListener, UnixStream};
-use mio::{Interest, Registry, Token};
 use net_octets::NoMemory;
 use octet_buffer::Buffer;
 use std::alloc::Global;
 use std::fs::Files;
-use std::io;
 use std::io::ErrorKind;
+use std::mem;
 use std::net::Net;
 use world_face::{Io, LinkAt, MOST_TO_LINK};
-
-/// The token under which the system tells of the link. A socket's is its key in the slab.
-pub(crate) const LINK: Token = Token(usize::MAX);
 
 /// How many octets are read ahead.
 const AHEAD: usize = 131_072;
@@ -33,16 +34,6 @@ const ROOM: usize = 262_144;
 /// The room that 16,384 octets take, the most that is read from a connection at once, in frames of 536 octets of them and 58 of headers and length. A guest may
 /// ask for shorter ones (RFC 9293, 3.7.1): then some of them find no room, and are made once there is.
 const FRAMED: usize = 18_432;
-
-/// Where the link stands: a listener becomes its first peer.
-#[derive(Drop)]
-enum Place {
-    Closed,
-    ListensUnix(UnixListener),
-    ListensTcp(TcpListener),
-    Unix(UnixStream),
-    Tcp(TcpStream),
-}
 
 /// What becomes of what is written.
 #[derive(Clone, Copy, PartialEq, Eq)]
@@ -64,10 +55,10 @@ enum Fault {
     Other,
 }
 
-/// The link. What came is kept in `inbox` until it is read, and what goes out in `outbox` until it is flushed.
+/// The link, over the stream of a guest. What came is kept in `inbox` until it is read, and what goes out in `outbox` until it is flushed.
 #[derive(Drop)]
-pub(crate) struct Link {
-    place: Place,
+pub(crate) struct Link<S> {
+    place: Place<S>,
     /// Where the file of a Unix listener stands; empty where there is none.
     path: ArrayString<107>,
     inbox: Buffer,
@@ -85,25 +76,7 @@ pub(crate) struct Link {
     pace: Pace,
 }
 
-impl Link {
-    /// A closed link, with room for 131,072 octets that are read ahead and 262,144 that are gathered. Err where there is no memory for it.
-    pub fn open(alloc: Global) -> Result<Link, NoMemory> {
-        let inbox = Buffer::open(alloc, AHEAD)?;
-        let outbox = Buffer::open(alloc, ROOM)?;
-        Ok(Link {
-            place: Place::Closed,
-            path: ArrayString::new(),
-            inbox,
-            outbox,
-            readable: false,
-            takes: false,
-            ended: false,
-            watched: false,
-            outlet: Outlet::Open,
-            pace: Pace::new(),
-        })
-    }
-
+impl Link<Peer> {
     /// Listens at a place, where it is closed.
     pub fn listen<R: Net + Files>(&mut self, rt: &R, registry: &Registry, at: &LinkAt) -> bool {
         if !matches!(self.place, Place::Closed) {
@@ -120,8 +93,11 @@ impl Link {
     }
 
     /// Takes the first peer, where one came. The listener is closed by that, and its file is removed.
-    pub fn take_peer<R: Net + Files>(&mut self, rt: &R, registry: &Registry) {
-        let Some(peer) = first_peer(&self.place) else {
+    pub fn take_peer<R: Net + Files>(&mut self, rt: &R, registry: &Registry)
+        ensures ahead { self.new.inbox ≡ self.old.inbox }
+        ensures watched { IsWaitWatched self.old → IsWaitWatched self.new }
+    {
+        let Some(peer) = first_guest(&self.place) else {
             return;
         };
         self.move_to(peer);
@@ -132,12 +108,17 @@ impl Link {
     }
 
     // Stands there from now on, and closes what it stood at.
-    fn move_to(&mut self, place: Place) {
+    fn move_to(&mut self, place: Place<Peer>)
+        ensures change { self.new ≡ record self.old { place = place } }
+    {
         self.place = place;
     }
 
     // Has the system tell when something came, and closes where it can't.
-    fn stay_registered<R: Net + Files>(&mut self, rt: &R, registry: &Registry) -> bool {
+    fn stay_registered<R: Net + Files>(&mut self, rt: &R, registry: &Registry) -> bool
+        ensures ahead { self.new.inbox ≡ self.old.inbox }
+        ensures takes { has_guest self.new.place ≡ true → self.new.takes ≡ self.old.takes }
+    {
         let registered = register(&mut self.place, registry);
         if !registered {
             self.shut(rt);
@@ -146,22 +127,52 @@ impl Link {
     }
 
     /// Closes it. What was gathered goes out before, as much as is taken at once.
-    pub fn shut<R: Net + Files>(&mut self, rt: &R) {
-        self.write_out();
-        self.move_to(Place::Closed);
+    pub fn shut<R: Net + Files>(&mut self, rt: &R)
+        ensures ahead { self.new.inbox ≡ self.old.inbox }
+        ensures closed { self.new.place ≡ Place.Closed }
+    {
+        drop(self.part());
         self.remove_file(rt);
     }
 
     // Removes the file of a listener that was closed.
-    fn remove_file<R: Net + Files>(&mut self, rt: &R) {
+    fn remove_file<R: Net + Files>(&mut self, rt: &R)
+        ensures place { self.new.place ≡ self.old.place }
+        ensures ahead { self.new.inbox ≡ self.old.inbox }
+        ensures takes { self.new.takes ≡ self.old.takes }
+    {
         if !self.path.is_empty() {
             socket_file::remove(rt, self.path.as_str());
             self.path.clear();
         }
     }
+}
 
+impl<S> Link<S> {
+    /// A closed link, with room for 131,072 octets that are read ahead and 262,144 that are gathered. Err where there is no memory for it.
+    pub fn open(alloc: Global) -> Result<Link<S>, NoMemory> {
+        let inbox = Buffer::open(alloc, AHEAD)?;
+        let outbox = Buffer::open(alloc, ROOM)?;
+        Ok(Link {
+            place: Place::Closed,
+            path: ArrayString::new(),
+            inbox,
+            outbox,
+            readable: false,
+            takes: false,
+            ended: false,
+            watched: false,
+            outlet: Outlet::Open,
+            pace: Pace::new(),
+        })
+    }
+}
+
+impl<S: Watched> Link<S> {
     /// Notes what the system told of it.
-    pub fn note(&mut self, event: &Event) {
+    pub fn note(&mut self, event: &Event)
+        ensures change { self.new ≡ after_event event.now self.old }
+    {
         let fails = event.is_error();
         self.ended |= fails | event.is_read_closed();
         self.readable |= self.ended | event.is_readable();
@@ -176,7 +187,9 @@ impl Link {
     }
 
     /// Whether octets were read ahead.
-    pub fn is_ahead(&self) -> bool {
+    pub fn is_ahead(&self) -> bool
+        ensures { result ≡ not (length self.now.inbox.octets == 0) }
+    {
         !self.inbox.is_empty()
     }
 
@@ -185,15 +198,8 @@ impl Link {
     pub fn is_writable(&self) -> bool
         ensures { result ≡ is_told_writable self.now }
     {
-        !self.listens()
+        !self.place.listens()
             && (!self.is_open() || (self.outbox.room() >= MOST_TO_LINK && !self.pace.holds()))
-    }
-
-    // Whether no guest has come yet.
-    fn listens(&self) -> bool
-        ensures { result ≡ listens self.now.place }
-    {
-        matches!(self.place, Place::ListensUnix(_) | Place::ListensTcp(_))
     }
 
     // Whether what is written goes out.
@@ -214,7 +220,9 @@ impl Link {
     }
 
     /// A wait begins, in which the link is wanted for reading, or not.
-    pub fn turn(&mut self, reads: bool) {
+    pub fn turn(&mut self, reads: bool)
+        ensures change { self.new ≡ record self.old { pace = turned reads self.old.pace } }
+    {
         self.pace.turn(reads);
     }
 
@@ -227,7 +235,7 @@ impl Link {
 
     /// Until the next wait no short frame waits.
     pub fn let_out(&mut self)
-        ensures { self.new.pace ≡ let_out }
+        ensures change { self.new ≡ record self.old { pace = let_out } }
     {
         self.pace.let_out();
     }
@@ -239,6 +247,19 @@ impl Link {
         // What was read ahead comes first, in its order.
         ensures ahead { 0 < length self.old.inbox.octets → result ≡ Io.Done (min (length into.old) (length self.old.inbox.octets)) }
         ensures order { 0 < length self.old.inbox.octets → (count : ℕ) → result ≡ Io.Done count → self.old.inbox.octets ≡ take count into.new ++ self.new.inbox.octets }
+        // What is handed out, and behind it what is ahead, is what was ahead, and behind it what the stream gave: nothing is left out.
+        ensures hands { HandsOn (of_guest S.remaining self.old.place) (of_guest S.remaining self.new.place) self.old.inbox.octets self.new.inbox.octets (filled result into.new) }
+        // Where nothing is ahead one call on the stream says what is told: the end where it gives none, and only there.
+        ensures tells { length self.old.inbox.octets ≡ 0 → TellsBy (of_guest S.answers self.old.place) (of_guest S.answers self.new.place)
+            (of_guest S.remaining self.new.place) (read_by self.old.outlet (length into.old)) result }
+        // Else none is made.
+        ensures still { 0 < length self.old.inbox.octets → self.new.place ≡ self.old.place }
+        // What goes out stays.
+        ensures written { Keeps (of_guest S.contents self.old.place) (of_guest S.contents self.new.place) }
+        ensures waits { self.new.outbox ≡ self.old.outbox }
+        // It isn't told any longer where the call would have waited, or brought less than there was room for.
+        ensures wakes { self.old.readable ≡ true → self.new.readable ≡ false →
+            Calls (of_guest S.answers self.old.place) (of_guest S.answers self.new.place) (MayRest self.old.inbox.size) }
         ensures rests { result ≡ Io.NotYet → is_told_readable self.new ≡ false }
     {
         if self.inbox.is_empty() {
@@ -257,12 +278,18 @@ impl Link {
     // Reads as much as there is room for. Where less came there is no more for now.
     fn read_ahead(&mut self) -> Io
         requires { length self.old.inbox.octets ≡ 0 }
-        ensures came { (count : ℕ) → result ≡ Io.Done count → 0 < length self.new.inbox.octets }
+        ensures came { (count : ℕ) → result ≡ Io.Done count → (0 < count) × (length self.new.inbox.octets ≡ count) }
+        ensures hands { HandsOn (of_guest S.remaining self.old.place) (of_guest S.remaining self.new.place) self.old.inbox.octets self.new.inbox.octets [] }
+        ensures tells { TellsBy (of_guest S.answers self.old.place) (of_guest S.answers self.new.place) (of_guest S.remaining self.new.place) (ahead_by self.old.outlet) result }
+        ensures written { Keeps (of_guest S.contents self.old.place) (of_guest S.contents self.new.place) }
+        ensures waits { self.new.outbox ≡ self.old.outbox }
+        ensures wakes { self.old.readable ≡ true → self.new.readable ≡ false →
+            Calls (of_guest S.answers self.old.place) (of_guest S.answers self.new.place) (MayRest self.old.inbox.size) }
         ensures rests { result ≡ Io.NotYet → is_told_readable self.new ≡ false }
     {
         self.inbox.settle();
         let room = self.inbox.room();
-        match fill(&mut self.place, &mut self.inbox) {
+        match self.inbox.fill(&mut self.place) {
             Ok(0) => self.end(),
             Ok(count) => {
                 self.readable = self.ended || count == room;
@@ -306,9 +333,15 @@ impl Link {
         ensures whole { (count : ℕ) → result ≡ Io.Done count → count ≡ length from.now }
         // Where a wait may tell it ready for writing a frame that is no short one is answered.
         ensures served { is_told_writable self.old ≡ true → length from.now ≤ most_to_link → result ≡ Io.NotYet → self.new.pace.holds ≡ true }
+        // What the stream took, and behind it what waits, is what waited, and behind it what is told as taken, but for what is lost.
+        ensures sends { SendsOn (of_guest S.contents self.old.place) (of_guest S.contents self.new.place) self.old.outbox.octets self.new.outbox.octets (put_of self.old.outlet result from.now) }
+        // What is read stays.
+        ensures unread { Keeps (of_guest S.remaining self.old.place) (of_guest S.remaining self.new.place) }
+        ensures ahead { self.new.inbox ≡ self.old.inbox }
+        ensures watched { IsWaitWatched self.old → IsWaitWatched self.new }
     {
         match &self.place {
-            Place::Unix(_) | Place::Tcp(_) => {}
+            Place::Guest(_) => {}
             Place::ListensUnix(_) | Place::ListensTcp(_) => return Io::NotYet,
             Place::Closed => return Io::Failed,
         }
@@ -325,6 +358,10 @@ impl Link {
         ensures may { MayWrite (length from.now) result }
         ensures whole { (count : ℕ) → result ≡ Io.Done count → count ≡ length from.now }
         ensures served { length from.now ≤ self.old.outbox.room → result ≡ Io.NotYet → self.new.pace.holds ≡ true }
+        ensures sends { SendsOn (of_guest S.contents self.old.place) (of_guest S.contents self.new.place) self.old.outbox.octets self.new.outbox.octets (filled result from.now) }
+        ensures unread { Keeps (of_guest S.remaining self.old.place) (of_guest S.remaining self.new.place) }
+        ensures ahead { self.new.inbox ≡ self.old.inbox }
+        ensures watched { IsWaitWatched self.old → IsWaitWatched self.new }
     {
         let ahead = self.is_ahead();
         if self.pace.keeps(from.len(), ahead) {
@@ -341,7 +378,12 @@ impl Link {
     }
 
     /// Writes what was gathered by one call, where the system may take it. Where it doesn't take all of it, it is to tell when it takes more.
-    pub fn flush(&mut self, registry: &Registry) {
+    pub fn flush(&mut self, registry: &Registry)
+        ensures sends { SendsOn (of_guest S.contents self.old.place) (of_guest S.contents self.new.place) self.old.outbox.octets self.new.outbox.octets [] }
+        ensures unread { Keeps (of_guest S.remaining self.old.place) (of_guest S.remaining self.new.place) }
+        ensures ahead { self.new.inbox ≡ self.old.inbox }
+        ensures watched { IsWaitWatched self.old → IsWaitWatched self.new }
+    {
         if self.takes && !self.outbox.is_empty() && self.is_open() {
             self.write_out();
             self.watch(registry);
@@ -349,15 +391,20 @@ impl Link {
     }
 
     // Writes what was gathered by one call, as much as is taken.
-    fn write_out(&mut self) {
+    fn write_out(&mut self)
+        ensures sends { SendsOn (of_guest S.contents self.old.place) (of_guest S.contents self.new.place) self.old.outbox.octets self.new.outbox.octets [] }
+        // The call is made, and its answer says how much has gone out, and what becomes of the rest.
+        ensures tries { 0 < length self.old.outbox.octets → is_open self.old.outlet ≡ true →
+            Calls (of_guest S.answers self.old.place) (of_guest S.answers self.new.place) (λ answer.
+            (self.new.outbox.octets ≡ drop (moved answer) self.old.outbox.octets) × (self.new.outlet ≡ outlet_by self.old.outlet answer)) }
+        ensures unread { Keeps (of_guest S.remaining self.old.place) (of_guest S.remaining self.new.place) }
+        ensures ahead { self.new.inbox ≡ self.old.inbox }
+        ensures takes { 0 < length self.old.outbox.octets → is_open self.old.outlet ≡ true → self.new.takes ≡ (length self.new.outbox.octets == 0) }
+    {
         if self.outbox.is_empty() || !self.is_open() {
             return;
         }
-        let written = match &mut self.place {
-            Place::Unix(stream) => self.outbox.drain(stream),
-            Place::Tcp(stream) => self.outbox.drain(stream),
-            _ => return,
-        };
+        let written = self.outbox.drain(&mut self.place);
         self.outbox.settle();
         self.takes = self.outbox.is_empty();
         match written {
@@ -367,9 +414,24 @@ impl Link {
         }
     }
 
+    // Gives up its place, once what was gathered went out, as much as is taken at once. The rest is lost.
+    fn part(&mut self) -> Place<S>
+        ensures sends { SendsOn (of_guest S.contents self.old.place) (of_guest S.contents result) self.old.outbox.octets self.new.outbox.octets [] }
+        ensures tries { 0 < length self.old.outbox.octets → is_open self.old.outlet ≡ true →
+            Calls (of_guest S.answers self.old.place) (of_guest S.answers result) (λ answer. self.new.outbox.octets ≡ drop (moved answer) self.old.outbox.octets) }
+        ensures ahead { self.new.inbox ≡ self.old.inbox }
+        ensures closed { self.new.place ≡ Place.Closed }
+    {
+        self.write_out();
+        mem::replace(&mut self.place, Place::Closed)
+    }
+
     // What becomes of the link where a write took nothing. Where the peer is gone a read is to find the end.
     fn write_none(&mut self, fault: Fault)
         ensures change { self.new ≡ after_write fault self.old }
+        ensures place { self.new.place ≡ self.old.place }
+        ensures ahead { self.new.inbox ≡ self.old.inbox }
+        ensures waits { self.new.outbox ≡ self.old.outbox }
     {
         match fault {
             Fault::WouldWait => {}
@@ -382,40 +444,26 @@ impl Link {
     }
 
     // Has the system tell when it takes octets again, exactly while some are left.
-    fn watch(&mut self, registry: &Registry) {
+    fn watch(&mut self, registry: &Registry)
+        ensures remaining { of_guest S.remaining self.new.place ≡ of_guest S.remaining self.old.place }
+        ensures contents { of_guest S.contents self.new.place ≡ of_guest S.contents self.old.place }
+        ensures ahead { self.new.inbox ≡ self.old.inbox }
+        ensures waits { self.new.outbox ≡ self.old.outbox }
+        ensures guest { has_guest self.new.place ≡ has_guest self.old.place }
+        ensures takes { self.new.takes ≡ self.old.takes }
+        ensures watched { has_guest self.old.place ≡ true → is_open self.new.outlet ≡ true → self.new.watched ≡ not (length self.new.outbox.octets == 0) }
+        // What was noted is what the system is to tell.
+        ensures noted { is_open self.new.outlet ≡ true → IsNoted (of_guest S.asked self.old.place) self.old.watched → IsNoted (of_guest S.asked self.new.place) self.new.watched }
+    {
         let wanted = !self.outbox.is_empty() && self.is_open();
-        if wanted == self.watched {
+        if wanted == self.watched || !self.place.has_guest() {
             return;
         }
-        let interest = if wanted {
-            Interest::READABLE | Interest::WRITABLE
-        } else {
-            Interest::READABLE
-        };
-        let done = match &mut self.place {
-            Place::Unix(stream) => registry.reregister(stream, LINK, interest),
-            Place::Tcp(stream) => registry.reregister(stream, LINK, interest),
-            _ => return,
-        };
+        let done = self.place.watch(registry, wanted);
         self.watched = wanted;
-        if done.is_err() {
+        if !done {
             self.outlet = Outlet::Broken;
         }
-    }
-}
-
-// Reads what came into a buffer, as much as it has room for.
-fn fill(place: &mut Place, inbox: &mut Buffer) -> io::Result<usize>
-    ensures came { IfOk result (λ count. length inbox.new.octets ≡ length inbox.old.octets + count) }
-    ensures none { OnErr result (inbox.new ≡ inbox.old) }
-{
-    match place {
-        Place::Unix(stream) => inbox.fill(stream),
-        Place::Tcp(stream) => inbox.fill(stream),
-        Place::ListensUnix(_) | Place::ListensTcp(_) => {
-            Err(io::Error::from(ErrorKind::WouldBlock))
-        }
-        Place::Closed => Err(io::Error::from(ErrorKind::NotConnected)),
     }
 }
 
@@ -424,52 +472,11 @@ fn fault_of(kind: ErrorKind) -> Fault
     ensures wait { kind ≡ ErrorKind.WouldBlock → result ≡ Fault.WouldWait }
     ensures reset { kind ≡ ErrorKind.ConnectionReset → result ≡ Fault.PeerGone }
     ensures pipe { kind ≡ ErrorKind.BrokenPipe → result ≡ Fault.PeerGone }
+    ensures by { result ≡ fault_by kind }
 {
     match kind {
         ErrorKind::WouldBlock => Fault::WouldWait,
         ErrorKind::ConnectionReset | ErrorKind::BrokenPipe => Fault::PeerGone,
         _ => Fault::Other,
     }
-}
-
-// A listener at a place.
-fn bind<R: Net + Files>(rt: &R, at: &LinkAt) -> Option<Place> {
-    match at {
-        LinkAt::Unix(path) => {
-            let listener = socket_file::listen(rt, path.as_str()).ok()?;
-            Some(Place::ListensUnix(listener))
-        }
-        LinkAt::Tcp(at) => {
-            let listener = TcpListener::bind(rt, address(*at)).ok()?;
-            Some(Place::ListensTcp(listener))
-        }
-    }
-}
-
-// The first peer that came to a listener.
-fn first_peer(place: &Place) -> Option<Place> {
-    match place {
-        Place::ListensUnix(listener) => {
-            let (stream, _) = listener.accept().ok()?;
-            Some(Place::Unix(stream))
-        }
-        Place::ListensTcp(listener) => {
-            let (stream, _) = listener.accept().ok()?;
-            send_at_once(&stream);
-            Some(Place::Tcp(stream))
-        }
-        _ => None,
-    }
-}
-
-// Has the system tell when something came, from a peer or to a listener.
-fn register(place: &mut Place, registry: &Registry) -> bool {
-    let registered = match place {
-        Place::Closed => return false,
-        Place::ListensUnix(listener) => registry.register(listener, LINK, Interest::READABLE),
-        Place::ListensTcp(listener) => registry.register(listener, LINK, Interest::READABLE),
-        Place::Unix(stream) => registry.register(stream, LINK, Interest::READABLE),
-        Place::Tcp(stream) => registry.register(stream, LINK, Interest::READABLE),
-    };
-    registered.is_ok()
 }

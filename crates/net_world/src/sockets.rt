@@ -1,21 +1,25 @@
 // The sockets of the host, each under its number.
-ghost use Rattle.std.specs.Prelude.{◌≡◌, ℕ, ◌<◌, ◌≤◌, true, false, IfSome, length, vec_capacity};
+ghost use Rattle.std.specs.Prelude.{◌≡◌, ℕ, ◌<◌, ◌≤◌, true, false, Ok, IfSome, length, vec_capacity};
 ghost use Rattle.std.specs.List.Sorted.{IsSearchInRange};
 ghost use Rattle.std.specs.Bool.{OnFalse};
-ghost use Rattle.mio.specs.Event.{is_priority, is_readable};
+ghost use Rattle.std.specs.Io.KnownBytes.{Appends, Consumes, IsAtEnd, Keeps};
+ghost use Rattle.octet_buffer.specs.Streams.{Calls};
 ghost use Rattle.slab.specs.Slab.{slab_len};
-ghost use Rattle.world_face.specs.Journal.{MayRead, MayWrite, MayGet};
+ghost use Rattle.world_face.specs.Journal.{MayRead, MayWrite, MayGet, filled};
+ghost use Rattle.net_world.specs.Slots.{of_stream};
+ghost use Rattle.net_world.specs.Streaming.{read_tells, write_tells, after_read, after_write};
 ghost use Rattle.net_world.specs.declared.sockets.TheConstants.{MOST};
 
+use crate::stream_calls;
+use crate::stream_calls::{Ready, is_not_yet};
 use mio::event::Event;
 use mio::net::{TcpListener, TcpStream, UdpSocket};
 use mio::{Interest, Registry, Token};
 use net_octets::NoMemory;
-use octet_buffer::again;
+use octet_buffer::{Stream, again};
 use poll_list::{Want, Who};
 use slab::Slab;
 use std::alloc::Global;
-use std::io;
 use std::io::ErrorKind;
 use std::net::{Ipv4Addr, Net, Shutdown, SocketAddr};
 use world_face::{Accepted, Endpoint, Got, Io, Ip4, Joined, Sent};
@@ -36,21 +40,18 @@ const NOTHING: Known = Known {
 };
 
 #[derive(Drop)]
-enum Socket {
+enum Socket<S> {
     Listener(TcpListener),
-    Stream(TcpStream),
+    Stream(S),
     Datagrams(UdpSocket),
 }
 
-/// A socket, and what it was found ready for since the last call that found otherwise.
+/// A socket, over the stream that a connection is, and what it was found ready for.
 #[derive(Drop)]
-struct Slot {
+struct Slot<S> {
     of: Who,
-    socket: Socket,
-    readable: bool,
-    writable: bool,
-    /// It is read until a read brings nothing: its end came, or octets before which a read stops, those that are marked as urgent.
-    until_none: bool,
+    socket: Socket<S>,
+    ready: Ready,
     /// The system refused to give a connection that has come, since it had no descriptor for it.
     starved: bool,
     /// It stands in the list of those that are ready for reading.
@@ -75,7 +76,7 @@ pub(crate) struct Listed {
 /// alone, as each connection is while it idles, stands in no list.
 #[derive(Drop)]
 pub(crate) struct Sockets {
-    slots: Slab<Slot>,
+    slots: Slab<Slot<TcpStream>>,
     places: Vec<Place>,
     readable: Vec<Listed>,
     /// A listener waits for a descriptor.
@@ -141,8 +142,8 @@ impl Sockets {
     fn known_at(&self, key: usize, of: Who) -> Known {
         match self.slots.get(key) {
             Some(slot) if slot.of == of => Known {
-                read: slot.readable,
-                write: slot.writable,
+                read: slot.ready.read,
+                write: slot.ready.write,
             },
             _ => NOTHING,
         }
@@ -168,7 +169,7 @@ impl Sockets {
     }
 
     // Puts a socket under its number, and has the system tell what it is ready for.
-    fn add(&mut self, registry: &Registry, of: Who, mut socket: Socket) -> bool {
+    fn add(&mut self, registry: &Registry, of: Who, mut socket: Socket<TcpStream>) -> bool {
         let (_, number) = rank(of);
         let Some(at) = self.free_place(number) else {
             return false;
@@ -180,9 +181,7 @@ impl Sockets {
         let key = self.slots.insert_reserved(Slot {
             of,
             socket,
-            readable: false,
-            writable: false,
-            until_none: false,
+            ready: Ready::NONE,
             starved: false,
             listed: false,
         });
@@ -202,7 +201,7 @@ impl Sockets {
         let Some(slot) = self.slots.get_mut(key) else {
             return;
         };
-        let (of, readable) = (slot.of, slot.readable);
+        let (of, readable) = (slot.of, slot.ready.read);
         if slot.listed != readable {
             slot.listed = readable;
             self.put_into_list(Listed { of, key }, readable);
@@ -229,7 +228,7 @@ impl Sockets {
     pub fn note(&mut self, event: &Event) {
         let key = event.token().0;
         if let Some(slot) = self.slots.get_mut(key) {
-            note(slot, event);
+            stream_calls::note(&mut slot.ready, event);
             self.list(key);
         }
     }
@@ -370,7 +369,7 @@ impl Sockets {
             };
             let key = place.key;
             if let Some(slot) = self.slots.get_mut(key) {
-                slot.readable |= slot.starved;
+                slot.ready.read |= slot.starved;
                 slot.starved = false;
                 self.list(key);
             }
@@ -403,7 +402,7 @@ pub(crate) fn rank(of: Who) -> (u8, u64) {
 }
 
 // A socket of that kind, if the system gives one.
-fn new_socket<R: Net>(rt: &R, of: Who, at: Endpoint) -> Option<Socket> {
+fn new_socket<R: Net>(rt: &R, of: Who, at: Endpoint) -> Option<Socket<TcpStream>> {
     match of {
         Who::Link => None,
         Who::Listener(_) => {
@@ -423,7 +422,7 @@ fn new_socket<R: Net>(rt: &R, of: Who, at: Endpoint) -> Option<Socket> {
 }
 
 // Has the system tell what a socket is ready for. Nobody waits until datagrams can be sent.
-fn register(socket: &mut Socket, registry: &Registry, token: Token) -> bool {
+fn register(socket: &mut Socket<TcpStream>, registry: &Registry, token: Token) -> bool {
     match socket {
         Socket::Listener(listener) => registry
             .register(listener, token, Interest::READABLE)
@@ -439,18 +438,11 @@ fn register(socket: &mut Socket, registry: &Registry, token: Token) -> bool {
     }
 }
 
-fn note(slot: &mut Slot, event: &Event)
-    ensures readable { is_readable event.now ≡ true → slot.new.readable ≡ true }
-    ensures urgent { is_priority event.now ≡ true → slot.new.until_none ≡ true }
-{
-    let fails = event.is_error();
-    slot.until_none |= fails | event.is_read_closed() | event.is_priority();
-    slot.readable |= slot.until_none | event.is_readable();
-    slot.writable |= fails | event.is_writable() | event.is_write_closed();
-}
-
-fn joined(slot: &mut Slot) -> Joined
-    ensures rests { result ≡ Joined.NotYet → slot.new.writable ≡ false }
+fn joined(slot: &mut Slot<TcpStream>) -> Joined
+    ensures rests { result ≡ Joined.NotYet → slot.new.ready.write ≡ false }
+    ensures stays { slot.new.ready.read ≡ slot.old.ready.read }
+    ensures kept { slot.new.ready.write ≡ false → slot.old.ready.write ≡ true → result ≡ Joined.NotYet }
+    ensures socket { slot.new.socket ≡ slot.old.socket }
 {
     let Socket::Stream(stream) = &slot.socket else {
         return Joined::Failed;
@@ -462,7 +454,7 @@ fn joined(slot: &mut Slot) -> Joined
     match stream.peer_addr() {
         Ok(_) => Joined::Yes,
         Err(fault) if fault.kind() == ErrorKind::NotConnected => {
-            slot.writable = false;
+            slot.ready.write = false;
             Joined::NotYet
         }
         Err(_) => Joined::Failed,
@@ -477,7 +469,10 @@ enum Came {
     Failed,
 }
 
-fn accept(slot: &mut Slot) -> Came {
+fn accept<S>(slot: &mut Slot<S>) -> Came
+    ensures kept { slot.new.ready.read ≡ false → slot.old.ready.read ≡ true → slot.new.starved ≡ false → result ≡ Came.NotYet }
+    ensures socket { slot.new.socket ≡ slot.old.socket }
+{
     let Socket::Listener(listener) = &slot.socket else {
         return Came::Failed;
     };
@@ -486,8 +481,8 @@ fn accept(slot: &mut Slot) -> Came {
             Some(peer) => Came::From(stream, peer),
             None => Came::Failed,
         },
-        Err(fault) if is_not_yet(&fault) => {
-            slot.readable = false;
+        Err(fault) if is_not_yet(fault.kind()) => {
+            slot.ready.read = false;
             Came::NotYet
         }
         Err(fault) if fault.kind() == ErrorKind::ConnectionAborted => Came::NotYet,
@@ -496,82 +491,77 @@ fn accept(slot: &mut Slot) -> Came {
 }
 
 // The connection that came stays where it is.
-fn starve(slot: &mut Slot) -> Came {
-    slot.readable = false;
+fn starve<S>(slot: &mut Slot<S>) -> Came
+    ensures starved { slot.new.starved ≡ true }
+    ensures socket { slot.new.socket ≡ slot.old.socket }
+{
+    slot.ready.read = false;
     slot.starved = true;
     Came::Failed
 }
 
-// Where less came than was asked for there is no more for now, unless it is read until nothing comes.
-fn read(slot: &mut Slot, into: &mut [u8]) -> Io
+// Reads octets of a connection.
+fn read<S: Stream>(slot: &mut Slot<S>, into: &mut [u8]) -> Io
     requires { 0 < length into.old }
     ensures may { MayRead (length into.old) result }
-    ensures rests { result ≡ Io.NotYet → slot.new.readable ≡ false }
-    ensures goes_on { slot.old.until_none ≡ true → slot.old.readable ≡ true → (count : ℕ) → result ≡ Io.Done count → (slot.new.until_none ≡ true) × (slot.new.readable ≡ true) }
+    // What is told as read is what the stream gave.
+    ensures came { Consumes (of_stream S.remaining slot.old.socket) (of_stream S.remaining slot.new.socket) (filled result into.new) }
+    ensures written { Keeps (of_stream S.contents slot.old.socket) (of_stream S.contents slot.new.socket) }
+    // One call says what is told, the end where it gives none and only there, and what the socket is ready for.
+    ensures tells { Calls (of_stream S.answers slot.old.socket) (of_stream S.answers slot.new.socket) (λ answer.
+        (result ≡ read_tells answer) × (answer ≡ Ok 0 → IsAtEnd (of_stream S.remaining slot.new.socket))
+        × (slot.new.ready ≡ after_read (length into.old) answer slot.old.ready)) }
+    ensures rests { result ≡ Io.NotYet → slot.new.ready.read ≡ false }
+    ensures goes_on { slot.old.ready.until_none ≡ true → slot.old.ready.read ≡ true → (count : ℕ) → result ≡ Io.Done count
+        → (slot.new.ready.until_none ≡ true) × (slot.new.ready.read ≡ true) }
 {
-    let Socket::Stream(stream) = &mut slot.socket else {
-        return Io::Failed;
-    };
-    let asked = into.len();
-    match again::read(stream, into) {
-        Ok(0) => Io::End,
-        Ok(count) => {
-            slot.readable = slot.until_none || count == asked;
-            Io::Done(count)
-        }
-        Err(fault) if is_not_yet(&fault) => {
-            slot.readable = false;
-            slot.until_none = false;
-            Io::NotYet
-        }
-        Err(_) => Io::Failed,
+    match &mut slot.socket {
+        Socket::Stream(stream) => stream_calls::read(stream, &mut slot.ready, into),
+        _ => Io::Failed,
     }
 }
 
-// Where less was taken than was offered the system takes no more for now.
-fn write(slot: &mut Slot, from: &[u8]) -> Io
+// Writes octets to a connection.
+fn write<S: Stream>(slot: &mut Slot<S>, from: &[u8]) -> Io
     requires { 0 < length from.now }
     ensures may { MayWrite (length from.now) result }
-    ensures rests { result ≡ Io.NotYet → slot.new.writable ≡ false }
+    // What is told as taken is what the stream took.
+    ensures went { Appends (of_stream S.contents slot.old.socket) (of_stream S.contents slot.new.socket) (filled result from.now) }
+    ensures unread { Keeps (of_stream S.remaining slot.old.socket) (of_stream S.remaining slot.new.socket) }
+    // One call says what is told, and what the socket is ready for.
+    ensures tells { Calls (of_stream S.answers slot.old.socket) (of_stream S.answers slot.new.socket) (λ answer.
+        (result ≡ write_tells answer) × (slot.new.ready ≡ after_write (length from.now) answer slot.old.ready)) }
+    ensures rests { result ≡ Io.NotYet → slot.new.ready.write ≡ false }
 {
-    let Socket::Stream(stream) = &mut slot.socket else {
-        return Io::Failed;
-    };
-    match again::write(stream, from) {
-        Ok(0) => Io::Failed,
-        Ok(count) => {
-            slot.writable = count == from.len();
-            Io::Done(count)
-        }
-        Err(fault) if is_not_yet(&fault) => {
-            slot.writable = false;
-            Io::NotYet
-        }
-        Err(_) => Io::Failed,
+    match &mut slot.socket {
+        Socket::Stream(stream) => stream_calls::write(stream, &mut slot.ready, from),
+        _ => Io::Failed,
     }
 }
 
-fn end(slot: &Slot) -> bool {
+fn end(slot: &Slot<TcpStream>) -> bool {
     match &slot.socket {
         Socket::Stream(stream) => stream.shutdown(Shutdown::Write).is_ok(),
         _ => false,
     }
 }
 
-fn send(slot: &Slot, to: Endpoint, octets: &[u8]) -> Sent {
+fn send<S>(slot: &Slot<S>, to: Endpoint, octets: &[u8]) -> Sent {
     let Socket::Datagrams(socket) = &slot.socket else {
         return Sent::Failed;
     };
     match again::send_to(socket, octets, address(to)) {
         Ok(_) => Sent::Done,
-        Err(fault) if is_not_yet(&fault) => Sent::NotYet,
+        Err(fault) if is_not_yet(fault.kind()) => Sent::NotYet,
         Err(_) => Sent::Failed,
     }
 }
 
-fn receive(slot: &mut Slot, into: &mut [u8]) -> Got
+fn receive<S>(slot: &mut Slot<S>, into: &mut [u8]) -> Got
     ensures may { MayGet (length into.old) result }
-    ensures rests { result ≡ Got.NotYet → slot.new.readable ≡ false }
+    ensures rests { result ≡ Got.NotYet → slot.new.ready.read ≡ false }
+    ensures kept { slot.new.ready.read ≡ false → slot.old.ready.read ≡ true → result ≡ Got.NotYet }
+    ensures socket { slot.new.socket ≡ slot.old.socket }
 {
     let Socket::Datagrams(socket) = &slot.socket else {
         return Got::Failed;
@@ -581,8 +571,8 @@ fn receive(slot: &mut Slot, into: &mut [u8]) -> Got
             Some(peer) => Got::From(peer, count),
             None => Got::Failed,
         },
-        Err(fault) if is_not_yet(&fault) => {
-            slot.readable = false;
+        Err(fault) if is_not_yet(fault.kind()) => {
+            slot.ready.read = false;
             Got::NotYet
         }
         Err(_) => Got::Failed,
@@ -592,11 +582,6 @@ fn receive(slot: &mut Slot, into: &mut [u8]) -> Got
 /// Has the system send what is written at once, where it can, in place of waiting for more (RFC 1122, 4.2.3.4).
 pub(crate) fn send_at_once(stream: &TcpStream) {
     let _set = stream.set_nodelay(true);
-}
-
-/// Whether a call would have waited.
-pub(crate) fn is_not_yet(fault: &io::Error) -> bool {
-    fault.kind() == ErrorKind::WouldBlock
 }
 
 /// An endpoint, as the system has it.

@@ -4,16 +4,16 @@ ghost use Rattle.std.specs.Bool.{OnTrue, OnFalse};
 ghost use Rattle.std.specs.Io.{WritesAtMost};
 ghost use Rattle.std.specs.Io.KnownBytes.{Consumes, IsAtEnd, Keeps, WriteAppends};
 ghost use Rattle.octet_buffer.specs.Buffered.{nothing_in};
+ghost use Rattle.octet_buffer.specs.Streams.{Calls, answer_of};
 
-use crate::again;
+use crate::Stream;
 use net_octets::NoMemory;
 use std::alloc::Global;
 use std::io;
-use std::io::{Read, Write};
 use std::marker::Model;
 
 /// Octets in the order in which they came, with room for a fixed number, all of it taken at opening. A contract sees the
-/// octets, how many more can be put, and how many there is memory for.
+/// octets, how many more can be put, and how many there is memory for, which is one at least.
 #[derive(Drop)]
 pub struct Buffer {
     octets: Vec<u8>,
@@ -22,14 +22,14 @@ pub struct Buffer {
 }
 
 impl Model for Buffer {
-    ghost use Rattle.std.specs.Prelude.{◌-◌, ◌≤◌, length, take, drop};
+    ghost use Rattle.std.specs.Prelude.{◌-◌, ◌<◌, ◌≤◌, length, take, drop};
     ghost use Rattle.octet_buffer.specs.Buffered.{Buffered, buffered};
 
     ghost Value = { Buffered };
 
     ghost view = { λ b. buffered (take (b.to - b.from) (drop b.from b.octets.items)) (length b.octets.items - b.to) (length b.octets.items) };
 
-    ghost invariant = { λ b. (b.from ≤ b.to) × (b.to ≤ length b.octets.items) };
+    ghost invariant = { λ b. (b.from ≤ b.to) × (b.to ≤ length b.octets.items) × (0 < length b.octets.items) };
 }
 
 impl Buffer {
@@ -38,6 +38,7 @@ impl Buffer {
     /// # Errors
     /// `NoMemory` where no memory is left.
     pub fn open(alloc: Global, room: usize) -> Result<Buffer, NoMemory>
+        requires { 0 < room }
         ensures { IfOk result (λ buffer. buffer ≡ nothing_in room) }
     {
         let Ok(octets) = vec![in alloc; 0; room] else {
@@ -99,6 +100,7 @@ impl Buffer {
         ensures octets { self.new.octets ≡ self.old.octets }
         ensures room { self.new.room + length self.new.octets ≡ self.new.size }
         ensures size { self.new.size ≡ self.old.size }
+        ensures some { 0 < self.new.size }
     {
         if self.from > 0 {
             self.octets.copy_within(self.from..self.to, 0);
@@ -111,7 +113,7 @@ impl Buffer {
     ///
     /// # Errors
     /// That of the call, and nothing came.
-    pub fn fill<T: Read>(&mut self, source: &mut T) -> io::Result<usize>
+    pub fn fill<T: Stream>(&mut self, source: &mut T) -> io::Result<usize>
         // What came is what the source gave, and it gave no more.
         ensures came { IfOk result (λ count. (came : List ℕ) × (length came ≡ count) × (self.new.octets ≡ self.old.octets ++ came)
             × Consumes (T.remaining source.old) (T.remaining source.new) came) }
@@ -121,6 +123,8 @@ impl Buffer {
         ensures ended { IfOk result (λ count. count ≡ 0 → 0 < self.old.room → IsAtEnd (T.remaining source.new)) }
         ensures unchanged { OnErr result (self.new ≡ self.old) }
         ensures kept { OnErr result (Keeps (T.remaining source.old) (T.remaining source.new)) }
+        ensures taken { Keeps (T.contents source.old) (T.contents source.new) }
+        ensures called { Calls (T.answers source.old) (T.answers source.new) (λ answer. answer ≡ answer_of result) }
     {
         match read_part(source, &mut self.octets, self.to) {
             Ok(count) => {
@@ -135,7 +139,7 @@ impl Buffer {
     ///
     /// # Errors
     /// That of the call, and nothing was dropped.
-    pub fn drain<T: Write>(&mut self, sink: &mut T) -> io::Result<usize>
+    pub fn drain<T: Stream>(&mut self, sink: &mut T) -> io::Result<usize>
         ensures fits { WritesAtMost result self.old.octets }
         ensures left { IfOk result (λ count. self.new.octets ≡ drop count self.old.octets) }
         ensures room { IfOk result (λ _. self.new.room ≡ self.old.room) }
@@ -143,8 +147,10 @@ impl Buffer {
         ensures unchanged { OnErr result (self.new ≡ self.old) }
         // The sink got those that are dropped.
         ensures went { WriteAppends (T.contents sink.old) (T.contents sink.new) result self.old.octets }
+        ensures kept { Keeps (T.remaining sink.old) (T.remaining sink.new) }
+        ensures called { Calls (T.answers sink.old) (T.answers sink.new) (λ answer. answer ≡ answer_of result) }
     {
-        let count = again::write(sink, &self.octets[self.from..self.to])?;
+        let count = sink.write(&self.octets[self.from..self.to])?;
         self.from += count;
         Ok(count)
     }
@@ -159,7 +165,7 @@ fn write_part(into: &mut [u8], from: usize, octets: &[u8])
 }
 
 // Reads octets into the part from a place on.
-fn read_part<T: Read>(source: &mut T, into: &mut [u8], from: usize) -> io::Result<usize>
+fn read_part<T: Stream>(source: &mut T, into: &mut [u8], from: usize) -> io::Result<usize>
     requires { from ≤ length into.old }
     ensures came { IfOk result (λ count. (came : List ℕ) × (length came ≡ count) × (take (from + count) into.new ≡ take from into.old ++ came)
         × Consumes (T.remaining source.old) (T.remaining source.new) came) }
@@ -167,8 +173,10 @@ fn read_part<T: Read>(source: &mut T, into: &mut [u8], from: usize) -> io::Resul
     ensures ended { IfOk result (λ count. count ≡ 0 → from < length into.old → IsAtEnd (T.remaining source.new)) }
     ensures same { take from into.new ≡ take from into.old }
     ensures kept { OnErr result (Keeps (T.remaining source.old) (T.remaining source.new)) }
+    ensures taken { Keeps (T.contents source.old) (T.contents source.new) }
+    ensures called { Calls (T.answers source.old) (T.answers source.new) (λ answer. answer ≡ answer_of result) }
 {
-    match again::read(source, &mut into[from..]) {
+    match source.read(&mut into[from..]) {
         Ok(count) => Ok(count),
         Err(fault) => Err(fault),
     }

@@ -5,7 +5,9 @@
 
 pub mod again;
 mod buffer;
+mod stream;
 #[cfg(test)]
 mod tests;
 
 pub use buffer::Buffer;
+pub use stream::Stream;

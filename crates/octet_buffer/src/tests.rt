@@ -1,5 +1,5 @@
 // Calls that a signal interrupts.
-use crate::Buffer;
+use crate::{Buffer, Stream, again};
 use std::io;
 use std::io::{ErrorKind, Read, Write};
 use std::test::Fail;
@@ -54,6 +54,16 @@ impl Write for Interrupted {
 
     fn flush(&mut self) -> io::Result<()> {
         Ok(())
+    }
+}
+
+impl Stream for Interrupted {
+    fn read(&mut self, into: &mut [u8]) -> io::Result<usize> {
+        again::read(self, into)
+    }
+
+    fn write(&mut self, octets: &[u8]) -> io::Result<usize> {
+        again::write(self, octets)
     }
 }
 

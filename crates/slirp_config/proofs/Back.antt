@@ -1,11 +1,11 @@
 -- Of what form the word is that was taken.
-use Rattle.std.proofs.Common.{◌≡◌, ◌+◌, ◌-◌, ◌<◌, Bool, true, false, cond, not, ◌&&◌, ltb, List, [], ◌∷◌, ◌++◌, length, take, drop, bytes_eq, codes, position, Option, Some, None, is_some}
+use Rattle.std.proofs.Common.{◌≡◌, ◌+◌, ◌-◌, ◌<◌, Bool, true, false, cond, not, ◌&&◌, ltb, List, [], ◌∷◌, ◌++◌, length, take, drop, bytes_eq, codes, position, Option, Some, None}
 use Rattle.std.proofs.Common.{if◌then◌else◌, refl, sym, ◌∙◌, ap, arith, length-drop}
 use Rattle.std.specs.List.{position_or_len, before_first, after_first}
 use Rattle.std.proofs.lemmas.List.{take_all}
 use Rattle.std.proofs.lemmas.Bool.Decides.{nat_tests}
 use Rattle.slirp_config.specs.declared.options.Verb.{Verb}
-use Rattle.slirp_config.specs.Options.{Word, Given, takes_value, is_dashed, value_in}
+use Rattle.slirp_config.specs.Options.{Word, Given, takes_value, is_dashed}
 use Rattle.slirp_config.specs.Walking.{Walk, add_all, may_stand, put_option, put_joined, put_name, put_dashed, step, is_sign}
 use Rattle.slirp_config.proofs.Names.{same_text}
 use Rattle.slirp_config.proofs.Few.{refuted}

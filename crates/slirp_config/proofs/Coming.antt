@@ -6,7 +6,8 @@ use Rattle.slirp_config.specs.declared.options.Verb.{Verb}
 use Rattle.slirp_config.specs.declared.options.Verb.TheVariants.{Replay, Serve}
 use Rattle.slirp_config.specs.declared.line.Line.{Line as LineHere}
 use Rattle.slirp_config.specs.Options.{Word, Given, repeated}
-use Rattle.slirp_config.specs.Walking.{Walk, AreWanted, Fits, HasWalked, IsGood, IsProper, Walks, completed, finished, fresh, hold, kept, kept_denied, kept_of, listed, next, step, step_with, walk_of, walk_on, walked}
+use Rattle.slirp_config.specs.Walking.{Walk, AreWanted, Fits, HasWalked, IsGood, IsProper, Walks, completed, finished, fresh, hold, kept, kept_denied, kept_of, listed, next, step}
+use Rattle.slirp_config.specs.Walking.{step_with, walk_of, walk_on, walked}
 use Rattle.slirp_config.proofs.Kept.{fits_kept, kept_fits, step_refused, step_taken}
 use Rattle.slirp_config.proofs.Wanted.{after_step}
 use Rattle.slirp_config.proofs.Good.{still_good, was_good}

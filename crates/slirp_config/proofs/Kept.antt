@@ -1,5 +1,6 @@
 -- A line keeps the first words that stand by themselves, and takes the steps of the walk that keeps all.
-use Rattle.std.proofs.Common.{◌≡◌, ◌<◌, ◌≤◌, Bool, true, false, cond, not, ◌&&◌, ◌||◌, ltb, List, [], ◌∷◌, ◌++◌, length, map, bytes_eq, codes, Option, Some, None, is_some, MatchBool, MatchOption, inl, inr}
+use Rattle.std.proofs.Common.{◌≡◌, ◌<◌, ◌≤◌, Bool, true, false, cond, not, ◌&&◌, ◌||◌, ltb, List, [], ◌∷◌, ◌++◌, length, map, bytes_eq, codes, Option, Some, None, MatchBool}
+use Rattle.std.proofs.Common.{MatchOption, inl, inr}
 use Rattle.std.proofs.Common.{refl, sym, ◌∙◌, ap, subst, arith, length-append}
 use denote.Ref.{Bor}
 use Rattle.std.specs.List.{list_all, list_any, position_or_len, before_first, after_first}
@@ -9,8 +10,9 @@ use Rattle.std.proofs.lemmas.List.{length-map, length-take, map-append, take_all
 use Rattle.std.proofs.lemmas.Bool.Decides.{nat_tests}
 use Rattle.host_policy.specs.Ranges.{none_twice}
 use Rattle.slirp_config.specs.declared.options.Verb.{Verb}
-use Rattle.slirp_config.specs.Options.{Word, Given, takes_value, is_dashed, is_repeated, same_name, single, value_in}
-use Rattle.slirp_config.specs.Walking.{Walk, Fits, IsGiven, IsProper, IsWanted, add_all, can_end, completed, ends, has_none, hold, is_both, wants_file, stands_alone, is_replay, is_sign, kept, kept_of, may_stand}
+use Rattle.slirp_config.specs.Options.{Word, Given, takes_value, is_dashed, is_repeated, same_name, single}
+use Rattle.slirp_config.specs.Walking.{Walk, Fits, IsGiven, IsProper, IsWanted, add_all, can_end, completed, ends, has_none, hold, is_both, wants_file, stands_alone, is_replay, is_sign}
+use Rattle.slirp_config.specs.Walking.{kept, kept_of, may_stand}
 use Rattle.slirp_config.specs.Walking.{option_names, put_option, put_alone, put_apart, put_joined, put_name, put_dashed, begin, step_with, step}
 use Rattle.slirp_config.proofs.Proper.{has_room}
 use Rattle.slirp_config.proofs.Single.{both_more, link_single, may_single, one_repeated, one_single}
@@ -100,10 +102,11 @@ module _ (walk : Walk) (once : none_twice same_name (single walk.options) ≡ tr
           elim t [ None ↦ None | Some takes ↦ cond (takes && ltb 0 (length value)) (put_option hold (kept_of walk) name value) None ]
           ≡ option_map kept_of (elim t [ None ↦ None | Some takes ↦ cond (takes && ltb 0 (length value)) (put_option add_all walk name value) None ])
       by_kind None e = refl
-      by_kind (Some takes) e = elim (takes && ltb 0 (length value)) as (λ b. cond b (put_option hold (kept_of walk) name value) None ≡ option_map kept_of (cond b (put_option add_all walk name value) None)) [
-        | true ↦ kept_option name value takes e
-        | false ↦ refl
-      ]
+      by_kind (Some takes) e = elim (takes && ltb 0 (length value)) as (λ b. cond b (put_option hold (kept_of walk) name value) None ≡ option_map kept_of
+          (cond b (put_option add_all walk name value) None)) [
+            | true ↦ kept_option name value takes e
+            | false ↦ refl
+          ]
 
   kept_waits : (name : Word) (b : Bool) → cond b (Some (record (kept_of walk) { waits = Some name })) None ≡ option_map kept_of (cond b (Some (record walk { waits = Some name })) None)
   kept_waits name true = refl
@@ -113,7 +116,11 @@ module _ (walk : Walk) (once : none_twice same_name (single walk.options) ≡ tr
   kept_name name = by_kind (takes_value walk.verb name) refl
     where
       by_kind : (t : Option Bool) → takes_value walk.verb name ≡ t →
-          elim t [ None ↦ None | Some takes ↦ cond takes (cond (may_stand (single walk.options) name) (Some (record (kept_of walk) { waits = Some name })) None) (put_option hold (kept_of walk) name []) ]
+          elim t [
+            | None ↦ None
+            | Some takes ↦ cond takes (cond (may_stand (single walk.options) name) (Some (record (kept_of walk) { waits = Some name })) None)
+                (put_option hold (kept_of walk) name [])
+          ]
           ≡ option_map kept_of (elim t [ None ↦ None | Some takes ↦ cond takes (cond (may_stand walk.options name) (Some (record walk { waits = Some name })) None) (put_option add_all walk name []) ])
       by_kind None e = refl
       by_kind (Some true) e = ap (λ (b : Bool). cond b (Some (record (kept_of walk) { waits = Some name })) None) (may_single walk.options name) ∙ kept_waits name (may_stand walk.options name)

@@ -1,5 +1,5 @@
 -- What every walk keeps: no option stands twice, each is one of the command's, and one that waits for its value wasn't given.
-use Rattle.std.proofs.Common.{◌≡◌, ◌<◌, ◌≤◌, Bool, true, false, List, [], ◌∷◌, ◌++◌, length, bytes_eq, Option, Some, None, MatchOption, is_some, refl, sym, ap, subst, arith, length-append}
+use Rattle.std.proofs.Common.{◌≡◌, ◌<◌, ◌≤◌, Bool, true, false, List, [], ◌∷◌, ◌++◌, length, bytes_eq, Option, Some, None, MatchOption, refl, sym, ap, subst, arith, length-append}
 use Rattle.std.specs.List.{list_any, list_all}
 use Rattle.host_policy.specs.Ranges.{none_twice}
 use Rattle.slirp_config.specs.declared.options.Verb.{Verb}

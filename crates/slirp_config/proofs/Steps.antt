@@ -1,10 +1,10 @@
 -- What one word adds: by the form of the word, and back.
-use Rattle.std.proofs.Common.{◌≡◌, suc, ◌+◌, ◌<◌, Bool, true, false, not, ◌&&◌, ltb, List, [], ◌∷◌, ◌++◌, length, bytes_eq, codes, Some, None, is_some, refl, sym, ◌∙◌, ap, arith, length-append}
+use Rattle.std.proofs.Common.{◌≡◌, suc, ◌+◌, ◌<◌, Bool, true, false, not, ◌&&◌, ltb, List, [], ◌∷◌, ◌++◌, length, bytes_eq, codes, Some, None, refl, sym, ◌∙◌, ap, arith, length-append}
 use Rattle.std.specs.List.{list_all, position_or_len, before_first, after_first}
 use Rattle.std.proofs.lemmas.Bool.Decides.{nat_tests}
 use Rattle.std.proofs.Math.Seq.{take-append_seam, drop-append-add}
 use Rattle.slirp_config.specs.declared.options.Verb.{Verb}
-use Rattle.slirp_config.specs.Options.{Word, Given, takes_value, is_dashed, value_in}
+use Rattle.slirp_config.specs.Options.{Word, Given, takes_value, is_dashed}
 use Rattle.address_text.specs.Texts.{is_other}
 use Rattle.address_text.proofs.Parting.{both, no_part}
 use Rattle.slirp_config.specs.Walking.{Walk, add_all, may_stand, put_option, put_joined, put_name, step, is_sign}

@@ -1,10 +1,9 @@
 -- The walk over words reads exactly the lines that they are.
-use Rattle.std.proofs.Common.{◌≡◌, ◌<◌, ◌≤◌, Bool, true, false, cond, List, [], ◌∷◌, ◌++◌, length, map, bytes_eq, codes, Option, Some, None, is_some, refl, sym, ◌∙◌, ap, subst, arith}
-use Rattle.std.proofs.Common.{append_assoc, append-nil, length-append}
-use Rattle.std.specs.List.{list_any, list_all}
+use Rattle.std.proofs.Common.{◌≡◌, Bool, true, false, cond, List, [], ◌∷◌, ◌++◌, codes, Option, Some, None, is_some, refl, sym, ◌∙◌, ap, subst}
+use Rattle.std.proofs.Common.{append_assoc, append-nil}
 use Rattle.host_policy.specs.Ranges.{none_twice}
 use Rattle.slirp_config.specs.declared.options.Verb.{Verb}
-use Rattle.slirp_config.specs.Options.{Word, Row, Given, Piece, Apart, Joined, Flag, Plain, Line, ArePieces, IsLine, pieces_words, words_behind, line_words, options_of, plain_words}
+use Rattle.slirp_config.specs.Options.{Word, Given, Piece, Apart, Joined, Flag, Plain, Line, ArePieces, IsLine, pieces_words, words_behind, line_words, options_of, plain_words}
 use Rattle.slirp_config.specs.Options.{alone_behind, words_alone, same_name, single, takes_value}
 use Rattle.slirp_config.specs.Walking.{Walk, step, next, walk_on, finished, fresh, walked}
 use Rattle.slirp_config.proofs.Back.{same_walk, stepped, Stepped, Ends, Alone, Joins, Waits, Flags, value_back}

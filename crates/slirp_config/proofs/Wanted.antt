@@ -1,12 +1,13 @@
 -- What a step changes; the words that stand by themselves, of which each is what its place wants.
-use Rattle.std.proofs.Common.{◌≡◌, Bool, true, false, cond, not, ◌&&◌, ◌||◌, ltb, List, [], ◌∷◌, ◌++◌, length, bytes_eq, codes, Option, Some, None, is_some, MatchBool, refl, sym, ◌∙◌, ap}
+use Rattle.std.proofs.Common.{◌≡◌, Bool, true, false, cond, not, ◌&&◌, ◌||◌, ltb, List, [], ◌∷◌, ◌++◌, length, bytes_eq, codes, Option, Some, None, MatchBool, refl, sym, ◌∙◌, ap}
 use Rattle.std.proofs.Common.{subst, append-nil}
 use Rattle.std.specs.List.{position_or_len, before_first, after_first}
 use Rattle.slirp_config.specs.declared.options.Verb.{Verb}
 use Rattle.slirp_config.specs.declared.options.Verb.TheVariants.{Replay, Serve}
-use Rattle.slirp_config.specs.Options.{Word, Given, takes_value, is_dashed, value_in}
+use Rattle.slirp_config.specs.Options.{Word, Given, takes_value, is_dashed}
 use Rattle.slirp_config.specs.Rules.{AreRuleWords, IsRuleWord}
-use Rattle.slirp_config.specs.Walking.{Walk, AreWanted, FitsAlone, IsWanted, add_all, completed, ends, flag_of, has_none, is_replay, is_sign, listed, may_stand, named, put_dashed, put_joined, put_name, put_option}
+use Rattle.slirp_config.specs.Walking.{Walk, AreWanted, FitsAlone, IsWanted, add_all, completed, ends, flag_of, has_none, is_replay, is_sign, listed, may_stand, named, put_dashed}
+use Rattle.slirp_config.specs.Walking.{put_joined, put_name, put_option}
 use Rattle.slirp_config.specs.Walking.{stands_alone, step, wants_file}
 use Rattle.slirp_config.proofs.Back.{chosen, put_back, same_walk, stepped, Stepped, Ends, Alone, Joins, Waits, Flags, value_back}
 use Rattle.slirp_config.proofs.Names.{dashed_name, same_text}

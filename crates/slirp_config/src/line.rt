@@ -4,7 +4,8 @@ ghost use Rattle.std.specs.Prelude.{option_copied, option_map, find};
 ghost use Rattle.std.specs.String.{string_bytes};
 ghost use Rattle.slirp_config.specs.Options.{Word, is_dashed, repeated, value_in};
 ghost use Rattle.slirp_config.specs.Walking.{Fits, FitsAlone, FitsOption, HasWalked, IsGiven, IsWanted, WalkStops, begin, can_end, completed, ends, flag_of, given_of, has_link, hold, is_both};
-ghost use Rattle.slirp_config.specs.Walking.{kept, kept_denied, listed, may_stand, named, put_alone, put_apart, put_dashed, put_joined, put_name, put_option, stands_alone, step_with, walk_of, wants_file};
+ghost use Rattle.slirp_config.specs.Walking.{kept, kept_denied, listed, may_stand, named, put_alone, put_apart, put_dashed, put_joined, put_name, put_option, stands_alone, step_with};
+ghost use Rattle.slirp_config.specs.Walking.{walk_of, wants_file};
 
 use crate::Stop;
 use crate::options::{COUNT, Verb, is_repeated, kind_of, takes_value};

@@ -1,4 +1,3 @@
-use Rattle.std.proofs.Common.{arith}
 use Rattle.std.proofs.lemmas.Result.{err_from_is_err_and}
 use Rattle.slirp_config.proofs.Networks.{network_parts}
 use Rattle.slirp_config.proofs.denied.read_denial.Goals as goal

@@ -1,7 +1,6 @@
-use Rattle.std.proofs.Common.{◌≡◌, ◌<◌, ◌≤◌, ◌∷◌, ◌++◌, [], List, length, map, sym, ◌∙◌, ap, arith}
+use Rattle.std.proofs.Common.{◌≡◌, ◌<◌, ◌∷◌, [], length, ◌∙◌, ap, arith}
 use Rattle.std.proofs.lemmas.Bool.Decides.{nat_tests}
 use Rattle.std.proofs.lemmas.List.{length-map, map-append}
-use Rattle.slirp_config.specs.Options.{Word}
 use Rattle.slirp_config.proofs.Putting.{put_more, put_none}
 use Rattle.slirp_config.proofs.Ruled.{rule_words}
 use Rattle.slirp_config.proofs.line.keep_denied.Goals as goal

@@ -17,7 +17,8 @@ loop-place-preserved c =
     let read = map string_bytes (take c.loop-place.place c.args.words.now) in
     let text = c.as_str-word.ensures.value ∙ ap string_bytes c.index-words-place.is in
     let ok = sym c.is_err.ensures.value ∙ c.if-is_err.false in
-    subst (λ (w : List Word). HasCome c.args.verb w c.take.new.self (rule_words c.deny.new.denied.items)) (sym (next_word string_bytes c.args.words.now c.loop-place.place c.index-words-place.result c.loop-place-test.true))
+    subst (λ (w : List Word). HasCome c.args.verb w c.take.new.self (rule_words c.deny.new.denied.items))
+    (sym (next_word string_bytes c.args.words.now c.loop-place.place c.index-words-place.result c.loop-place-test.true))
     (come_on c.args.verb read _ c.loop-place.line (rule_words c.loop-place.denied.items) c.loop-place.invariant c.take.new.self (rule_words c.deny.new.denied.items)
     (subst (λ (w : Word). step_with kept hold (walk_of c.loop-place.line) w ≡ Some (walk_of c.take.new.self)) text (on_ok_is c.take.result _ ok c.take.ensures.taken))
     (subst (λ (w : Word). Fits (walk_of c.loop-place.line) w) text (on_ok_is c.take.result _ ok c.take.ensures.fits))
@@ -45,7 +46,8 @@ returns-then-is_err-clause-refused c =
 pub returns-in-Some-clause-refused : goal.returns-in-Some-clause-refused
 returns-in-Some-clause-refused c =
     let past : length c.args.words.now ≤ c.loop-place.place = omega (arith, c.loop-place-test.false, c.loop-place.auto.place-end) in
-    let come = subst (λ (w : List _). HasCome c.args.verb (map string_bytes w) c.loop-place.line (rule_words c.loop-place.denied.items)) (take_all c.loop-place.place c.args.words.now past) c.loop-place.invariant in (
+    let come = subst (λ (w : List _). HasCome c.args.verb (map string_bytes w) c.loop-place.line (rule_words c.loop-place.denied.items))
+    (take_all c.loop-place.place c.args.words.now past) c.loop-place.invariant in (
       come_far c.args.verb (map string_bytes c.args.words.now) c.loop-place.line _ come,
       come_waiting c.args.verb (map string_bytes c.args.words.now) c.loop-place.line _ come _ (ap option_copied c.in-Some.is),
     )
@@ -53,5 +55,6 @@ returns-in-Some-clause-refused c =
 pub returns-in-None-clause-read : goal.returns-in-None-clause-read
 returns-in-None-clause-read c =
     let past : length c.args.words.now ≤ c.loop-place.place = omega (arith, c.loop-place-test.false, c.loop-place.auto.place-end) in
-    let come = subst (λ (w : List _). HasCome c.args.verb (map string_bytes w) c.loop-place.line (rule_words c.loop-place.denied.items)) (take_all c.loop-place.place c.args.words.now past) c.loop-place.invariant in
+    let come = subst (λ (w : List _). HasCome c.args.verb (map string_bytes w) c.loop-place.line (rule_words c.loop-place.denied.items))
+    (take_all c.loop-place.place c.args.words.now past) c.loop-place.invariant in
     come_all c.args.verb (map string_bytes c.args.words.now) c.loop-place.line _ come (ap option_copied c.in-None.is)

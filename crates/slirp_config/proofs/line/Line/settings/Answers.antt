@@ -1,4 +1,4 @@
-use Rattle.std.proofs.Common.{◌≡◌, ℕ, List, Option, refl, sym, ◌∙◌, ap, subst}
+use Rattle.std.proofs.Common.{◌≡◌, ℕ, List, Option, sym, ◌∙◌, ap, subst}
 use Rattle.std.proofs.lemmas.Result.{err_from_is_err_and}
 use Rattle.host_policy.specs.Addresses.{Config}
 use Rattle.host_policy.specs.declared.Denial.{Denial}
@@ -14,7 +14,8 @@ use Rattle.slirp_config.proofs.Settled.{with_forwards}
 use Rattle.slirp_config.proofs.line.Line.settings.Goals as goal
 
 pub returns-in_err-put_forwards-clause-refused : goal.returns-in_err-put_forwards-clause-refused
-returns-in_err-put_forwards-clause-refused c = let p = err_from_is_err_and c.from_residual-in_err-put_forwards.result c.from_residual-in_err-put_forwards.ensures.1 in rw (p.1) (λ config are rules denied.
+returns-in_err-put_forwards-clause-refused c = let p = err_from_is_err_and c.from_residual-in_err-put_forwards.result c.from_residual-in_err-put_forwards.ensures.1 in rw (p.1)
+    (λ config are rules denied.
     let given : Word → Option Word = value_in (walk_of c.args.self.now).options in
     let put = c.in_ok-put_denied.ensures.put in
     let set = c.in_ok-put_settings.ensures.set put.0 put.2 in
