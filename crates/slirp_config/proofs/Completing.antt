@@ -12,7 +12,8 @@ use Rattle.slirp_config.specs.declared.options.Verb.{Verb}
 use Rattle.slirp_config.specs.declared.options.Verb.TheVariants.{Replay, Serve}
 use Rattle.slirp_config.specs.Meaning.{is_capture, is_record}
 use Rattle.slirp_config.specs.Options.{Word, Given, has_value, is_dashed, kind_of, repeated, single, takes_value, value_in}
-use Rattle.slirp_config.specs.Rules.{AreRuleWords}
+use Rattle.slirp_config.specs.Rules.{AreGuestForwards, AreRuleWords, guest_words}
+use Rattle.host_policy.specs.declared.GuestFwd.{GuestFwd}
 use Rattle.slirp_config.specs.Stops.{BeginsOne}
 use Rattle.host_policy.specs.declared.Denial.{Denial}
 use Rattle.slirp_config.specs.Texts.{AreDenials}
@@ -29,7 +30,7 @@ use Rattle.slirp_config.proofs.Settled.{with_forwards}
 use Rattle.slirp_config.proofs.Single.{both_single, single_given, single_value}
 use Rattle.slirp_config.proofs.Steps.{apart_step, at, given, joined_step, plain_step, put_fresh, waiting}
 use Rattle.slirp_config.proofs.Wanted.{after_step}
-use Rattle.slirp_config.proofs.Whole.{words_are_rules}
+use Rattle.slirp_config.proofs.Whole.{words_are_guests, words_are_rules}
 
 -- one word more
 walk_append : (a b : List Word) (w : Walk) → walk_on (a ++ b) w ≡ next (walk_on b) (walk_on a w)
@@ -162,7 +163,8 @@ replay_whole words w none file rules alone =
     let wanted : AreWanted Replay (file ∷ rules) = subst (λ (a : List Word). AreWanted Replay a) alone (subst (λ (v : Verb). AreWanted v w.walk.alone) w.verb_is w.good.wanted) in
     let are : AreGiven Replay w.walk.options = subst (λ (v : Verb). AreGiven v w.walk.options) w.verb_is w.good.given in
     let denied = denials_of Replay w.walk.options are in
-    let set = settings_of Replay (single w.walk.options) (single_given Replay w.walk.options are) denied.0 in
+    let gs = words_are_guests rules wanted.1 in
+    let set = settings_of Replay (single w.walk.options) (single_given Replay w.walk.options are) gs.0 denied.0 in
     let fs = words_are_rules rules set.0.dhcp_start wanted.1 in
     let config = record set.0 { forwards = fs.0 } in (
       file,
@@ -176,8 +178,9 @@ replay_whole words w none file rules alone =
         some = wanted.0.0;
         fits = wanted.0.1;
         forwards = fs.1;
+        guests = subst (λ (g : List GuestFwd). AreGuestForwards (guest_words rules) g) (sym set.2) gs.1;
         settings = with_forwards (value_in (single w.walk.options)) set.0 fs.0 set.1;
-        denied = subst (λ (ds : List Denial). AreDenials (repeated w.walk.options) ds) (sym set.2) denied.1;
+        denied = subst (λ (ds : List Denial). AreDenials (repeated w.walk.options) ds) (sym set.3) denied.1;
       }),
     )
 
@@ -223,7 +226,8 @@ serve_whole words w none text linked =
     let wanted : AreRuleWords w.walk.alone = subst (λ (v : Verb). AreWanted v w.walk.alone) w.verb_is w.good.wanted in
     let are : AreGiven Serve w.walk.options = subst (λ (v : Verb). AreGiven v w.walk.options) w.verb_is w.good.given in
     let denied = denials_of Serve w.walk.options are in
-    let set = settings_of Serve (single w.walk.options) (single_given Serve w.walk.options are) denied.0 in
+    let gs = words_are_guests w.walk.alone wanted in
+    let set = settings_of Serve (single w.walk.options) (single_given Serve w.walk.options are) gs.0 denied.0 in
     let link = value_read Serve w.walk.options are (codes "--link") text linked Link refl in
     let tap = tap_for (is_some (value_in (single w.walk.options) (codes "--record"))) (is_some (value_in (single w.walk.options) (codes "--capture"))) (both_single w.walk.options ∙ w.good.one) in
     let fs = words_are_rules w.walk.alone set.0.dhcp_start wanted in
@@ -238,8 +242,9 @@ serve_whole words w none text linked =
         link = subst (λ (o : Option Word). IsLinkAt o link.0) (sym (single_value w.walk.options (codes "--link") refl ∙ linked)) link.1;
         taps = (tap.1, tap.2);
         forwards = fs.1;
+        guests = subst (λ (g : List GuestFwd). AreGuestForwards (guest_words w.walk.alone) g) (sym set.2) gs.1;
         settings = with_forwards (value_in (single w.walk.options)) set.0 fs.0 set.1;
-        denied = subst (λ (ds : List Denial). AreDenials (repeated w.walk.options) ds) (sym set.2) denied.1;
+        denied = subst (λ (ds : List Denial). AreDenials (repeated w.walk.options) ds) (sym set.3) denied.1;
       }),
     )
 

@@ -1,5 +1,5 @@
 -- Texts of networks that are denied: what their parts are, and that each means one network.
-use Rattle.std.proofs.Common.{◌≡◌, ◌==◌, ◌||◌, not, Bool, true, false, Option, is_some, if◌then◌else◌, ℕ, zero, suc, List, [], ◌∷◌, ◌++◌, length, take}
+use Rattle.std.proofs.Common.{◌≡◌, ◌==◌, ◌||◌, not, Bool, true, false, cond, leb, Option, is_some, if◌then◌else◌, ℕ, zero, suc, ◌<◌, List, [], ◌∷◌, ◌++◌, length, take}
 use Rattle.std.proofs.Common.{codes, decimal, refl, sym, ◌∙◌, ap, subst, arith, append_assoc, append-nil}
 use Rattle.std.specs.List.{list_all}
 use Rattle.std.proofs.lemmas.Bool.Decides.{nat_tests}
@@ -8,7 +8,8 @@ use Rattle.std.proofs.lemmas.List.{length-take, take_all}
 use Rattle.host_policy.specs.Ranges.{mask_of}
 use Rattle.host_policy.specs.declared.Denial.{Denial}
 use Rattle.slirp_config.specs.Meaning.{version_of}
-use Rattle.slirp_config.specs.Narrowing.{held_denials}
+use Rattle.slirp_config.specs.Narrowing.{guest_portless, held_denials, held_guests}
+use Rattle.host_policy.specs.declared.GuestFwd.{GuestFwd}
 use Rattle.slirp_config.specs.Options.{Word}
 use Rattle.slirp_config.specs.Texts.{AreDenials, IsDenial, IsNetwork}
 use Rattle.address_text.specs.Texts.{is_other}
@@ -70,8 +71,20 @@ held_none (d ∷ ds) = some (length (take 8 ds)) ∙ sym (some (length ds))
     some : (n : ℕ) → (suc n == 0) ≡ false
     some n = grind (arith, nat_tests)
 
-pub held_version : (given : Word → Option Word) (ds : List Denial) → version_of given (held_denials ds) ≡ version_of given ds
-held_version given ds = ap (λ (b : Bool). if is_some (given (codes "--outbound")) || is_some (given (codes "--no-dns")) || is_some (given (codes "--no-dhcp")) || not b then 2 else 1) (held_none ds)
+guests_none : (gs : List GuestFwd) (t : Bool) → leb (length gs) 16 ≡ t → (length (held_guests gs) == 0) ≡ (length gs == 0)
+guests_none gs true is = ap (λ (t : Bool). length (cond t gs (guest_portless ∷ [])) == 0) is
+guests_none gs false is =
+    let many : 16 < length gs = grind (arith, nat_tests, is) in
+    let some : (length gs == 0) ≡ false = grind (arith, nat_tests, many) in
+    ap (λ (t : Bool). length (cond t gs (guest_portless ∷ [])) == 0) is ∙ sym some
+
+abbrev by_none : (given : Word → Option Word) (g d : Bool) → ℕ
+by_none given g d = if is_some (given (codes "--outbound")) || is_some (given (codes "--no-dns")) || is_some (given (codes "--no-dhcp")) || not g || not d then 2 else 1
+
+pub held_version : (given : Word → Option Word) (gs : List GuestFwd) (ds : List Denial) → version_of given (held_guests gs) (held_denials ds) ≡ version_of given gs ds
+held_version given gs ds =
+    ap (λ (b : Bool). by_none given b (length (held_denials ds) == 0)) (guests_none gs (leb (length gs) 16) refl)
+    ∙ ap (λ (b : Bool). by_none given (length gs == 0) b) (held_none ds)
 
 -- what texts mean, whatever it is
 pub record Denials (texts : List Word) : Type 0 where

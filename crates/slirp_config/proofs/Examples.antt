@@ -30,7 +30,7 @@ plain : (given : Word → Option Word) (network mask vhost vnameserver dhcp_star
     → MatchOption (given (codes "--dhcpstart")) (dhcp_start ≡ (network + 15) % 2 ^ 32) (λ text. IsAddress text dhcp_start)
     → MatchOption (given (codes "--resolver")) (resolver ≡ None) (λ text. (at : Endpoint) × (resolver ≡ Some at) × IsEndpointText text at)
     → MatchOption (given (codes "--outbound")) (outbound ≡ None) (λ text. (a : ℕ) × (outbound ≡ Some a) × IsAddress text a)
-    → version ≡ version_of given []
+    → version ≡ version_of given [] []
     → AreSettings given (record usual {
       network = network;
       mask = mask;
@@ -84,7 +84,7 @@ another_network = (
     refl,
     omega arith,
     omega arith,
-    tt,
+    (tt, tt),
     plain _ _ _ _ _ _ _ _ _ _ (refl, refl, refl, refl, refl, refl, refl, refl, refl, refl, refl, refl, refl, refl, refl)
         (16, refl, omega arith, omega arith, refl) (refl, omega arith) refl refl refl refl refl,
     tt,
@@ -106,18 +106,21 @@ first_guest = (
     (refl, (omega arith, omega arith)),
     (refl, refl),
     (
-      inr (
-        codes "tcp:127.0.0.1:2222-:22",
-        refl,
-        record {
-          kind = codes "tcp";
-          outside = codes "127.0.0.1:2222";
-          inside = codes ":22";
-          spelt = refl;
-          type = inr refl;
-          host = record { before = codes "127.0.0.1"; behind = codes "2222"; spelt = refl; address = (refl, omega arith); port = (refl, omega arith) };
-          guest = record { before = []; behind = codes "22"; spelt = refl; address = refl; port = (refl, omega arith) };
-        },
+      (
+        inr (
+          codes "tcp:127.0.0.1:2222-:22",
+          refl,
+          record {
+            kind = codes "tcp";
+            outside = codes "127.0.0.1:2222";
+            inside = codes ":22";
+            spelt = refl;
+            type = inr refl;
+            host = record { before = codes "127.0.0.1"; behind = codes "2222"; spelt = refl; address = (refl, omega arith); port = (refl, omega arith) };
+            guest = record { before = []; behind = codes "22"; spelt = refl; address = refl; port = (refl, omega arith) };
+          },
+        ),
+        tt,
       ),
       tt,
     ),
@@ -149,15 +152,18 @@ datagrams = (
     omega arith,
     omega arith,
     (
-      inl (record {
-        kind = codes "udp";
-        outside = codes ":53";
-        inside = codes ":53";
-        spelt = refl;
-        type = refl;
-        host = record { before = []; behind = codes "53"; spelt = refl; address = refl; port = (refl, omega arith) };
-        guest = record { before = []; behind = codes "53"; spelt = refl; address = refl; port = (refl, omega arith) };
-      }),
+      (
+        inl (record {
+          kind = codes "udp";
+          outside = codes ":53";
+          inside = codes ":53";
+          spelt = refl;
+          type = refl;
+          host = record { before = []; behind = codes "53"; spelt = refl; address = refl; port = (refl, omega arith) };
+          guest = record { before = []; behind = codes "53"; spelt = refl; address = refl; port = (refl, omega arith) };
+        }),
+        tt,
+      ),
       tt,
     ),
     plain _ _ _ _ _ _ _ _ _ _ (refl, refl, refl, refl, refl, refl, refl, refl, refl, refl, refl, refl, refl, refl, refl)

@@ -11,9 +11,11 @@ use Rattle.std.proofs.lemmas.Bool.Decides.{nat_tests}
 use Rattle.host_policy.specs.Ranges.{none_twice}
 use Rattle.slirp_config.specs.declared.options.Verb.{Verb}
 use Rattle.slirp_config.specs.Options.{Word, Given, takes_value, is_dashed, is_repeated, same_name, single}
-use Rattle.slirp_config.specs.Walking.{Walk, Fits, IsGiven, IsProper, IsWanted, add_all, can_end, completed, ends, has_none, hold, is_both, wants_file, stands_alone, is_replay, is_sign}
-use Rattle.slirp_config.specs.Walking.{kept, kept_of, may_stand}
+use Rattle.slirp_config.specs.Walking.{Walk, Fits, IsGiven, IsProper, IsWanted, add_all, can_end, completed, ends, hold, is_both, wants_file, stands_alone, is_sign, keep_all, keep_own}
+use Rattle.slirp_config.specs.Walking.{kept, kept_of, may_stand, own_words}
 use Rattle.slirp_config.specs.Walking.{option_names, put_option, put_alone, put_apart, put_joined, put_name, put_dashed, begin, step_with, step}
+use Rattle.slirp_config.specs.Rules.{is_guest_word}
+use Rattle.slirp_config.proofs.Sorted.{own_more, wants_own}
 use Rattle.slirp_config.proofs.Proper.{has_room}
 use Rattle.slirp_config.proofs.Single.{both_more, link_single, may_single, one_repeated, one_single}
 use Rattle.slirp_config.proofs.Steps.{given}
@@ -27,12 +29,24 @@ kept_again a word = elim (cases_lt (length a) 34) [
       take-append-le 34 (kept a) (word ∷ []) full ∙ take_all 34 (kept a) whole ∙ sym (take-append-le 34 a (word ∷ []) many)
 ]
 
-none_kept : (a : List Word) → has_none (kept a) ≡ has_none a
-none_kept [] = refl
-none_kept (word ∷ words) = refl
-
 pub wants_kept : (walk : Walk) → wants_file (kept_of walk) ≡ wants_file walk
-wants_kept walk = ap (λ (b : Bool). is_replay walk.verb && b) (none_kept walk.alone)
+wants_kept walk = wants_own walk.verb walk.alone
+
+-- of one word more
+kept_own : (walk : Walk) (word : Word) → keep_own (kept_of walk) word ≡ kept (own_words walk.verb (walk.alone ++ word ∷ []))
+kept_own walk word =
+    ap (λ (b : Bool). cond (not b && is_guest_word word) (kept (own_words walk.verb walk.alone)) (kept (kept (own_words walk.verb walk.alone) ++ word ∷ []))) (wants_kept walk)
+    ∙ by_test (not (wants_file walk) && is_guest_word word) refl
+  where
+    by_test : (t : Bool) → (not (wants_file walk) && is_guest_word word) ≡ t → cond (not (wants_file walk) && is_guest_word word) (kept (own_words walk.verb walk.alone))
+        (kept (kept (own_words walk.verb walk.alone) ++ word ∷ [])) ≡ kept (own_words walk.verb (walk.alone ++ word ∷ []))
+    by_test true e =
+        ap (λ (b : Bool). cond b (kept (own_words walk.verb walk.alone)) (kept (kept (own_words walk.verb walk.alone) ++ word ∷ []))) e
+        ∙ ap kept (sym (own_more walk.verb walk.alone word ∙ ap (λ (b : Bool). cond b (own_words walk.verb walk.alone) (own_words walk.verb walk.alone ++ word ∷ [])) e))
+    by_test false e =
+        ap (λ (b : Bool). cond b (kept (own_words walk.verb walk.alone)) (kept (kept (own_words walk.verb walk.alone) ++ word ∷ []))) e
+        ∙ kept_again (own_words walk.verb walk.alone) word
+        ∙ ap kept (sym (own_more walk.verb walk.alone word ∙ ap (λ (b : Bool). cond b (own_words walk.verb walk.alone) (own_words walk.verb walk.alone ++ word ∷ [])) e))
 
 option_kept : (verb : Verb) (o : List Given) (t : Option Given)
     → MatchOption t (Unit {0}) (λ given. IsGiven verb given × (is_both (single o ++ given ∷ []) ≡ false)) → MatchOption t (Unit {0}) (λ given. IsGiven verb given × (is_both (o ++ given ∷ []) ≡ false))
@@ -92,8 +106,8 @@ module _ (walk : Walk) (once : none_twice same_name (single walk.options) ≡ tr
           ap (λ (t : Bool). cond t (put_kept walk (hold (single walk.options) (given name value))) None) (may_single walk.options name ∙ e)
           ∙ sym (ap (λ (t : Bool). option_map kept_of (cond t (Some (record walk { options = walk.options ++ given name value ∷ [] })) None)) e)
 
-  kept_alone : (word : Word) → put_alone kept (kept_of walk) word ≡ option_map kept_of (put_alone (λ words. words) walk word)
-  kept_alone word = ap (λ (x : List Word). Some (record (kept_of walk) { alone = x })) (kept_again walk.alone word)
+  kept_alone : (word : Word) → put_alone keep_own (kept_of walk) word ≡ option_map kept_of (put_alone keep_all walk word)
+  kept_alone word = ap (λ (x : List Word). Some (record (kept_of walk) { alone = x })) (kept_own walk word)
 
   kept_joined : (name value : Word) → put_joined hold (kept_of walk) name value ≡ option_map kept_of (put_joined add_all walk name value)
   kept_joined name value = by_kind (takes_value walk.verb name) refl
@@ -134,14 +148,14 @@ module _ (walk : Walk) (once : none_twice same_name (single walk.options) ≡ tr
         | false ↦ kept_name word
       ]
 
-  kept_begin : (word : Word) → begin kept hold (kept_of walk) word ≡ option_map kept_of (begin (λ words. words) add_all walk word)
+  kept_begin : (word : Word) → begin keep_own hold (kept_of walk) word ≡ option_map kept_of (begin keep_all add_all walk word)
   kept_begin word = elim (bytes_eq word (codes "--")) as (λ b.
-      cond b (Some (record (kept_of walk) { ended = true })) (cond (is_dashed word) (put_dashed hold (kept_of walk) word) (put_alone kept (kept_of walk) word))
-      ≡ option_map kept_of (cond b (Some (record walk { ended = true })) (cond (is_dashed word) (put_dashed add_all walk word) (put_alone (λ words. words) walk word)))) [
+      cond b (Some (record (kept_of walk) { ended = true })) (cond (is_dashed word) (put_dashed hold (kept_of walk) word) (put_alone keep_own (kept_of walk) word))
+      ≡ option_map kept_of (cond b (Some (record walk { ended = true })) (cond (is_dashed word) (put_dashed add_all walk word) (put_alone keep_all walk word)))) [
         | true ↦ refl
         | false ↦ elim (is_dashed word) as (λ b.
-            cond b (put_dashed hold (kept_of walk) word) (put_alone kept (kept_of walk) word)
-            ≡ option_map kept_of (cond b (put_dashed add_all walk word) (put_alone (λ words. words) walk word))) [
+            cond b (put_dashed hold (kept_of walk) word) (put_alone keep_own (kept_of walk) word)
+            ≡ option_map kept_of (cond b (put_dashed add_all walk word) (put_alone keep_all walk word))) [
               | true ↦ kept_dashed word
               | false ↦ kept_alone word
             ]
@@ -156,30 +170,30 @@ kept_apart walk proper name value takes =
       | false ↦ refl
     ]
 
-pub kept_step : (walk : Walk) (word : Word) → IsProper walk → step_with kept hold (kept_of walk) word ≡ option_map kept_of (step walk word)
+pub kept_step : (walk : Walk) (word : Word) → IsProper walk → step_with keep_own hold (kept_of walk) word ≡ option_map kept_of (step walk word)
 kept_step walk word proper = elim walk.ended as (λ b.
-    cond b (put_alone kept (kept_of walk) word) (elim walk.waits [ None ↦ begin kept hold (kept_of walk) word | Some name ↦ put_apart hold (kept_of walk) name word ])
-    ≡ option_map kept_of (cond b (put_alone (λ words. words) walk word)
-    (elim walk.waits [ None ↦ begin (λ words. words) add_all walk word | Some name ↦ put_apart add_all walk name word ]))) [
+    cond b (put_alone keep_own (kept_of walk) word) (elim walk.waits [ None ↦ begin keep_own hold (kept_of walk) word | Some name ↦ put_apart hold (kept_of walk) name word ])
+    ≡ option_map kept_of (cond b (put_alone keep_all walk word)
+    (elim walk.waits [ None ↦ begin keep_all add_all walk word | Some name ↦ put_apart add_all walk name word ]))) [
       | true ↦ kept_alone walk proper.once proper.known word
       | false ↦ by_waits walk.waits proper.waiting
     ]
   where
     by_waits : (t : Option Word) → MatchOption t (Unit {0}) (λ name. (takes_value walk.verb name ≡ Some true) × (may_stand walk.options name ≡ true)) →
-        elim t [ None ↦ begin kept hold (kept_of walk) word | Some name ↦ put_apart hold (kept_of walk) name word ]
-        ≡ option_map kept_of (elim t [ None ↦ begin (λ words. words) add_all walk word | Some name ↦ put_apart add_all walk name word ])
+        elim t [ None ↦ begin keep_own hold (kept_of walk) word | Some name ↦ put_apart hold (kept_of walk) name word ]
+        ≡ option_map kept_of (elim t [ None ↦ begin keep_all add_all walk word | Some name ↦ put_apart add_all walk name word ])
     by_waits None h = kept_begin walk proper.once proper.known word
     by_waits (Some name) h = kept_apart walk proper name word h.0
 
 -- a step that is taken, and one that isn't
-pub step_taken : (walk on : Walk) (word : Word) → IsProper walk → step_with kept hold (kept_of walk) word ≡ Some on → (next : Walk) × (step walk word ≡ Some next) × (kept_of next ≡ on)
+pub step_taken : (walk on : Walk) (word : Word) → IsProper walk → step_with keep_own hold (kept_of walk) word ≡ Some on → (next : Walk) × (step walk word ≡ Some next) × (kept_of next ≡ on)
 step_taken walk on word proper is = by_step (step walk word) refl (sym (kept_step walk word proper) ∙ is)
   where
     by_step : (o : Option Walk) → step walk word ≡ o → option_map kept_of o ≡ Some on → (next : Walk) × (step walk word ≡ Some next) × (kept_of next ≡ on)
     by_step None e h = absurd (cc h)
     by_step (Some next) e h = (next, e, cc)
 
-pub step_refused : (walk on : Walk) (word : Word) → IsProper walk → step_with kept hold (kept_of walk) word ≡ None → step walk word ≡ Some on → ⊥
+pub step_refused : (walk on : Walk) (word : Word) → IsProper walk → step_with keep_own hold (kept_of walk) word ≡ None → step walk word ≡ Some on → ⊥
 step_refused walk on word proper none is =
     let clash : ◌≡◌ {A = Option Walk} None (Some (kept_of on)) = sym none ∙ kept_step walk word proper ∙ ap (option_map kept_of) is in cc clash
 

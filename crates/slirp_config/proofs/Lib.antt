@@ -5,6 +5,8 @@ pub mod Settled
 pub mod Names
 pub mod Few
 pub mod Single
+pub mod Sorted
+pub mod Guested
 pub mod Denying
 pub mod Steps
 pub mod Back

@@ -9,7 +9,7 @@ use Rattle.slirp_config.specs.declared.options.Verb.{Verb}
 use Rattle.slirp_config.specs.declared.options.Verb.TheVariants.{Replay, Serve}
 use Rattle.slirp_config.specs.Meaning.{AreSettings, IsTap, MeansReplay, MeansServe, is_capture, is_record}
 use Rattle.slirp_config.specs.Options.{Word, Given, Piece, Apart, Joined, Flag, Plain, ArePieces, words_alone, options_of, repeated, single, takes_value, value_in}
-use Rattle.slirp_config.specs.Rules.{AreRules}
+use Rattle.slirp_config.specs.Rules.{AreForwards, AreGuestForwards, AreRules, guest_words, host_words}
 use Rattle.slirp_config.specs.Texts.{AreDenials, IsLink}
 use Rattle.slirp_config.specs.Values.{CanHave}
 use Rattle.slirp_config.specs.Walking.{AreWanted, IsGood, Walk, walked}
@@ -43,7 +43,8 @@ pub record ReplayRead (words : List Word) (file : Word) (config : Config) : Type
   pub alone : walk.alone ≡ file ∷ rules
   pub some : 0 < length file
   pub fits : length file ≤ 1280
-  pub forwards : AreRules rules config.dhcp_start config.forwards
+  pub forwards : AreForwards (host_words rules) config.dhcp_start config.forwards
+  pub guests : AreGuestForwards (guest_words rules) config.guest_forwards
   pub settings : AreSettings (value_in (single walk.options)) config
   pub denied : AreDenials (repeated walk.options) config.denied
 
@@ -57,7 +58,7 @@ replay_means words file config r =
       sym l.alone ∙ r.alone,
       r.some,
       r.fits,
-      r.forwards,
+      (r.forwards, r.guests),
       subst (λ (o : List Given). AreSettings (value_in (single o)) config) l.options r.settings,
       subst (λ (o : List Given). AreDenials (repeated o) config.denied) l.options r.denied,
     )
@@ -67,7 +68,7 @@ replay_meant words file config m = record {
   walk = arrived Replay (options_of m.0.pieces) (words_alone m.0) (is_some m.0.behind);
   read = ap (walked Replay) m.2 ∙ line_walked Replay m.0 m.3;
   good = record {
-    wanted = subst (λ (a : List Word). AreWanted Replay a) (sym m.4) ((m.5, m.6), rules_are_words m.1 config.dhcp_start config.forwards m.7);
+    wanted = subst (λ (a : List Word). AreWanted Replay a) (sym m.4) ((m.5, m.6), rules_are_words m.1 config.dhcp_start config.forwards config.guest_forwards m.7.0 m.7.1);
     given = all_given Replay (options_of m.0.pieces) config.denied m.3.1
         (settings_read Replay (value_in (single (options_of m.0.pieces))) config m.8 (none_repeated (options_of m.0.pieces)) (λ is. absurd (cc is))) m.9;
     one = ap (λ (b : Bool). b && is_some (value_in (options_of m.0.pieces) (codes "--capture"))) (unnamed Replay (codes "--record") refl m.0.pieces m.3.0);
@@ -77,7 +78,8 @@ replay_meant words file config m = record {
   alone = m.4;
   some = m.5;
   fits = m.6;
-  forwards = m.7;
+  forwards = m.7.0;
+  guests = m.7.1;
   settings = m.8;
   denied = m.9;
 }
@@ -105,7 +107,8 @@ pub record ServeRead (words : List Word) (config : Config) (at : Place) (tap : T
   pub good : IsGood walk
   pub link : IsLinkAt (value_in (single walk.options) (codes "--link")) at
   pub taps : IsTap (value_in (single walk.options)) tap
-  pub forwards : AreRules walk.alone config.dhcp_start config.forwards
+  pub forwards : AreForwards (host_words walk.alone) config.dhcp_start config.forwards
+  pub guests : AreGuestForwards (guest_words walk.alone) config.guest_forwards
   pub settings : AreSettings (value_in (single walk.options)) config
   pub denied : AreDenials (repeated walk.options) config.denied
 
@@ -117,7 +120,7 @@ serve_means words config at tap r =
       l.proper,
       subst (λ (o : List Given). IsLinkAt (value_in (single o) (codes "--link")) at) l.options r.link,
       subst (λ (o : List Given). IsTap (value_in (single o)) tap) l.options r.taps,
-      subst (λ (a : List Word). AreRules a config.dhcp_start config.forwards) l.alone r.forwards,
+      subst (λ (a : List Word). AreRules a config.dhcp_start config.forwards config.guest_forwards) l.alone (r.forwards, r.guests),
       subst (λ (o : List Given). AreSettings (value_in (single o)) config) l.options r.settings,
       subst (λ (o : List Given). AreDenials (repeated o) config.denied) l.options r.denied,
     )
@@ -127,7 +130,7 @@ serve_meant words config at tap m = record {
   walk = arrived Serve (options_of m.0.pieces) (words_alone m.0) (is_some m.0.behind);
   read = ap (walked Serve) m.1 ∙ line_walked Serve m.0 m.2;
   good = record {
-    wanted = rules_are_words (words_alone m.0) config.dhcp_start config.forwards m.5;
+    wanted = rules_are_words (words_alone m.0) config.dhcp_start config.forwards config.guest_forwards m.5.0 m.5.1;
     given = all_given Serve (options_of m.0.pieces) config.denied m.2.1 (settings_read Serve (value_in (single (options_of m.0.pieces))) config m.6 (none_repeated (options_of m.0.pieces))
         (λ is. weaken (value_in (single (options_of m.0.pieces)) (codes "--link")) ⊥ (λ text. IsLink text at) (CanHave Link) (λ text h. (at, h)) m.3)) m.7;
     one = sym (both_single (options_of m.0.pieces)) ∙ not_both (value_in (single (options_of m.0.pieces))) tap m.4;
@@ -135,7 +138,8 @@ serve_meant words config at tap m = record {
   };
   link = m.3;
   taps = m.4;
-  forwards = m.5;
+  forwards = m.5.0;
+  guests = m.5.1;
   settings = m.6;
   denied = m.7;
 }

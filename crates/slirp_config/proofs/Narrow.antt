@@ -6,14 +6,15 @@ use Rattle.std.proofs.lemmas.Bool.Decides.{nat_tests}
 use Rattle.std.proofs.lemmas.List.{length-take, take_all}
 use Rattle.std.proofs.lemmas.Nat.{mul-le}
 use Rattle.host_policy.specs.Addresses.{Config}
-use Rattle.host_policy.specs.Ranges.{is_between, are_denied, are_forwards, in_range, fields, first_broken, IsSound}
+use Rattle.host_policy.specs.Ranges.{is_between, are_denied, are_forwards, are_guest_forwards, in_range, fields, first_broken, IsSound}
 use Rattle.host_policy.specs.declared.Denial.{Denial}
 use Rattle.host_policy.specs.declared.Forward.{Forward}
+use Rattle.host_policy.specs.declared.GuestFwd.{GuestFwd}
 use Rattle.host_policy.specs.declared.config.Field.{Field}
 use Rattle.host_policy.specs.declared.config.Field.TheVariants.{Version, InEnabled, Vnetmask, Vnetwork, Vhost, Vnameserver, VdhcpStart, Vhostname, Vdomainname, TftpServerName, Bootfile}
 use Rattle.host_policy.specs.declared.config.Field.TheVariants.{TftpPath, IfMtu, IfMru, Flows, Ring, Resolver, Turns, Forwards, Outbound, DisableDns, DisableDhcp, Guestfwds, Control, Denied}
 use Rattle.host_policy.specs.declared.config.Field.TheVariants.{Octets}
-use Rattle.slirp_config.specs.Narrowing.{narrowed, portless, held_denials, held_forwards, narrowed_settings}
+use Rattle.slirp_config.specs.Narrowing.{narrowed, portless, guest_portless, held_denials, held_guests, held_forwards, narrowed_settings}
 
 over : (x y : Bool) → y ≡ false → x && y ≡ false
 over true y h = h
@@ -183,8 +184,36 @@ same_denied second ds = by_test (leb (length ds) 8) refl
     by_test true few = ap (denied_range second) (few_held ds few)
     by_test false many = crowded second (take 9 ds) (many_held ds many) ∙ sym (crowded second ds many)
 
+abbrev led_range : Config → List GuestFwd → Bool
+led_range config gs = (length gs == 0) || (config.version == 2) && are_guest_forwards config gs
+
+guests_kept : (gs : List GuestFwd) (t : Bool) → leb (length gs) 16 ≡ t → (held_guests gs ≡ gs) ⊎ ((held_guests gs ≡ guest_portless ∷ []) × (leb (length gs) 16 ≡ false))
+guests_kept gs true is = inl (rw is refl)
+guests_kept gs false is = inr (rw is refl, is)
+
+led_crowd : (config : Config) (gs : List GuestFwd) → leb (length gs) 16 ≡ false → led_range config gs ≡ false
+led_crowd config gs many =
+    let big : 16 < length gs = grind (arith, nat_tests, many) in
+    let some : (length gs == 0) ≡ false = grind (arith, nat_tests, big) in
+    ap (λ (b : Bool). b || (config.version == 2) && are_guest_forwards config gs) some ∙ over (config.version == 2) (are_guest_forwards config gs) (rw many refl)
+
+led_portless : (config : Config) → led_range config (guest_portless ∷ []) ≡ false
+led_portless config = over (config.version == 2) (are_guest_forwards config (guest_portless ∷ [])) refl
+
+same_led : (config : Config) (gs : List GuestFwd) → led_range config (held_guests gs) ≡ led_range config gs
+same_led config gs = elim (guests_kept gs (leb (length gs) 16) refl) [
+  | inl few ↦ ap (led_range config) few
+  | inr many ↦ ap (led_range config) many.0 ∙ led_portless config ∙ sym (led_crowd config gs many.1)
+]
+
+none_led : (config : Config) (gs : List GuestFwd) → led_range config (held_guests gs) ≡ true → held_guests gs ≡ gs
+none_led config gs is = elim (guests_kept gs (leb (length gs) 16) refl) [
+  | inl few ↦ few
+  | inr many ↦ absurd (let clash : true ≡ false = sym is ∙ ap (led_range config) many.0 ∙ led_portless config in cc clash)
+]
+
 abbrev with_held : Config → Config
-with_held config = record config { denied = held_denials config.denied }
+with_held config = record config { guest_forwards = held_guests config.guest_forwards; denied = held_denials config.denied }
 
 denied_apart : (config : Config) (field : Field) → in_range (with_held config) field ≡ in_range config field
 denied_apart config Version = refl
@@ -209,7 +238,7 @@ denied_apart config Forwards = refl
 denied_apart config Outbound = refl
 denied_apart config DisableDns = refl
 denied_apart config DisableDhcp = refl
-denied_apart config Guestfwds = refl
+denied_apart config Guestfwds = same_led config config.guest_forwards
 denied_apart config Control = refl
 denied_apart config Denied = same_denied (config.version == 2) config.denied
 denied_apart config Octets = refl
@@ -249,7 +278,15 @@ same_settings config sound =
     (leb (narrowed config.flows * narrowed config.ring) 268435456) (sound.each Ring)) in
     let forwards : held_forwards config.forwards ≡ config.forwards = all_held (narrowed_settings config) config.forwards (sound.each Forwards) in
     let denied : held_denials config.denied ≡ config.denied = none_more (config.version == 2) config.denied (sound.each Denied) in
-    ap (λ (n : ℕ). record config { flows = n; ring = narrowed config.ring; forwards = held_forwards config.forwards; denied = held_denials config.denied }) flows
-    ∙ ap (λ (n : ℕ). record config { ring = n; forwards = held_forwards config.forwards; denied = held_denials config.denied }) ring
-    ∙ ap (λ (f : List Forward). record config { forwards = f; denied = held_denials config.denied }) forwards
+    let guests : held_guests config.guest_forwards ≡ config.guest_forwards = none_led (narrowed_settings config) config.guest_forwards (sound.each Guestfwds) in
+    ap (λ (n : ℕ). record config {
+      flows = n;
+      ring = narrowed config.ring;
+      forwards = held_forwards config.forwards;
+      guest_forwards = held_guests config.guest_forwards;
+      denied = held_denials config.denied;
+    }) flows
+    ∙ ap (λ (n : ℕ). record config { ring = n; forwards = held_forwards config.forwards; guest_forwards = held_guests config.guest_forwards; denied = held_denials config.denied }) ring
+    ∙ ap (λ (f : List Forward). record config { forwards = f; guest_forwards = held_guests config.guest_forwards; denied = held_denials config.denied }) forwards
+    ∙ ap (λ (g : List GuestFwd). record config { guest_forwards = g; denied = held_denials config.denied }) guests
     ∙ ap (λ (ds : List Denial). record config { denied = ds }) denied

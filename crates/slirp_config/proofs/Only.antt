@@ -7,13 +7,14 @@ use Rattle.host_policy.specs.Settings.{usual}
 use Rattle.host_policy.specs.Ranges.{mask_of}
 use Rattle.host_policy.specs.declared.Denial.{Denial}
 use Rattle.host_policy.specs.declared.Forward.{Forward}
+use Rattle.host_policy.specs.declared.GuestFwd.{GuestFwd}
 use Rattle.world_face.specs.Journal.{Place, AtPath, AtEndpoint}
 use Rattle.slirp_config.specs.declared.Tap.{Tap}
 use Rattle.slirp_config.specs.declared.Tap.TheVariants.{Off, Record, Capture}
 use Rattle.slirp_config.specs.declared.options.Verb.TheVariants.{Replay, Serve}
 use Rattle.slirp_config.specs.Meaning.{AreSettings, IsTap, MeansReplay, MeansServe, is_capture, is_record, version_of}
 use Rattle.slirp_config.specs.Options.{Word, repeated, single, value_in}
-use Rattle.slirp_config.specs.Rules.{AreRules}
+use Rattle.slirp_config.specs.Rules.{AreForwards, AreGuestForwards, guest_words, host_words}
 use Rattle.address_text.specs.Texts.{IsNumber, IsAddress, IsEndpointText, endpoint_text, is_other}
 use Rattle.address_text.proofs.Parting.{parts_once, digit_is_no_slash}
 use Rattle.address_text.proofs.Addresses.{address, address_form, address_fits, same_address, same_endpoint}
@@ -21,6 +22,7 @@ use Rattle.slirp_config.proofs.Networks.{network_form}
 use Rattle.slirp_config.specs.Texts.{AreDenials, IsNetwork, IsLink}
 use Rattle.slirp_config.specs.Walking.{Walk}
 use Rattle.slirp_config.proofs.Denying.{same_denials}
+use Rattle.slirp_config.proofs.Guested.{same_guests}
 use Rattle.slirp_config.proofs.Meant.{IsLinkAt, one_walk, replay_meant, serve_meant}
 use Rattle.slirp_config.proofs.Ruled.{same_forwards}
 use Rattle.slirp_config.proofs.Settled.{made}
@@ -66,10 +68,10 @@ one_start given c d h g =
     one_of (given (codes "--dhcpstart")) ((c.network + 15) % 2 ^ 32) ((d.network + 15) % 2 ^ 32) IsAddress
     (ap (λ (n : ℕ). (n + 15) % 2 ^ 32) net.0) same_at c.dhcp_start d.dhcp_start h.dhcp_start g.dhcp_start
 
-pub one_settings : (given : Word → Option Word) (rules denials : List Word) (c d : Config) → AreSettings given c → AreSettings given d
-    → AreRules rules c.dhcp_start c.forwards → AreRules rules d.dhcp_start d.forwards
-    → AreDenials denials c.denied → AreDenials denials d.denied → c ≡ d
-one_settings given rules denials c d h g hf gf hd gd =
+pub one_settings : (given : Word → Option Word) (rules guests denials : List Word) (c d : Config) → AreSettings given c → AreSettings given d
+    → AreForwards rules c.dhcp_start c.forwards → AreForwards rules d.dhcp_start d.forwards
+    → AreGuestForwards guests c.guest_forwards → AreGuestForwards guests d.guest_forwards → AreDenials denials c.denied → AreDenials denials d.denied → c ≡ d
+one_settings given rules guests denials c d h g hf gf hg gg hd gd =
     let net = one_network (given (codes "--net")) usual.network usual.mask c.network c.mask d.network d.mask h.net g.net in
     let network : c.network ≡ d.network = net.0 in
     let mask : c.mask ≡ d.mask = net.1 in
@@ -96,59 +98,62 @@ one_settings given rules denials c d h g hf gf hd gd =
     let no_dhcp : c.no_dhcp ≡ d.no_dhcp = h.no_dhcp ∙ sym g.no_dhcp in
     let congestion : c.congestion ≡ d.congestion = h.congestion ∙ sym g.congestion in
     let denied : c.denied ≡ d.denied = same_denials denials c.denied d.denied hd gd in
-    let version : c.version ≡ d.version = h.version ∙ ap (version_of given) denied ∙ sym g.version in
-    let forwards : c.forwards ≡ d.forwards = same_forwards rules d.dhcp_start c.forwards d.forwards (subst (λ (n : ℕ). AreRules rules n c.forwards) dhcp_start hf) gf in
+    let led : c.guest_forwards ≡ d.guest_forwards = same_guests guests c.guest_forwards d.guest_forwards hg gg in
+    let version : c.version ≡ d.version = h.version ∙ ap (λ (gs : List GuestFwd). version_of given gs c.denied) led ∙ ap (version_of given d.guest_forwards) denied ∙ sym g.version in
+    let forwards : c.forwards ≡ d.forwards = same_forwards rules d.dhcp_start c.forwards d.forwards (subst (λ (n : ℕ). AreForwards rules n c.forwards) dhcp_start hf) gf in
     h.rest
     ∙ ap (λ (x : ℕ). made usual x c.mask c.vhost c.vnameserver c.dhcp_start c.restricted c.no_loopback c.hostname c.domainname c.tftp_server_name c.bootfile c.tftp_path c.mtu c.mru
-    c.flows c.ring c.resolver c.turns c.outbound c.no_dns c.no_dhcp c.congestion c.version c.forwards c.denied) network
+    c.flows c.ring c.resolver c.turns c.outbound c.no_dns c.no_dhcp c.congestion c.version c.forwards c.guest_forwards c.denied) network
     ∙ ap (λ (x : ℕ). made usual d.network x c.vhost c.vnameserver c.dhcp_start c.restricted c.no_loopback c.hostname c.domainname c.tftp_server_name c.bootfile c.tftp_path c.mtu
-    c.mru c.flows c.ring c.resolver c.turns c.outbound c.no_dns c.no_dhcp c.congestion c.version c.forwards c.denied) mask
+    c.mru c.flows c.ring c.resolver c.turns c.outbound c.no_dns c.no_dhcp c.congestion c.version c.forwards c.guest_forwards c.denied) mask
     ∙ ap (λ (x : ℕ). made usual d.network d.mask x c.vnameserver c.dhcp_start c.restricted c.no_loopback c.hostname c.domainname c.tftp_server_name c.bootfile c.tftp_path c.mtu
-    c.mru c.flows c.ring c.resolver c.turns c.outbound c.no_dns c.no_dhcp c.congestion c.version c.forwards c.denied) vhost
+    c.mru c.flows c.ring c.resolver c.turns c.outbound c.no_dns c.no_dhcp c.congestion c.version c.forwards c.guest_forwards c.denied) vhost
     ∙ ap (λ (x : ℕ). made usual d.network d.mask d.vhost x c.dhcp_start c.restricted c.no_loopback c.hostname c.domainname c.tftp_server_name c.bootfile c.tftp_path c.mtu c.mru
-    c.flows c.ring c.resolver c.turns c.outbound c.no_dns c.no_dhcp c.congestion c.version c.forwards c.denied) vnameserver
+    c.flows c.ring c.resolver c.turns c.outbound c.no_dns c.no_dhcp c.congestion c.version c.forwards c.guest_forwards c.denied) vnameserver
     ∙ ap (λ (x : ℕ). made usual d.network d.mask d.vhost d.vnameserver x c.restricted c.no_loopback c.hostname c.domainname c.tftp_server_name c.bootfile c.tftp_path c.mtu c.mru
-    c.flows c.ring c.resolver c.turns c.outbound c.no_dns c.no_dhcp c.congestion c.version c.forwards c.denied) dhcp_start
+    c.flows c.ring c.resolver c.turns c.outbound c.no_dns c.no_dhcp c.congestion c.version c.forwards c.guest_forwards c.denied) dhcp_start
     ∙ ap (λ (x : Bool). made usual d.network d.mask d.vhost d.vnameserver d.dhcp_start x c.no_loopback c.hostname c.domainname c.tftp_server_name c.bootfile c.tftp_path c.mtu c.mru
-    c.flows c.ring c.resolver c.turns c.outbound c.no_dns c.no_dhcp c.congestion c.version c.forwards c.denied) restricted
+    c.flows c.ring c.resolver c.turns c.outbound c.no_dns c.no_dhcp c.congestion c.version c.forwards c.guest_forwards c.denied) restricted
     ∙ ap (λ (x : Bool). made usual d.network d.mask d.vhost d.vnameserver d.dhcp_start d.restricted x c.hostname c.domainname c.tftp_server_name c.bootfile c.tftp_path c.mtu c.mru
-    c.flows c.ring c.resolver c.turns c.outbound c.no_dns c.no_dhcp c.congestion c.version c.forwards c.denied) no_loopback
+    c.flows c.ring c.resolver c.turns c.outbound c.no_dns c.no_dhcp c.congestion c.version c.forwards c.guest_forwards c.denied) no_loopback
     ∙ ap (λ (x : List ℕ). made usual d.network d.mask d.vhost d.vnameserver d.dhcp_start d.restricted d.no_loopback x c.domainname c.tftp_server_name c.bootfile c.tftp_path c.mtu
-    c.mru c.flows c.ring c.resolver c.turns c.outbound c.no_dns c.no_dhcp c.congestion c.version c.forwards c.denied) hostname
+    c.mru c.flows c.ring c.resolver c.turns c.outbound c.no_dns c.no_dhcp c.congestion c.version c.forwards c.guest_forwards c.denied) hostname
     ∙ ap (λ (x : List ℕ). made usual d.network d.mask d.vhost d.vnameserver d.dhcp_start d.restricted d.no_loopback d.hostname x c.tftp_server_name c.bootfile c.tftp_path c.mtu
-    c.mru c.flows c.ring c.resolver c.turns c.outbound c.no_dns c.no_dhcp c.congestion c.version c.forwards c.denied) domainname
+    c.mru c.flows c.ring c.resolver c.turns c.outbound c.no_dns c.no_dhcp c.congestion c.version c.forwards c.guest_forwards c.denied) domainname
     ∙ ap (λ (x : List ℕ). made usual d.network d.mask d.vhost d.vnameserver d.dhcp_start d.restricted d.no_loopback d.hostname d.domainname x c.bootfile c.tftp_path c.mtu c.mru
-    c.flows c.ring c.resolver c.turns c.outbound c.no_dns c.no_dhcp c.congestion c.version c.forwards c.denied) tftp_server_name
+    c.flows c.ring c.resolver c.turns c.outbound c.no_dns c.no_dhcp c.congestion c.version c.forwards c.guest_forwards c.denied) tftp_server_name
     ∙ ap (λ (x : List ℕ). made usual d.network d.mask d.vhost d.vnameserver d.dhcp_start d.restricted d.no_loopback d.hostname d.domainname d.tftp_server_name x c.tftp_path c.mtu
-    c.mru c.flows c.ring c.resolver c.turns c.outbound c.no_dns c.no_dhcp c.congestion c.version c.forwards c.denied) bootfile
+    c.mru c.flows c.ring c.resolver c.turns c.outbound c.no_dns c.no_dhcp c.congestion c.version c.forwards c.guest_forwards c.denied) bootfile
     ∙ ap (λ (x : Option (List ℕ)). made usual d.network d.mask d.vhost d.vnameserver d.dhcp_start d.restricted d.no_loopback d.hostname d.domainname d.tftp_server_name d.bootfile x
-    c.mtu c.mru c.flows c.ring c.resolver c.turns c.outbound c.no_dns c.no_dhcp c.congestion c.version c.forwards c.denied) tftp_path
+    c.mtu c.mru c.flows c.ring c.resolver c.turns c.outbound c.no_dns c.no_dhcp c.congestion c.version c.forwards c.guest_forwards c.denied) tftp_path
     ∙ ap (λ (x : ℕ). made usual d.network d.mask d.vhost d.vnameserver d.dhcp_start d.restricted d.no_loopback d.hostname d.domainname d.tftp_server_name d.bootfile d.tftp_path x
-    c.mru c.flows c.ring c.resolver c.turns c.outbound c.no_dns c.no_dhcp c.congestion c.version c.forwards c.denied) mtu
+    c.mru c.flows c.ring c.resolver c.turns c.outbound c.no_dns c.no_dhcp c.congestion c.version c.forwards c.guest_forwards c.denied) mtu
     ∙ ap (λ (x : ℕ). made usual d.network d.mask d.vhost d.vnameserver d.dhcp_start d.restricted d.no_loopback d.hostname d.domainname d.tftp_server_name d.bootfile d.tftp_path
-    d.mtu x c.flows c.ring c.resolver c.turns c.outbound c.no_dns c.no_dhcp c.congestion c.version c.forwards c.denied) mru
+    d.mtu x c.flows c.ring c.resolver c.turns c.outbound c.no_dns c.no_dhcp c.congestion c.version c.forwards c.guest_forwards c.denied) mru
     ∙ ap (λ (x : ℕ). made usual d.network d.mask d.vhost d.vnameserver d.dhcp_start d.restricted d.no_loopback d.hostname d.domainname d.tftp_server_name d.bootfile d.tftp_path
-    d.mtu d.mru x c.ring c.resolver c.turns c.outbound c.no_dns c.no_dhcp c.congestion c.version c.forwards c.denied) flows
+    d.mtu d.mru x c.ring c.resolver c.turns c.outbound c.no_dns c.no_dhcp c.congestion c.version c.forwards c.guest_forwards c.denied) flows
     ∙ ap (λ (x : ℕ). made usual d.network d.mask d.vhost d.vnameserver d.dhcp_start d.restricted d.no_loopback d.hostname d.domainname d.tftp_server_name d.bootfile d.tftp_path
-    d.mtu d.mru d.flows x c.resolver c.turns c.outbound c.no_dns c.no_dhcp c.congestion c.version c.forwards c.denied) ring
+    d.mtu d.mru d.flows x c.resolver c.turns c.outbound c.no_dns c.no_dhcp c.congestion c.version c.forwards c.guest_forwards c.denied) ring
     ∙ ap (λ (x : Option Endpoint). made usual d.network d.mask d.vhost d.vnameserver d.dhcp_start d.restricted d.no_loopback d.hostname d.domainname d.tftp_server_name d.bootfile
-    d.tftp_path d.mtu d.mru d.flows d.ring x c.turns c.outbound c.no_dns c.no_dhcp c.congestion c.version c.forwards c.denied) resolver
+    d.tftp_path d.mtu d.mru d.flows d.ring x c.turns c.outbound c.no_dns c.no_dhcp c.congestion c.version c.forwards c.guest_forwards c.denied) resolver
     ∙ ap (λ (x : ℕ). made usual d.network d.mask d.vhost d.vnameserver d.dhcp_start d.restricted d.no_loopback d.hostname d.domainname d.tftp_server_name d.bootfile d.tftp_path
-    d.mtu d.mru d.flows d.ring d.resolver x c.outbound c.no_dns c.no_dhcp c.congestion c.version c.forwards c.denied) turns
+    d.mtu d.mru d.flows d.ring d.resolver x c.outbound c.no_dns c.no_dhcp c.congestion c.version c.forwards c.guest_forwards c.denied) turns
     ∙ ap (λ (x : Option ℕ). made usual d.network d.mask d.vhost d.vnameserver d.dhcp_start d.restricted d.no_loopback d.hostname d.domainname d.tftp_server_name d.bootfile
-    d.tftp_path d.mtu d.mru d.flows d.ring d.resolver d.turns x c.no_dns c.no_dhcp c.congestion c.version c.forwards c.denied) outbound
+    d.tftp_path d.mtu d.mru d.flows d.ring d.resolver d.turns x c.no_dns c.no_dhcp c.congestion c.version c.forwards c.guest_forwards c.denied) outbound
     ∙ ap (λ (x : Bool). made usual d.network d.mask d.vhost d.vnameserver d.dhcp_start d.restricted d.no_loopback d.hostname d.domainname d.tftp_server_name d.bootfile d.tftp_path
-    d.mtu d.mru d.flows d.ring d.resolver d.turns d.outbound x c.no_dhcp c.congestion c.version c.forwards c.denied) no_dns
+    d.mtu d.mru d.flows d.ring d.resolver d.turns d.outbound x c.no_dhcp c.congestion c.version c.forwards c.guest_forwards c.denied) no_dns
     ∙ ap (λ (x : Bool). made usual d.network d.mask d.vhost d.vnameserver d.dhcp_start d.restricted d.no_loopback d.hostname d.domainname d.tftp_server_name d.bootfile d.tftp_path
-    d.mtu d.mru d.flows d.ring d.resolver d.turns d.outbound d.no_dns x c.congestion c.version c.forwards c.denied) no_dhcp
+    d.mtu d.mru d.flows d.ring d.resolver d.turns d.outbound d.no_dns x c.congestion c.version c.forwards c.guest_forwards c.denied) no_dhcp
     ∙ ap (λ (x : Bool). made usual d.network d.mask d.vhost d.vnameserver d.dhcp_start d.restricted d.no_loopback d.hostname d.domainname d.tftp_server_name d.bootfile d.tftp_path
-    d.mtu d.mru d.flows d.ring d.resolver d.turns d.outbound d.no_dns d.no_dhcp x c.version c.forwards c.denied) congestion
+    d.mtu d.mru d.flows d.ring d.resolver d.turns d.outbound d.no_dns d.no_dhcp x c.version c.forwards c.guest_forwards c.denied) congestion
     ∙ ap (λ (x : ℕ). made usual d.network d.mask d.vhost d.vnameserver d.dhcp_start d.restricted d.no_loopback d.hostname d.domainname d.tftp_server_name d.bootfile d.tftp_path
-    d.mtu d.mru d.flows d.ring d.resolver d.turns d.outbound d.no_dns d.no_dhcp d.congestion x c.forwards c.denied) version
+    d.mtu d.mru d.flows d.ring d.resolver d.turns d.outbound d.no_dns d.no_dhcp d.congestion x c.forwards c.guest_forwards c.denied) version
     ∙ ap (λ (x : List Forward). made usual d.network d.mask d.vhost d.vnameserver d.dhcp_start d.restricted d.no_loopback d.hostname d.domainname d.tftp_server_name d.bootfile
-    d.tftp_path d.mtu d.mru d.flows d.ring d.resolver d.turns d.outbound d.no_dns d.no_dhcp d.congestion d.version x c.denied) forwards
+    d.tftp_path d.mtu d.mru d.flows d.ring d.resolver d.turns d.outbound d.no_dns d.no_dhcp d.congestion d.version x c.guest_forwards c.denied) forwards
+    ∙ ap (λ (x : List GuestFwd). made usual d.network d.mask d.vhost d.vnameserver d.dhcp_start d.restricted d.no_loopback d.hostname d.domainname d.tftp_server_name d.bootfile
+    d.tftp_path d.mtu d.mru d.flows d.ring d.resolver d.turns d.outbound d.no_dns d.no_dhcp d.congestion d.version d.forwards x c.denied) led
     ∙ ap (λ (x : List Denial). made usual d.network d.mask d.vhost d.vnameserver d.dhcp_start d.restricted d.no_loopback d.hostname d.domainname d.tftp_server_name d.bootfile
-    d.tftp_path d.mtu d.mru d.flows d.ring d.resolver d.turns d.outbound d.no_dns d.no_dhcp d.congestion d.version d.forwards x) denied
+    d.tftp_path d.mtu d.mru d.flows d.ring d.resolver d.turns d.outbound d.no_dns d.no_dhcp d.congestion d.version d.forwards d.guest_forwards x) denied
     ∙ sym g.rest
 
 -- the link is at one place
@@ -181,9 +186,10 @@ one_replay words f e c d h g =
     let walk : a.walk ≡ b.walk = one_walk Replay words a.walk b.walk a.read b.read in
     let alone = tail_of f e a.rules b.rules (sym a.alone ∙ ap (λ (w : Walk). w.alone) walk ∙ b.alone) in
     let set = subst (λ (w : Walk). AreSettings (value_in (single w.options)) c) walk a.settings in
-    let given = subst (λ (r : List Word). AreRules r c.dhcp_start c.forwards) alone.1 a.forwards in
+    let given = subst (λ (r : List Word). AreForwards (host_words r) c.dhcp_start c.forwards) alone.1 a.forwards in
+    let led = subst (λ (r : List Word). AreGuestForwards (guest_words r) c.guest_forwards) alone.1 a.guests in
     let denied = subst (λ (w : Walk). AreDenials (repeated w.options) c.denied) walk a.denied in
-    (alone.0, one_settings (value_in (single b.walk.options)) b.rules (repeated b.walk.options) c d set b.settings given b.forwards denied b.denied)
+    (alone.0, one_settings (value_in (single b.walk.options)) (host_words b.rules) (guest_words b.rules) (repeated b.walk.options) c d set b.settings given b.forwards led b.guests denied b.denied)
 
 -- of two flags at most one stands, and each says one thing
 same_tap : (s t : Tap) → is_record s ≡ is_record t → is_capture s ≡ is_capture t → s ≡ t
@@ -206,9 +212,10 @@ one_serve words c d p q s t h g =
     let b = serve_meant words d q t g in
     let walk : a.walk ≡ b.walk = one_walk Serve words a.walk b.walk a.read b.read in
     let set = subst (λ (w : Walk). AreSettings (value_in (single w.options)) c) walk a.settings in
-    let given = subst (λ (w : Walk). AreRules w.alone c.dhcp_start c.forwards) walk a.forwards in
+    let given = subst (λ (w : Walk). AreForwards (host_words w.alone) c.dhcp_start c.forwards) walk a.forwards in
+    let led = subst (λ (w : Walk). AreGuestForwards (guest_words w.alone) c.guest_forwards) walk a.guests in
     let denied = subst (λ (w : Walk). AreDenials (repeated w.options) c.denied) walk a.denied in (
-      one_settings (value_in (single b.walk.options)) b.walk.alone (repeated b.walk.options) c d set b.settings given b.forwards denied b.denied,
+      one_settings (value_in (single b.walk.options)) (host_words b.walk.alone) (guest_words b.walk.alone) (repeated b.walk.options) c d set b.settings given b.forwards led b.guests denied b.denied,
       one_link (value_in (single b.walk.options) (codes "--link")) p q (subst (λ (w : Walk). IsLinkAt (value_in (single w.options) (codes "--link")) p) walk a.link) b.link,
       one_tap (value_in (single b.walk.options)) s t (subst (λ (w : Walk). IsTap (value_in (single w.options)) s) walk a.taps) b.taps,
     )

@@ -7,6 +7,7 @@ use Rattle.host_policy.specs.Addresses.{Config}
 use Rattle.host_policy.specs.Settings.{usual}
 use Rattle.host_policy.specs.Ranges.{mask_of, none_twice}
 use Rattle.host_policy.specs.declared.Denial.{Denial}
+use Rattle.host_policy.specs.declared.GuestFwd.{GuestFwd}
 use Rattle.slirp_config.specs.declared.options.Kind.{Kind}
 use Rattle.slirp_config.specs.declared.options.Kind.TheVariants.{Short, Number, Address, AddressPort, Network, Link}
 use Rattle.slirp_config.specs.declared.options.Verb.{Verb}
@@ -221,8 +222,9 @@ module _ (verb : Verb) where
           subst (CanHave kind) same (match_some (kind_of verb g.name) kind (Unit {0}) (λ k. CanHave k g.value) known are.0)
       by_test behind false e h = behind h
 
-  pub settings_of : (o : List Given) → AreGiven verb o → (ds : List Denial) → (config : Config) × AreSettings (value_in o) config × (config.denied ≡ ds)
-  settings_of o are ds =
+  pub settings_of : (o : List Given) → AreGiven verb o → (gs : List GuestFwd) (ds : List Denial) → (config : Config) × AreSettings (value_in o) config ×
+      (config.guest_forwards ≡ gs) × (config.denied ≡ ds)
+  settings_of o are gs ds =
       let given = value_in o in
       let net = pick_two (given (codes "--net")) usual.network usual.mask (λ text n m. IsNetwork text n m) (λ v e. value_read o are (codes "--net") v e Network
       (of_both (λ b. kind_of b (codes "--net") ≡ Some Network) refl refl)) in
@@ -250,7 +252,7 @@ module _ (verb : Verb) where
             (option_map_or held_text (given (codes "--hostname")) []) (option_map_or held_text (given (codes "--domainname")) [])
             (option_map_or held_text (given (codes "--tftp-server-name")) []) (option_map_or held_text (given (codes "--bootfile")) [])
             (option_map held_folder (given (codes "--tftp"))) mtu.0 mru.0 flows.0 ring.0 resolver.0 turns.0 outbound.0 (is_some (given (codes "--no-dns")))
-            (is_some (given (codes "--no-dhcp"))) (is_some (given (codes "--congestion"))) (version_of given ds) [] ds,
+            (is_some (given (codes "--no-dhcp"))) (is_some (given (codes "--congestion"))) (version_of given gs ds) [] gs ds,
         record {
           net = net.2;
           host = host.1;
@@ -276,5 +278,6 @@ module _ (verb : Verb) where
           version = refl;
           rest = refl;
         },
+        refl,
         refl,
       )

@@ -12,7 +12,7 @@ use Rattle.host_policy.specs.declared.Proto.{Proto}
 use Rattle.host_policy.specs.declared.Proto.TheVariants.{Tcp, Udp}
 use Rattle.slirp_config.specs.Narrowing.{portless, held_forwards}
 use Rattle.slirp_config.specs.Options.{Word}
-use Rattle.slirp_config.specs.Rules.{IsAddressOr, IsPortAt, IsType, IsForward, IsRule, AreRules}
+use Rattle.slirp_config.specs.Rules.{IsAddressOr, IsPortAt, IsType, IsForward, IsRule, AreForwards}
 use Rattle.address_text.specs.Texts.{is_other}
 use Rattle.address_text.proofs.Parting.{is_digit, fit_append, fit_weaker, parts_once, decimal_digits, digit_is_no_dash, digit_is_no_colon}
 use Rattle.address_text.proofs.Addresses.{address_form, address_fits, same_address, made_of}
@@ -56,7 +56,7 @@ first : List ℕ → ℕ
 first [] = 0
 first (x ∷ xs) = x
 
-type_fits : (kind : List ℕ) (proto : Proto) → IsType kind proto → list_all (is_other 58) kind ≡ true
+pub type_fits : (kind : List ℕ) (proto : Proto) → IsType kind proto → list_all (is_other 58) kind ≡ true
 type_fits kind Tcp (inl is) = subst (λ (t : List ℕ). list_all (is_other 58) t ≡ true) (sym is) refl
 type_fits kind Tcp (inr is) = subst (λ (t : List ℕ). list_all (is_other 58) t ≡ true) (sym is) refl
 type_fits kind Udp is = subst (λ (t : List ℕ). list_all (is_other 58) t ≡ true) (sym is) refl
@@ -133,7 +133,7 @@ bare_refused text dhcp_start other none f (inl r) = none f r
 bare_refused text dhcp_start other none f (inr r) = other r.0 r.1
 
 -- lists of rules
-pub same_forwards : (rules : List Word) (dhcp_start : ℕ) (fs gs : List Forward) → AreRules rules dhcp_start fs → AreRules rules dhcp_start gs → fs ≡ gs
+pub same_forwards : (rules : List Word) (dhcp_start : ℕ) (fs gs : List Forward) → AreForwards rules dhcp_start fs → AreForwards rules dhcp_start gs → fs ≡ gs
 same_forwards [] dhcp_start [] [] h g = refl
 same_forwards [] dhcp_start [] (y ∷ ys) h g = absurd g
 same_forwards [] dhcp_start (x ∷ xs) gs h g = absurd h
@@ -142,7 +142,7 @@ same_forwards (rule ∷ rules) dhcp_start (x ∷ xs) [] h g = absurd g
 same_forwards (rule ∷ rules) dhcp_start (x ∷ xs) (y ∷ ys) h g =
     ap (λ (z : Forward). z ∷ xs) (same_rule rule dhcp_start x y h.0 g.0) ∙ ap (λ (zs : List Forward). y ∷ zs) (same_forwards rules dhcp_start xs ys h.1 g.1)
 
-pub as_many : (rules : List Word) (dhcp_start : ℕ) (fs : List Forward) → AreRules rules dhcp_start fs → length fs ≡ length rules
+pub as_many : (rules : List Word) (dhcp_start : ℕ) (fs : List Forward) → AreForwards rules dhcp_start fs → length fs ≡ length rules
 as_many [] dhcp_start [] h = refl
 as_many [] dhcp_start (x ∷ xs) h = absurd h
 as_many (rule ∷ rules) dhcp_start [] h = absurd h
@@ -151,20 +151,20 @@ as_many (rule ∷ rules) dhcp_start (x ∷ xs) h = ap suc (as_many rules dhcp_st
 -- what rules mean, whatever it is
 pub record Forwards (rules : List Word) (dhcp_start : ℕ) : Type 0 where
   pub all : List Forward
-  pub are : AreRules rules dhcp_start all
+  pub are : AreForwards rules dhcp_start all
 
 -- What was read of rules, of which these are left: with what they mean it is what all mean, and the first 32 are held.
 pub record HasRead (rules left : List Word) (dhcp_start : ℕ) (held : List Forward) : Type 0 where
   pub got : List Forward
   pub kept : held ≡ take 32 got
-  pub goes : (rest : List Forward) → AreRules left dhcp_start rest → AreRules rules dhcp_start (got ++ rest)
-  pub leaves : (all : List Forward) → AreRules rules dhcp_start all → Forwards left dhcp_start
+  pub goes : (rest : List Forward) → AreForwards left dhcp_start rest → AreForwards rules dhcp_start (got ++ rest)
+  pub leaves : (all : List Forward) → AreForwards rules dhcp_start all → Forwards left dhcp_start
 
 module _ (rules left : List Word) (rule : Word) (dhcp_start : ℕ) where
   some_left : Forwards (rule ∷ left) dhcp_start → ((f : Forward) × IsRule rule dhcp_start f) × Forwards left dhcp_start
   some_left l = by_cases l.all l.are
     where
-      by_cases : (fs : List Forward) → AreRules (rule ∷ left) dhcp_start fs → ((f : Forward) × IsRule rule dhcp_start f) × Forwards left dhcp_start
+      by_cases : (fs : List Forward) → AreForwards (rule ∷ left) dhcp_start fs → ((f : Forward) × IsRule rule dhcp_start f) × Forwards left dhcp_start
       by_cases [] are = absurd are
       by_cases (x ∷ xs) are = ((x, are.0), record { all = xs; are = are.1 })
 
@@ -174,16 +174,16 @@ module _ (rules left : List Word) (rule : Word) (dhcp_start : ℕ) where
   read_on held new f h is put = record {
     got = h.got ++ f ∷ [];
     kept = put h.got h.kept;
-    goes = λ rest are. subst (λ (t : List Forward). AreRules rules dhcp_start t) (sym (append_assoc h.got (f ∷ []) rest)) (h.goes (f ∷ rest) (is, are));
+    goes = λ rest are. subst (λ (t : List Forward). AreForwards rules dhcp_start t) (sym (append_assoc h.got (f ∷ []) rest)) (h.goes (f ∷ rest) (is, are));
     leaves = λ all are. (some_left (h.leaves all are)).1;
   }
 
   -- one can't be read
-  pub read_none : (held : List Forward) → HasRead rules (rule ∷ left) dhcp_start held → ((f : Forward) → ¬ IsRule rule dhcp_start f) → (all : List Forward) → ¬ AreRules rules dhcp_start all
+  pub read_none : (held : List Forward) → HasRead rules (rule ∷ left) dhcp_start held → ((f : Forward) → ¬ IsRule rule dhcp_start f) → (all : List Forward) → ¬ AreForwards rules dhcp_start all
   read_none held h none all are = let one = (some_left (h.leaves all are)).0 in none one.0 one.1
 
-pub read_all : (rules : List Word) (dhcp_start : ℕ) (held : List Forward) → HasRead rules [] dhcp_start held → (all : List Forward) × AreRules rules dhcp_start all × (held ≡ take 32 all)
-read_all rules dhcp_start held h = (h.got, subst (λ (t : List Forward). AreRules rules dhcp_start t) (append-nil h.got) (h.goes [] tt), h.kept)
+pub read_all : (rules : List Word) (dhcp_start : ℕ) (held : List Forward) → HasRead rules [] dhcp_start held → (all : List Forward) × AreForwards rules dhcp_start all × (held ≡ take 32 all)
+read_all rules dhcp_start held h = (h.got, subst (λ (t : List Forward). AreForwards rules dhcp_start t) (append-nil h.got) (h.goes [] tt), h.kept)
 
 -- the words of rules, one by one
 abbrev pub rule_words : List (Bor Word) → List Word
@@ -196,13 +196,13 @@ pub no_rule : (rules : List (Bor Word)) (i : ℕ) → length rules ≤ i → rul
 no_rule rules i past = ap rule_words (drop_all i rules past)
 
 -- what is held of what was read
-pub held_all : (rules : List Word) (dhcp_start : ℕ) (all held : List Forward) → AreRules rules dhcp_start all → length rules ≤ 32 → held ≡ take 32 all → held ≡ held_forwards all
+pub held_all : (rules : List Word) (dhcp_start : ℕ) (all held : List Forward) → AreForwards rules dhcp_start all → length rules ≤ 32 → held ≡ take 32 all → held ≡ held_forwards all
 held_all rules dhcp_start all held are few is =
     let short : length all ≤ 32 = omega (arith, as_many rules dhcp_start all are, few) in
     let test : leb (length all) 32 ≡ true = grind (arith, nat_tests, short) in
     rw test (is ∙ take_all 32 all short)
 
-pub held_none : (rules : List Word) (dhcp_start : ℕ) (all : List Forward) → AreRules rules dhcp_start all → 32 < length rules → portless ∷ [] ≡ held_forwards all
+pub held_none : (rules : List Word) (dhcp_start : ℕ) (all : List Forward) → AreForwards rules dhcp_start all → 32 < length rules → portless ∷ [] ≡ held_forwards all
 held_none rules dhcp_start all are many =
     let long : 32 < length all = omega (arith, as_many rules dhcp_start all are, many) in
     let test : leb (length all) 32 ≡ false = grind (arith, nat_tests, long) in

@@ -1,19 +1,21 @@
 -- Settings that options give, field by field.
-use Rattle.std.proofs.Common.{◌≡◌, ℕ, Bool, List, Option, sym, ◌∙◌, ap}
+use Rattle.std.proofs.Common.{◌≡◌, ℕ, Bool, List, Option, sym, ◌∙◌, ap, arith}
 use Rattle.net_octets.specs.declared.Endpoint.{Endpoint}
 use Rattle.host_policy.specs.Addresses.{Config}
 use Rattle.host_policy.specs.declared.Denial.{Denial}
 use Rattle.host_policy.specs.declared.Forward.{Forward}
+use Rattle.host_policy.specs.declared.GuestFwd.{GuestFwd}
+use Rattle.std.proofs.lemmas.List.{length-take, take_all}
 use Rattle.slirp_config.specs.Meaning.{AreSettings, version_of}
-use Rattle.slirp_config.specs.Narrowing.{held_denials}
+use Rattle.slirp_config.specs.Narrowing.{held_denials, held_guests}
 use Rattle.slirp_config.specs.Options.{Word}
 use Rattle.slirp_config.proofs.Denying.{held_version}
 
 abbrev pub made : Config → (network mask vhost vnameserver dhcp_start : ℕ) (restricted no_loopback : Bool) (hostname domainname tftp_server_name bootfile : List ℕ)
     (tftp_path : Option (List ℕ)) (mtu mru flows ring : ℕ) (resolver : Option Endpoint) (turns : ℕ) (outbound : Option ℕ) (no_dns no_dhcp congestion : Bool) (version : ℕ)
-    (forwards : List Forward) (denied : List Denial) → Config
+    (forwards : List Forward) (guest_forwards : List GuestFwd) (denied : List Denial) → Config
 made base network mask vhost vnameserver dhcp_start restricted no_loopback hostname domainname tftp_server_name bootfile tftp_path mtu mru flows ring resolver turns outbound no_dns
-    no_dhcp congestion version forwards denied = record base {
+    no_dhcp congestion version forwards guest_forwards denied = record base {
       network = network;
       mask = mask;
       vhost = vhost;
@@ -38,6 +40,7 @@ made base network mask vhost vnameserver dhcp_start restricted no_loopback hostn
       congestion = congestion;
       version = version;
       forwards = forwards;
+      guest_forwards = guest_forwards;
       denied = denied;
     }
 
@@ -69,13 +72,14 @@ with_forwards given config forwards are = record {
   rest = ap (λ (c : Config). record c { forwards = forwards }) are.rest;
 }
 
--- nor are denied networks
-abbrev pub with_lists : Config → List Forward → List Denial → Config
-with_lists config forwards denied = record config { forwards = forwards; denied = denied }
+-- nor are forwards of guests, and denied networks
+abbrev pub with_lists : Config → List Forward → List GuestFwd → List Denial → Config
+with_lists config forwards guests denied = record config { forwards = forwards; guest_forwards = guests; denied = denied }
 
-lists_are : (given : Word → Option Word) (config : Config) (forwards : List Forward) (denied : List Denial) → version_of given config.denied ≡ version_of given denied → AreSettings given config
-    → AreSettings given (with_lists config forwards denied)
-lists_are given config forwards denied same are = record {
+lists_are : (given : Word → Option Word) (config : Config) (forwards : List Forward) (guests : List GuestFwd) (denied : List Denial) →
+    version_of given config.guest_forwards config.denied ≡ version_of given guests denied → AreSettings given config
+    → AreSettings given (with_lists config forwards guests denied)
+lists_are given config forwards guests denied same are = record {
   net = are.net;
   host = are.host;
   dns = are.dns;
@@ -98,14 +102,21 @@ lists_are given config forwards denied same are = record {
   no_dhcp = are.no_dhcp;
   congestion = are.congestion;
   version = are.version ∙ same;
-  rest = ap (λ (c : Config). record c { forwards = forwards; denied = denied }) are.rest;
+  rest = ap (λ (c : Config). record c { forwards = forwards; guest_forwards = guests; denied = denied }) are.rest;
 }
 
 -- with those that are held, and with those of which as much is held
-pub with_both : (given : Word → Option Word) (config : Config) (forwards : List Forward) → AreSettings given config → AreSettings given (with_lists config forwards (held_denials config.denied))
-with_both given config forwards are = lists_are given config forwards (held_denials config.denied) (sym (held_version given config.denied)) are
+pub with_both : (given : Word → Option Word) (config : Config) (forwards : List Forward) (guests : List GuestFwd) → held_guests config.guest_forwards ≡ held_guests guests → AreSettings given config
+    → AreSettings given (with_lists config forwards guests (held_denials config.denied))
+with_both given config forwards guests same are =
+    let again : held_denials (held_denials config.denied) ≡ held_denials config.denied = take_all 9 (held_denials config.denied) (omega (arith, length-take 9 config.denied)) in
+    lists_are given config forwards guests (held_denials config.denied)
+    (sym (held_version given config.guest_forwards config.denied) ∙ ap (λ (gs : List GuestFwd). version_of given gs (held_denials config.denied)) same
+    ∙ ap (λ (ds : List Denial). version_of given (held_guests guests) ds) (sym again) ∙ held_version given guests (held_denials config.denied)) are
 
-pub with_all : (given : Word → Option Word) (config : Config) (forwards : List Forward) (denied : List Denial) → held_denials config.denied ≡ held_denials denied → AreSettings given config
-    → AreSettings given (with_lists config forwards denied)
-with_all given config forwards denied same are =
-    lists_are given config forwards denied (sym (held_version given config.denied) ∙ ap (version_of given) same ∙ held_version given denied) are
+pub with_all : (given : Word → Option Word) (config : Config) (forwards : List Forward) (guests : List GuestFwd) (denied : List Denial) → held_guests config.guest_forwards ≡ held_guests guests
+    → held_denials config.denied ≡ held_denials denied → AreSettings given config → AreSettings given (with_lists config forwards guests denied)
+with_all given config forwards guests denied led same are =
+    lists_are given config forwards guests denied
+    (sym (held_version given config.guest_forwards config.denied) ∙ ap (λ (gs : List GuestFwd). version_of given gs (held_denials config.denied)) led
+    ∙ ap (version_of given (held_guests guests)) same ∙ held_version given guests denied) are

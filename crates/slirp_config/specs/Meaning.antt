@@ -7,6 +7,7 @@ use Rattle.host_policy.specs.Addresses.{Config}
 use Rattle.host_policy.specs.Settings.{settings, usual}
 use Rattle.host_policy.specs.Ranges.{first_broken}
 use Rattle.host_policy.specs.declared.Denial.{Denial}
+use Rattle.host_policy.specs.declared.GuestFwd.{GuestFwd}
 use Rattle.host_policy.specs.declared.config.Field.{Field}
 use Rattle.host_policy.specs.declared.config.Field.TheVariants.{Octets}
 use Rattle.world_face.specs.Journal.{IsPlace, Place, place_of}
@@ -47,12 +48,13 @@ broken_in (Drives number octets) = if nat_lt 10000000 octets then Some Octets el
 broken_in Helps = None
 broken_in TellsVersion = None
 
--- a command with an option that only version 2 of the settings has is of that version
-abbrev pub version_of : (given : Word → Option Word) (denied : List Denial) → ℕ
-version_of given denied =
-    if is_some (given (codes "--outbound")) || is_some (given (codes "--no-dns")) || is_some (given (codes "--no-dhcp")) || not (length denied == 0) then 2 else 1
+-- a command with an option or a RULE that only version 2 of the settings has is of that version
+abbrev pub version_of : (given : Word → Option Word) (guest_forwards : List GuestFwd) (denied : List Denial) → ℕ
+version_of given guest_forwards denied =
+    if is_some (given (codes "--outbound")) || is_some (given (codes "--no-dns")) || is_some (given (codes "--no-dhcp")) || not (length guest_forwards == 0)
+    || not (length denied == 0) then 2 else 1
 
--- the settings that options give, by the value that each name has; what no option gives is usual. None of these gives forwards or denied networks
+-- the settings that options give, by the value that each name has; what no option gives is usual. None of these gives forwards, forwards of guests or denied networks
 pub record AreSettings (given : Word → Option Word) (config : Config) : Type 0 where
   pub net : MatchOption (given (codes "--net")) ((config.network ≡ usual.network) × (config.mask ≡ usual.mask)) (λ text. IsNetwork text config.network config.mask)
   pub host : MatchOption (given (codes "--host")) (config.vhost ≡ (config.network + 2) % 2 ^ 32) (λ text. IsAddress text config.vhost)
@@ -75,7 +77,7 @@ pub record AreSettings (given : Word → Option Word) (config : Config) : Type 0
   pub no_dns : config.no_dns ≡ is_some (given (codes "--no-dns"))
   pub no_dhcp : config.no_dhcp ≡ is_some (given (codes "--no-dhcp"))
   pub congestion : config.congestion ≡ is_some (given (codes "--congestion"))
-  pub version : config.version ≡ version_of given config.denied
+  pub version : config.version ≡ version_of given config.guest_forwards config.denied
   pub rest : config ≡ record usual {
     network = config.network;
     mask = config.mask;
@@ -101,6 +103,7 @@ pub record AreSettings (given : Word → Option Word) (config : Config) : Type 0
     congestion = config.congestion;
     version = config.version;
     forwards = config.forwards;
+    guest_forwards = config.guest_forwards;
     denied = config.denied;
   }
 
@@ -109,7 +112,7 @@ abbrev pub MeansReplay : List Word → (file : Word) (config : Config) → Type 
 MeansReplay words file config =
     (line : Line) × (rules : List Word) × (words ≡ line_words line) × IsLine Replay line
     × (words_alone line ≡ file ∷ rules) × (0 < length file) × (length file ≤ 1280)
-    × AreRules rules config.dhcp_start config.forwards × AreSettings (value_of line) config × AreDenials (denied_of line) config.denied
+    × AreRules rules config.dhcp_start config.forwards config.guest_forwards × AreSettings (value_of line) config × AreDenials (denied_of line) config.denied
 
 abbrev pub is_record : Tap → Bool
 is_record Record = true
@@ -127,7 +130,7 @@ IsTap given tap = (is_some (given (codes "--record")) ≡ is_record tap) × (is_
 abbrev pub MeansServe : List Word → (config : Config) (at : Place) (tap : Tap) → Type 0
 MeansServe words config at tap =
     (line : Line) × (words ≡ line_words line) × IsLine Serve line × MatchOption (value_of line (codes "--link")) ⊥ (λ text. IsLink text at) × IsTap (value_of line) tap
-    × AreRules (words_alone line) config.dhcp_start config.forwards × AreSettings (value_of line) config × AreDenials (denied_of line) config.denied
+    × AreRules (words_alone line) config.dhcp_start config.forwards config.guest_forwards × AreSettings (value_of line) config × AreDenials (denied_of line) config.denied
 
 -- the words behind `drive` are two numbers
 abbrev pub MeansDrive : List Word → (number octets : ℕ) → Type 0

@@ -13,7 +13,7 @@ use Rattle.slirp_config.specs.declared.Stop.{Stop}
 use Rattle.slirp_config.specs.declared.Stop.TheVariants.{Word as AtWord, End as AtEnd}
 use Rattle.slirp_config.specs.Options.{Word, Given, Row, is_dashed, is_repeated, kind_of, repeated, rows, same_name, single, takes_value, value_in}
 use Rattle.slirp_config.specs.Values.{CanHave}
-use Rattle.slirp_config.specs.Rules.{AreRuleWords, IsRuleWord}
+use Rattle.slirp_config.specs.Rules.{AreRuleWords, IsRuleWord, guest_words, host_words, is_guest_word}
 use Rattle.slirp_config.specs.Texts.{IsFile}
 
 abbrev pub row_of : RowHere → Row
@@ -47,9 +47,9 @@ put_option add walk name value =
     then option_map (λ options. record walk { options = options }) (add walk.options (record { name = name; value = value }))
     else None
 
--- one more word stands by itself; `keep` says how many of these are kept
-abbrev pub put_alone : (keep : List Word → List Word) → Walk → Word → Option Walk
-put_alone keep walk word = Some (record walk { alone = keep (walk.alone ++ word ∷ []) })
+-- one more word stands by itself; `keep` says what is kept of these with it
+abbrev pub put_alone : (keep : Walk → Word → List Word) → Walk → Word → Option Walk
+put_alone keep walk word = Some (record walk { alone = keep walk word })
 
 -- a value that stands apart
 abbrev pub put_apart : (add : List Given → Given → Option (List Given)) → Walk → Word → Word → Option Walk
@@ -80,12 +80,12 @@ put_dashed add walk word =
     then put_joined add walk (before_first is_sign word) (after_first is_sign word)
     else put_name add walk word
 
-abbrev pub begin : (keep : List Word → List Word) (add : List Given → Given → Option (List Given)) → Walk → Word → Option Walk
+abbrev pub begin : (keep : Walk → Word → List Word) (add : List Given → Given → Option (List Given)) → Walk → Word → Option Walk
 begin keep add walk word =
     if bytes_eq word (codes "--") then Some (record walk { ended = true })
     else (if is_dashed word then put_dashed add walk word else put_alone keep walk word)
 
-abbrev pub step_with : (keep : List Word → List Word) (add : List Given → Given → Option (List Given)) → Walk → Word → Option Walk
+abbrev pub step_with : (keep : Walk → Word → List Word) (add : List Given → Given → Option (List Given)) → Walk → Word → Option Walk
 step_with keep add walk word =
     if walk.ended then put_alone keep walk word
     else elim walk.waits [ None ↦ begin keep add walk word | Some name ↦ put_apart add walk name word ]
@@ -94,31 +94,15 @@ step_with keep add walk word =
 abbrev pub add_all : List Given → Given → Option (List Given)
 add_all options given = Some (options ++ given ∷ [])
 
+abbrev pub keep_all : Walk → Word → List Word
+keep_all walk word = walk.alone ++ word ∷ []
+
 abbrev pub step : Walk → Word → Option Walk
-step walk word = step_with (λ words. words) add_all walk word
-
--- A line has room for the first 34 of them: a file, and one RULE more than the settings have room for.
-abbrev pub kept : List Word → List Word
-kept words = take 34 words
-
--- It has room for one option of each name, of which there are twenty-five, and for none that may stand several times.
-abbrev pub hold : List Given → Given → Option (List Given)
-hold options given = if is_repeated given.name then Some options else (if nat_lt (length options) 25 then Some (options ++ given ∷ []) else None)
-
-abbrev pub kept_of : Walk → Walk
-kept_of walk = record walk { options = single walk.options; alone = kept walk.alone }
-
--- The first 9 networks that are denied are kept beside it: one more than the settings may have.
-abbrev pub kept_denied : List Word → List Word
-kept_denied words = take 9 words
+step walk word = step_with keep_all add_all walk word
 
 abbrev pub is_replay : Verb → Bool
 is_replay Replay = true
 is_replay Serve = false
-
--- a word that stands by itself is the name of a file where `replay` has none yet, else a RULE
-abbrev pub IsWanted : (is_file : Bool) → Word → Type 0
-IsWanted is_file word = MatchBool is_file (IsFile word) (IsRuleWord word)
 
 abbrev pub has_none : List Word → Bool
 has_none [] = true
@@ -126,6 +110,42 @@ has_none (word ∷ words) = false
 
 abbrev pub wants_file : Walk → Bool
 wants_file walk = is_replay walk.verb && has_none walk.alone
+
+-- Of them a line has no room for RULEs of guests; and for the first 34 of the others: a file, and one RULE more than the settings have room for.
+abbrev pub own_words : Verb → List Word → List Word
+own_words Replay [] = []
+own_words Replay (file ∷ rules) = file ∷ host_words rules
+own_words Serve rules = host_words rules
+
+abbrev pub kept : List Word → List Word
+kept words = take 34 words
+
+abbrev pub keep_own : Walk → Word → List Word
+keep_own walk word = if not (wants_file walk) && is_guest_word word then walk.alone else kept (walk.alone ++ word ∷ [])
+
+-- The RULEs of guests; the first 17 of them are kept beside the line: one more than the settings have room for.
+abbrev pub guests_of : Verb → List Word → List Word
+guests_of Replay [] = []
+guests_of Replay (file ∷ rules) = guest_words rules
+guests_of Serve rules = guest_words rules
+
+abbrev pub kept_guests : List Word → List Word
+kept_guests words = take 17 words
+
+-- It has room for one option of each name, of which there are twenty-five, and for none that may stand several times.
+abbrev pub hold : List Given → Given → Option (List Given)
+hold options given = if is_repeated given.name then Some options else (if nat_lt (length options) 25 then Some (options ++ given ∷ []) else None)
+
+abbrev pub kept_of : Walk → Walk
+kept_of walk = record walk { options = single walk.options; alone = kept (own_words walk.verb walk.alone) }
+
+-- The first 9 networks that are denied are kept beside it: one more than the settings may have.
+abbrev pub kept_denied : List Word → List Word
+kept_denied words = take 9 words
+
+-- a word that stands by itself is the name of a file where `replay` has none yet, else a RULE
+abbrev pub IsWanted : (is_file : Bool) → Word → Type 0
+IsWanted is_file word = MatchBool is_file (IsFile word) (IsRuleWord word)
 
 abbrev pub stands_alone : Walk → Word → Bool
 stands_alone walk word = walk.ended || (not (is_some walk.waits) && not (is_dashed word))
@@ -152,6 +172,10 @@ completed walk word =
 abbrev pub listed : Option Given → List Given
 listed None = []
 listed (Some given) = given ∷ []
+
+-- the RULE of guests that a word by itself is
+abbrev pub guest_rule : Walk → Word → List Word
+guest_rule walk word = if stands_alone walk word && not (wants_file walk) && is_guest_word word then word ∷ [] else []
 
 -- its value is one that it can have
 abbrev pub IsGiven : Verb → Given → Type 0
@@ -231,14 +255,15 @@ pub record Walks (verb : Verb) (words : List Word) : Type 0 where
   pub good : IsGood walk
   pub proper : IsProper walk
 
--- the walk over words, of which a line keeps what it has room for, and the denied networks are kept beside it
-pub record HasWalked (verb : Verb) (words : List Word) (line : LineHere) (denied : List Word) : Type 0 where
+-- the walk over words, of which a line keeps what it has room for, and beside it RULEs of guests and denied networks are kept
+pub record HasWalked (verb : Verb) (words : List Word) (line : LineHere) (guests denied : List Word) : Type 0 where
   pub walk : Walk
   pub walks : walked verb words ≡ Some walk
   pub verb_is : walk.verb ≡ verb
   pub good : IsGood walk
   pub far : Walks verb words
   pub keeps : kept_of walk ≡ walk_of line
+  pub leads : kept_guests (guests_of walk.verb walk.alone) ≡ guests
   pub denies : kept_denied (repeated walk.options) ≡ denied
 
 -- The walk stops at a word: those before it can go on, and nothing that begins with the words up to it can. Or all can go on, and an option waits for its value.

@@ -22,15 +22,18 @@
 //!
 //! RULE is `[hostfwd=][tcp|udp]:[hostaddr]:hostport-[guestaddr]:guestport`, with addresses and numbers up to 65,535: this port of the host leads to that one
 //! of a guest, of TCP where no type is said. Without an address it is every one of the host's, 0.0.0.0, and the first that is lent to guests, whether
-//! `--dhcpstart` stands before the RULE or behind it.
+//! `--dhcpstart` stands before the RULE or behind it. Or it is `guestfwd=[tcp]:ADDRESS:PORT-ENDPOINT`: connections to this port of the network lead to that
+//! endpoint.
 //!
 //! `drive` has neither options nor RULEs: NUMBER and OCTETS are numbers up to 2^64 - 1, and its settings are the usual ones. OCTETS over 10,000,000 is out of its range.
 //!
-//! A setting out of its range is named, the first in the order of `host_policy`: a text of over 127 octets too, a folder of over 1,024, more than 32 RULEs, and more than 8 denied networks.
-//! With `--no-dhcp`, `--no-dns`, `--outbound` or `--deny` the settings are of version 2.
+//! A setting out of its range is named, the first in the order of `host_policy`: a text of over 127 octets too, a folder of over 1,024, more than 32 RULEs of
+//! the first kind or 16 of the second, and more than 8 denied networks.
+//! With `--no-dhcp`, `--no-dns`, `--outbound`, `--deny` or a RULE of the second kind the settings are of version 2.
 #![tactic(auto)]
 
 mod denied;
+mod guests;
 mod line;
 mod options;
 mod rules;
@@ -247,14 +250,14 @@ fn replay_of(words: &[String]) -> Result<Command, Stop>
     ensures place { IfOk result (λ command. HasPlace (said command)) }
     ensures refused { IfErr result (λ stop. StopsBehind (λ words. (file : List ℕ) × (config : Config) × MeansReplay words file config) (map string_bytes words.now) stop) }
 {
-    let (line, denied) = Line::read(Verb::Replay, words)?;
+    let (line, guests, denied) = Line::read(Verb::Replay, words)?;
     let Some((file, rules)) = line.alone().split_first() else {
         return Err(Stop::End);
     };
     let Ok(file) = file_of(file) else {
         return Err(Stop::End);
     };
-    let Ok(config) = line.settings(rules, denied.as_slice()) else {
+    let Ok(config) = line.settings(rules, guests.as_slice(), denied.as_slice()) else {
         return Err(Stop::End);
     };
     Ok(Command::Replay(file, config))
@@ -281,7 +284,7 @@ fn serve_of(words: &[String]) -> Result<Command, Stop>
     ensures place { IfOk result (λ command. HasPlace (said command)) }
     ensures refused { IfErr result (λ stop. StopsBehind (λ words. (config : Config) × (at : Place) × (tap : ATap) × MeansServe words config at tap) (map string_bytes words.now) stop) }
 {
-    let (line, denied) = Line::read(Verb::Serve, words)?;
+    let (line, guests, denied) = Line::read(Verb::Serve, words)?;
     let Some(link) = line.value("--link") else {
         return Err(Stop::End);
     };
@@ -291,7 +294,7 @@ fn serve_of(words: &[String]) -> Result<Command, Stop>
     let Ok(tap) = tap_of(line.has("--record"), line.has("--capture")) else {
         return Err(Stop::End);
     };
-    let Ok(config) = line.settings(line.alone(), denied.as_slice()) else {
+    let Ok(config) = line.settings(line.alone(), guests.as_slice(), denied.as_slice()) else {
         return Err(Stop::End);
     };
     Ok(Command::Serve(config, at, tap))

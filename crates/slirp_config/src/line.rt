@@ -2,23 +2,32 @@
 ghost use Rattle.std.specs.Prelude.{◌≡◌, ◌⊎◌, List, ◌++◌, ◌∷◌, [], bytes_eq, ◌≤◌, ◌&&◌, ◌<◌, nat_lt, not, false, length, map, MatchBool, None, Some, OnOk, OnErr, IfErr, IfOk, is_some};
 ghost use Rattle.std.specs.Prelude.{option_copied, option_map, find};
 ghost use Rattle.std.specs.String.{string_bytes};
+ghost use Rattle.slirp_config.specs.Rules.{is_guest_word};
 ghost use Rattle.slirp_config.specs.Options.{Word, is_dashed, repeated, value_in};
-ghost use Rattle.slirp_config.specs.Walking.{Fits, FitsAlone, FitsOption, HasWalked, IsGiven, IsWanted, WalkStops, begin, can_end, completed, ends, flag_of, given_of, has_link, hold, is_both};
-ghost use Rattle.slirp_config.specs.Walking.{kept, kept_denied, listed, may_stand, named, put_alone, put_apart, put_dashed, put_joined, put_name, put_option, stands_alone, step_with};
-ghost use Rattle.slirp_config.specs.Walking.{walk_of, wants_file};
+ghost use Rattle.slirp_config.specs.Walking.{Fits, FitsAlone, FitsOption, HasWalked, IsGiven, IsWanted, WalkStops, begin, can_end, completed, ends, flag_of, given_of, guest_rule};
+ghost use Rattle.slirp_config.specs.Walking.{has_link, hold, is_both};
+ghost use Rattle.slirp_config.specs.Walking.{keep_own, kept, kept_denied, kept_guests, listed, may_stand, named, put_alone, put_apart, put_dashed, put_joined, put_name, put_option};
+ghost use Rattle.slirp_config.specs.Walking.{stands_alone, step_with, walk_of, wants_file};
 
 use crate::Stop;
+use crate::guests::is_guest_word;
 use crate::options::{COUNT, Verb, is_repeated, kind_of, takes_value};
 use crate::rules::is_rule;
 use crate::values::{can_have, is_file_name};
 use address_text::NoReading;
 use arrayvec::ArrayVec;
 
-/// How many of the words that stand by themselves are kept: a file, and one RULE more than the settings have room for.
+/// How many of the other words that stand by themselves are kept: a file, and one RULE more than the settings have room for.
 const ALONE: usize = 34;
 
 /// How many of the networks that are denied are kept: one more than there may be.
 const DENIED: usize = 9;
+
+/// How many of the RULEs of guests are kept: one more than the settings have room for.
+const GUESTS: usize = 17;
+
+/// RULEs of guests.
+pub(crate) type Guests<'a> = ArrayVec<&'a str, GUESTS>;
 
 /// The values of the option that may stand several times.
 pub(crate) type Denied<'a> = ArrayVec<&'a str, DENIED>;
@@ -44,9 +53,13 @@ pub(crate) struct Line<'a> {
 }
 
 impl<'a> Line<'a> {
-    /// Reads the words behind a command, from the front: and beside the line the first 9 networks that are denied.
-    pub(crate) fn read(verb: Verb, words: &'a [String]) -> Result<(Line<'a>, Denied<'a>), Stop>
-        ensures read { IfOk result (λ read. HasWalked verb (map string_bytes words.now) read.0 (map (λ word. word.now) read.1.items)) }
+    /// Reads the words behind a command, from the front: and beside the line the first 17 RULEs of guests and the first 9 networks that are denied.
+    pub(crate) fn read(
+        verb: Verb,
+        words: &'a [String],
+    ) -> Result<(Line<'a>, Guests<'a>, Denied<'a>), Stop>
+        ensures read { IfOk result (λ read. HasWalked verb (map string_bytes words.now) read.0 (map (λ word. word.now) read.1.items)
+            (map (λ word. word.now) read.2.items)) }
         ensures refused { IfErr result (λ stop. WalkStops verb (map string_bytes words.now) stop) }
     {
         let mut line = Line {
@@ -56,9 +69,11 @@ impl<'a> Line<'a> {
             waits: None,
             ended: false,
         };
+        let mut guests = ArrayVec::new();
         let mut denied = ArrayVec::new();
         for (place, word) in words.iter().enumerate() {
             let word = word.as_str();
+            line.lead(word, &mut guests);
             line.deny(word, &mut denied);
             if line.take(word).is_err() {
                 return Err(Stop::Word(place + 1));
@@ -66,7 +81,7 @@ impl<'a> Line<'a> {
         }
         match line.waits {
             Some(_) => Err(Stop::End),
-            None => Ok((line, denied)),
+            None => Ok((line, guests, denied)),
         }
     }
 
@@ -82,9 +97,9 @@ impl<'a> Line<'a> {
 
     // Takes the next word.
     fn take(&mut self, word: &'a str) -> Result<(), NoReading>
-        ensures taken { OnOk result (step_with kept hold (walk_of self.old) word.now ≡ Some (walk_of self.new)) }
+        ensures taken { OnOk result (step_with keep_own hold (walk_of self.old) word.now ≡ Some (walk_of self.new)) }
         ensures fits { OnOk result (Fits (walk_of self.old) word.now) }
-        ensures refused { OnErr result ((step_with kept hold (walk_of self.old) word.now ≡ None) ⊎ ¬ Fits (walk_of self.old) word.now) }
+        ensures refused { OnErr result ((step_with keep_own hold (walk_of self.old) word.now ≡ None) ⊎ ¬ Fits (walk_of self.old) word.now) }
     {
         if !self.fits(word) {
             return Err(NoReading);
@@ -188,8 +203,8 @@ impl<'a> Line<'a> {
 
     // Puts the next word.
     fn step(&mut self, word: &'a str) -> Result<(), NoReading>
-        ensures taken { OnOk result (step_with kept hold (walk_of self.old) word.now ≡ Some (walk_of self.new)) }
-        ensures refused { OnErr result (step_with kept hold (walk_of self.old) word.now ≡ None) }
+        ensures taken { OnOk result (step_with keep_own hold (walk_of self.old) word.now ≡ Some (walk_of self.new)) }
+        ensures refused { OnErr result (step_with keep_own hold (walk_of self.old) word.now ≡ None) }
     {
         if self.ended {
             self.put_alone(word);
@@ -211,13 +226,45 @@ impl<'a> Line<'a> {
         }
     }
 
-    // Puts a word that stands by itself. One for which there is no room isn't kept.
+    // Puts a word that stands by itself. One for which there is no room isn't kept, nor one that asks for a forward of guests.
     fn put_alone(&mut self, word: &'a str)
-        ensures { put_alone kept (walk_of self.old) word.now ≡ Some (walk_of self.new) }
+        ensures { put_alone keep_own (walk_of self.old) word.now ≡ Some (walk_of self.new) }
+    {
+        if self.is_guest_word(word) {
+            return;
+        }
+        self.keep_alone(word);
+    }
+
+    fn keep_alone(&mut self, word: &'a str)
+        ensures { walk_of self.new ≡ record (walk_of self.old) { alone = kept ((walk_of self.old).alone ++ word.now ∷ []) } }
     {
         if !self.alone.is_full() {
             self.alone.push(word);
         }
+    }
+
+    // Whether the next word that stands by itself asks for a forward of guests: it isn't the name of a file.
+    fn is_guest_word(&self, word: &str) -> bool
+        ensures { result ≡ (not (wants_file (walk_of self.now)) && is_guest_word word.now) }
+    {
+        !self.wants_file() && is_guest_word(word)
+    }
+
+    // Puts the RULE of guests that the next word is, where it is one, and where there is room.
+    fn lead(&self, word: &'a str, guests: &mut Guests<'a>)
+        ensures { (all : List Word) → map (λ word. word.now) guests.old.items ≡ kept_guests all
+            → map (λ word. word.now) guests.new.items ≡ kept_guests (all ++ guest_rule (walk_of self.now) word.now) }
+    {
+        if self.is_guest_rule(word) {
+            keep_guest(word, guests);
+        }
+    }
+
+    fn is_guest_rule(&self, word: &str) -> bool
+        ensures { result ≡ (stands_alone (walk_of self.now) word.now && not (wants_file (walk_of self.now)) && is_guest_word word.now) }
+    {
+        self.stands_alone(word) && !self.wants_file() && is_guest_word(word)
     }
 
     fn put_apart(&mut self, name: &'a str, value: &'a str) -> Result<(), NoReading>
@@ -257,8 +304,8 @@ impl<'a> Line<'a> {
 
     // Takes what stands neither behind `--` nor behind an option that waits.
     fn begin(&mut self, word: &'a str) -> Result<(), NoReading>
-        ensures taken { OnOk result (begin kept hold (walk_of self.old) word.now ≡ Some (walk_of self.new)) }
-        ensures refused { OnErr result (begin kept hold (walk_of self.old) word.now ≡ None) }
+        ensures taken { OnOk result (begin keep_own hold (walk_of self.old) word.now ≡ Some (walk_of self.new)) }
+        ensures refused { OnErr result (begin keep_own hold (walk_of self.old) word.now ≡ None) }
     {
         if word == "--" {
             self.ended = true;
@@ -347,6 +394,15 @@ fn keep_denied<'a>(word: &'a str, denied: &mut Denied<'a>)
 {
     if !denied.is_full() {
         denied.push(word);
+    }
+}
+
+// Puts a RULE of guests where there is room.
+fn keep_guest<'a>(word: &'a str, guests: &mut Guests<'a>)
+    ensures { (all : List Word) → map (λ word. word.now) guests.old.items ≡ kept_guests all → map (λ word. word.now) guests.new.items ≡ kept_guests (all ++ word.now ∷ []) }
+{
+    if !guests.is_full() {
+        guests.push(word);
     }
 }
 

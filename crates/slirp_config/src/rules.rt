@@ -4,8 +4,9 @@ ghost use Rattle.host_policy.specs.declared.Forward.{Forward as AForward};
 ghost use Rattle.host_policy.specs.declared.Proto.{Proto as AProto};
 ghost use Rattle.net_octets.specs.declared.Endpoint.{Endpoint as AnEndpoint};
 ghost use Rattle.slirp_config.specs.Narrowing.{held_forwards};
-ghost use Rattle.slirp_config.specs.Rules.{AreRules, IsAddressOr, IsForward, IsPortAt, IsRule, IsRuleWord, IsType};
+ghost use Rattle.slirp_config.specs.Rules.{AreForwards, IsAddressOr, IsForward, IsPortAt, IsRule, IsRuleWord, IsType};
 
+use crate::guests::{is_guest_rule, is_guest_word};
 use address_text::{NoReading, read_address, read_short, split_at};
 use arrayvec::ArrayVec;
 use host_policy::{Forward, Proto};
@@ -14,7 +15,7 @@ use net_octets::{Endpoint, Ip4};
 /// How many forwards the settings have room for.
 const ROOM: usize = 32;
 
-const NO_PORT: Endpoint = Endpoint {
+pub(crate) const NO_PORT: Endpoint = Endpoint {
     addr: Ip4(0),
     port: 0,
 };
@@ -26,9 +27,9 @@ pub(crate) fn put_forwards(
     forwards: &mut ArrayVec<Forward, ROOM>,
 ) -> Result<(), NoReading>
     requires { forwards.old.items ≡ [] }
-    ensures put { OnOk result ((all : List AForward) × AreRules (map (λ rule. rule.now) rules.now) dhcp_start.0 all
+    ensures put { OnOk result ((all : List AForward) × AreForwards (map (λ rule. rule.now) rules.now) dhcp_start.0 all
         × (forwards.new.items ≡ held_forwards all)) }
-    ensures refused { OnErr result ((all : List AForward) → ¬ AreRules (map (λ rule. rule.now) rules.now) dhcp_start.0 all) }
+    ensures refused { OnErr result ((all : List AForward) → ¬ AreForwards (map (λ rule. rule.now) rules.now) dhcp_start.0 all) }
 {
     read_rules(rules, dhcp_start, forwards)?;
     if rules.len() > ROOM {
@@ -49,8 +50,8 @@ fn read_rules(
     forwards: &mut ArrayVec<Forward, ROOM>,
 ) -> Result<(), NoReading>
     requires { forwards.old.items ≡ [] }
-    ensures read { OnOk result ((all : List AForward) × AreRules (map (λ rule. rule.now) rules.now) dhcp_start.0 all × (forwards.new.items ≡ take 32 all)) }
-    ensures refused { OnErr result ((all : List AForward) → ¬ AreRules (map (λ rule. rule.now) rules.now) dhcp_start.0 all) }
+    ensures read { OnOk result ((all : List AForward) × AreForwards (map (λ rule. rule.now) rules.now) dhcp_start.0 all × (forwards.new.items ≡ take 32 all)) }
+    ensures refused { OnErr result ((all : List AForward) → ¬ AreForwards (map (λ rule. rule.now) rules.now) dhcp_start.0 all) }
 {
     for rule in rules {
         let forward = read_rule(rule, dhcp_start)?;
@@ -68,9 +69,19 @@ fn put_one(forward: Forward, forwards: &mut ArrayVec<Forward, ROOM>)
     }
 }
 
-/// Whether a word is a RULE.
+/// Whether a word is a RULE of one kind or the other.
 pub(crate) fn is_rule(word: &str) -> bool
     ensures { MatchBool result (IsRuleWord word.now) (¬ IsRuleWord word.now) }
+{
+    if is_guest_word(word) {
+        is_guest_rule(word)
+    } else {
+        is_host_rule(word)
+    }
+}
+
+fn is_host_rule(word: &str) -> bool
+    ensures { MatchBool result ((forward : AForward) × IsRule word.now 0 forward) (¬ ((forward : AForward) × IsRule word.now 0 forward)) }
 {
     match read_rule(word, Ip4(0)) {
         Ok(_) => true,
@@ -119,7 +130,7 @@ fn read_type(text: &[u8]) -> Result<Proto, NoReading>
     Err(NoReading)
 }
 
-fn is_tcp(text: &[u8]) -> bool
+pub(crate) fn is_tcp(text: &[u8]) -> bool
     ensures { IsTrue result ↔ (text.now ≡ codes "tcp") }
 {
     matches!(text, b"tcp")

@@ -6,43 +6,53 @@ ghost use Rattle.host_policy.specs.Settings.{settings, usual as usual_settings};
 ghost use Rattle.net_octets.specs.declared.Endpoint.{Endpoint as AnEndpoint};
 ghost use Rattle.slirp_config.specs.Meaning.{AreSettings, version_of};
 ghost use Rattle.host_policy.specs.declared.Denial.{Denial as ADenial};
+ghost use Rattle.host_policy.specs.declared.GuestFwd.{GuestFwd as AGuestFwd};
 ghost use Rattle.slirp_config.specs.Options.{value_in};
-ghost use Rattle.slirp_config.specs.Rules.{AreRules};
+ghost use Rattle.slirp_config.specs.Rules.{AreForwards, AreGuestForwards};
 ghost use Rattle.address_text.specs.Texts.{IsAddress, IsEndpointText, IsNumber};
 ghost use Rattle.slirp_config.specs.Texts.{AreDenials, IsNetwork, held_folder, held_text};
-ghost use Rattle.slirp_config.specs.Narrowing.{held_denials, narrowed, narrowed_settings};
+ghost use Rattle.slirp_config.specs.Narrowing.{held_denials, held_guests, narrowed, narrowed_settings};
 ghost use Rattle.slirp_config.specs.Walking.{walk_of};
 
 use crate::denied::put_denied;
+use crate::guests::put_guests;
 use crate::line::Line;
 use crate::rules::put_forwards;
 use crate::values::{held_folder, held_text, read_network};
 use address_text::{NoReading, read_address, read_endpoint, read_number, read_short};
 use arrayvec::{ArrayString, ArrayVec};
-use host_policy::{Denial, SlirpConfig};
+use host_policy::{Denial, GuestFwd, SlirpConfig};
 use net_octets::{Endpoint, Ip4};
 
 impl<'a> Line<'a> {
-    /// The settings that the options, these RULEs and these denied networks give; what none gives is usual.
-    pub(crate) fn settings(&self, rules: &[&str], denied: &[&str]) -> Result<SlirpConfig, NoReading>
+    /// The settings that the options, these RULEs of both kinds and these denied networks give; what none gives is usual.
+    pub(crate) fn settings(
+        &self,
+        rules: &[&str],
+        guests: &[&str],
+        denied: &[&str],
+    ) -> Result<SlirpConfig, NoReading>
         ensures set { IfOk result (λ c. (config : Config) × AreSettings (value_in (walk_of self.now).options) config
-            × AreRules (map (λ rule. rule.now) rules.now) config.dhcp_start config.forwards × AreDenials (map (λ text. text.now) denied.now) config.denied
+            × AreForwards (map (λ rule. rule.now) rules.now) config.dhcp_start config.forwards × AreGuestForwards (map (λ rule. rule.now) guests.now) config.guest_forwards
+            × AreDenials (map (λ text. text.now) denied.now) config.denied
             × (settings c ≡ narrowed_settings config)) }
         ensures refused { OnErr result ((config : Config) → AreSettings (value_in (walk_of self.now).options) config
-            → AreRules (map (λ rule. rule.now) rules.now) config.dhcp_start config.forwards → ¬ AreDenials (map (λ text. text.now) denied.now) config.denied) }
+            → AreForwards (map (λ rule. rule.now) rules.now) config.dhcp_start config.forwards → AreGuestForwards (map (λ rule. rule.now) guests.now) config.guest_forwards
+            → ¬ AreDenials (map (λ text. text.now) denied.now) config.denied) }
     {
         let mut config = SlirpConfig::usual();
+        put_guests(guests, &mut config.guestfwds)?;
         put_denied(denied, &mut config.denied)?;
         self.put_settings(&mut config)?;
         put_forwards(rules, config.vdhcp_start, &mut config.forwards)?;
         Ok(config)
     }
 
-    // Puts the settings that the options give in the place of the usual ones, where networks may be denied already. No forward is among them.
+    // Puts the settings that the options give in the place of the usual ones, where forwards of guests and denied networks may stand already. No other forward is among them.
     fn put_settings(&self, config: &mut SlirpConfig) -> Result<(), NoReading>
-        requires { settings config.old ≡ record usual_settings { denied = config.old.denied.items } }
-        ensures set { OnOk result ((all : List ADenial) → config.old.denied.items ≡ held_denials all → (given : Config)
-            × AreSettings (value_in (walk_of self.now).options) given × (given.denied ≡ all) × (settings config.new ≡ narrowed_settings given)) }
+        requires { settings config.old ≡ record usual_settings { guest_forwards = config.old.guestfwds.items; denied = config.old.denied.items } }
+        ensures set { OnOk result ((guests : List AGuestFwd) (all : List ADenial) → config.old.guestfwds.items ≡ held_guests guests → config.old.denied.items ≡ held_denials all → (given : Config)
+            × AreSettings (value_in (walk_of self.now).options) given × (given.guest_forwards ≡ guests) × (given.denied ≡ all) × (settings config.new ≡ narrowed_settings given)) }
         ensures none { OnOk result (config.new.forwards.items ≡ []) }
         ensures refused { OnErr result ((given : Config) → ¬ AreSettings (value_in (walk_of self.now).options) given) }
     {
@@ -69,7 +79,7 @@ impl<'a> Line<'a> {
         config.disable_dns = self.has("--no-dns");
         config.disable_dhcp = self.has("--no-dhcp");
         config.congestion = self.has("--congestion");
-        config.version = self.version(config.denied.as_slice());
+        config.version = self.version(config.guestfwds.as_slice(), config.denied.as_slice());
         Ok(())
     }
 
@@ -169,13 +179,14 @@ impl<'a> Line<'a> {
         Ok(Some(address))
     }
 
-    // 2 where an option is given that only version 2 has, or a network is denied.
-    fn version(&self, denied: &[Denial]) -> u32
-        ensures { result ≡ version_of (value_in (walk_of self.now).options) denied.now }
+    // 2 where an option is given that only version 2 has, a forward of guests, or a denied network.
+    fn version(&self, guests: &[GuestFwd], denied: &[Denial]) -> u32
+        ensures { result ≡ version_of (value_in (walk_of self.now).options) guests.now denied.now }
     {
         if self.has("--outbound")
             || self.has("--no-dns")
             || self.has("--no-dhcp")
+            || !guests.is_empty()
             || !denied.is_empty()
         {
             2

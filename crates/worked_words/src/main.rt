@@ -2,7 +2,7 @@
 //! mean is printed, with all settings that an option or a RULE can name; a drill has none. A line that begins with `#` is a remark, an empty one nothing.
 #![tactic(auto)]
 
-use host_policy::{Denial, Forward, Proto, SlirpConfig};
+use host_policy::{Denial, Forward, GuestFwd, Proto, SlirpConfig};
 use net_octets::{Endpoint, Ip4};
 use slirp_config::{Command, Stop, Tap, WordFault, read_words};
 use std::alloc::{AllocError, Global};
@@ -103,6 +103,9 @@ fn push_settings(alloc: Global, text: &mut String, config: &SlirpConfig) -> Resu
     for forward in config.forwards.as_slice() {
         push_forward(alloc, text, forward)?;
     }
+    for forward in config.guestfwds.as_slice() {
+        push_guest(alloc, text, forward)?;
+    }
     Ok(())
 }
 
@@ -196,6 +199,12 @@ fn push_forward(alloc: Global, text: &mut String, forward: &Forward) -> Result<(
     };
     push_place(alloc, text, host, forward.host)?;
     push_place(alloc, text, " to ", forward.guest)
+}
+
+// A port of the network that leads to one which the host reaches.
+fn push_guest(alloc: Global, text: &mut String, forward: &GuestFwd) -> Result<(), AllocError> {
+    push_place(alloc, text, ", guestfwd ", forward.guest)?;
+    push_place(alloc, text, " to ", forward.host)
 }
 
 // What a guest is told, where there is something.

@@ -1,4 +1,4 @@
-use Rattle.std.proofs.Common.{◌≡◌, ◌&&◌, Bool, true, false, is_some, map, codes, List, Option, string_bytes, take, sym, ◌∙◌, ap, subst, arith}
+use Rattle.std.proofs.Common.{◌≡◌, ◌&&◌, Bool, true, false, is_some, map, codes, List, Option, string_bytes, take, sym, ◌∙◌, ap, subst, arith, refl}
 use Rattle.std.proofs.lemmas.Result.{err_from_is_err_and}
 use Rattle.host_policy.specs.Addresses.{Config}
 use Rattle.host_policy.specs.declared.Denial.{Denial}
@@ -10,10 +10,12 @@ use Rattle.slirp_config.specs.declared.options.Verb.TheVariants.{Serve}
 use Rattle.slirp_config.specs.Meaning.{AreSettings, IsTap, Serves}
 use Rattle.slirp_config.specs.Narrowing.{narrowed_settings}
 use Rattle.slirp_config.specs.Options.{Word, Given, repeated, single, value_in}
-use Rattle.slirp_config.specs.Rules.{AreRules}
+use Rattle.slirp_config.specs.Rules.{AreForwards, AreGuestForwards, guest_words, host_words}
+use Rattle.host_policy.specs.declared.GuestFwd.{GuestFwd}
+use Rattle.slirp_config.proofs.Guested.{guests_front, whole_guests}
 use Rattle.slirp_config.specs.Stops.{StopsBehind}
 use Rattle.slirp_config.specs.Texts.{IsLink}
-use Rattle.slirp_config.specs.Walking.{AreGiven, AreWanted, Walk, is_both, kept, walk_of}
+use Rattle.slirp_config.specs.Walking.{AreGiven, AreWanted, Walk, is_both, guests_of, kept, kept_guests, own_words, walk_of}
 use Rattle.slirp_config.proofs.Finding.{match_some}
 use Rattle.slirp_config.proofs.Completing.{serve_begins}
 use Rattle.slirp_config.proofs.Denying.{denials_front, whole_denials}
@@ -24,7 +26,7 @@ use Rattle.slirp_config.proofs.Single.{both_single}
 use Rattle.slirp_config.proofs.Stopping.{serve_stops}
 use Rattle.slirp_config.proofs.Settled.{with_all, with_both, with_lists}
 use Rattle.slirp_config.proofs.Ruled.{rule_words}
-use Rattle.slirp_config.proofs.Whole.{rules_front, whole_rules}
+use Rattle.slirp_config.proofs.Whole.{rules_front, whole_rules, words_are_guests, words_are_rules}
 use Rattle.slirp_config.proofs.serve_of.Goals as goal
 
 pub returns-in_err-line-clause-refused : goal.returns-in_err-line-clause-refused
@@ -79,12 +81,19 @@ returns-in_default-settings-clause-refused c = (
       let front = take 34 config.forwards in
       let texts : take 9 (repeated r.walk.options) ≡ rule_words c.in_ok-line.denied.items = ap (λ (w : Walk). take 9 (repeated w.options)) same ∙ read.denies in
       let held = take 9 config.denied in
+      let guests = take 17 config.guest_forwards in
+      let led : take 17 (guest_words r.walk.alone) ≡ rule_words c.in_ok-line.guests.items = ap (λ (w : Walk). take 17 (guest_words w.alone)) same ∙ ap
+      (λ (v : Verb). take 17 (guests_of v read.walk.alone)) (sym read.verb_is) ∙ read.leads in
       let set = subst (λ (o : List Given). AreSettings (value_in o) config) options r.settings in
-      c.in_default-settings.ensures.refused (with_lists config front held)
-      (with_both (value_in (walk_of c.in_ok-line.line).options) config front set)
-      (subst (λ (t : List Word). AreRules t config.dhcp_start front) (ap (λ (w : Walk). kept w.alone) same ∙ ap (λ (w : Walk). w.alone) read.keeps ∙ sym c.alone.ensures)
-      (rules_front 34 r.walk.alone config.dhcp_start config.forwards r.forwards))
-      (subst (λ (t : List Word). AreDenials t held) (texts ∙ ap rule_words (sym c.as_slice.ensures.value)) (denials_front 9 (repeated r.walk.options) config.denied r.denied))),
+      c.in_default-settings.ensures.refused (with_lists config front guests held)
+      (with_both (value_in (walk_of c.in_ok-line.line).options) config front guests
+      (sym (whole_guests (guest_words r.walk.alone) (take 17 (guest_words r.walk.alone)) guests config.guest_forwards refl
+      (guests_front 17 (guest_words r.walk.alone) config.guest_forwards r.guests) r.guests)) set)
+      (subst (λ (t : List Word). AreForwards t config.dhcp_start front) (ap (λ (w : Walk). kept (host_words w.alone)) same ∙ ap (λ (v : Verb). kept (own_words v read.walk.alone))
+      (sym read.verb_is) ∙ ap (λ (w : Walk). w.alone) read.keeps ∙ sym c.alone.ensures)
+      (rules_front 34 (host_words r.walk.alone) config.dhcp_start config.forwards r.forwards))
+      (subst (λ (t : List Word). AreGuestForwards t guests) (led ∙ ap rule_words (sym c.as_slice.ensures.value)) (guests_front 17 (guest_words r.walk.alone) config.guest_forwards r.guests))
+      (subst (λ (t : List Word). AreDenials t held) (texts ∙ ap rule_words (sym c.as_slice-2.ensures.value)) (denials_front 9 (repeated r.walk.options) config.denied r.denied))),
 )
 
 pub returns-clause-meant : goal.returns-clause-meant
@@ -96,12 +105,17 @@ returns-clause-meant c =
     let options : (walk_of c.in_ok-line.line).options ≡ single read.walk.options = sym (ap (λ (w : Walk). w.options) read.keeps) in
     let link : IsLinkAt (given (codes "--link")) at = subst (λ (o : Option Word). IsLinkAt o at) c.in-Some.ensures c.in-Ok.ensures.link in
     let taps : IsTap given c.in-Ok-tap_of.tap = (sym c.has.ensures ∙ c.in-Ok-tap_of.ensures.recorded, sym c.has-2.ensures ∙ c.in-Ok-tap_of.ensures.captured) in
-    let whole = whole_rules 34 read.walk.alone _ set.0.dhcp_start set.0.forwards (omega arith) (ap (λ (w : Walk). w.alone) read.keeps ∙ sym c.alone.ensures)
-    (subst (λ (v : Verb). AreWanted v read.walk.alone) read.verb_is read.good.wanted) set.2 in
+    let whole = whole_rules 34 (host_words read.walk.alone) _ set.0.dhcp_start set.0.forwards (omega arith)
+    (ap (λ (v : Verb). kept (own_words v read.walk.alone)) (sym read.verb_is) ∙ ap (λ (w : Walk). w.alone) read.keeps ∙ sym c.alone.ensures)
+    (words_are_rules read.walk.alone set.0.dhcp_start (subst (λ (v : Verb). AreWanted v read.walk.alone) read.verb_is read.good.wanted)) set.2 in
     let all = denials_of Serve read.walk.options (subst (λ (v : Verb). AreGiven v read.walk.options) read.verb_is read.good.given) in
-    let held = whole_denials (repeated read.walk.options) _ set.0.denied all.0 (read.denies ∙ ap rule_words (sym c.as_slice.ensures.value)) set.3 all.1 in
-    let config = with_lists set.0 whole.0 all.0 in
-    let settings : AreSettings given config = with_all given set.0 whole.0 all.0 held set.1 in (
+    let held = whole_denials (repeated read.walk.options) _ set.0.denied all.0 (read.denies ∙ ap rule_words (sym c.as_slice-2.ensures.value)) set.4 all.1 in
+    let wanted = subst (λ (v : Verb). AreWanted v read.walk.alone) read.verb_is read.good.wanted in
+    let leads = words_are_guests read.walk.alone wanted in
+    let led = whole_guests (guest_words read.walk.alone) _ set.0.guest_forwards leads.0
+    (ap (λ (v : Verb). kept_guests (guests_of v read.walk.alone)) (sym read.verb_is) ∙ read.leads ∙ ap rule_words (sym c.as_slice.ensures.value)) set.3 leads.1 in
+    let config = with_lists set.0 whole.0 leads.0 all.0 in
+    let settings : AreSettings given config = with_all given set.0 whole.0 leads.0 all.0 led held set.1 in (
       config,
       at,
       c.in-Ok-tap_of.tap,
@@ -112,9 +126,11 @@ returns-clause-meant c =
         link = subst (λ (o : List Given). IsLinkAt (value_in o (codes "--link")) at) options link;
         taps = subst (λ (o : List Given). IsTap (value_in o) c.in-Ok-tap_of.tap) options taps;
         forwards = whole.1;
+        guests = leads.1;
         settings = subst (λ (o : List Given). AreSettings (value_in o) config) options settings;
         denied = all.1;
       }),
-      ap (λ (config : Config). Serves config at c.in-Ok-tap_of.tap) (set.4 ∙ ap (λ (f : List Forward). record (narrowed_settings set.0) { forwards = f }) whole.2 ∙ ap
-          (λ (ds : List Denial). record (narrowed_settings (record set.0 { forwards = whole.0 })) { denied = ds }) held),
+      ap (λ (config : Config). Serves config at c.in-Ok-tap_of.tap) (set.5 ∙ ap (λ (f : List Forward). record (narrowed_settings set.0) { forwards = f }) whole.2
+          ∙ ap (λ (g : List GuestFwd). record (narrowed_settings (record set.0 { forwards = whole.0 })) { guest_forwards = g }) led
+          ∙ ap (λ (ds : List Denial). record (narrowed_settings (record set.0 { forwards = whole.0; guest_forwards = leads.0 })) { denied = ds }) held),
     )

@@ -30,8 +30,28 @@ returns-in-Ok-clause-calls g c =
 
 pub returns-in-Err-Unreadable-clause-calls : goal.returns-in-Err-Unreadable-clause-calls
 returns-in-Err-Unreadable-clause-calls g c = makes_as _ _ _ _ c.in-Err-Unreadable.ensures.makes
-    (λ made read. (read.0, record { unreadable = ((λ is. read.2.0 c.in-Err-Unreadable.field-0-is), λ is. refl); large = λ is. cc; whole = λ is. cc; came = λ is. cc; first = λ line is. cc; misspelt = λ is. cc }))
+    (λ made read. (
+      read.0,
+      record {
+        unreadable = ((λ is. read.2.0 c.in-Err-Unreadable.field-0-is), λ is. refl);
+        large = λ is. cc;
+        whole = λ is. cc;
+        came = λ is. cc;
+        first = λ line is. cc;
+        misspelt = λ is. cc;
+      },
+    ))
 
 pub returns-in-Err-NoMemory-clause-calls : goal.returns-in-Err-NoMemory-clause-calls
 returns-in-Err-NoMemory-clause-calls g c = makes_as _ _ _ _ c.in-Err-NoMemory.ensures.makes
-    (λ made read. (read.0, record { unreadable = ((λ is. cc), λ is. let not_it = sym c.in-Err-NoMemory.field-0-is ∙ read.2.1 is in absurd cc); large = λ is. cc; whole = λ is. cc; came = λ is. cc; first = λ line is. cc; misspelt = λ is. cc }))
+    (λ made read. (
+      read.0,
+      record {
+        unreadable = ((λ is. cc), λ is. let not_it = sym c.in-Err-NoMemory.field-0-is ∙ read.2.1 is in absurd cc);
+        large = λ is. cc;
+        whole = λ is. cc;
+        came = λ is. cc;
+        first = λ line is. cc;
+        misspelt = λ is. cc;
+      },
+    ))

@@ -1,17 +1,14 @@
-use Rattle.std.proofs.Common.{◌≡◌, ◌<◌, List, length, Some, sym, ◌∙◌, ap, arith}
-use Rattle.std.proofs.lemmas.Bool.Decides.{nat_tests}
-use Rattle.slirp_config.specs.Options.{Word}
-use Rattle.slirp_config.specs.Walking.{walk_of}
-use Rattle.slirp_config.proofs.Kept.{keep_more, keep_none}
-use Rattle.slirp_config.proofs.Ruled.{rule_words}
+use Rattle.std.proofs.Common.{◌∷◌, ◌++◌, [], Bool, Some, cond, sym, ◌∙◌, ap}
+use Rattle.slirp_config.specs.Walking.{Walk, kept, walk_of}
 use Rattle.slirp_config.proofs.line.Line.put_alone.Goals as goal
 
-pub returns-then-not-is_full : goal.returns-then-not-is_full
-returns-then-not-is_full c =
-    let room : length c.args.self.now.alone.items < 34 = grind (arith, nat_tests) in
-    ap (λ (a : List Word). Some (record (walk_of c.args.self.now) { alone = a })) (keep_more c.args.self.now.alone.items c.args.word room ∙ ap rule_words (sym c.push.ensures.items))
+pub returns-then-is_guest_word : goal.returns-then-is_guest_word
+returns-then-is_guest_word c =
+    let walk = walk_of c.args.self.now in
+    ap (λ (b : Bool). Some (record walk { alone = cond b walk.alone (kept (walk.alone ++ c.args.word.now ∷ [])) })) (sym c.is_guest_word.ensures ∙ c.if-is_guest_word.true)
 
-pub returns-else-not-is_full : goal.returns-else-not-is_full
-returns-else-not-is_full c =
-    let full : length c.args.self.now.alone.items ≡ 34 = grind (arith, nat_tests) in
-    ap (λ (a : List Word). Some (record (walk_of c.args.self.now) { alone = a })) (keep_none c.args.self.now.alone.items c.args.word full)
+pub returns : goal.returns
+returns c =
+    let walk = walk_of c.args.self.now in
+    ap (λ (b : Bool). Some (record walk { alone = cond b walk.alone (kept (walk.alone ++ c.args.word.now ∷ [])) })) (sym c.is_guest_word.ensures ∙ c.if-is_guest_word.false)
+    ∙ ap (λ (w : Walk). Some w) (sym c.keep_alone.ensures)

@@ -3,10 +3,11 @@ use Rattle.std.proofs.lemmas.Result.{err_from_is_err_and}
 use Rattle.std.specs.Option.{option_map}
 use Rattle.host_policy.specs.Addresses.{Config}
 use Rattle.host_policy.specs.declared.Denial.{Denial}
+use Rattle.host_policy.specs.declared.GuestFwd.{GuestFwd}
 use Rattle.slirp_config.specs.Meaning.{version_of}
 use Rattle.slirp_config.proofs.Denying.{held_version}
 use Rattle.host_policy.specs.Settings.{usual}
-use Rattle.slirp_config.specs.Narrowing.{held_denials, narrowed}
+use Rattle.slirp_config.specs.Narrowing.{held_denials, held_guests, narrowed}
 use Rattle.slirp_config.specs.Walking.{walk_of}
 use Rattle.slirp_config.specs.Options.{Word, value_in}
 use Rattle.address_text.specs.Texts.{IsNumber}
@@ -60,8 +61,9 @@ returns-in_err-config-8-clause-refused c = let p = err_from_is_err_and c.from_re
     (λ config are. c.in_err-config-8.ensures.refused config.outbound are.outbound)
 
 pub returns-clause-set : goal.returns-clause-set
-returns-clause-set c = λ all held.
-    let is = c.requires ∙ ap (λ (ds : List Denial). record usual { denied = ds }) held in
+returns-clause-set c = λ guests all led held.
+    let is = c.requires ∙ ap (λ (g : List GuestFwd). record usual { guest_forwards = g; denied = c.args.config.now.denied.items }) led
+    ∙ ap (λ (ds : List Denial). record usual { guest_forwards = held_guests guests; denied = ds }) held in
     let given : Word → Option Word = value_in (walk_of c.args.self.now).options in
     let network = c.in_ok-network.network.0 in
     let mask = c.in_ok-network.mask.0 in
@@ -74,10 +76,11 @@ returns-clause-set c = λ all held.
     let turns = c.in_ok-config-7.field-0 in
     let outbound = option_map (λ a. a.0) c.in_ok-config-8.field-0 in
     let folder = option_map (λ path. path.bytes) c.folder-config.result in
-    let set = λ (u : Config) (f r : ℕ) (ds : List Denial). made u network mask c.in_ok-config.field-0.0 c.in_ok-config-2.field-0.0 c.in_ok-config-3.field-0.0 c.has-config.result c.has-config-2.result
+    let set = λ (u : Config) (f r : ℕ) (g : List GuestFwd) (ds : List Denial). made u network mask c.in_ok-config.field-0.0 c.in_ok-config-2.field-0.0 c.in_ok-config-3.field-0.0
+    c.has-config.result c.has-config-2.result
     c.text-config.result.items c.text-config-2.result.items c.text-config-3.result.items c.text-config-4.result.items folder mtu mru f r resolver turns outbound
-    c.has-config-3.result c.has-config-4.result c.has-config-5.result c.version-config.result u.forwards ds in (
-      set usual flows ring all,
+    c.has-config-3.result c.has-config-4.result c.has-config-5.result c.version-config.result u.forwards g ds in (
+      set usual flows ring guests all,
       record {
         net = match_default (given (codes "--net")) ((network ≡ base.vnetwork.0) × (mask ≡ base.vnetmask.0)) ((network ≡ usual.network) × (mask ≡ usual.mask))
             (λ text. IsNetwork text network mask) (λ d. (d.0 ∙ ap (λ (u : Config). u.network) is, d.1 ∙ ap (λ (u : Config). u.mask) is)) c.in_ok-network.ensures.read;
@@ -103,12 +106,15 @@ returns-clause-set c = λ all held.
         no_dns = c.has-config-3.ensures;
         no_dhcp = c.has-config-4.ensures;
         congestion = c.has-config-5.ensures;
-        version = c.version-config.ensures ∙ ap (λ (ds : List Denial). version_of given ds) (c.as_slice.ensures.value ∙ held) ∙ held_version given all;
+        version = c.version-config.ensures ∙ ap (λ (g : List GuestFwd). version_of given g c.as_slice-2.result.now) (c.as_slice.ensures.value ∙ led)
+            ∙ ap (λ (ds : List Denial). version_of given (held_guests guests) ds) (c.as_slice-2.ensures.value ∙ held) ∙ held_version given guests all;
         rest = refl;
       },
       refl,
-      ap (λ (u : Config). set u c.narrow-config.result c.narrow-config-2.result u.denied) is ∙ ap (λ (n : ℕ). set usual n c.narrow-config-2.result (held_denials all)) c.narrow-config.ensures ∙ ap
-          (λ (n : ℕ). set usual (narrowed flows) n (held_denials all)) c.narrow-config-2.ensures,
+      refl,
+      ap (λ (u : Config). set u c.narrow-config.result c.narrow-config-2.result u.guest_forwards u.denied) is ∙ ap (λ (n : ℕ). set usual n c.narrow-config-2.result
+          (held_guests guests) (held_denials all)) c.narrow-config.ensures ∙ ap
+          (λ (n : ℕ). set usual (narrowed flows) n (held_guests guests) (held_denials all)) c.narrow-config-2.ensures,
     )
 
 pub returns-clause-none : goal.returns-clause-none
