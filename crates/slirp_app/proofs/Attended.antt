@@ -27,18 +27,18 @@ not_refused at (e ∷ []) is = cc
 not_refused at (e ∷ f ∷ run) is = cc
 
 module _ (config : Config) (at : Place) (made : List Entry) (allowed : AreAllowed made) (u : IsUntroubledBehind config at made) where
-  of_run : (run : List Entry) (done : Outcome) → made ≡ run ++ LinkOpen at MadeDone ∷ [] → IsRun config done run → done ≡ Done
-  of_run run done is ran =
-      is_served config done run ran (allowed_later run (LinkOpen at MadeDone ∷ []) (subst AreAllowed is allowed))
+  of_run : (run : List Entry) (came : Outcome) → made ≡ run ++ LinkOpen at MadeDone ∷ [] → IsRun config came run → came ≡ Done
+  of_run run came is ran =
+      is_served config came run ran (allowed_later run (LinkOpen at MadeDone ∷ []) (subst AreAllowed is allowed))
       (subst (Untroubled config) (append_cancel_right u.run run (LinkOpen at MadeDone ∷ []) (sym u.is ∙ is)) u.untroubled)
 
-  of_opened : (done : Outcome) → OpensAt config at done made → done ≡ Done
-  of_opened done (Runs run is ran) = of_run run done is ran
-  of_opened done (IsRefused is fault) = absurd (not_refused at u.run (sym is ∙ u.is))
+  of_opened : (came : Outcome) → OpensAt config at came made → came ≡ Done
+  of_opened came (Runs run is ran) = of_run run came is ran
+  of_opened came (IsRefused is fault) = absurd (not_refused at u.run (sym is ∙ u.is))
 
-  of_given : (octets : List ℕ) (done outcome : Outcome) (old new : Option (List ℕ)) → IsGiven octets done outcome old new → done ≡ Done → (outcome ≡ Done) ⊎ (outcome ≡ SinkFault)
-  of_given octets done outcome old new (Took put is) ended = inl (is ∙ ended)
-  of_given octets done outcome old new (TookNot is) ended = inr is
+  of_given : (octets : List ℕ) (came outcome : Outcome) (old new : Option (List ℕ)) → IsGiven octets came outcome old new → came ≡ Done → (outcome ≡ Done) ⊎ (outcome ≡ SinkFault)
+  of_given octets came outcome old new (Took put is) ended = inl (is ∙ ended)
+  of_given octets came outcome old new (TookNot is) ended = inr is
 
   of_record : (outcome : Outcome) (old new : Option (List ℕ)) → RecordsAt config at outcome old new made → (outcome ≡ Done) ⊎ (outcome ≡ SinkFault)
   of_record outcome old new (Records run is recorded) = of_given _ recorded.done outcome old new recorded.given (of_run run recorded.done is recorded.ran)

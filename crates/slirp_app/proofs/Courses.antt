@@ -52,7 +52,7 @@ built words Helps means = record { control = refl }
 built words TellsVersion means = record { control = refl }
 
 named : (behind : List Word) (file : Word) (config : Config) → MeansReplay behind file config → (0 < length file) × (length file ≤ 1280)
-named behind file config (line, rules, same, all, alone, some, few, are, set) = (some, few)
+named behind file config (line, rules, same, all, alone, some, few, are, set, denied) = (some, few)
 
 -- as many octets as a drill may have
 few : (octets : ℕ) (over : Bool) → ltb 10000000 octets ≡ over → cond over (Some Octets) None ≡ None → octets ≤ 10000000

@@ -11,6 +11,7 @@ use Rattle.serve_loop.specs.Ends.{end_of}
 use Rattle.slirp_app.proofs.Courses.{other}
 use Rattle.slirp_app.proofs.Copied.{allowed_before, another, goes_on, later_than, onto}
 use Rattle.slirp_app.proofs.Ending.{waits_spent}
+use Rattle.slirp_app.proofs.Fitted.{allowed_later}
 use Rattle.slirp_app.proofs.Halted.{no_more, nothing_later, waits_no_more}
 use Rattle.slirp_app.specs.Doing.{ReplaysFile, ServesLink}
 use Rattle.app_edges.specs.Fetching.{octets_read}

@@ -67,9 +67,9 @@ behind SinkFault run past some = tt
 behind NoMemory run past some = tt
 
 module _ (config : Config) (at : Place) (made : List Entry) where
-  of_run : (run past : List Entry) (done : Outcome) → made ≡ run ++ past → IsRun config done run → IsAmong done made
-  of_run run past done is ran =
-      subst (IsAmong done) (sym is) (behind done run past (subst (λ o. IsAmong o run) (sym ran.ends) (of_phase config run (phase config run) refl)))
+  of_run : (run past : List Entry) (came : Outcome) → made ≡ run ++ past → IsRun config came run → IsAmong came made
+  of_run run past came is ran =
+      subst (IsAmong came) (sym is) (behind came run past (subst (λ o. IsAmong o run) (sym ran.ends) (of_phase config run (phase config run) refl)))
 
   of_none : (outcome : Outcome) → made ≡ LinkOpen at MadeFailed ∷ [] → outcome ≡ LinkFault → IsAmong outcome made
   of_none outcome is fault =
@@ -80,9 +80,9 @@ module _ (config : Config) (at : Place) (made : List Entry) where
   of_opened outcome (Runs run is ran) = of_run run _ outcome is ran
   of_opened outcome (IsRefused is fault) = of_none outcome is fault
 
-  of_given : (octets : List ℕ) (done outcome : Outcome) (old new : Option (List ℕ)) → IsGiven octets done outcome old new → IsAmong done made → IsAmong outcome made
-  of_given octets done outcome old new (Took put is) some = subst (λ o. IsAmong o made) (sym is) some
-  of_given octets done outcome old new (TookNot is) some = subst (λ o. IsAmong o made) (sym is) tt
+  of_given : (octets : List ℕ) (came outcome : Outcome) (old new : Option (List ℕ)) → IsGiven octets came outcome old new → IsAmong came made → IsAmong outcome made
+  of_given octets came outcome old new (Took put is) some = subst (λ o. IsAmong o made) (sym is) some
+  of_given octets came outcome old new (TookNot is) some = subst (λ o. IsAmong o made) (sym is) tt
 
   of_record : (outcome : Outcome) (old new : Option (List ℕ)) → RecordsAt config at outcome old new made → IsAmong outcome made
   of_record outcome old new (Records run is recorded) = of_given _ recorded.done outcome old new recorded.given (of_run run _ recorded.done is recorded.ran)

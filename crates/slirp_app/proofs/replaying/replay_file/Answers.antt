@@ -1,4 +1,4 @@
-use Rattle.std.proofs.Common.{◌≡◌, ◌⊎◌, inl, inr, ℕ, IsTrue, sym, subst, true, false, ◌∙◌}
+use Rattle.std.proofs.Common.{◌≡◌, ◌⊎◌, inl, inr, ℕ, IsTrue, refl, sym, subst, true, false, ◌∙◌}
 use Rattle.host_policy.specs.Settings.{settings}
 use Rattle.replay.specs.Rows.{TakesTooMuch}
 use Rattle.replay.specs.Unread.{IsFirstUnread}
