@@ -42,7 +42,7 @@ const JOINED: [Call; 3] = [
     Connected(Joined::Yes),
 ];
 
-/// A connection is made, and octets go both ways until each side has ended.
+/// A connection is made, and octets go both ways until each side has ended. An end ends one way alone.
 const CONNECTS: [Step; 9] = [
     Host(Listens),
     Calls(&JOINED),
@@ -55,6 +55,7 @@ const CONNECTS: [Step; 9] = [
         TcpRead(Io::Done(4), b"defg"),
         TcpRead(Io::NotYet, b""),
         TcpEnd(Made::Done),
+        TcpRead(Io::NotYet, b""),
     ]),
     Host(Gets(&[])),
     Host(HangsUp),

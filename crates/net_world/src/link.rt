@@ -1,5 +1,7 @@
 // The stream to the guest.
-ghost use Rattle.std.specs.Prelude.{◌≡◌, ℕ, ◌+◌, ◌<◌, ◌≤◌, ◌==◌, ◌++◌, not, [], true, false, length, take, drop, min, IfOk, OnErr};
+ghost use Rattle.std.specs.Prelude.{◌≡◌, ◌≢◌, ◌↔◌, ◌⊎◌, ℕ, ◌+◌, ◌<◌, ◌≤◌, ◌==◌, ◌/◌, ◌++◌};
+ghost use Rattle.std.specs.Prelude.{cond, not, [], true, false, length, take, drop, min, IfOk, OnErr};
+ghost use Rattle.octet_buffer.specs.Buffered.{nothing_in};
 ghost use Rattle.std.specs.Io.KnownBytes.{Keeps};
 ghost use Rattle.octet_buffer.specs.Streams.{Calls};
 ghost use Rattle.world_face.specs.Journal.{MayRead, MayWrite, filled};
@@ -150,7 +152,12 @@ impl Link<Peer> {
 
 impl<S> Link<S> {
     /// A closed link, with room for 131,072 octets that are read ahead and 262,144 that are gathered. Err where there is no memory for it.
-    pub fn open(alloc: Global) -> Result<Link<S>, NoMemory> {
+    pub fn open(alloc: Global) -> Result<Link<S>, NoMemory>
+        ensures closed { IfOk result (λ link. link.place ≡ Place.Closed) }
+        // Nothing is ahead, and nothing waits to go out.
+        ensures empty { IfOk result (λ link. (link.inbox ≡ nothing_in 131072) × (link.outbox ≡ nothing_in 262144)) }
+        ensures outlet { IfOk result (λ link. link.outlet ≡ Outlet.Open) }
+    {
         let inbox = Buffer::open(alloc, AHEAD)?;
         let outbox = Buffer::open(alloc, ROOM)?;
         Ok(Link {
@@ -211,7 +218,9 @@ impl<S: Watched> Link<S> {
 
     /// How many sockets may be read before what was gathered is written, so that the frames of what comes from a connection find room. A link whose peer is
     /// gone, or that is broken, holds none back: what comes then finds that.
-    pub fn bears(&self) -> usize {
+    pub fn bears(&self) -> usize
+        ensures { result ≡ cond (is_open self.now.outlet) (self.now.outbox.room / 18432) 18446744073709551615 }
+    {
         if self.is_open() {
             self.outbox.room() / FRAMED
         } else {
@@ -331,6 +340,9 @@ impl<S: Watched> Link<S> {
         requires { 0 < length from.now }
         ensures may { MayWrite (length from.now) result }
         ensures whole { (count : ℕ) → result ≡ Io.Done count → count ≡ length from.now }
+        // It fails where the link is closed, or an earlier write failed.
+        ensures failed { result ≡ Io.Failed ↔ (self.old.place ≡ Place.Closed) ⊎ ((has_guest self.old.place ≡ true) × (self.old.outlet ≡ Outlet.Broken)) }
+        ensures lost { has_guest self.old.place ≡ true → self.old.outlet ≡ Outlet.Gone → result ≡ Io.Done (length from.now) }
         // Where a wait may tell it ready for writing a frame that is no short one is answered.
         ensures served { is_told_writable self.old ≡ true → length from.now ≤ most_to_link → result ≡ Io.NotYet → self.new.pace.holds ≡ true }
         // What the stream took, and behind it what waits, is what waited, and behind it what is told as taken, but for what is lost.
@@ -356,6 +368,7 @@ impl<S: Watched> Link<S> {
     fn gather(&mut self, registry: &Registry, from: &[u8]) -> Io
         requires { 0 < length from.now }
         ensures may { MayWrite (length from.now) result }
+        ensures taken { result ≢ Io.Failed }
         ensures whole { (count : ℕ) → result ≡ Io.Done count → count ≡ length from.now }
         ensures served { length from.now ≤ self.old.outbox.room → result ≡ Io.NotYet → self.new.pace.holds ≡ true }
         ensures sends { SendsOn (of_guest S.contents self.old.place) (of_guest S.contents self.new.place) self.old.outbox.octets self.new.outbox.octets (filled result from.now) }
@@ -379,6 +392,9 @@ impl<S: Watched> Link<S> {
 
     /// Writes what was gathered by one call, where the system may take it. Where it doesn't take all of it, it is to tell when it takes more.
     pub fn flush(&mut self, registry: &Registry)
+        // The call is made, and its answer says how much has gone out.
+        ensures tries { self.old.takes ≡ true → 0 < length self.old.outbox.octets → is_open self.old.outlet ≡ true →
+            Calls (of_guest S.answers self.old.place) (of_guest S.answers self.new.place) (λ answer. self.new.outbox.octets ≡ drop (moved answer) self.old.outbox.octets) }
         ensures sends { SendsOn (of_guest S.contents self.old.place) (of_guest S.contents self.new.place) self.old.outbox.octets self.new.outbox.octets [] }
         ensures unread { Keeps (of_guest S.remaining self.old.place) (of_guest S.remaining self.new.place) }
         ensures ahead { self.new.inbox ≡ self.old.inbox }
@@ -447,6 +463,7 @@ impl<S: Watched> Link<S> {
     fn watch(&mut self, registry: &Registry)
         ensures remaining { of_guest S.remaining self.new.place ≡ of_guest S.remaining self.old.place }
         ensures contents { of_guest S.contents self.new.place ≡ of_guest S.contents self.old.place }
+        ensures answers { of_guest S.answers self.new.place ≡ of_guest S.answers self.old.place }
         ensures ahead { self.new.inbox ≡ self.old.inbox }
         ensures waits { self.new.outbox ≡ self.old.outbox }
         ensures guest { has_guest self.new.place ≡ has_guest self.old.place }

@@ -42,7 +42,9 @@ pub fn write<T: Write>(sink: &mut T, octets: &[u8]) -> io::Result<usize>
 }
 
 /// Sends a datagram by one call that wasn't interrupted.
-pub fn send_to(socket: &UdpSocket, octets: &[u8], to: SocketAddr) -> io::Result<usize> {
+pub fn send_to(socket: &UdpSocket, octets: &[u8], to: SocketAddr) -> io::Result<usize>
+    ensures fits { WritesAtMost result octets.now }
+{
     for _ in 0..TRIES {
         let sent = socket.send_to(octets, to);
         if !is_interrupted(&sent) {
