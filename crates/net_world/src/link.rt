@@ -270,6 +270,9 @@ impl<S: Watched> Link<S> {
         ensures wakes { self.old.readable ≡ true → self.new.readable ≡ false →
             Calls (of_guest S.answers self.old.place) (of_guest S.answers self.new.place) (MayRest self.old.inbox.size) }
         ensures rests { result ≡ Io.NotYet → is_told_readable self.new ≡ false }
+        // What the system told of writing stays, and an end that it told.
+        ensures takes { self.new.takes ≡ self.old.takes }
+        ensures ended { self.old.ended ≡ true → self.new.ended ≡ true }
     {
         if self.inbox.is_empty() {
             match self.read_ahead() {
@@ -295,6 +298,8 @@ impl<S: Watched> Link<S> {
         ensures wakes { self.old.readable ≡ true → self.new.readable ≡ false →
             Calls (of_guest S.answers self.old.place) (of_guest S.answers self.new.place) (MayRest self.old.inbox.size) }
         ensures rests { result ≡ Io.NotYet → is_told_readable self.new ≡ false }
+        ensures takes { self.new.takes ≡ self.old.takes }
+        ensures ended { self.old.ended ≡ true → self.new.ended ≡ true }
     {
         self.inbox.settle();
         let room = self.inbox.room();
@@ -351,6 +356,9 @@ impl<S: Watched> Link<S> {
         ensures unread { Keeps (of_guest S.remaining self.old.place) (of_guest S.remaining self.new.place) }
         ensures ahead { self.new.inbox ≡ self.old.inbox }
         ensures watched { IsWaitWatched self.old → IsWaitWatched self.new }
+        // What the system told of reading stays.
+        ensures told { self.old.readable ≡ true → self.new.readable ≡ true }
+        ensures ended { self.new.ended ≡ self.old.ended }
     {
         match &self.place {
             Place::Guest(_) => {}
@@ -375,6 +383,8 @@ impl<S: Watched> Link<S> {
         ensures unread { Keeps (of_guest S.remaining self.old.place) (of_guest S.remaining self.new.place) }
         ensures ahead { self.new.inbox ≡ self.old.inbox }
         ensures watched { IsWaitWatched self.old → IsWaitWatched self.new }
+        ensures told { self.old.readable ≡ true → self.new.readable ≡ true }
+        ensures ended { self.new.ended ≡ self.old.ended }
     {
         let ahead = self.is_ahead();
         if self.pace.keeps(from.len(), ahead) {
@@ -399,6 +409,8 @@ impl<S: Watched> Link<S> {
         ensures unread { Keeps (of_guest S.remaining self.old.place) (of_guest S.remaining self.new.place) }
         ensures ahead { self.new.inbox ≡ self.old.inbox }
         ensures watched { IsWaitWatched self.old → IsWaitWatched self.new }
+        ensures told { self.old.readable ≡ true → self.new.readable ≡ true }
+        ensures ended { self.new.ended ≡ self.old.ended }
     {
         if self.takes && !self.outbox.is_empty() && self.is_open() {
             self.write_out();
@@ -415,6 +427,8 @@ impl<S: Watched> Link<S> {
             (self.new.outbox.octets ≡ drop (moved answer) self.old.outbox.octets) × (self.new.outlet ≡ outlet_by self.old.outlet answer)) }
         ensures unread { Keeps (of_guest S.remaining self.old.place) (of_guest S.remaining self.new.place) }
         ensures ahead { self.new.inbox ≡ self.old.inbox }
+        ensures told { self.old.readable ≡ true → self.new.readable ≡ true }
+        ensures ended { self.new.ended ≡ self.old.ended }
         ensures takes { 0 < length self.old.outbox.octets → is_open self.old.outlet ≡ true → self.new.takes ≡ (length self.new.outbox.octets == 0) }
     {
         if self.outbox.is_empty() || !self.is_open() {
@@ -468,6 +482,8 @@ impl<S: Watched> Link<S> {
         ensures waits { self.new.outbox ≡ self.old.outbox }
         ensures guest { has_guest self.new.place ≡ has_guest self.old.place }
         ensures takes { self.new.takes ≡ self.old.takes }
+        ensures told { self.new.readable ≡ self.old.readable }
+        ensures ended { self.new.ended ≡ self.old.ended }
         ensures watched { has_guest self.old.place ≡ true → is_open self.new.outlet ≡ true → self.new.watched ≡ not (length self.new.outbox.octets == 0) }
         // What was noted is what the system is to tell.
         ensures noted { is_open self.new.outlet ≡ true → IsNoted (of_guest S.asked self.old.place) self.old.watched → IsNoted (of_guest S.asked self.new.place) self.new.watched }
