@@ -27,6 +27,8 @@ use Rattle.connection_follows.specs.Sending.{segment_out}
 use Rattle.connection_follows.proofs.Counting.{counts_on}
 use Rattle.connection_follows.proofs.Leaving.{leaves_goes, leaves_kept, leaves_received, stands}
 use Rattle.connection_follows.proofs.Quiet.{opened_on, opened_told}
+use Rattle.connection_follows.proofs.Unanswered.{calls_on}
+use Rattle.halves_follow.proofs.Unheard.{bare_unheard}
 
 -- numbers are under way as before, where no more was sent
 pub way_same : (past next : Story) (o q : Outward) → Keeps o (host past) → Keeps q (host next) → q.sent ≡ o.sent → q.acked ≡ o.acked → answered (host next) ≡ answered (host past) →
@@ -86,7 +88,8 @@ module _ (s : Settings) (c : Connection) (up : Upward) (down : Downward) (past :
         resends = subst (λ (b : Bool). Resends after m (timer_of (resending_of c)) (count_of b (resending_of c)) (resending_of c).estimate.wait) (sym way)
             (bare_goes past seg m refl refl c.transmission.sent 0 place refl now (timer_of (resending_of c)) (count_of (is_under_way past) (resending_of c))
             (resending_of c).estimate.wait refl (omega (arith, g.keeps.sent)) on g.resends);
-        counts = counts_on past after c.transmission.resend.timer refl refl g.counts;
+        counts = counts_on past after c.transmission.resend.timer refl refl (omega (arith, g.resends.moment, on)) g.counts;
+        calls = let k = calls_on c past after (bare_unheard past seg m refl refl c.transmission.sent place refl) g.calls in record { counted = k.counted; early = k.early; syn_early = k.syn_early };
         steady = g.steady;
         unset = g.unset;
         set = g.set;

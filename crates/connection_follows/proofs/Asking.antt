@@ -16,6 +16,7 @@ use Rattle.connection_follows.specs.Holding.{Goes, Holds, is_calls, is_connects}
 use Rattle.connection_follows.specs.Same.{SameGuest, SameHost, SameStart}
 use Rattle.connection_follows.proofs.Going.{comes, does, nothing_to_close}
 use Rattle.connection_follows.proofs.Quiet.{awaits_on, gives_as, gives_on, opened_on, receives_beside, receives_on}
+use Rattle.halves_follow.proofs.Unheard.{uncalled_unheard}
 
 module _ (s : Settings) (c : Connection) (up : Upward) (down : Downward) (past : Story) (now m : ℕ) (on : now ≤ m) where
   -- an event that leaves everything as it is
@@ -93,5 +94,5 @@ module _ (s : Settings) (c : Connection) (up : Upward) (down : Downward) (past :
         awaits = λ no. absurd cc;
         receives = λ no. receives_beside s c (record c { stage = stage.Answers; syn_owed = true }) up (At m Connected ∷ past) (λ yes. absurd cc) r;
         gives = gives_as s c (record c { stage = stage.Answers; syn_owed = true }) down (At m Connected ∷ past) m (sym opening) refl refl refl refl
-            (λ owed gone opening_now. let not_it = sym gone ∙ unsent in absurd cc) (λ owed. refl) g;
+            (λ owed gone opening_now. let not_it = sym gone ∙ unsent in absurd cc) (λ owed. refl) (λ opening_now owed runs. uncalled_unheard (At m Connected ∷ past) (o.answered ∙ ap (λ (st : Stage). is_synchronized st) is) (o.out ∙ unsent)) g;
       }

@@ -79,5 +79,5 @@ module _ (s : Settings) (c : Connection) (up : Upward) (down : Downward) (past :
         opened = opened_gone s c past (At m (Departs seg) ∷ past) m (ap (λ (st : Stage). is_connects st) at) refl refl refl refl refl refl h.opened;
         awaits = λ is. awaits_beside s c (syn_gone c m) up past (At m (Departs seg) ∷ past) refl refl refl refl refl (h.awaits is);
         receives = λ is. let not_it = sym is ∙ calls in absurd cc;
-        gives = syn_gives s c down up past now m seg on late h opening refl refl;
+        gives = syn_gives s c down up past now m seg on late h opening refl refl owed;
       }

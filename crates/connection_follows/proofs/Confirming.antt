@@ -340,10 +340,10 @@ module _ (s : Settings) (past : Story) (now m : ℕ) (seg : Segment) (t : Transm
   heard_counts rising newest counts = subst (λ (r : Resending). CountsSince later_on r.timer) (sym (heard_resend t seq w bare m seen)) (by seen ok refl)
     where
       set_now : CountsSince later_on (timer.Since m)
-      set_now = now_counts later_on m (newest, rising) (omega arith)
+      set_now = now_counts later_on m (newest, rising) refl
 
       same_now : acked_by t seen ≡ t.acked → CountsSince later_on t.resend.timer
-      same_now same = counts_on past later_on t.resend.timer refl (same_at past seg m it fits (acked_by t seen) stands_at (omega (arith, same, k.acked))) counts
+      same_now same = counts_on past later_on t.resend.timer refl (same_at past seg m it fits (acked_by t seen) stands_at (omega (arith, same, k.acked))) newest counts
 
       by : (q : AckSeen) → is_accepted_ack q ≡ true → seen ≡ q → CountsSince later_on (acknowledged (congested t w bare q) q m).resend.timer
       by Old yes_ same = absurd cc

@@ -24,8 +24,11 @@ opened_by (At m (Accepts ours) ∷ past) r = omega arith
 opened_by (At m _ ∷ past) r = let before = opened_by past r.1 in omega (arith, before, r.0)
 
 -- the story went on, and nothing of ours was acknowledged
-pub counts_on : (past next : Story) (t : Timer) → opened_at next ≡ opened_at past → acknowledged_at next ≡ acknowledged_at past → CountsSince past t → CountsSince next t
-counts_on past next t opened acknowledged counts = λ base is. let two = counts base is in (omega (arith, two.0, opened), omega (arith, two.1, acknowledged))
+pub counts_on : (past next : Story) (t : Timer) → opened_at next ≡ opened_at past → acknowledged_at next ≡ acknowledged_at past → newest_moment past ≤ newest_moment next
+    → CountsSince past t → CountsSince next t
+counts_on past next t opened acknowledged on counts = λ base is.
+    let since = counts base is in
+    record { opened = omega (arith, since.opened, opened); acknowledged = omega (arith, since.acknowledged, acknowledged); newest = omega (arith, since.newest, on) }
 
 -- an event that isn't a segment opens nothing, and acknowledges nothing
 pub quiet_same : (past : Story) (m : ℕ) (e : Event) → IsQuiet e → (opened_at (At m e ∷ past) ≡ opened_at past) × (acknowledged_at (At m e ∷ past) ≡ acknowledged_at past)
@@ -56,12 +59,12 @@ pub off_counts : (past : Story) → CountsSince past Off
 off_counts past = λ base is. absurd cc
 
 -- it is set now
-pub now_counts : (past : Story) (now : ℕ) → Rises past → newest_moment past ≤ now → CountsSince past (Since now)
+pub now_counts : (past : Story) (now : ℕ) → Rises past → newest_moment past ≡ now → CountsSince past (Since now)
 now_counts past now rises newest = λ base is.
     let same = since_same now base is in
     let opened = opened_by past rises in
     let acknowledged = acknowledged_by past rises in
-    (omega (arith, same, opened, newest), omega (arith, same, acknowledged, newest))
+    record { opened = omega (arith, same, opened, newest); acknowledged = omega (arith, same, acknowledged, newest); newest = omega (arith, same, newest) }
 
 -- it is set unless it runs, or is counted as expired
 pub begun_counts : (past : Story) (t : Timer) (now : ℕ) → CountsSince past (Since now) → CountsSince past t → CountsSince past (begun t now)

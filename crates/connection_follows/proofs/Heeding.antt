@@ -47,6 +47,8 @@ use Rattle.connection_follows.proofs.Quiet.{gives_as, opened_beside, opened_on, 
 use Rattle.connection_follows.proofs.Taking.{taken_receives}
 use Rattle.connection_follows.proofs.Unheeded.{gives_after, stays, syn_stays}
 use Rattle.connection_follows.proofs.Watching.{gives_watched, under_way_is, watched_mss}
+use Rattle.connection_follows.proofs.Unanswered.{calls_heard}
+use Rattle.halves_follow.proofs.Unheard.{heard_now}
 
 -- ---- the congestion window of a connection that is opened
 
@@ -252,6 +254,7 @@ module _ (s : Settings) (c : Connection) (up : Upward) (down : Downward) (past :
               (heard_runs s past now m seg t down seq w (is_bare tcp) seen h.buffers.feeds g.keeps it seen_is ok on late ans h.goes.lawful (rises past h.goes.story)
               (omega (arith, h.goes.moment, on)) ran);
           counts = heard_counts s past now m seg t down seq w (is_bare tcp) seen h.buffers.feeds g.keeps it seen_is ok on late (rises past h.goes.story) (omega (arith, h.goes.moment, on)) g.counts;
+          calls = calls_heard (with_all u owed (c.fin_acked || is_fin_too seen)) past m seg;
           steady = g.steady;
           unset = g.unset;
           set = λ yet gone. let not_it = sym yet ∙ opening in absurd cc;
@@ -270,7 +273,7 @@ module _ (s : Settings) (c : Connection) (up : Upward) (down : Downward) (past :
     gives_now owed =
         let g = heard_gives owed in
         gives_watched s (with_all u owed (c.fin_acked || is_fin_too seen)) later_down after m (nat_lt u.sent (places u later_down))
-        (heard_steady t seq w (is_bare tcp) m seen late h.buffers.feeds.sound.steady) (omega (arith, h.goes.moment, on), rises past h.goes.story)
+        (heard_steady t seq w (is_bare tcp) m seen late h.buffers.feeds.sound.steady) (omega (arith, h.goes.moment, on), rises past h.goes.story) refl
         (λ is. under_way_is s (with_all u owed (c.fin_acked || is_fin_too seen)) later_down after (opened_all u owed (c.fin_acked || is_fin_too seen)
         (heard_stays t seq w (is_bare tcp) m seen).mss u_answered) g.keeps is) g
 
@@ -334,7 +337,7 @@ module _ (s : Settings) (c : Connection) (up : Upward) (down : Downward) (past :
         let fa_is : (c.fin_acked || is_fin_too seen) ≡ c.fin_acked = ap (λ (q : AckSeen). c.fin_acked || is_fin_too q) is ∙ or_off c.fin_acked in
         subst (λ (d : Downward). Gives s (with_all t owed_now (c.fin_acked || is_fin_too seen)) d after m) (sym d_is)
         (gives_as s (record c { syn_owed = c.syn_owed; ack_owed = owed_now }) (with_all t owed_now (c.fin_acked || is_fin_too seen)) down after m refl refl refl refl fa_is
-        (λ owes gone yet. by_arrival past m m seg) (λ so. so) g)
+        (λ owes gone yet. by_arrival past m m seg) (λ so. so) (λ opening_yet owed runs. heard_now past m seg) g)
       where
         and_none : (a b : Bool) → b ≡ false → (a && b) ≡ false
         and_none true b so = so
@@ -568,6 +571,7 @@ module _ (s : Settings) (c : Connection) (up : Upward) (down : Downward) (past :
         resends = syn_heard_runs s past now m segment t0 down seq0 w0 (is_bare tcp) seen0 feeds0 keeps0 it0 seen_is0 ok0 on late sent0;
         counts = heard_counts s past now m segment t0 down seq0 w0 (is_bare tcp) seen0 feeds0 keeps0 it0 seen_is0 ok0 on late (rises past h.goes.story) (omega (arith, h.goes.moment, on))
             (subst (λ (r : Resending). CountsSince past r.timer) (sym (congested_resend c)) g.counts);
+        calls = calls_heard (opened_with u0 owed (c.fin_acked || is_fin_too seen0)) past m segment;
         steady = steady_stop c.syn g.steady;
         unset = λ none. let not_it = sym none ∙ gone in absurd cc;
         set = λ yet so. absurd cc;
@@ -592,7 +596,7 @@ module _ (s : Settings) (c : Connection) (up : Upward) (down : Downward) (past :
   watched_gives =
       let g = gives0 owed0 in
       gives_watched s (opened_with u0 owed0 fa0) down0 next m (nat_lt u0.sent (places u0 down0)) (heard_steady t0 seq0 w0 (is_bare tcp) m seen0 late feeds0.sound.steady)
-      (omega (arith, h.goes.moment, on), rises past h.goes.story)
+      (omega (arith, h.goes.moment, on), rises past h.goes.story) refl
       (λ is. under_way_is s (opened_with u0 owed0 fa0) down0 next (opened0 u0 owed0 fa0 mss0) g.keeps is) g
 
   heeded0 : is_heeded past segment ≡ true

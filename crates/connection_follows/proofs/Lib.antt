@@ -26,6 +26,7 @@ pub mod Syns
 pub mod Taking
 pub mod Telling
 pub mod Ticking
+pub mod Unanswered
 pub mod Unheeded
 pub mod Wanting
 pub mod Watching

@@ -85,6 +85,7 @@ module _ (s : Settings) (m ours most size : ℕ) (scales : s.scales ≡ true) (f
         alone = λ is. refl;
         resends = opens m ours (segment_of syn);
         counts = λ base is. absurd cc;
+        calls = record { counted = omega arith; early = λ yet is. refl; syn_early = λ yet owes runs. refl };
         steady = steady_at_rest;
         unset = λ is. refl;
         set = λ is gone. absurd cc;
@@ -155,6 +156,7 @@ module _ (s : Settings) (m ours most size : ℕ) (scales : s.scales ≡ true) (f
         alone = λ is. refl;
         resends = accepts m ours;
         counts = λ base is. absurd cc;
+        calls = record { counted = omega arith; early = λ yet is. refl; syn_early = λ yet owes runs. refl };
         steady = steady_at_rest;
         unset = λ is. refl;
         set = λ is gone. absurd cc;

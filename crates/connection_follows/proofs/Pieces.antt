@@ -40,6 +40,8 @@ use Rattle.connection_follows.proofs.Counting.{counts_on, now_counts, sent_count
 use Rattle.connection_follows.proofs.Leaving.{leaves_goes, leaves_kept, leaves_received, near_sent, read_is, stands}
 use Rattle.connection_follows.proofs.Quiet.{opened_on, opened_sending, opened_told, receives_sending}
 use Rattle.connection_follows.proofs.Watching.{under_way_is}
+use Rattle.halves_follow.proofs.Unheard.{further_unheard, piece_unheard, unsent_unheard}
+use Rattle.flow_laws.specs.Dutiful.{oldest_unheard}
 
 -- ---- what is owed
 
@@ -349,6 +351,31 @@ module _ (s : Settings) (c : Connection) (up : Upward) (down : Downward) (past :
       still : set_unless_running t.resend.timer m ≡ t.resend.timer
       still = stays t.resend.timer (h.buffers.feeds.sound.set under) (not_either (is_expired t.resend.timer) t.early none)
 
+  -- ---- how often the guest was called
+
+  before : oldest_unheard past ≤ t.resend.resent + 1
+  before = subst (λ (b : Bool). oldest_unheard past ≤ (if b then c.syn else t.resend).resent + 1) opening h.gives.calls.counted
+
+  one_more : oldest_unheard after ≤ 1 + oldest_unheard past
+  one_more = piece_unheard past seg m refl refl
+
+  called_again : (tm : Timer) (early : Bool) → t.resend.timer ≡ tm → t.early ≡ early → (is_expired tm || early) ≡ true → oldest_unheard after ≤ counted t.resend.timer t.resend.resent + 1
+  called_again (timer.Expired at) early is so owed =
+      let more : counted t.resend.timer t.resend.resent ≡ t.resend.resent + 1 = ap (λ (q : Timer). counted q t.resend.resent) is in omega (arith, more, one_more, before)
+  called_again timer.Off true is so owed = let none = h.gives.calls.early opening so in omega (arith, none, one_more)
+  called_again (timer.Since base) true is so owed = let none = h.gives.calls.early opening so in omega (arith, none, one_more)
+  called_again timer.Off false is so owed = absurd cc
+  called_again (timer.Since base) false is so owed = absurd cc
+
+  called : Kind → oldest_unheard after ≤ (resend_sent t.resend (goes_again t p) m).resent + 1
+  called (again under place within owed) = subst (λ (b : Bool). oldest_unheard after ≤ (resend_sent t.resend b m).resent + 1) (sym (tested_again (omega (arith, place, under))))
+      (called_again t.resend.timer t.early refl refl owed)
+  called (first at place off) =
+      let none = unsent_unheard past answered_now (omega (arith, at, h.gives.keeps.acked, h.gives.keeps.sent)) in
+      omega (arith, none, one_more)
+  called (further under place none) = subst (λ (b : Bool). oldest_unheard after ≤ (resend_sent t.resend b m).resent + 1) (sym (tested_new (omega (arith, place))))
+      (let same = further_unheard past seg m refl refl p.place at_place (omega (arith, place, under, h.gives.keeps.acked)) in omega (arith, same, before))
+
   -- ---- all of it
 
   none_left : is_owed_again (after_sent t p m) ≡ true → ⊥
@@ -371,8 +398,13 @@ module _ (s : Settings) (c : Connection) (up : Upward) (down : Downward) (past :
         window = g.window;
         alone = g.alone;
         resends = subst (λ (b : Bool). Running (if b then c.syn else resend_sent t.resend (goes_again t p) m)) (sym opening) (runs_on kind);
-        counts = sent_counts after t.resend (goes_again t p) m (now_counts after m (omega (arith, h.goes.moment, on), rises past h.goes.story) (omega arith))
-            (counts_on past after t.resend.timer refl refl g.counts);
+        counts = sent_counts after t.resend (goes_again t p) m (now_counts after m (omega (arith, h.goes.moment, on), rises past h.goes.story) refl)
+            (counts_on past after t.resend.timer refl refl (omega (arith, h.goes.moment, on)) g.counts);
+        calls = record {
+          counted = subst (λ (b : Bool). oldest_unheard after ≤ (if b then c.syn else resend_sent t.resend (goes_again t p) m).resent + 1) (sym opening) (called kind);
+          early = λ yet is. absurd cc;
+          syn_early = λ yet owes runs. let not_it = sym yet ∙ opening in absurd cc;
+        };
         steady = g.steady;
         unset = g.unset;
         set = g.set;

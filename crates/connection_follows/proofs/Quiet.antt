@@ -1,5 +1,5 @@
 -- Events that leave a part of the story as it is.
-use Rattle.std.proofs.Common.{refl, ◌≡◌, ℕ, ◌<◌, ◌≤◌, List, ◌∷◌, Bool, true, false, Option, None, Some, if◌then◌else◌, IsTrue, nat_eq, ◌+◌, min, max, unwrap_or, ◌-◌, ap, subst, sym, ◌∙◌}
+use Rattle.std.proofs.Common.{refl, ◌≡◌, ℕ, ◌<◌, ◌≤◌, List, ◌∷◌, Bool, true, false, Option, None, Some, if◌then◌else◌, IsTrue, nat_eq, ◌+◌, min, max, unwrap_or, ◌-◌, arith, ap, subst, sym, ◌∙◌}
 use Rattle.retransmit.specs.Resending.{IsSteady, Resending, is_expired, is_off}
 use Rattle.sock_buffers.specs.Downward.{Downward}
 use Rattle.sock_buffers.specs.Upward.{Upward}
@@ -14,6 +14,7 @@ use Rattle.flow_laws.specs.Host.{Down, answered}
 use Rattle.flow_laws.specs.Flow.{guest, has_connected, host, is_accepted, is_under_way, their_number, their_syn, syn_is_out}
 use Rattle.flow_laws.specs.Windows.{mss, right_edge, their_scale}
 use Rattle.flow_laws.specs.Close.{host_was_ended}
+use Rattle.flow_laws.specs.Dutiful.{oldest_unheard}
 use Rattle.halves_follow.specs.Ends.{IsCurrent}
 use Rattle.halves_follow.specs.Follows.{Follows}
 use Rattle.halves_follow.specs.Received.{received as taken_of}
@@ -22,11 +23,13 @@ use Rattle.halves_follow.specs.Sends.{Keeps}
 use Rattle.halves_follow.proofs.Reasons.{reason_stays, reason_later}
 use Rattle.halves_follow.proofs.Resent.{IsQuiet, later, quiet}
 use Rattle.halves_follow.proofs.Rests.{quiet_ends}
+use Rattle.halves_follow.proofs.Unheard.{quiet_unheard}
 use Rattle.connection_follows.specs.Holding.{Awaits, CountsSince, Gives, Holds, IsOpened, Receives, is_calls, is_connects}
 use Rattle.connection_follows.specs.Same.{SameGuest, SameHost, SameStart}
 use Rattle.connection_follows.specs.Seen.{count_of, outward_of, part_of, resending_of, timer_of, window_by}
 use Rattle.connection_follows.proofs.Counting.{counts_on, quiet_same}
 use Rattle.connection_follows.proofs.Going.{later as goes_later}
+use Rattle.connection_follows.proofs.Unanswered.{calls_as, calls_on, resending_as}
 
 pub same_number : (past next : Story) → their_syn next ≡ their_syn past → their_number next ≡ their_number past
 same_number past next is = rw is refl
@@ -93,7 +96,8 @@ gives_on s c down past now m e silent on out same g = record {
   resends = subst (λ (b : Bool). Resends (At m e ∷ past) m (timer_of (resending_of c)) (count_of b (resending_of c)) (resending_of c).estimate.wait)
       (sym (same_under_way past (At m e ∷ past) same.host out))
       (quiet past m e now (timer_of (resending_of c)) (count_of (is_under_way past) (resending_of c)) (resending_of c).estimate.wait silent on g.resends);
-  counts = let same = quiet_same past m e silent in counts_on past (At m e ∷ past) c.transmission.resend.timer same.0 same.1 g.counts;
+  counts = let same = quiet_same past m e silent in counts_on past (At m e ∷ past) c.transmission.resend.timer same.0 same.1 (omega (arith, g.resends.moment, on)) g.counts;
+  calls = calls_on c past (At m e ∷ past) (quiet_unheard past m e silent) g.calls;
   steady = g.steady;
   unset = g.unset;
   set = g.set;
@@ -113,6 +117,7 @@ gives_later s c down past now m on g = record {
   alone = g.alone;
   resends = later past now m (timer_of (resending_of c)) (count_of (is_under_way past) (resending_of c)) (resending_of c).estimate.wait on g.resends;
   counts = g.counts;
+  calls = g.calls;
   steady = g.steady;
   unset = g.unset;
   set = g.set;
@@ -135,16 +140,11 @@ holds_later s c up down past now m on h = record {
 
 -- ---- another connection of which the same holds
 
-pub resending_as : (c d : Connection) → is_opening d.stage ≡ is_opening c.stage → d.transmission ≡ c.transmission → d.syn ≡ c.syn → resending_of d ≡ resending_of c
-resending_as c d open_is t_is syn_is =
-    ap (λ (b : Bool). if b then d.syn else d.transmission.resend) open_is
-    ∙ ap (λ (r : Resending). if is_opening c.stage then r else d.transmission.resend) syn_is
-    ∙ ap (λ (t : Transmission). if is_opening c.stage then c.syn else t.resend) t_is
-
 pub gives_as : (s : Settings) (c d : Connection) (down : Downward) (past : Story) (now : ℕ) → is_opening d.stage ≡ is_opening c.stage → d.transmission ≡ c.transmission → d.syn ≡ c.syn
     → d.sendings ≡ c.sendings → d.fin_acked ≡ c.fin_acked → (d.syn_owed ≡ true → has_gone c.sendings ≡ true → is_opening c.stage ≡ true → HasReason past now) → (c.syn_owed ≡ true → d.syn_owed ≡ true)
+    → (is_opening c.stage ≡ true → d.syn_owed ≡ true → is_expired c.syn.timer ≡ false → oldest_unheard past ≡ 0)
     → Gives s c down past now → Gives s d down past now
-gives_as s c d down past now open_is t_is syn_is gone_is fin_is reason still g = record {
+gives_as s c d down past now open_is t_is syn_is gone_is fin_is reason still owes g = record {
   keeps = subst (λ (t : Transmission). Keeps (outward_of t down) (host past)) (sym t_is) g.keeps;
   fin_acked = fin_is ∙ g.fin_acked ∙ ap (λ (t : Transmission). nat_eq t.acked (octets_read down + 1)) (sym t_is);
   fin_out = g.fin_out ∙ ap (λ (t : Transmission). is_sent t.end) (sym t_is);
@@ -152,6 +152,7 @@ gives_as s c d down past now open_is t_is syn_is gone_is fin_is reason still g =
   alone = λ is. ap (λ (t : Transmission). t.cwnd) t_is ∙ g.alone is;
   resends = subst (λ (r : Resending). Resends past now (timer_of r) (count_of (is_under_way past) r) r.estimate.wait) (sym (resending_as c d open_is t_is syn_is)) g.resends;
   counts = subst (λ (t : Transmission). CountsSince past t.resend.timer) (sym t_is) g.counts;
+  calls = calls_as c d past past refl open_is t_is syn_is owes g.calls;
   steady = subst (λ (r : Resending). IsSteady r) (sym syn_is) g.steady;
   unset = λ none. ap (λ (r : Resending). is_off r.timer) syn_is ∙ g.unset (ap (λ (n : Sendings). has_gone n) (sym gone_is) ∙ none);
   set = λ opening gone. ap (λ (r : Resending). is_off r.timer) syn_is ∙ g.set (sym open_is ∙ opening) (ap (λ (n : Sendings). has_gone n) (sym gone_is) ∙ gone);
@@ -250,6 +251,7 @@ gives_most s c k down past now g = record {
   alone = g.alone;
   resends = g.resends;
   counts = g.counts;
+  calls = record { counted = g.calls.counted; early = g.calls.early; syn_early = g.calls.syn_early };
   steady = g.steady;
   unset = g.unset;
   set = g.set;

@@ -25,6 +25,8 @@ use Rattle.connection_follows.specs.Seen.{count_of, outward_of, resending_of, ti
 use Rattle.connection_follows.proofs.Going.{does}
 use Rattle.connection_follows.proofs.Quiet.{awaits_on, awaits_sending, opened_on, opened_sending, receives_on, receives_sending}
 use Rattle.connection_follows.proofs.Watching.{gives_watched, under_way_is, watched_mss}
+use Rattle.connection_follows.proofs.Unanswered.{calls_on}
+use Rattle.connection_follows.proofs.Counting.{counts_on}
 
 -- the host has not ended its stream
 still_open : (e : End) → is_open e ≡ true → e ≡ our_end.Open
@@ -65,7 +67,8 @@ module _ (s : Settings) (c : Connection) (up : Upward) (down : Downward) (past :
         window = g.window;
         alone = g.alone;
         resends = quiet past m (Reads xs) now (timer_of (resending_of c)) (count_of (is_under_way past) (resending_of c)) (resending_of c).estimate.wait tt on g.resends;
-        counts = g.counts;
+        counts = counts_on past (At m (Reads xs) ∷ past) c.transmission.resend.timer refl refl (omega (arith, g.resends.moment, on)) g.counts;
+        calls = calls_on c past (At m (Reads xs) ∷ past) refl g.calls;
         steady = g.steady;
         unset = g.unset;
         set = g.set;
@@ -94,7 +97,7 @@ module _ (s : Settings) (c : Connection) (up : Upward) (down : Downward) (past :
         receives = λ is. receives_sending s c (watched_over c.transmission (with_octets xs) m) up (At m (Reads xs) ∷ past)
             (receives_on s c up past m (Reads xs) tt refl (record { guest = refl; ended = refl; edge = refl; prompted = refl; answered = refl }) (h.receives is));
         gives = gives_watched s c (with_octets xs) (At m (Reads xs) ∷ past) m (nat_lt c.transmission.sent (places c.transmission (with_octets xs))) h.buffers.feeds.sound.steady
-            (omega (arith, h.goes.moment, on), rises past h.goes.story)
+            (omega (arith, h.goes.moment, on), rises past h.goes.story) refl
             (λ is. under_way_is s c (with_octets xs) (At m (Reads xs) ∷ past) o g.keeps is) g;
       }
 
@@ -109,7 +112,8 @@ module _ (s : Settings) (c : Connection) (up : Upward) (down : Downward) (past :
         window = g.window;
         alone = g.alone;
         resends = quiet past m ReadsEnd now (timer_of (resending_of c)) (count_of (is_under_way past) (resending_of c)) (resending_of c).estimate.wait tt on g.resends;
-        counts = g.counts;
+        counts = counts_on past (At m ReadsEnd ∷ past) c.transmission.resend.timer refl refl (omega (arith, g.resends.moment, on)) g.counts;
+        calls = let k = calls_on c past (At m ReadsEnd ∷ past) refl g.calls in record { counted = k.counted; early = k.early; syn_early = k.syn_early };
         steady = g.steady;
         unset = g.unset;
         set = g.set;
@@ -139,6 +143,6 @@ module _ (s : Settings) (c : Connection) (up : Upward) (down : Downward) (past :
             (record { guest = refl; ended = refl; edge = refl; prompted = refl; answered = refl }) (h.awaits is));
         receives = λ is. receives_sending s c (watched unsent_end true m) up (At m ReadsEnd ∷ past)
             (receives_on s c up past m ReadsEnd tt refl (record { guest = refl; ended = refl; edge = refl; prompted = refl; answered = refl }) (h.receives is));
-        gives = gives_watched s ended_c down (At m ReadsEnd ∷ past) m true h.buffers.feeds.sound.steady (omega (arith, h.goes.moment, on), rises past h.goes.story)
+        gives = gives_watched s ended_c down (At m ReadsEnd ∷ past) m true h.buffers.feeds.sound.steady (omega (arith, h.goes.moment, on), rises past h.goes.story) refl
             (λ is. under_way_is s ended_c down (At m ReadsEnd ∷ past) (opened_sending s c unsent_end (At m ReadsEnd ∷ past) refl o) g.keeps is) g;
       }

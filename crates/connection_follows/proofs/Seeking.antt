@@ -1,5 +1,5 @@
 -- A flow that calls a guest whose hardware address isn't known: it asks for the address in place of its SYN.
-use Rattle.std.proofs.Common.{refl, ◌≡◌, ℕ, ◌+◌, ◌<◌, ◌≤◌, List, [], ◌∷◌, Bool, true, false, not, ◌&&◌, ◌||◌, IsTrue, nat_lt, arith, subst, sym, ◌∙◌}
+use Rattle.std.proofs.Common.{refl, ◌≡◌, ℕ, ◌+◌, ◌<◌, ◌≤◌, List, [], ◌∷◌, Bool, true, false, not, ◌&&◌, ◌||◌, IsTrue, nat_lt, arith, subst, sym, ◌∙◌, ◌++◌}
 use Rattle.std.proofs.lemmas.Bool.Decides.{nat_tests}
 use Rattle.sock_buffers.specs.Downward.{Downward}
 use Rattle.sock_buffers.specs.Upward.{Upward}
@@ -11,13 +11,14 @@ use Rattle.flow_laws.specs.Event.{Accepts, AsksAddress, At, Connects, Event, IsS
 use Rattle.flow_laws.specs.Close.{asked_at, times_asked}
 use Rattle.flow_laws.specs.Flow.{has_connected, host, is_closed, is_under_way, syn_is_out}
 use Rattle.flow_laws.specs.Host.{answered}
-use Rattle.flow_laws.specs.Dutiful.{AreAhead, moment_if, seeks_guest, waits_since}
+use Rattle.flow_laws.specs.Dutiful.{AreAhead, moment_if, seeks_guest, waits_for_window, waits_since}
 use Rattle.halves_follow.specs.Resends.{Seeks}
 use Rattle.halves_follow.specs.Settled.{IsSettledIf}
 use Rattle.halves_follow.proofs.Moments.{both_ahead}
 use Rattle.connection_follows.specs.Holding.{Holds, is_calls}
-use Rattle.connection_follows.proofs.Settling.{nothing_to_acknowledge, open_owes_none}
+use Rattle.connection_follows.proofs.Settling.{nothing_to_acknowledge, open_owes_none, no_window}
 use Rattle.connection_follows.proofs.Watching.{syn_under_way}
+use Rattle.halves_follow.proofs.InTime.{window_ahead}
 
 -- it asked at a moment that was
 asked_first : (past : Story) → IsStory past → asked_at past ≤ newest_moment past
@@ -72,10 +73,13 @@ seeking_settled in_time s c up down past now count at h calls unsent some a befo
   };
   acknowledges = nothing_to_acknowledge s c up down past now h calls;
   window = λ honest is. absurd (no_both (answered (host past)) (not (is_closed past)) unanswered is);
-  resends = λ soon. both_ahead now (moment_if (is_under_way past && not (is_closed past)) (waits_since past + 60000)) _
+  resends = λ soon. both_ahead now (moment_if (is_under_way past && not (is_closed past)) (waits_since past + 60000)
+      ++ moment_if (seeks_guest past && nat_lt 0 (times_asked past)) (asked_at past + 60000)) _
+      (both_ahead now (moment_if (is_under_way past && not (is_closed past)) (waits_since past + 60000)) _
       (subst (λ (b : Bool). AreAhead now (moment_if (b && not (is_closed past)) (waits_since past + 60000)))
       (sym (syn_under_way s c past h.opened (calls_opens c.stage calls).0 ∙ unsent)) tt)
-      (let near = a.soon in let early = before soon in ahead_if (seeks_guest past && nat_lt 0 (times_asked past)) (omega (arith, near, early)));
+      (let near = a.soon in let early = before soon in ahead_if (seeks_guest past && nat_lt 0 (times_asked past)) (omega (arith, near, early))))
+      (window_ahead past now (λ waits. absurd (no_window past unanswered waits)));
 }
   where
     ahead_if : (b : Bool) → now < asked_at past + 60000 → AreAhead now (moment_if b (asked_at past + 60000))

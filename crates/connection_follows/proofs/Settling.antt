@@ -3,13 +3,13 @@ use Rattle.std.proofs.Common.{List, refl, ◌≡◌, ℕ, ◌+◌, ◌-◌, ◌<
 use Rattle.std.proofs.Common.{nat_lt, arith, ap, subst, sym, ◌∙◌, inl, inr, ◌⊎◌}
 use Rattle.std.proofs.lemmas.Bool.Decides.{nat_tests}
 use Rattle.cwnd.specs.Congestion.{Congestion}
-use Rattle.retransmit.specs.Resending.{Resending, is_expired, due_by as due_by_timer, due_of as resend_due}
+use Rattle.retransmit.specs.Resending.{Resending, is_expired, is_off, due_by as due_by_timer, due_of as resend_due}
 use Rattle.retransmit.specs.declared.Timer.{Timer}
 use Rattle.retransmit.specs.declared.Timer.TheVariants as timer
 use Rattle.sock_buffers.specs.Downward.{Downward}
 use Rattle.sock_buffers.specs.Upward.{Upward, room_of}
 use Rattle.tcp_transmit.specs.Pieces.{OwesNothing, piece_owed}
-use Rattle.tcp_transmit.specs.Transmission.{IsOfSegments, edge_of, end_places, reach, reach_by}
+use Rattle.tcp_transmit.specs.Transmission.{IsOfSegments, edge_of, end_places, is_closed as is_shut, places, reach, reach_by}
 use Rattle.tcp_transmit.specs.declared.End.{End}
 use Rattle.tcp_transmit.specs.declared.End.TheVariants as our_end
 use Rattle.tcp_transmit.specs.declared.Piece.{Piece}
@@ -22,23 +22,23 @@ use Rattle.tcp_guest.specs.Timing.{due_of}
 use Rattle.tcp_guest.specs.Windows.{is_update_owed, moves_far, our_shift, told_edge}
 use Rattle.tcp_guest.specs.declared.Owed.TheVariants.{Ack}
 use Rattle.flow_laws.specs.Settings.{Settings}
-use Rattle.flow_laws.specs.Event.{Departs, Closes, At, Story}
-use Rattle.flow_laws.specs.Host.{answered}
+use Rattle.flow_laws.specs.Event.{Departs, Closes, At, Story, newest_moment}
+use Rattle.flow_laws.specs.Host.{answered, owned, sent}
 use Rattle.flow_laws.specs.Guest.{AckIsDue, Asks, Up}
 use Rattle.flow_laws.specs.Flow.{has_connected, host, is_accepted, is_closed, is_under_way, syn_is_out, their_number}
 use Rattle.flow_laws.specs.Windows.{edge_of as edge_told, mss, our_shift as shift_told, told}
 use Rattle.flow_laws.specs.Close.{is_owed_reset, owes_reset, times_asked}
-use Rattle.flow_laws.specs.Dutiful.{HasAcknowledged, HasSent}
+use Rattle.flow_laws.specs.Dutiful.{HasAcknowledged, HasSent, waits_for_window}
 use Rattle.halves_follow.specs.Resends.{Expired, Until}
 use Rattle.halves_follow.specs.Settled.{IsSettledIf}
-use Rattle.halves_follow.proofs.Edges.{edge_is}
+use Rattle.halves_follow.proofs.Edges.{edge_is, owned_is, window_known}
 use Rattle.halves_follow.proofs.InTime.{HasCalled, all_in_time}
 use Rattle.halves_follow.proofs.Waiting.{acknowledged_is, settled_is}
 use Rattle.connection_follows.specs.Holding.{Holds, is_calls, is_connects}
 use Rattle.connection_follows.specs.Seen.{count_of, outward_of, part_of, resending_of, timer_by, timer_of, window_by}
 use Rattle.connection_follows.proofs.Acking.{piece_none}
 use Rattle.connection_follows.proofs.Telling.{shift_is}
-use Rattle.connection_follows.proofs.Watching.{opening_is, syn_under_way}
+use Rattle.connection_follows.proofs.Watching.{opening_is, syn_under_way, under_way_is}
 
 -- an open flow owes no reset
 pub open_owes_none : (past : Story) → is_closed past ≡ false → owes_reset past ≡ false
@@ -102,6 +102,14 @@ and_not_true : (a : Bool) → IsTrue (a && not true) → ⊥
 and_not_true true is = absurd cc
 and_not_true false is = absurd cc
 
+-- until our SYN is acknowledged nothing waits for a window
+pub no_window : (past : Story) → answered (host past) ≡ false → waits_for_window past ≡ true → ⊥
+no_window past unanswered waits = by (answered (host past)) (is_closed past) (is_under_way past) (nat_lt (sent (host past)) (owned (host past))) unanswered waits
+  where
+    by : (a b d e : Bool) → a ≡ false → (a && not b && not d && e) ≡ true → ⊥
+    by true b d e is so = absurd cc
+    by false b d e is so = absurd cc
+
 -- while the guest's SYN isn't known, there's nothing to acknowledge
 pub nothing_to_acknowledge : (s : Settings) (c : Connection) (up : Upward) (down : Downward) (past : Story) (now : ℕ) → Holds s c up down past now → is_calls c.stage ≡ true →
     HasAcknowledged s past false
@@ -154,6 +162,78 @@ module _ (s : Settings) (c : Connection) (up : Upward) (down : Downward) (past :
         (down.first + length down.octets + (if not (is_open c.transmission.end) then 1 else 0)) c.transmission.sent (reach c.transmission) low
         (subst (λ (k : ℕ). (down.first + length down.octets + k ≤ c.transmission.sent) ⊎ (reach c.transmission ≤ c.transmission.sent)) (sym (end_is c.transmission.end)) owes.1)
 
+    -- what waits for the window has a timer that runs
+    watches : waits_for_window past ≡ true → (base : ℕ) × (c.transmission.resend.timer ≡ timer.Since base)
+    watches waits = by c.transmission.resend.timer refl
+      where
+        parts : (a b d e : Bool) → (a && not b && not d && e) ≡ true → (d ≡ false) × (e ≡ true)
+        parts true false false true is = (refl, refl)
+        parts true false false false is = absurd cc
+        parts true false true e is = absurd cc
+        parts true true d e is = absurd cc
+        parts false b d e is = absurd cc
+
+        two_of : (is_under_way past ≡ false) × (nat_lt (sent (host past)) (owned (host past)) ≡ true)
+        two_of = parts (answered (host past)) (is_closed past) (is_under_way past) (nat_lt (sent (host past)) (owned (host past))) waits
+
+        tested : nat_lt c.transmission.acked c.transmission.sent ≡ false
+        tested = sym (under_way_is s c down past h.opened h.gives.keeps opening) ∙ two_of.0
+
+        even : c.transmission.acked ≡ c.transmission.sent
+        even = let order = h.buffers.feeds.sound.order in grind (arith, nat_tests)
+
+        less : sent (host past) < owned (host past)
+        less = let is = two_of.1 in grind (arith, nat_tests)
+
+        left : c.transmission.sent < places c.transmission down
+        left = let all = owned_is (outward_of c.transmission down) past h.gives.keeps in omega (arith, less, all, end_is c.transmission.end, h.gives.keeps.sent)
+
+        -- where all that the window has room for is out, and nothing is under way, the window is closed
+        shut : (cwnd : Option Congestion) (most acked_ edge_ : ℕ) → IsOfSegments cwnd most → 64 ≤ most → reach_by cwnd acked_ edge_ ≤ acked_ → edge_ ≤ acked_
+        shut None most acked_ edge_ segments least low = low
+        shut (Some g) most acked_ edge_ segments least low = omega (arith, segments.1, least, low)
+
+        full : edge_of c.transmission.window ≤ c.transmission.sent
+        full = let low = shut c.transmission.cwnd c.transmission.mss c.transmission.acked (edge_of c.transmission.window) h.buffers.feeds.sound.segments h.buffers.feeds.sound.least
+            (reached_end owes.1) in omega (arith, low, even)
+          where
+            reached_end : (places c.transmission down ≤ c.transmission.sent) ⊎ (reach c.transmission ≤ c.transmission.sent) → reach c.transmission ≤ c.transmission.acked
+            reached_end (inl none) = absurd (omega (arith, none, left))
+            reached_end (inr all) = omega (arith, all, even)
+
+        some_window : (o : Option Window) → is_some (window_by o) ≡ true → is_some o ≡ true
+        some_window None is = absurd cc
+        some_window (Some w) is = refl
+
+        known_window : is_some c.transmission.window ≡ true
+        known_window = some_window c.transmission.window
+            (sym (ap (λ o. is_some o) h.gives.window) ∙ window_known s past (h.opened.answered ∙ synchronized))
+
+        closed : is_shut c.transmission ≡ true
+        closed = both_true (is_some c.transmission.window) (edge_of c.transmission.window) c.transmission.sent known_window full
+          where
+            both_true : (b : Bool) (e n : ℕ) → b ≡ true → e ≤ n → (b && nat_le e n) ≡ true
+            both_true b e n is low = grind (arith, nat_tests)
+
+        by : (tm : Timer) → c.transmission.resend.timer ≡ tm → (base : ℕ) × (tm ≡ timer.Since base)
+        by timer.Off is = let not_it = sym (ap (λ (t : Timer). is_off t) is) ∙ h.buffers.feeds.waits even closed left in absurd cc
+        by (timer.Since base) is = (base, refl)
+        by (timer.Expired at_) is = let not_it = sym (ap (λ (t : Timer). is_expired t) is) ∙ not_expired in absurd cc
+
+    -- so it is asked about within a minute
+    pub watched_by : waits_for_window past ≡ true → (base : ℕ) × (c.transmission.resend.timer ≡ timer.Since base) × (base + c.transmission.resend.estimate.wait ≤ newest_moment past + 60000)
+    watched_by waits =
+        let w = watches waits in
+        let since = h.gives.counts w.0 w.1 in
+        let longest = h.buffers.feeds.sound.steady.longest in
+        (w.0, w.1, omega (arith, since.newest, longest))
+
+    window_soon : Early → waits_for_window past ≡ true → now < newest_moment past + 60000
+    window_soon early waits =
+        let w = watched_by waits in
+        let soon = early (w.0 + c.transmission.resend.estimate.wait) (at.1 ∙ ap (λ (t : Timer). due_by_timer t c.transmission.resend.estimate.wait) w.1) in
+        omega (arith, soon, w.2)
+
     update_near : c.received.ended ≡ false → (r : ℕ) → c.told ≡ Some r → c.received.taken + told (shift_told s past false) (s.ring - length up.held) < r + 2920
     update_near yet r is =
         let none : moves_far c.told (told_edge c up (our_shift c)) ≡ false = sym (ap (λ (b : Bool). not b && moves_far c.told (told_edge c up (our_shift c))) yet) ∙ apart.1 in
@@ -182,6 +262,7 @@ module _ (s : Settings) (c : Connection) (up : Upward) (down : Downward) (past :
         (λ under expired. let not_it = sym (expires_by c.transmission.resend.timer c.transmission.resend.estimate.wait (sym (ap (λ (q : Resending). timer_of q) runs) ∙ expired))
         ∙ not_expired in absurd cc)
         (λ early moment is. waits_for c.transmission.resend.timer c.transmission.resend.estimate.wait now moment (sym (ap (λ (q : Resending). timer_of q) runs) ∙ is) (λ d due. early d (at.1 ∙ due)))
+        window_soon
       where
         runs : resending_of c ≡ c.transmission.resend
         runs = ap (λ (b : Bool). if b then c.syn else c.transmission.resend) opening
@@ -270,5 +351,6 @@ module _ (s : Settings) (c : Connection) (up : Upward) (down : Downward) (past :
             let expired = expires_by c.syn.timer c.syn.estimate.wait (sym (ap (λ (q : Resending). timer_of q) runs_syn) ∙ over) in
             let out = sym (syn_under_way s c past h.opened opening) ∙ under in
             let not_it = sym (h.gives.owes_syn opening expired) ∙ no_syn out in absurd cc)
-            (λ moment is. waits_for c.syn.timer c.syn.estimate.wait now moment (sym (ap (λ (q : Resending). timer_of q) runs_syn) ∙ is) (soon early)) calls_out;
+            (λ moment is. waits_for c.syn.timer c.syn.estimate.wait now moment (sym (ap (λ (q : Resending). timer_of q) runs_syn) ∙ is) (soon early))
+            (λ waits. absurd (no_window past unanswered waits)) calls_out;
       }

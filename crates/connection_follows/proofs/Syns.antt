@@ -39,6 +39,8 @@ use Rattle.connection_follows.proofs.Leaving.{granted}
 use Rattle.connection_follows.proofs.Quiet.{gives_as, opened_told, receives_beside, same_mss, same_number, same_scale}
 use Rattle.connection_follows.proofs.Telling.{acknowledges, least_same, scaled_is, tells, tells_room, theirs}
 use Rattle.connection_follows.proofs.Watching.{opening_is, syn_under_way}
+use Rattle.halves_follow.proofs.Unheard.{syn_gone_unheard, uncalled_unheard}
+use Rattle.flow_laws.specs.Dutiful.{oldest_unheard}
 
 pub gone_once : (n : Sendings) → has_gone (once_more n) ≡ true
 gone_once Never = refl
@@ -157,9 +159,29 @@ module _ (s : Settings) (c : Connection) (down : Downward) (up : Upward) (past :
       (syn_goes past seg m syn rst unanswered c.syn.estimate.wait (h.opened.out ∙ gone) (rises past h.goes.story) (omega (arith, h.goes.moment, on))
       (steady_second c.syn h.gives.steady) h.gives.steady.longest))
 
+  -- how often the guest was called
+  called : c.syn_owed ≡ true → (b : Bool) → has_gone c.sendings ≡ b
+      → oldest_unheard after ≤ (if is_opening c.stage then resend_sent c.syn (has_gone c.sendings) m else c.transmission.resend).resent + 1
+  called owed b gone = rw (opening, gone) (by b gone)
+    where
+      one_more : oldest_unheard after ≤ 1 + oldest_unheard past
+      one_more = syn_gone_unheard past seg m syn unanswered
+
+      before : oldest_unheard past ≤ c.syn.resent + 1
+      before = subst (λ (b : Bool). oldest_unheard past ≤ (if b then c.syn else c.transmission.resend).resent + 1) opening h.gives.calls.counted
+
+      by_timer : (tm : Timer) → c.syn.timer ≡ tm → oldest_unheard after ≤ counted tm c.syn.resent + 1
+      by_timer timer.Off is = let none = h.gives.calls.syn_early opening owed (ap (λ (q : Timer). is_expired q) is) in omega (arith, none, one_more)
+      by_timer (timer.Since base) is = let none = h.gives.calls.syn_early opening owed (ap (λ (q : Timer). is_expired q) is) in omega (arith, none, one_more)
+      by_timer (timer.Expired at) is = omega (arith, before, one_more)
+
+      by : (b : Bool) → has_gone c.sendings ≡ b → oldest_unheard after ≤ (resend_sent c.syn b m).resent + 1
+      by true is = by_timer c.syn.timer refl
+      by false is = let none = uncalled_unheard past unanswered (h.opened.out ∙ is) in omega (arith, none, one_more)
+
   -- the host's stream, and the timer of our SYN
-  pub syn_gives : Gives s (syn_gone c m) down after m
-  syn_gives =
+  pub syn_gives : c.syn_owed ≡ true → Gives s (syn_gone c m) down after m
+  syn_gives owed =
       let g = h.gives in
       record {
         keeps = subst (λ (d : List Down). Keeps (outward_of c.transmission down) d) (sym same_host) g.keeps;
@@ -168,7 +190,8 @@ module _ (s : Settings) (c : Connection) (down : Downward) (up : Upward) (past :
         window = g.window;
         alone = g.alone;
         resends = subst (λ (b : Bool). Running (if b then resend_sent c.syn (has_gone c.sendings) m else c.transmission.resend)) (sym opening) (runs (has_gone c.sendings) refl);
-        counts = counts_on past after c.transmission.resend.timer refl refl g.counts;
+        counts = counts_on past after c.transmission.resend.timer refl refl (omega (arith, g.resends.moment, on)) g.counts;
+        calls = record { counted = called owed (has_gone c.sendings) refl; early = λ yet is. let not_it = sym yet ∙ opening in absurd cc; syn_early = λ yet owes runs. absurd cc };
         steady = steady_sent c.syn (has_gone c.sendings) m late g.steady;
         unset = λ none. let not_it = sym none ∙ gone_once c.sendings in absurd cc;
         set = λ yet gone. sent_set c.syn (has_gone c.sendings) m;
@@ -256,7 +279,7 @@ module _ (s : Settings) (c : Connection) (up : Upward) (down : Downward) (past :
   syn_ack_goes buffers =
       let r = tells s c up past now m seg h.suits h.goes h.opened known h.gives.fin_out (h.receives known) refl refl refl 0 refl refl
       (λ is. let not_it = sym is ∙ ap (λ (st : Stage). is_synchronized st) at in absurd cc) in
-      let g = syn_gives s c down up past now m seg on late h opening refl refl in
+      let g = syn_gives s c down up past now m seg on late h opening refl refl owed in
       record {
         suits = record { ring = h.suits.ring; congestion = h.suits.congestion; scales = h.suits.scales; few = h.suits.few };
         buffers = buffers;
@@ -266,5 +289,5 @@ module _ (s : Settings) (c : Connection) (up : Upward) (down : Downward) (past :
             (opened_gone s c past (At m (Departs seg) ∷ past) m (ap (λ (st : Stage). is_connects st) at) refl refl refl refl refl refl h.opened);
         awaits = λ is. let not_it = sym is ∙ known in absurd cc;
         receives = λ is. receives_beside s (told c up 0) (told (syn_gone c m) up 0) up (At m (Departs seg) ∷ past) (λ so. so) r;
-        gives = gives_as s (syn_gone c m) (told (syn_gone c m) up 0) down (At m (Departs seg) ∷ past) m refl refl refl refl refl (λ so gone yet. absurd cc) (λ so. so) g;
+        gives = gives_as s (syn_gone c m) (told (syn_gone c m) up 0) down (At m (Departs seg) ∷ past) m refl refl refl refl refl (λ so gone yet. absurd cc) (λ so. so) (λ yet owes runs. absurd cc) g;
       }

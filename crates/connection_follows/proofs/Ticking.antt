@@ -2,7 +2,7 @@
 use Rattle.std.proofs.Common.{Option, refl, ◌≡◌, ℕ, ◌+◌, ◌*◌, ◌<◌, ◌≤◌, Bool, true, false, Some, if◌then◌else◌, IsTrue, nat_eq, nat_lt, min, arith, ap, subst, sym, ◌∙◌}
 use Rattle.std.proofs.lemmas.Bool.Decides.{nat_tests}
 use Rattle.cwnd.specs.Congestion.{Congestion}
-use Rattle.retransmit.specs.Resending.{Resending, after_expired as resend_expired, doublings, due_by, due_of, expired_by, is_given_up, is_off}
+use Rattle.retransmit.specs.Resending.{Resending, after_expired as resend_expired, doublings, due_by, due_of, expired_by, is_expired, is_given_up, is_off}
 use Rattle.retransmit.specs.Estimate.{after_expiry}
 use Rattle.retransmit.specs.declared.Timer.{Timer}
 use Rattle.retransmit.specs.declared.Timer.TheVariants as timer
@@ -26,6 +26,7 @@ use Rattle.connection_follows.specs.Seen.{count_of, outward_of, resending_of, ti
 use Rattle.connection_follows.proofs.Counting.{expired_counts}
 use Rattle.connection_follows.proofs.Quiet.{awaits_beside, awaits_sending, opened_beside, opened_sending, receives_beside, receives_sending}
 use Rattle.connection_follows.proofs.Watching.{syn_under_way, under_way_is}
+use Rattle.flow_laws.specs.Dutiful.{oldest_unheard}
 
 some_is : (a b : ℕ) → Some a ≡ Some b → a ≡ b
 some_is a b is = cc
@@ -56,6 +57,11 @@ module _ (past : Story) (now at : ℕ) (late : at ≤ now) where
       let is = some_is (base + w) at due in
       gives_up_now past now (base + w) w (subst (λ (k : ℕ). Resends past now (Until (base + w)) k w) (omega (arith, many, few)) r) (omega (arith, is, late))
   spent_due (timer.Expired base) resent w way due many few r = absurd cc
+
+  ends_due : (tm : Timer) (w : ℕ) → due_by tm w ≡ Some at → is_expired (expired_by tm w) ≡ true
+  ends_due timer.Off w due = absurd cc
+  ends_due (timer.Since base) w due = refl
+  ends_due (timer.Expired base) w due = absurd cc
 
   runs_still : (tm : Timer) (w : ℕ) → due_by tm w ≡ Some at → (is_off tm ≡ false) × (is_off (expired_by tm w) ≡ false)
   runs_still timer.Off w due = absurd cc
@@ -119,6 +125,12 @@ module _ (s : Settings) (c : Connection) (up : Upward) (down : Downward) (past :
                 (subst (λ (q : Resending). Resends past now (timer_of q) (count_of (is_under_way past) q) q.estimate.wait) (sym (expired_is c.syn fresh))
                 (after_due past now at late c.syn.timer c.syn.resent c.syn.estimate.wait (is_under_way past) refl due (ran c.syn syn_runs)));
             counts = g.counts;
+            calls = record {
+              counted = subst (λ (b : Bool). oldest_unheard past ≤ (if b then resend_expired c.syn else c.transmission.resend).resent + 1) (sym opening)
+                  (subst (λ (q : Resending). oldest_unheard past ≤ q.resent + 1) (sym (expired_is c.syn fresh)) (subst (λ (q : Resending). oldest_unheard past ≤ q.resent + 1) syn_runs g.calls.counted));
+              early = λ yet is. let not_it = sym yet ∙ opening in absurd cc;
+              syn_early = λ yet owes runs. let not_it = sym runs ∙ subst (λ (q : Resending). is_expired q.timer ≡ true) (sym (expired_is c.syn fresh)) (ends_due past now at late c.syn.timer c.syn.estimate.wait due) in absurd cc;
+            };
             steady = steady_expired c.syn g.steady;
             unset = λ none. let not_it = sym none ∙ gone in absurd cc;
             owes_syn = λ yet over. refl;
@@ -181,6 +193,13 @@ module _ (s : Settings) (c : Connection) (up : Upward) (down : Downward) (past :
                 (ran c.transmission.resend piece_runs)));
             counts = subst (λ (q : Resending). CountsSince past q.timer) (sym (ap (λ (u : Transmission). u.resend) is ∙ expired_is c.transmission.resend fresh))
                 (expired_counts past c.transmission.resend.timer c.transmission.resend.estimate.wait);
+            calls = record {
+              counted = subst (λ (b : Bool). oldest_unheard past ≤ (if b then c.syn else (after_expired c.transmission).resend).resent + 1) (sym opening)
+                  (subst (λ (q : Resending). oldest_unheard past ≤ q.resent + 1) (sym (ap (λ (u : Transmission). u.resend) is ∙ expired_is c.transmission.resend fresh))
+                  (subst (λ (q : Resending). oldest_unheard past ≤ q.resent + 1) piece_runs g.calls.counted));
+              early = λ yet so. g.calls.early yet (sym (ap (λ (u : Transmission). u.early) is) ∙ so);
+              syn_early = λ yet owes runs. let not_it = sym yet ∙ opening in absurd cc;
+            };
             steady = g.steady;
             unset = g.unset;
             set = λ yet gone. let not_it = sym yet ∙ opening in absurd cc;

@@ -1,5 +1,5 @@
 -- A segment arrives that isn't heeded: nothing is taken of it, and it acknowledges nothing.
-use Rattle.std.proofs.Common.{not, refl, ◌≡◌, ℕ, ◌≤◌, List, ◌∷◌, Bool, true, false, ◌&&◌, ◌||◌, Option, None, Some, is_some, if◌then◌else◌, IsTrue, ap, subst, sym, ◌∙◌, inl, inr, ◌⊎◌}
+use Rattle.std.proofs.Common.{not, refl, ◌≡◌, ℕ, ◌≤◌, List, ◌∷◌, Bool, true, false, ◌&&◌, ◌||◌, Option, None, Some, is_some, if◌then◌else◌, IsTrue, ap, subst, sym, ◌∙◌, inl, inr, ◌⊎◌, arith}
 use Rattle.std.specs.Option.{option_or, option_map}
 use Rattle.sock_buffers.specs.Downward.{Downward}
 use Rattle.sock_buffers.specs.Upward.{Upward}
@@ -33,6 +33,7 @@ use Rattle.connection_follows.proofs.Counting.{counts_on, unmoved_at}
 use Rattle.connection_follows.proofs.Acking.{way_same}
 use Rattle.connection_follows.proofs.Going.{comes}
 use Rattle.connection_follows.proofs.Quiet.{opened_beside, opened_on}
+use Rattle.connection_follows.proofs.Unanswered.{calls_heard}
 
 -- more is owed
 pub follows_owed : (ring : ℕ) (p : Part) (owed : Bool) (past : List Up) → (owed ≡ false → p.ack_owed ≡ false) → Follows ring p past → Follows ring (record p { ack_owed = owed }) past
@@ -114,7 +115,8 @@ module _ (s : Settings) (c : Connection) (up : Upward) (down : Downward) (past :
         window = no_window s past m seg none ∙ g.window;
         alone = g.alone;
         resends = subst (λ (b : Bool). Resends after m (timer_of (resending_of c)) (count_of b (resending_of c)) (resending_of c).estimate.wait) (sym way) runs;
-        counts = counts_on past after c.transmission.resend.timer refl (unmoved_at past m seg none) g.counts;
+        counts = counts_on past after c.transmission.resend.timer refl (unmoved_at past m seg none) (omega (arith, g.resends.moment, on)) g.counts;
+        calls = calls_heard (record c { syn_owed = syn_owed; ack_owed = ack_owed }) past m seg;
         steady = g.steady;
         unset = g.unset;
         set = g.set;

@@ -18,6 +18,7 @@ use Rattle.connection_follows.specs.Holding.{Holds, is_calls, is_connects}
 use Rattle.connection_follows.specs.Seen.{outward_of, part_of}
 use Rattle.connection_follows.proofs.Leaving.{granted}
 use Rattle.connection_follows.proofs.Watching.{synchronized_is}
+use Rattle.connection_follows.proofs.Unanswered.{few_calls}
 
 module _ (s : Settings) (c : Connection) (up : Upward) (down : Downward) (past : Story) (now : ℕ) (h : Holds s c up down past now) where
   order : InOrder (host past)
@@ -94,6 +95,7 @@ module _ (s : Settings) (c : Connection) (up : Upward) (down : Downward) (past :
         (λ told acked_fin sure. absurd (all_three (sym (h.receives reached).host_ended ∙ told)
         (h.gives.fin_acked ∙ sym (our_fin (outward_of c.transmission down) past h.gives.keeps) ∙ acked_fin) sure));
     connects = by (is_connecting past) refl;
+    calls = few_calls s c up down past now h;
   }
     where
       four : (a b d e : Bool) → a ≡ true → b ≡ true → d ≡ true → e ≡ true → (a && b && d && e) ≡ true

@@ -1,5 +1,5 @@
 -- The timer of a window, and numbers under way.
-use Rattle.std.proofs.Common.{refl, ◌≡◌, ℕ, ◌+◌, ◌<◌, Bool, true, false, ◌&&◌, if◌then◌else◌, nat_lt, nat_eq, arith, ap, subst, sym, ◌∙◌}
+use Rattle.std.proofs.Common.{refl, ◌≡◌, ℕ, ◌+◌, ◌<◌, Bool, true, false, ◌&&◌, if◌then◌else◌, nat_lt, nat_eq, arith, ap, subst, sym, ◌∙◌, ◌≤◌}
 use Rattle.std.proofs.lemmas.Bool.Decides.{nat_tests}
 use Rattle.retransmit.specs.Resending.{IsSteady, Resending, after_start, after_stop}
 use Rattle.retransmit.proofs.Steady.{steady_second}
@@ -10,7 +10,8 @@ use Rattle.tcp_guest.specs.Connection.{Connection, has_gone, is_opening, is_sync
 use Rattle.tcp_guest.specs.declared.Stage.{Stage}
 use Rattle.tcp_guest.specs.declared.Stage.TheVariants as stage
 use Rattle.flow_laws.specs.Settings.{Settings}
-use Rattle.flow_laws.specs.Event.{Story}
+use Rattle.flow_laws.specs.Event.{Story, newest_moment}
+use Rattle.flow_laws.specs.Dutiful.{oldest_unheard}
 use Rattle.flow_laws.specs.Host.{acked, sent}
 use Rattle.flow_laws.specs.Flow.{host, is_under_way, syn_is_out}
 use Rattle.halves_follow.specs.Resends.{HasReason, Resends}
@@ -20,6 +21,7 @@ use Rattle.halves_follow.proofs.Sendings.{Rises}
 use Rattle.connection_follows.specs.Holding.{CountsSince, Gives, IsOpened, is_live}
 use Rattle.connection_follows.specs.Seen.{count_of, outward_of, timer_of, window_by}
 use Rattle.connection_follows.proofs.Counting.{now_counts, watched_counts}
+use Rattle.connection_follows.proofs.Unanswered.{idle_unheard}
 
 -- a live connection that isn't opening is synchronized
 pub synchronized_is : (st : Stage) → is_live st ≡ true → is_opening st ≡ false → is_synchronized st ≡ true
@@ -103,10 +105,10 @@ wait_stays r true now = refl
 wait_stays r false now = refl
 
 -- the window is watched
-pub gives_watched : (s : Settings) (c : Connection) (down : Downward) (past : Story) (now : ℕ) (unsent : Bool) → IsSteady c.transmission.resend → Rises past
+pub gives_watched : (s : Settings) (c : Connection) (down : Downward) (past : Story) (now : ℕ) (unsent : Bool) → IsSteady c.transmission.resend → Rises past → newest_moment past ≡ now
     → (is_opening c.stage ≡ false → is_under_way past ≡ nat_lt c.transmission.acked c.transmission.sent)
     → Gives s c down past now → Gives s (record c { transmission = watched c.transmission unsent now }) down past now
-gives_watched s c down past now unsent steady rising under g = record {
+gives_watched s c down past now unsent steady rising newest under g = record {
   keeps = subst (λ o. Keeps o (host past)) (sym (watched_outward c.transmission down unsent now)) g.keeps;
   fin_acked = g.fin_acked ∙ ap (λ (a : ℕ). nat_eq a (octets_read down + 1)) (sym (watched_acked c.transmission down unsent now));
   fin_out = g.fin_out ∙ ap is_sent (sym (watched_end c.transmission down unsent now));
@@ -114,6 +116,7 @@ gives_watched s c down past now unsent steady rising under g = record {
   alone = λ is. watched_cwnd c.transmission down unsent now ∙ g.alone is;
   resends = by_stage (is_opening c.stage) refl;
   counts = by_counts (nat_lt t.acked t.sent);
+  calls = record { counted = by_calls (is_opening c.stage) refl; early = by_early (nat_lt t.acked t.sent); syn_early = g.calls.syn_early };
   steady = g.steady;
   unset = g.unset;
   set = g.set;
@@ -146,7 +149,20 @@ gives_watched s c down past now unsent steady rising under g = record {
 
     by_counts : (b : Bool) → CountsSince past (if b then t else record t { resend = starts }).resend.timer
     by_counts true = g.counts
-    by_counts false = watched_counts past t.resend (is_closed t && unsent) now (now_counts past now rising g.resends.moment) g.counts
+    by_counts false = watched_counts past t.resend (is_closed t && unsent) now (now_counts past now rising newest) g.counts
+
+    by_idle : (b : Bool) → nat_lt t.acked t.sent ≡ b → is_under_way past ≡ b → oldest_unheard past ≤ t.resend.resent + 1 → oldest_unheard past
+        ≤ (if b then t else record t { resend = starts }).resend.resent + 1
+    by_idle true is way few = few
+    by_idle false is way few = let none = idle_unheard past way in omega (arith, none)
+
+    by_calls : (b : Bool) → is_opening c.stage ≡ b → oldest_unheard past ≤ (if b then c.syn else (watched t unsent now).resend).resent + 1
+    by_calls true is = subst (λ (b : Bool). oldest_unheard past ≤ (if b then c.syn else t.resend).resent + 1) is g.calls.counted
+    by_calls false is = by_idle (nat_lt t.acked t.sent) refl (under is) (subst (λ (b : Bool). oldest_unheard past ≤ (if b then c.syn else t.resend).resent + 1) is g.calls.counted)
+
+    by_early : (b : Bool) → is_opening c.stage ≡ false → (if b then t else record t { resend = starts }).early ≡ true → oldest_unheard past ≡ 0
+    by_early true opening is = g.calls.early opening is
+    by_early false opening is = g.calls.early opening is
 
     by_again : (b : Bool) → nat_lt t.acked t.sent ≡ b → is_owed_again (if b then t else record t { resend = starts }) ≡ true
         → (if b then t else record t { resend = starts }).acked < (if b then t else record t { resend = starts }).sent → HasReason past now

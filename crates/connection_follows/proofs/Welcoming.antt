@@ -40,6 +40,8 @@ use Rattle.connection_follows.proofs.Heeding.{congested_alone, congested_feeds, 
 use Rattle.connection_follows.proofs.Quiet.{gives_as, gives_most}
 use Rattle.connection_follows.proofs.Unheeded.{answered_same, gives_after}
 use Rattle.connection_follows.proofs.Watching.{gives_watched, under_way_is, watched_mss}
+use Rattle.connection_follows.proofs.Unanswered.{calls_heard}
+use Rattle.halves_follow.proofs.Unheard.{heard_now}
 
 -- with smaller pieces
 limited_feeds : (t : Transmission) (down : Downward) (k : ℕ) → 64 ≤ k → t.cwnd ≡ None → Feeds t down → Feeds (record t { mss = min t.mss k }) down
@@ -129,7 +131,7 @@ module _ (s : Settings) (c : Connection) (up : Upward) (down : Downward) (past :
         receives = λ is. received_after stage.Answers (greeted c tcp).transmission c.syn true c.fin_acked;
         gives = gives_most s (record (greeted c tcp) { transmission = c.transmission }) (greeted c tcp).transmission.mss down after m
             (gives_as s (record c { syn_owed = true; ack_owed = true }) (record (greeted c tcp) { transmission = c.transmission }) down after m (sym opening) refl refl refl refl
-            (λ owes so yet. by_arrival past m m seg) (λ so. refl) g);
+            (λ owes so yet. by_arrival past m m seg) (λ so. refl) (λ opening_yet owed runs. heard_now past m seg) g);
       }
     where
       none : (confirms past seg && is_acceptable (host past) seg.acknowledgement) ≡ false
@@ -228,6 +230,7 @@ module _ (s : Settings) (c : Connection) (up : Upward) (down : Downward) (past :
           resends = syn_heard_runs s past now m seg t0 down seq0 tcp.window false seen0 feeds0 keeps0 it seen_is0 ok0 on late sent0;
           counts = heard_counts s past now m seg t0 down seq0 tcp.window false seen0 feeds0 keeps0 it seen_is0 ok0 on late (rises past h.goes.story) (omega (arith, h.goes.moment, on))
               (subst (λ (r : Resending). CountsSince past r.timer) (sym (congested_resend (greeted c tcp))) g.counts);
+          calls = calls_heard (opened_with u0) past m seg;
           steady = steady_stop c.syn g.steady;
           unset = λ none. let not_it = sym none ∙ gone in absurd cc;
           set = λ yet so. absurd cc;
@@ -239,7 +242,7 @@ module _ (s : Settings) (c : Connection) (up : Upward) (down : Downward) (past :
     watched_gives : Gives s (opened_with watched0) down0 after m
     watched_gives =
         gives_watched s (opened_with u0) down0 after m (nat_lt u0.sent (places u0 down0)) (heard_steady t0 seq0 tcp.window false m seen0 late feeds0.sound.steady)
-        (omega (arith, h.goes.moment, on), rises past h.goes.story)
+        (omega (arith, h.goes.moment, on), rises past h.goes.story) refl
         (λ is. under_way_is s (opened_with u0) down0 after (opened_after stage.Synchronized u0 (after_stop c.syn) false fa0 refl refl refl mss0 answered0 (λ yet. absurd cc)) gives0.keeps is) gives0
 
     ack_is0 : after_ack t0 down0 seq0 tcp.window false m seen0 ≡ watched0

@@ -113,5 +113,5 @@ module _ (s : Settings) (c : Connection) (up : Upward) (down : Downward) (past :
         opened = opened_beside s c (record c { host_ended = true }) (At m EndsHost ∷ past) refl refl (λ is. is) o.quiet o;
         awaits = λ is. let not_it = sym is ∙ known in absurd cc;
         receives = λ is. ended_receives none ended untold r;
-        gives = gives_as s c (record c { host_ended = true }) down (At m EndsHost ∷ past) m refl refl refl refl refl (λ owed gone opening. g.syn_again opening owed gone) (λ so. so) g;
+        gives = gives_as s c (record c { host_ended = true }) down (At m EndsHost ∷ past) m refl refl refl refl refl (λ owed gone opening. g.syn_again opening owed gone) (λ so. so) (λ opening owed runs. g.calls.syn_early opening owed runs) g;
       }

@@ -19,7 +19,7 @@ use Rattle.flow_laws.specs.Flow.{acknowledged_at, guest, has_connected, host, is
 use Rattle.flow_laws.specs.Windows.{mss, right_edge, their_scale, window}
 use Rattle.flow_laws.specs.Close.{fin_is_out, host_failed, host_was_ended}
 use Rattle.flow_laws.specs.Lawful.{IsLawful, is_prompted}
-use Rattle.flow_laws.specs.Dutiful.{IsDutiful, MustClose, fin_is_answered}
+use Rattle.flow_laws.specs.Dutiful.{IsDutiful, MustClose, fin_is_answered, oldest_unheard}
 use Rattle.halves_follow.specs.Ends.{Ends, IsCurrent}
 use Rattle.halves_follow.specs.Follows.{Follows}
 use Rattle.halves_follow.specs.Received.{received as taken_of}
@@ -126,9 +126,21 @@ pub record Receives (s : Settings) (c : Connection) (up : Upward) (past : Story)
   pub prompted : c.ack_owed ≡ true → is_prompted past ≡ true
   pub updated : is_prompted past ≡ false → is_synchronized c.stage ≡ true → c.told ≡ Some (told_edge c up (our_shift c))
 
--- A timer that runs counts since a moment at which the flow was open, and after which nothing of ours was acknowledged.
+-- A timer that runs counts since a moment at which the flow was open, after which nothing of ours was acknowledged, and which isn't to come.
+pub record IsSince (past : Story) (base : ℕ) : Type 0 where
+  pub opened : opened_at past ≤ base
+  pub acknowledged : acknowledged_at past ≤ base
+  pub newest : base ≤ newest_moment past
+
 abbrev pub CountsSince : Story → Timer → Type 0
-CountsSince past timer = (base : ℕ) → timer ≡ Since base → (opened_at past ≤ base) × (acknowledged_at past ≤ base)
+CountsSince past timer = (base : ℕ) → timer ≡ Since base → IsSince past base
+
+-- Since a segment of the guest came, the oldest number that isn't acknowledged went out at most once more than the timer made it; and what is owed again
+-- before the timer expired is owed since one came.
+pub record Calls (c : Connection) (past : Story) : Type 0 where
+  pub counted : oldest_unheard past ≤ (resending_of c).resent + 1
+  pub early : is_opening c.stage ≡ false → c.transmission.early ≡ true → oldest_unheard past ≡ 0
+  pub syn_early : is_opening c.stage ≡ true → c.syn_owed ≡ true → is_expired c.syn.timer ≡ false → oldest_unheard past ≡ 0
 
 -- the host's stream, and when what is under way goes again
 pub record Gives (s : Settings) (c : Connection) (down : Downward) (past : Story) (now : ℕ) : Type 0 where
@@ -139,6 +151,7 @@ pub record Gives (s : Settings) (c : Connection) (down : Downward) (past : Story
   pub alone : s.congestion ≡ false → c.transmission.cwnd ≡ None
   pub resends : Resends past now (timer_of (resending_of c)) (count_of (is_under_way past) (resending_of c)) (resending_of c).estimate.wait
   pub counts : CountsSince past c.transmission.resend.timer
+  pub calls : Calls c past
   pub steady : IsSteady c.syn
   pub unset : has_gone c.sendings ≡ false → is_off c.syn.timer ≡ true
   pub set : is_opening c.stage ≡ true → has_gone c.sendings ≡ true → is_off c.syn.timer ≡ false

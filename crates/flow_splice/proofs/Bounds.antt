@@ -2,7 +2,8 @@
 use Rattle.std.proofs.Common.{refl, ◌≡◌, ℕ, ◌+◌, ◌<◌, ◌≤◌, ◌++◌, Bool, true, false, not, ◌&&◌, ◌||◌, Option, None, Some, is_some, nat_lt, if◌then◌else◌, arith, ap, subst, sym, ◌∙◌}
 use Rattle.std.proofs.lemmas.Bool.Decides.{nat_tests}
 use Rattle.net_octets.specs.declared.Mac.{Mac}
-use Rattle.retransmit.specs.Resending.{due_of as resend_due}
+use Rattle.retransmit.specs.Resending.{due_by as due_by_timer, due_of as resend_due}
+use Rattle.retransmit.specs.declared.Timer.{Timer}
 use Rattle.tcp_guest.specs.Connection.{has_gone, is_opening, is_synchronized}
 use Rattle.tcp_guest.specs.Owing.{ack_if, owed_by, owed_of}
 use Rattle.tcp_guest.specs.Timing.{due_by as conn_due_by, due_of as conn_due}
@@ -10,17 +11,17 @@ use Rattle.tcp_guest.specs.declared.Owed.TheVariants.{Syn, SynAck}
 use Rattle.tcp_guest.specs.declared.Stage.{Stage}
 use Rattle.tcp_guest.specs.declared.Stage.TheVariants as stage
 use Rattle.flow_laws.specs.Settings.{Settings}
-use Rattle.flow_laws.specs.Event.{Story}
+use Rattle.flow_laws.specs.Event.{Story, newest_moment}
 use Rattle.flow_laws.specs.Flow.{has_connected, is_accepted, is_closed, is_connecting, is_under_way, opened_at, syn_is_out}
 use Rattle.flow_laws.specs.Close.{asked_at, times_asked}
-use Rattle.flow_laws.specs.Dutiful.{connect_deadline, moment_if, resend_deadline, seeks_guest, waits_since, wakes}
+use Rattle.flow_laws.specs.Dutiful.{connect_deadline, moment_if, resend_deadline, seeks_guest, waits_for_window, waits_since, wakes}
 use Rattle.halves_follow.specs.Bounds.{IsBy, IsFrom}
 use Rattle.halves_follow.proofs.InTime.{not_before, seeks_none}
 use Rattle.halves_follow.proofs.Moments.{by_both}
 use Rattle.connection_follows.specs.Holding.{is_calls, is_connects, is_live}
-use Rattle.connection_follows.proofs.Bounds.{from_first, from_if, from_second, opening_by, opening_from, synchronized_by, synchronized_from}
-use Rattle.connection_follows.proofs.Settling.{not_expired}
-use Rattle.connection_follows.proofs.Watching.{syn_under_way}
+use Rattle.connection_follows.proofs.Bounds.{by_window, from_first, from_if, from_second, opening_by, opening_from, synchronized_by, synchronized_from}
+use Rattle.connection_follows.proofs.Settling.{no_window, not_expired, watched_by}
+use Rattle.connection_follows.proofs.Watching.{opening_is, syn_under_way}
 use Rattle.flow_splice.specs.Follows.{Follows, FollowsAt, IsAsking, IsOpen}
 use Rattle.flow_splice.specs.Sends.{IsClear, IsClearBy, asks_now}
 use Rattle.flow_splice.specs.Splice.{Splice, is_in_use, is_open}
@@ -88,6 +89,11 @@ module _ (s : Settings) (f : Splice) (past : Story) (now : ℕ) (o : IsOpen s f 
   none_by opening unsent due =
       subst (λ (b : Bool). IsBy due (moment_if (b && not (is_closed past)) (waits_since past + 60000))) (sym (syn_under_way s f.conn past o.holds.opened opening ∙ unsent)) tt
 
+  -- and nothing waits for a window before its SYN was acknowledged
+  none_watched : is_opening f.conn.stage ≡ true → (due : Option ℕ) → IsBy due (moment_if (waits_for_window past) (newest_moment past + 60000))
+  none_watched opening due = by_window past due
+      (λ waits. absurd (no_window past (o.holds.opened.answered ∙ opening_is f.conn.stage o.holds.opened.live opening) waits))
+
   -- its guest is called
   called_by : has_gone f.conn.sendings ≡ true → seeks_guest past ≡ false
   called_by gone = seeks_none past (λ accepted. o.holds.opened.out ∙ gone)
@@ -130,9 +136,12 @@ module _ (s : Settings) (f : Splice) (past : Story) (now : ℕ) (o : IsOpen s f 
 
       by : (st : Stage) → f.conn.stage ≡ st → is_live st ≡ true → IsBy (due_of f) (resend_deadline past)
       by stage.Connects at live =
-          by_both (due_of f) (moment_if (is_under_way past && not (is_closed past)) (waits_since past + 60000)) _
+          by_both (due_of f) (moment_if (is_under_way past && not (is_closed past)) (waits_since past + 60000)
+          ++ moment_if (seeks_guest past && nat_lt 0 (times_asked past)) (asked_at past + 60000)) _
+          (by_both (due_of f) (moment_if (is_under_way past && not (is_closed past)) (waits_since past + 60000)) _
           (none_by (ap (λ (q : Stage). is_opening q) at) (o.holds.opened.unsent (ap (λ (q : Stage). is_connects q) at)) (due_of f))
-          (rw (connects_by (ap (λ (q : Stage). is_connects q) at)) tt)
+          (rw (connects_by (ap (λ (q : Stage). is_connects q) at)) tt))
+          (none_watched (ap (λ (q : Stage). is_opening q) at) (due_of f))
       by stage.Calls at live =
           let no_syn = if_none f.conn.syn_owed Syn (sym (ap (λ (q : Stage). owed_by q f.conn f.up f.down) at) ∙ nothing) in
           of_opening no_syn (ap (λ (q : Stage). is_connects q) at) (ap (λ (q : Stage). is_opening q) at) (ap (λ (q : Stage). conn_due_by q f.conn) at)
@@ -145,7 +154,11 @@ module _ (s : Settings) (f : Splice) (past : Story) (now : ℕ) (o : IsOpen s f 
           of_conn (resend_due f.conn.transmission.resend) (ap (λ (q : Stage). is_connects q) at) (ap (λ (q : Stage). conn_due_by q f.conn) at)
           (synchronized_by s f.conn f.up f.down past now o.holds opening synchronized
           (not_expired s f.conn f.up f.down past now o.holds nothing true (ap (λ (q : Stage). is_calls q) at) opening synchronized
-          (ap (λ (q : Stage). owed_by q f.conn f.up f.down) at, ap (λ (q : Stage). conn_due_by q f.conn) at)))
+          (ap (λ (q : Stage). owed_by q f.conn f.up f.down) at, ap (λ (q : Stage). conn_due_by q f.conn) at))
+          (λ waits.
+          let w = watched_by s f.conn f.up f.down past now o.holds nothing true (ap (λ (q : Stage). is_calls q) at) opening synchronized
+          (ap (λ (q : Stage). owed_by q f.conn f.up f.down) at, ap (λ (q : Stage). conn_due_by q f.conn) at) waits in
+          (w.0 + f.conn.transmission.resend.estimate.wait, ap (λ (t : Timer). due_by_timer t f.conn.transmission.resend.estimate.wait) w.1, w.2)))
       by stage.Rests at live = absurd cc
       by (stage.Resets seq ack) at live = absurd cc
       by stage.Gone at live = absurd cc
@@ -160,9 +173,12 @@ module _ (s : Settings) (f : Splice) (past : Story) (now : ℕ) (o : IsOpen s f 
           let soon = (o.seeks is waits.1).soon in
           let due : due_of f ≡ Some f.ask_at = due_apart (calls_apart f.conn.stage two.0) ∙ ap (λ (b : Bool). if b then ask_due f else conn_due f.conn) (seeking is waits.1)
           ∙ ap (λ (b : Bool). if not b then Some f.ask_at else None) waits.0 in
-          by_both (due_of f) (moment_if (is_under_way past && not (is_closed past)) (waits_since past + 60000)) _ (none_by (calls_opens f.conn.stage two.0).0 two.1 (due_of f))
+          by_both (due_of f) (moment_if (is_under_way past && not (is_closed past)) (waits_since past + 60000)
+          ++ moment_if (seeks_guest past && nat_lt 0 (times_asked past)) (asked_at past + 60000)) _
+          (by_both (due_of f) (moment_if (is_under_way past && not (is_closed past)) (waits_since past + 60000)) _ (none_by (calls_opens f.conn.stage two.0).0 two.1 (due_of f))
           (subst (λ (d : Option ℕ). IsBy d (moment_if (seeks_guest past && nat_lt 0 (times_asked past)) (asked_at past + 60000))) (sym due)
-          (by_if (seeks_guest past && nat_lt 0 (times_asked past)) f.ask_at (asked_at past + 60000) soon))
+          (by_if (seeks_guest past && nat_lt 0 (times_asked past)) f.ask_at (asked_at past + 60000) soon)))
+          (none_watched (calls_opens f.conn.stage two.0).0 (due_of f))
         where
           by_if : (b : Bool) (at m : ℕ) → at ≤ m → IsBy (Some at) (moment_if b m)
           by_if true at m low = (low, tt)

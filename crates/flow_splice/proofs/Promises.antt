@@ -1,5 +1,5 @@
 -- What follows where a flow follows its story.
-use Rattle.std.proofs.Common.{refl, ◌≡◌, ℕ, ◌+◌, ◌-◌, ◌<◌, ◌≤◌, [], ◌++◌, List, length, Bool, true, false, not, ◌&&◌, ◌||◌, Option, None, Some, is_some, nat_lt, IsTrue, if◌then◌else◌, arith, ap}
+use Rattle.std.proofs.Common.{refl, ◌≡◌, ℕ, ◌+◌, ◌-◌, ◌<◌, ◌≤◌, [], ◌++◌, List, length, Bool, true, false, not, ◌&&◌, ◌||◌, Option, None, Some, is_some, nat_lt, IsTrue, if◌then◌else◌, arith, ap, nat_le}
 use Rattle.std.proofs.Common.{subst, sym, ◌∙◌, inl, inr, ◌⊎◌}
 use Rattle.std.proofs.lemmas.Bool.Decides.{nat_tests}
 use Rattle.net_octets.specs.declared.Mac.{Mac}
@@ -20,7 +20,7 @@ use Rattle.flow_laws.specs.Host.{answered, got, got_end, acked}
 use Rattle.flow_laws.specs.Flow.{guest, has_connected, host, is_accepted, is_closed, is_connecting, is_under_way, opened_at}
 use Rattle.flow_laws.specs.Close.{host_was_ended, is_in_use as is_in_use_by_law, our_fin_is_acked, fin_was_acknowledged, owes_reset, rests_since}
 use Rattle.flow_laws.specs.Lawful.{IsLawful, IsPrefixOf}
-use Rattle.flow_laws.specs.Dutiful.{AreAhead, IsDutiful, MayWait, MayWaitToWrite, fin_is_answered, moment_if, must_wait_to_write, waits_since, waits_to_read}
+use Rattle.flow_laws.specs.Dutiful.{AreAhead, IsDutiful, MayWait, MayWaitToWrite, fin_is_answered, moment_if, must_wait_to_write, oldest_unheard, waits_since, waits_to_read}
 use Rattle.halves_follow.specs.Settled.{IsSettledIf}
 use Rattle.halves_follow.proofs.Waiting.{settled_if}
 use Rattle.halves_follow.proofs.Wanting.{acknowledged_few, begins_front}
@@ -40,6 +40,7 @@ use Rattle.flow_splice.proofs.Restless.{open_none, owing_none}
 use Rattle.flow_splice.proofs.Stages.{calls_opens, if_none, in_use, no_connecting, resends_none, takes}
 use Rattle.flow_splice.specs.declared.Place.{Place}
 use Rattle.flow_splice.specs.declared.Place.TheVariants.{Empty, InUse, Resting}
+use Rattle.connection_follows.proofs.Unanswered.{few_calls}
 
 -- ---- what was done
 
@@ -241,7 +242,11 @@ closed_waits : (past : Story) (now : ℕ) → is_closed past ≡ true → MayWai
 closed_waits past now shut = record {
   closes = λ honest done. shut;
   connects = subst (λ (b : Bool). AreAhead now (moment_if b (opened_at past + 75000))) (sym (no_connecting (is_accepted past || has_connected past) (is_closed past) shut)) tt;
+  calls = first_true (is_closed past) (nat_le (oldest_unheard past) 9) shut;
 }
+  where
+    first_true : (a b : Bool) → a ≡ true → IsTrue (a || b)
+    first_true a b is = rw is refl
 
 pub waited_is : (s : Settings) (f : Splice) (past : Story) (now : ℕ) → Follows s f past now → (is_open f ≡ true → is_connects f.conn.stage ≡ true → now < connect_end f) → MayWait past now
 waited_is s f past now h early = by f.place f.shut refl refl h
@@ -257,6 +262,7 @@ waited_is s f past now h early = by f.place f.shut refl refl h
         by_calls true calls = record {
           closes = λ honest done. absurd (not_done (host_was_ended past) (our_fin_is_acked past) (fin_was_acknowledged past) (o.holds.awaits calls).untold done);
           connects = subst (λ (e : Bool). AreAhead now (moment_if e (opened_at past + 75000))) (sym (o.holds.opened.connects ∙ (calls_opens f.conn.stage calls).1)) tt;
+          calls = few_calls s f.conn f.up f.down past now o.holds;
         }
         by_calls false reached = may_wait s f.conn f.up f.down past now o.holds reached o.unfinished (λ connects. let soon = early open_yet connects in let since = o.since in omega
             (arith, soon, since))

@@ -4,15 +4,16 @@ use Rattle.tcp_guest.specs.Connection.{is_opening}
 use Rattle.tcp_guest.specs.declared.Owed.{Owed}
 use Rattle.tcp_guest.specs.declared.Stage.{Stage}
 use Rattle.tcp_guest.specs.declared.Stage.TheVariants as stage
-use Rattle.flow_laws.specs.Event.{Story}
+use Rattle.flow_laws.specs.Event.{Story, newest_moment}
 use Rattle.flow_laws.specs.Close.{asked_at, times_asked}
-use Rattle.flow_laws.specs.Flow.{is_accepted, is_closed, is_under_way, syn_is_out}
-use Rattle.flow_laws.specs.Dutiful.{moment_if, resend_deadline, seeks_guest, waits_since}
+use Rattle.flow_laws.specs.Flow.{is_accepted, is_closed, is_under_way, syn_is_out, host}
+use Rattle.flow_laws.specs.Dutiful.{moment_if, resend_deadline, seeks_guest, waits_for_window, waits_since}
 use Rattle.connection_follows.specs.Holding.{is_calls, is_connects}
 use Rattle.flow_splice.specs.Sends.{takes_part_at}
 use Rattle.flow_splice.specs.Splice.{is_in_use}
 use Rattle.flow_splice.specs.declared.Place.{Place}
 use Rattle.flow_splice.specs.declared.Place.TheVariants.{Empty, InUse, Resting}
+use Rattle.flow_laws.specs.Host.{answered, owned, sent}
 
 -- of one that was closed nothing is under way, it doesn't connect, and no guest is called
 pub no_way : (a b : Bool) → b ≡ true → (a && not b) ≡ false
@@ -31,11 +32,21 @@ no_seeking past shut = by (is_accepted past) (syn_is_out past) (is_closed past) 
     by true true d is = refl
     by true false d is = ap not is
 
+pub no_window : (past : Story) → is_closed past ≡ true → waits_for_window past ≡ false
+no_window past shut = by (answered (host past)) (is_closed past) (is_under_way past) (nat_lt (sent (host past)) (owned (host past))) shut
+  where
+    by : (a b d e : Bool) → b ≡ true → (a && not b && not d && e) ≡ false
+    by false b d e is = refl
+    by true true d e is = refl
+    by true false d e is = absurd cc
+
 -- so nothing of it goes out again
 pub resends_none : (past : Story) → is_closed past ≡ true → resend_deadline past ≡ []
 resends_none past shut =
-    ap (λ b. moment_if b (waits_since past + 60000) ++ moment_if (seeks_guest past && nat_lt 0 (times_asked past)) (asked_at past + 60000)) (no_way (is_under_way past) (is_closed past) shut)
-    ∙ ap (λ b. moment_if (b && nat_lt 0 (times_asked past)) (asked_at past + 60000)) (no_seeking past shut)
+    ap (λ b. moment_if b (waits_since past + 60000) ++ moment_if (seeks_guest past && nat_lt 0 (times_asked past)) (asked_at past + 60000)
+    ++ moment_if (waits_for_window past) (newest_moment past + 60000)) (no_way (is_under_way past) (is_closed past) shut)
+    ∙ ap (λ b. moment_if (b && nat_lt 0 (times_asked past)) (asked_at past + 60000) ++ moment_if (waits_for_window past) (newest_moment past + 60000)) (no_seeking past shut)
+    ∙ ap (λ b. moment_if b (newest_moment past + 60000)) (no_window past shut)
 
 -- where one of these is owed if at all, and none is
 pub if_none : (b : Bool) (w : Owed) → (if b then Some w else None) ≡ None → b ≡ false

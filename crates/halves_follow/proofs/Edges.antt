@@ -1,9 +1,9 @@
 -- The guest's window, event by event: the edge, and the numbers of the segment that told it.
-use Rattle.std.proofs.Common.{refl, ◌≡◌, ℕ, ◌+◌, ◌≤◌, ◌∷◌, length, min, arith, Bool, true, false, ◌&&◌, if◌then◌else◌, Option, Some, ap, sym, ◌∙◌, length-drop}
+use Rattle.std.proofs.Common.{refl, ◌≡◌, ℕ, ◌+◌, ◌≤◌, [], ◌∷◌, length, min, arith, Bool, true, false, not, ◌&&◌, ◌||◌, if◌then◌else◌, Option, None, Some, is_some, ap, sym, ◌∙◌, length-drop}
 use Rattle.flow_laws.specs.Settings.{Settings}
-use Rattle.flow_laws.specs.Event.{Segment, Event, Arrives, At, Story}
-use Rattle.flow_laws.specs.Host.{acked, sent, got, got_end, owned, is_acceptable}
-use Rattle.flow_laws.specs.Flow.{host, confirms}
+use Rattle.flow_laws.specs.Event.{Segment, Event, Accepts, Arrives, Connects, Departs, Reads, ReadsEnd, At, Story}
+use Rattle.flow_laws.specs.Host.{Confirmed, Sent, acked, answered, sent, got, got_end, owned, is_acceptable}
+use Rattle.flow_laws.specs.Flow.{host, confirms, push}
 use Rattle.flow_laws.specs.Windows.{Window, window, window_of, is_no_older, edge, edge_of, mss}
 use Rattle.halves_follow.specs.Sends.{Outward, Keeps}
 
@@ -57,3 +57,36 @@ edge_is s o past w k is = by (window s past) (acked (host past)) is (sym k.acked
     by : (v : Option Window) (a : ℕ) → v ≡ w → a ≡ o.acked → (if s.congestion then min (edge_of v) (a + mss s past) else edge_of v) ≡
         (if s.congestion then min (edge_of w) (o.acked + mss s past) else edge_of w)
     by v a x y = rw (x, y) refl
+
+-- once our SYN was acknowledged the guest's window is known
+pub window_known : (s : Settings) (past : Story) → answered (host past) ≡ true → is_some (window s past) ≡ true
+window_known s [] is = absurd cc
+window_known s (At m (Arrives seg) ∷ past) is = arrived (confirms past seg) is (window_known s past)
+  where
+    either : (b : Bool) (v w : Window) → is_some (if b then Some v else Some w) ≡ true
+    either true v w = refl
+    either false v w = refl
+
+    accepted : (a d : Bool) (k : ℕ) (v : Window) (w : Option Window) → (a || d) ≡ true → (d ≡ true → is_some w ≡ true)
+        → is_some (if true && a && is_no_older seg k w then Some v else w) ≡ true
+    accepted true d k v None is before = refl
+    accepted true d k v (Some w) is before = either (is_no_older seg k (Some w)) v w
+    accepted false d k v w is before = before is
+
+    arrived : (b : Bool) → answered (push (if b then Some (Confirmed seg.acknowledgement) else None) (host past)) ≡ true
+        → (answered (host past) ≡ true → is_some (window s past) ≡ true)
+        → is_some (if b && is_acceptable (host past) seg.acknowledgement && is_no_older seg (acked (host (At m (Arrives seg) ∷ past))) (window s past)
+        then Some (window_of s past seg (acked (host (At m (Arrives seg) ∷ past)))) else window s past) ≡ true
+    arrived false is before = before is
+    arrived true is before = accepted (is_acceptable (host past) seg.acknowledgement) (answered (host past)) (acked (host (At m (Arrives seg) ∷ past)))
+        (window_of s past seg (acked (host (At m (Arrives seg) ∷ past)))) (window s past) is before
+window_known s (At m (Departs seg) ∷ past) is = window_known s past (went (not seg.syn && not seg.rst) is)
+  where
+    went : (b : Bool) → answered (push (if b then Some (Sent seg.number seg.octets seg.fin) else None) (host past)) ≡ true → answered (host past) ≡ true
+    went true is = is
+    went false is = is
+window_known s (At m (Connects ours syn) ∷ past) is = window_known s past is
+window_known s (At m (Accepts ours) ∷ past) is = window_known s past is
+window_known s (At m (Reads xs) ∷ past) is = window_known s past is
+window_known s (At m ReadsEnd ∷ past) is = window_known s past is
+window_known s (At m _ ∷ past) is = window_known s past is

@@ -1,16 +1,17 @@
 -- What the timer of what is under way is for: when a flow is given up, and that nothing waits longer than a minute, or goes again in a second.
-use Rattle.std.proofs.Common.{refl, ◌≡◌, ℕ, zero, suc, ◌+◌, ◌<◌, ◌≤◌, List, [], ◌∷◌, length, max, arith, Bool, true, false, not, ◌&&◌, if◌then◌else◌, nat_le, nat_lt, IsTrue}
+use Rattle.std.proofs.Common.{refl, ◌≡◌, ℕ, zero, suc, ◌+◌, ◌<◌, ◌≤◌, List, [], ◌∷◌, ◌++◌, length, max, arith, Bool, true, false, not, ◌&&◌, if◌then◌else◌, nat_le, nat_lt, IsTrue}
 use Rattle.std.proofs.lemmas.Bool.Decides.{nat_tests}
 use Rattle.std.specs.Option.{unwrap_or}
 use Rattle.flow_laws.specs.Event.{Segment, AsksAddress, Connects, Accepts, Departs, At, Story, IsStory, newest_moment}
 use Rattle.flow_laws.specs.Host.{answered, acked}
 use Rattle.flow_laws.specs.Flow.{host, add_if, holds, sendings, syn_sendings, acknowledged_at, oldest, oldest_sendings, oldest_sent_again, is_under_way, is_closed, opened_at, is_accepted, syn_is_out}
 use Rattle.flow_laws.specs.Close.{asked_at, gives_up, times_asked, finds_no_guest}
-use Rattle.flow_laws.specs.Dutiful.{waits_since, newest_of, moment_if, resend_deadline, seeks_guest, AreAhead}
+use Rattle.flow_laws.specs.Dutiful.{waits_since, newest_of, moment_if, oldest_unheard, back_off, resend_deadline, seeks_guest, waits_for_window, AreAhead}
 use Rattle.halves_follow.specs.Resends.{Seeks, least_wait, Timer, Off, Until, Expired, Resends, first_time}
 use Rattle.halves_follow.proofs.Moments.{both_ahead}
 use Rattle.halves_follow.proofs.Resent.{rests_now}
-use Rattle.halves_follow.proofs.Timers.{wait_low, gives_up_at, in_time, not_early}
+use Rattle.halves_follow.proofs.Timers.{wait_low, gives_up_at, in_time}
+use Rattle.halves_follow.proofs.Unheard.{backs_off}
 
 by_cases : {A : Type 0} (b : Bool) → (b ≡ true → A) → (b ≡ false → A) → A
 by_cases true f g = f refl
@@ -55,12 +56,22 @@ seeks_none past called = by (is_accepted past) (syn_is_out past) (is_closed past
 pub none_asked : (past : Story) (now : ℕ) → seeks_guest past ≡ false → AreAhead now (moment_if (seeks_guest past && nat_lt 0 (times_asked past)) (asked_at past + 60000))
 none_asked past now none = rw none tt
 
+-- where a closed window is waited for within a minute since the newest event, that is ahead
+pub window_ahead : (past : Story) (now : ℕ) → (waits_for_window past ≡ true → now < newest_moment past + 60000) → AreAhead now (moment_if (waits_for_window past) (newest_moment past + 60000))
+window_ahead past now soon = by (waits_for_window past) soon
+  where
+    by : (b : Bool) → (b ≡ true → now < newest_moment past + 60000) → AreAhead now (moment_if b (newest_moment past + 60000))
+    by true f = (f refl, tt)
+    by false f = tt
+
 -- nothing waits longer than a minute: where nothing is owed again, the timer hasn't expired, and no guest's address is asked for
 pub all_in_time : (past : Story) (now : ℕ) (timer : Timer) (k w : ℕ) → Resends past now timer k w → (is_under_way past ≡ true → timer ≡ Expired → ⊥) →
-    ((at : ℕ) → timer ≡ Until at → now < at) → HasCalled past → AreAhead now (resend_deadline past)
-all_in_time past now timer k w r sent_all before called =
-    both_ahead now (moment_if (is_under_way past && not (is_closed past)) (waits_since past + 60000)) _
-    (by (is_under_way past) (is_closed past) (λ under. by_timer timer refl under)) (none_asked past now (seeks_none past called))
+    ((at : ℕ) → timer ≡ Until at → now < at) → (waits_for_window past ≡ true → now < newest_moment past + 60000) → HasCalled past → AreAhead now (resend_deadline past)
+all_in_time past now timer k w r sent_all before watched called =
+    both_ahead now (moment_if (is_under_way past && not (is_closed past)) (waits_since past + 60000) ++ moment_if (seeks_guest past && nat_lt 0 (times_asked past)) (asked_at past + 60000)) _
+    (both_ahead now (moment_if (is_under_way past && not (is_closed past)) (waits_since past + 60000)) _
+    (by (is_under_way past) (is_closed past) (λ under. by_timer timer refl under)) (none_asked past now (seeks_none past called)))
+    (window_ahead past now watched)
   where
     by_timer : (t : Timer) → timer ≡ t → is_under_way past ≡ true → now < waits_since past + 60000
     by_timer Off is under = absurd (r.set under is)
@@ -72,11 +83,13 @@ all_in_time past now timer k w r sent_all before called =
     by true false f = (f refl, tt)
     by false c f = tt
 
--- nor is a wait cut short in a second after it went out, or after the flow was opened
-pub not_woken : (past : Story) (now at k w : ℕ) → Resends past now (Until at) k w → is_under_way past ≡ true → opened_at past ≤ waits_since past → max (opened_at past) (waits_since past) + 1000 ≤ at
-not_woken past now at k w r under low =
-    let late = not_early (oldest_sendings past) (oldest_sent_again past) (waits_since past) k at (r.running at under refl) in
-    omega (arith, late, low)
+-- nor is a wait cut short before so many that nothing answered ask for
+pub not_woken : (past : Story) (now at k w : ℕ) → Resends past now (Until at) k w → is_under_way past ≡ true → oldest_unheard past ≤ k + 1 → opened_at past ≤ waits_since past
+    → max (opened_at past) (waits_since past) + back_off (oldest_unheard past) ≤ at
+not_woken past now at k w r under few low =
+    let late = (r.running at under refl).from in
+    let waits = backs_off (oldest_unheard past) k few in
+    omega (arith, late, waits, low)
 
 -- ---- nothing goes out before the flow is opened
 

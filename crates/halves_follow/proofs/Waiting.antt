@@ -1,13 +1,13 @@
 -- From what a flow keeps to what holds whenever the program waits.
 use Rattle.std.proofs.Common.{refl, ◌≡◌, ℕ, ◌+◌, ◌-◌, ◌<◌, ◌≤◌, length, min, Option, Some, is_some, Bool, true, false, not, ◌&&◌, ◌||◌, if◌then◌else◌, IsTrue, nat_lt}
 use Rattle.flow_laws.specs.Settings.{Settings}
-use Rattle.flow_laws.specs.Event.{Story}
+use Rattle.flow_laws.specs.Event.{Story, newest_moment}
 use Rattle.flow_laws.specs.Guest.{AckIsDue, was_acked, Honest}
 use Rattle.flow_laws.specs.Host.{answered}
 use Rattle.flow_laws.specs.Flow.{guest, host, their_number, is_accepted, is_closed, has_connected, syn_is_out, is_under_way}
 use Rattle.flow_laws.specs.Close.{owes_reset, times_asked, our_fin_is_acked, host_was_ended}
 use Rattle.flow_laws.specs.Windows.{edge, right_edge, our_shift, told}
-use Rattle.flow_laws.specs.Dutiful.{HasAcknowledged, fin_is_answered, IsSettled, ClosesWhenDone}
+use Rattle.flow_laws.specs.Dutiful.{HasAcknowledged, fin_is_answered, IsSettled, ClosesWhenDone, waits_for_window}
 use Rattle.halves_follow.specs.Part.{Part}
 use Rattle.halves_follow.specs.Follows.{Follows}
 use Rattle.halves_follow.specs.Ends.{Ends}
@@ -56,13 +56,13 @@ pub settled_is : (in_time : Type 0) (s : Settings) (past : Story) (p : Part) (o 
     → HasCalled past
     → edge s past ≡ e → (IsTrue (answered (host past) && not (is_closed past)) → min e (o.before + length o.held + (if o.ended then 1 else 0)) ≤ o.sent)
     → (p.received.ended ≡ false → (r : ℕ) → told_edge ≡ Some r → p.received.taken + told (our_shift s past false) (s.ring - length p.up.held) < r + 2920)
-    → (is_under_way past ≡ true → timer ≡ Expired → ⊥) → (in_time → (at : ℕ) → timer ≡ Until at → now < at)
+    → (is_under_way past ≡ true → timer ≡ Expired → ⊥) → (in_time → (at : ℕ) → timer ≡ Until at → now < at) → (in_time → waits_for_window past ≡ true → now < newest_moment past + 60000)
     → IsSettledIf in_time s past known rests now
-settled_is in_time s past p o known rests now timer k w e told_edge f keeps r same none due opening resting reset syn_ack called is out few sent_all before = record {
+settled_is in_time s past p o known rests now timer k w e told_edge f keeps r same none due opening resting reset syn_ack called is out few sent_all before watched = record {
   sends = record { reset = reset; syn_ack = syn_ack; syn = λ accepted. called_or known (called accepted); octets = λ open_yet. octets_out s o past e keeps is (out open_yet) };
   acknowledges = acknowledged_is s past p rests f none due opening resting;
   window = told_of s past p now told_edge f none same few;
-  resends = λ soon. all_in_time past now timer k w r sent_all (before soon) called;
+  resends = λ soon. all_in_time past now timer k w r sent_all (before soon) (watched soon) called;
 }
   where
     called_or : (b : Bool) → IsTrue (syn_is_out past) → IsTrue (syn_is_out past || (not b && nat_lt 0 (times_asked past)))
