@@ -1,5 +1,5 @@
 -- What the test passes is dutiful: sentence by sentence.
-use Rattle.std.proofs.Common.{◌≡◌, ℕ, ◌≤◌, ◌==◌, ◌&&◌, ◌||◌, not, nat_le, Bool, true, false, List, [], ◌∷◌, Option, Some, None, ◌⊎◌, inl, inr, refl, sym, ap, subst, if◌then◌else◌}
+use Rattle.std.proofs.Common.{◌≡◌, ℕ, ◌≤◌, ◌==◌, ◌&&◌, ◌||◌, not, nat_le, Bool, true, false, List, [], ◌∷◌, Option, Some, None, ◌⊎◌, inl, inr, refl, sym, ap, subst, if◌then◌else◌, arith}
 use Rattle.poll_list.specs.Listing.{reads, same_who, writes}
 use Rattle.poll_list.specs.declared.Want.{Want}
 use Rattle.poll_list.specs.declared.Who.{Who}
@@ -15,12 +15,13 @@ use Rattle.flow_laws.proofs.Answering.{nat_less}
 use Rattle.flow_laws.proofs.Computing.{nat_within}
 use Rattle.flow_laws.proofs.Duties.{may_wait_to_write_is}
 use Rattle.flow_laws.proofs.Settled.{settled, waits}
+use Rattle.flow_laws.proofs.Refuting.{some_same}
 use Rattle.halves_follow.specs.Bounds.{IsBy, IsFrom}
 use Rattle.record_flows.specs.Book.{book, scene}
 use Rattle.record_flows.specs.Flows.{Flow, flow_of, guest_is_known, is_numbered}
 use Rattle.record_flows.specs.Laws.{flow_settings}
 use Rattle.slirp_laws.proofs.Bools.{equal, first_of, second_of}
-use Rattle.run_duties.specs.Check.{all_flows, all_may, all_served, flows_are, implies, is_by, is_dutiful, is_from, is_must, is_settled_now, is_wanted, may_be_wanted, may_be_written}
+use Rattle.run_duties.specs.Check.{is_some_time, all_flows, all_may, all_served, flows_are, implies, is_by, is_dutiful, is_from, is_must, is_settled_now, is_wanted, may_be_wanted, may_be_written}
 use Rattle.run_duties.specs.Check.{may_write_flow, must_wait, reported, sockets_are, waits_for}
 use Rattle.run_duties.specs.Duties.{Dutiful, Must as MustCome, MustWait, is_at_rest}
 use Rattle.run_duties.specs.Serving.{AllServed, is_left_to_read, is_left_to_write}
@@ -283,12 +284,26 @@ module _ (config : Config) (past : List Entry) where
 
   -- ---- a wait
 
+  some_time_is : (timeout : Option ℕ) → is_some_time timeout ≡ true → timeout ≡ Some 0 → ⊥
+  some_time_is None is none = absurd cc
+  some_time_is (Some t) is none = let same : t ≡ 0 = some_same t 0 none in let some = nat_less 0 t is in absurd (omega (arith, same, some))
+
   wait_is : (wants : List Want) (timeout : Option ℕ) → must_wait config past wants timeout ≡ true → MustWait config past wants timeout
   wait_is wants timeout is =
+      let all = first_of ((waits_for config past wants && (is_blocked past || is_all_sent config past))
+      && ((is_blocked past || all_flows (is_settled_now config past) (book config past).flows) && all_flows (λ f. may_wait f.story (moment past)) (book config past).flows && all_ahead
+      (moment past) (lives config past))
+      && ((is_by (wait_end (moment past) timeout) (deadlines config past) && is_from (wait_end (moment past) timeout) (alarms config past)) && all_served config past (reported past)))
+      (is_some_time timeout) is in
+      let some = second_of ((waits_for config past wants && (is_blocked past || is_all_sent config past))
+      && ((is_blocked past || all_flows (is_settled_now config past) (book config past).flows) && all_flows (λ f. may_wait f.story (moment past)) (book config past).flows && all_ahead
+      (moment past) (lives config past))
+      && ((is_by (wait_end (moment past) timeout) (deadlines config past) && is_from (wait_end (moment past) timeout) (alarms config past)) && all_served config past (reported past)))
+      (is_some_time timeout) is in
       let p = three (waits_for config past wants && (is_blocked past || is_all_sent config past))
       ((is_blocked past || all_flows (is_settled_now config past) (book config past).flows) && all_flows (λ f. may_wait f.story (moment past)) (book config past).flows && all_ahead
       (moment past) (lives config past))
-      ((is_by (wait_end (moment past) timeout) (deadlines config past) && is_from (wait_end (moment past) timeout) (alarms config past)) && all_served config past (reported past)) is in
+      ((is_by (wait_end (moment past) timeout) (deadlines config past) && is_from (wait_end (moment past) timeout) (alarms config past)) && all_served config past (reported past)) all in
       let times = first_of (is_by (wait_end (moment past) timeout) (deadlines config past) && is_from (wait_end (moment past) timeout) (alarms config past))
       (all_served config past (reported past)) p.2 in
       let served = second_of (is_by (wait_end (moment past) timeout) (deadlines config past) && is_from (wait_end (moment past) timeout) (alarms config past))
@@ -306,6 +321,7 @@ module _ (config : Config) (past : List Entry) where
             (found_passes (is_settled_now config past) number (book config past).flows f (either (is_blocked past) (all_flows (is_settled_now config past) (book config past).flows) r.0 free) found);
         unused = ahead_is (moment past) (lives config past) r.2;
         closed = λ number f found. waits f.story (moment past) (found_passes (λ g. may_wait g.story (moment past)) number (book config past).flows f r.1 found);
+        some_time = some_time_is timeout some;
         until = by_is (wait_end (moment past) timeout) (deadlines config past) (first_of (is_by (wait_end (moment past) timeout) (deadlines config past))
             (is_from (wait_end (moment past) timeout) (alarms config past)) times);
         from = from_is (wait_end (moment past) timeout) (alarms config past) (second_of (is_by (wait_end (moment past) timeout) (deadlines config past))

@@ -1,5 +1,5 @@
 -- A test that says of a record whether it is dutiful, by computing. It asks of every guest what the duties ask of an honest one.
-use Rattle.std.specs.Prelude.{ℕ, ◌&&◌, ◌||◌, not, nat_le, Bool, true, false, List, [], ◌∷◌, Option, Some, None}
+use Rattle.std.specs.Prelude.{ℕ, ◌&&◌, ◌||◌, not, nat_le, nat_lt, Bool, true, false, List, [], ◌∷◌, Option, Some, None}
 use Rattle.poll_list.specs.Listing.{reads, writes}
 use Rattle.poll_list.specs.declared.Want.{Want}
 use Rattle.poll_list.specs.declared.Who.{Who}
@@ -97,12 +97,17 @@ is_from (Some at) (m ∷ ms) = nat_le m at || is_from (Some at) ms
 
 -- ---- a wait
 
+abbrev pub is_some_time : Option ℕ → Bool
+is_some_time None = true
+is_some_time (Some timeout) = nat_lt 0 timeout
+
 abbrev pub must_wait : Config → List Entry → List Want → Option ℕ → Bool
 must_wait config past wants timeout =
     (waits_for config past wants && (is_blocked past || is_all_sent config past))
     && ((is_blocked past || all_flows (is_settled_now config past) (book config past).flows) && all_flows (λ f. may_wait f.story (moment past)) (book config past).flows
     && all_ahead (moment past) (lives config past))
     && ((is_by (wait_end (moment past) timeout) (deadlines config past) && is_from (wait_end (moment past) timeout) (alarms config past)) && all_served config past (reported past))
+    && is_some_time timeout
 
 abbrev pub is_must : Config → List Entry → Call → Bool
 is_must config past (CallWait wants timeout) = must_wait config past wants timeout

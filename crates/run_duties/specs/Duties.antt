@@ -25,7 +25,7 @@ abbrev pub is_at_rest : Config → List Entry → Flow → Bool
 is_at_rest config past f = rests_among (filter (is_young (moment past)) (book config past).rests) (Some f)
 
 -- What can go out of a flow is out, what came is acknowledged, the room is told, and what is under way goes again within a minute, as
--- does a request for a guest's hardware address.
+-- do a request for a guest's hardware address and a question about a closed window.
 abbrev pub IsSettledNow : Config → List Entry → Flow → Type 0
 IsSettledNow config past f = IsSettled (flow_settings config) f.story (guest_is_known (scene config past) f) (is_at_rest config past f) (moment past)
 
@@ -40,8 +40,10 @@ pub record MustWait (config : Config) (past : List Entry) (wants : List Want) (t
   pub settled : is_blocked past ≡ false → EachFlow config past (IsSettledNow config past)
   -- no socket for datagrams is open whose idle life is over
   pub unused : AreAhead (moment past) (lives config past)
-  -- flows of which both ends passed are closed, and those whose host had its time to connect
+  -- flows of which both ends passed are closed, and those whose host had its time to connect; no guest that said nothing was called a tenth time
   pub closed : EachFlow config past (λ f. MayWait f.story (moment past))
+  -- it lasts some time: what was due is done, or waits for the link
+  pub some_time : timeout ≡ Some 0 → ⊥
   -- it lasts no longer than to what has to be done at a time, and at least to the first of them
   pub until : IsBy (wait_end (moment past) timeout) (deadlines config past)
   pub from : IsFrom (wait_end (moment past) timeout) (alarms config past)

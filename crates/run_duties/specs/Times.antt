@@ -50,7 +50,7 @@ file_alarms config past =
     filter (nat_lt (moment past)) (map (λ (t : Transfer). t.due) (ticked (moment past) (is_free (ledger config past)) (serving config past).files.transfers))
 
 -- a wait doesn't pass the end of a host's time to connect, of an idle life or of a rest, nor, unless the link is blocked, a minute since what is under
--- way or a request for a guest's hardware address went out, nor the moment at which a packet of a file goes again
+-- way or a request for a guest's hardware address went out, or since a window was found closed, nor the moment at which a packet of a file goes again
 abbrev pub deadlines : Config → List Entry → List ℕ
 deadlines config past =
     of_flows connect_deadline (book config past).flows ++ lives config past ++ rest_ends config past

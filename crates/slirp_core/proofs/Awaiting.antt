@@ -70,7 +70,7 @@ use Rattle.slirp_core.specs.Owed.{IsOwed, OfFile, OfLeft}
 use Rattle.slirp_core.specs.Fragments.{IsHeld}
 use Rattle.slirp_core.specs.Timeouts.{IsTimeout}
 use Rattle.slirp_core.specs.Waiting.{AreFresh}
-use Rattle.slirp_core.proofs.Bounding.{from_is, until_is}
+use Rattle.slirp_core.proofs.Bounding.{from_is, until_is, some_time_is}
 use Rattle.slirp_core.specs.Pumps.{WantsOf, is_settled, listeners_of}
 use Rattle.slirp_core.specs.State.{SlirpState}
 use Rattle.slirp_core.proofs.Given.{HasGiven, given_kind}
@@ -479,6 +479,7 @@ must_wait config at slirp link past wants timeout holds none_again quiet young r
       (all_ahead config past holds.lawful slirp.moment (subst (λ l. All (λ q. is_idle_question slirp.moment q ≡ false) l) (sym holds.relayed.questions) recent)
       (lives_ahead config past holds.lawful slirp.moment (subst (λ l. All (λ a. is_idle_association slirp.moment a ≡ false) l) (sym holds.relayed.list) young)));
   closed = each_waits config at slirp link past holds early;
+  some_time = some_time_is config at slirp link past holds timeout times early (λ free. (calm free).1) fresh young recent;
   until = until_is config at slirp link past holds timeout times none_again early (λ free. let now = calm free in (now.0.clear, now.1)) young recent;
   from = from_is config at slirp link past holds timeout times none_again fresh young recent;
 }

@@ -1,5 +1,5 @@
 -- The core waits no longer than the record allows, and is woken for nothing else than what the record asks for.
-use Rattle.std.proofs.Common.{◌≡◌, ℕ, zero, suc, ◌+◌, ◌-◌, ◌<◌, ◌≤◌, ◌&&◌, ◌||◌, not, cond, min, nat_le, nat_lt, Bool, true, false, is_some, List, [], ◌∷◌, ◌++◌, All, Any, filter, map}
+use Rattle.std.proofs.Common.{◌≡◌, ℕ, zero, suc, ◌+◌, ◌-◌, ◌<◌, ◌≤◌, ◌&&◌, ◌||◌, not, cond, min, nat_le, nat_lt, if◌then◌else◌, Bool, true, false, is_some, List, [], ◌∷◌, ◌++◌, All, Any, filter, map}
 use Rattle.std.proofs.Common.{slice_get, Option, Some, None, option_map, inl, inr, ◌⊎◌, refl, sym, ap, ◌∙◌, subst, arith}
 use Rattle.std.proofs.lemmas.Bool.Decides.{nat_tests}
 use Rattle.world_face.specs.Journal.{Entry}
@@ -37,7 +37,13 @@ use Rattle.slirp_laws.proofs.Waiting.{IsUsed, are_waiting, same_waiting}
 use Rattle.stream_netdev.specs.State.{LinkState}
 use Rattle.flows_follow.specs.FlowsHold.{rests_at}
 use Rattle.flow_splice.proofs.Stages.{no_connecting, resends_none}
-use Rattle.flow_splice.specs.Splice.{Splice}
+use Rattle.flow_splice.specs.Ahead.{IsTimely}
+use Rattle.flow_splice.specs.Splice.{Splice, is_open}
+use Rattle.flow_splice.specs.Wants.{connect_end, due_of, seeks}
+use Rattle.flow_splice.specs.declared.Place.{Place}
+use Rattle.flow_splice.specs.declared.Place.TheVariants.{Empty, InUse, Resting}
+use Rattle.tcp_guest.specs.Timing.{due_of as conn_due}
+use Rattle.connection_follows.specs.Holding.{is_connects}
 use Rattle.flow_splice.proofs.Promises.{settled_is, waited_is}
 use Rattle.flows_follow.specs.Core.{Following, number_of}
 use Rattle.flows_follow.proofs.Options.{true_false}
@@ -47,9 +53,9 @@ use Rattle.run_duties.proofs.Waited.{questions_by, questions_from}
 use Rattle.halves_follow.proofs.Moments.{by_both}
 use Rattle.waiting_flows.proofs.Bounding.{by_any, by_earlier, flows_by, from_first, from_later, from_second}
 use Rattle.waiting_flows.proofs.Placing.{each, not_in_use}
-use Rattle.tcp_flows.specs.Reading.{AllClear}
+use Rattle.tcp_flows.specs.Reading.{AllClear, IsDue, IsNextAfter, IsOpenAt, rest_end, time_at}
 use Rattle.tcp_flows.specs.Settled.{IsInTime}
-use Rattle.tcp_flows.specs.Waits.{IsForSome, IsInTimeAfter, IsInTimeFor, RestOnce, young_rests}
+use Rattle.tcp_flows.specs.Waits.{IsForSome, IsInTimeAfter, IsInTimeFor, RestLater, RestOnce, young_rests}
 use Rattle.tcp_flows.proofs.Apart.{are_once, once_filter}
 use Rattle.tcp_flows.proofs.Ahead.{have_stories, story_ahead}
 use Rattle.tcp_flows.proofs.Awaiting.{same_later}
@@ -120,9 +126,50 @@ by_next now (m ∷ ms) is = ((let low = is.0 in omega (arith, low)), by_next now
 
 module _ (config : Config) (now : ℕ) (blocked : Bool) (parts : List (Option Splice)) (past : List Entry) (due time : Option ℕ) (left : time ≡ option_map (λ at. at - now) due)
     (for_some : IsForSome config past due) where
+  -- a flow isn't late, and so has a moment that is later than now
+  due_later : (p : Splice) (at : ℕ) → (is_open p ≡ true → is_connects p.conn.stage ≡ true → now < connect_end p) → (is_open p ≡ true → IsTimely p now) → due_of p ≡ Some at → now < at
+  due_later p at early timely is = by (is_open p) (is_connects p.conn.stage) (seeks p) p.asks refl refl refl refl is
+    where
+      some_at : (m : ℕ) → ◌≡◌ {A = Option ℕ} (Some m) (Some at) → m ≡ at
+      some_at m is = cc
+
+      by : (a b d e : Bool) → is_open p ≡ a → is_connects p.conn.stage ≡ b → seeks p ≡ d → p.asks ≡ e
+          → (if a then (if b then Some (connect_end p) else (if d then (if not e then Some p.ask_at else None) else conn_due p.conn)) else None) ≡ Some at → now < at
+      by false b d e open_yet connects seeking asking is = absurd cc
+      by true true d e open_yet connects seeking asking is = let same = some_at (connect_end p) is in let soon = early open_yet connects in omega (arith, same, soon)
+      by true false true true open_yet connects seeking asking is = absurd cc
+      by true false true false open_yet connects seeking asking is = let same = some_at p.ask_at is in let soon = (timely open_yet).1 open_yet seeking asking in omega (arith, same, soon)
+      by true false false e open_yet connects seeking asking is = (timely open_yet).0 at is
+
+  part_later : moment past ≡ now → RestLater (moment past) parts → AreInTime now parts → ((n : ℕ) → IsInTime now parts n) → (at : ℕ) → IsDue parts at → now < at
+  part_later clock rests early timely at is = by is.some.1.place refl
+    where
+      some_at : (m : ℕ) → ◌≡◌ {A = Option ℕ} (Some m) (Some at) → m ≡ at
+      some_at m is = cc
+
+      k : ℕ
+      k = is.some.0
+
+      p : Splice
+      p = is.some.1
+
+      time_is : (x : Place) → p.place ≡ x → time_at x (due_of p) ≡ Some at
+      time_is x place = sym (ap (λ (y : Place). time_at y (due_of p)) place) ∙ is.some.3
+
+      by : (x : Place) → p.place ≡ x → now < at
+      by Empty place = let none = time_is Empty place in absurd cc
+      by InUse place = due_later p at (λ open_yet connects. early k p (record { here = is.some.2; open_yet = open_yet }) connects)
+          (λ open_yet. timely (number_of p) k p (record { here = is.some.2; open_yet = open_yet }) refl) (time_is InUse place)
+      by (Resting since) place =
+          let same = some_at (rest_end since) (time_is (Resting since) place) in
+          let late = rests k p since is.some.2 place in
+          omega (arith, same, late, clock)
+
   -- what is due first suits them
-  pub suits_due : IsInTimeFor config parts past due → (RestOnce config past → IsBy due (rest_ends config past)) → SuitsFlows config now blocked parts past time
-  suits_due in_time rests = record {
+  pub suits_due : IsInTimeFor config parts past due → (RestOnce config past → IsBy due (rest_ends config past)) → RestLater (moment past) parts
+      → ((at : ℕ) → due ≡ Some at → IsDue parts at × ((blocked && nat_le at now) ≡ false)) → SuitsFlows config now blocked parts past time
+  suits_due in_time rests rest_later first = record {
+    later = λ clock early timely at is. later_by blocked refl clock early timely at (first at is);
     due = due;
     left = left;
     connects = λ ahead. in_time.connects;
@@ -130,6 +177,14 @@ module _ (config : Config) (now : ℕ) (blocked : Bool) (parts : List (Option Sp
     rests = λ once ahead. rests once;
     for_some = for_some;
   }
+    where
+      later_by : (b : Bool) → blocked ≡ b → moment past ≡ now → AreInTime now parts → (blocked ≡ false → (n : ℕ) → IsInTime now parts n) → (at : ℕ)
+          → IsDue parts at × ((blocked && nat_le at now) ≡ false) → now < at
+      later_by true is clock early timely at two = after at (sym (ap (λ (b : Bool). b && nat_le at now) is) ∙ two.1)
+        where
+          after : (m : ℕ) → nat_le m now ≡ false → now < m
+          after m is = grind (arith, nat_tests)
+      later_by false is clock early timely at two = part_later clock rest_later early (timely is) at two.0
 
   all_after : (ms : List ℕ) → AreAhead now ms → filter (nat_lt now) ms ≡ ms
   all_after [] ahead = refl
@@ -140,8 +195,10 @@ module _ (config : Config) (now : ℕ) (blocked : Bool) (parts : List (Option Sp
       by false is more = absurd cc
 
   -- and where the link is blocked so does what is due first after now
-  pub suits_after : blocked ≡ true → IsInTimeAfter config now past due → (RestOnce config past → IsBy due (filter (nat_lt now) (rest_ends config past))) → SuitsFlows config now blocked parts past time
-  suits_after waits in_time rests = record {
+  pub suits_after : blocked ≡ true → IsInTimeAfter config now past due → (RestOnce config past → IsBy due (filter (nat_lt now) (rest_ends config past)))
+      → IsNextAfter now parts due → SuitsFlows config now blocked parts past time
+  suits_after waits in_time rests next = record {
+    later = λ clock early timely at is. after_at at (subst (λ (o : Option ℕ). IsNextAfter now parts o) is next);
     due = due;
     left = left;
     connects = λ ahead. subst (λ (ms : List ℕ). IsBy due ms) (same_later now (book config past).flows ahead) in_time;
@@ -149,6 +206,9 @@ module _ (config : Config) (now : ℕ) (blocked : Bool) (parts : List (Option Sp
     rests = λ once ahead. subst (λ (ms : List ℕ). IsBy due ms) (all_after (rest_ends config past) ahead) (rests once);
     for_some = for_some;
   }
+    where
+      after_at : (at : ℕ) → IsNextAfter now parts (Some at) → now < at
+      after_at at is = is.after
 
 -- ---- sockets
 
@@ -523,3 +583,79 @@ from_is config at slirp link past holds timeout times none_again fresh young_now
     subst (λ (n : ℕ). IsFrom (wait_end n timeout) (alarms config past)) (sym holds.clock.moment)
     (subst (λ (o : Option ℕ). IsFrom (wait_end slirp.moment o) (alarms config past)) (sym (times holds.guests.fragments.held holds.guests.fragments.is_held).is)
     (from_all config at slirp link past holds young_now recent timeout times none_again fresh))
+
+-- ---- no wait is of no time
+
+abbrev Lasts : Option ℕ → Type 0
+Lasts None = Unit {0}
+Lasts (Some time) = 0 < time
+
+sooner_lasts : (one other : Option ℕ) → Lasts one → Lasts other → Lasts (sooner one other)
+sooner_lasts None other first second = second
+sooner_lasts (Some one) None first second = first
+sooner_lasts (Some one) (Some other) first second = omega (arith, first, second)
+
+all_at : (P : PartSet → Type 0) (sets : List PartSet) → All P sets → (i : ℕ) (s : PartSet) → slice_get sets i ≡ Some s → P s
+all_at P [] all i s is = absurd cc
+all_at P (x ∷ sets) all zero s is = let same : x ≡ s = some_set x s is in subst P same all.0
+  where
+    some_set : (a b : PartSet) → ◌≡◌ {A = Option PartSet} (Some a) (Some b) → a ≡ b
+    some_set a b is = cc
+all_at P (x ∷ sets) all (suc i) s is = all_at P sets all.1 i s is
+
+sockets_last : (now : ℕ) (associations : List Association) → All (λ a. is_idle_association now a ≡ false) associations → Lasts (time_left now associations)
+sockets_last now [] young = tt
+sockets_last now (a ∷ associations) young = left a.used young.0
+  where
+    left : (used : ℕ) → nat_le (used + idle_life) now ≡ false → 0 < idle_life - (now - used)
+    left used is = grind (arith, nat_tests)
+
+questions_last : (now : ℕ) (questions : List Question) → All (λ q. is_idle_question now q ≡ false) questions → Lasts (question_left now questions)
+questions_last now [] recent = tt
+questions_last now (q ∷ questions) recent = left q.used recent.0
+  where
+    left : (used : ℕ) → nat_le (used + question_life) now ≡ false → 0 < question_life - (now - used)
+    left used is = grind (arith, nat_tests)
+
+fragments_last : (now : ℕ) (held : List PartSet) → All (λ (s : PartSet). now < s.since + 60000) held → (time : Option ℕ) → IsPartTime now held time → Lasts time
+fragments_last now held fresh None is = tt
+fragments_last now held fresh (Some left) (due, is) =
+    let first = is.0.one.1.1 in
+    let young = all_at (λ (s : PartSet). now < s.since + 60000) held fresh is.0.one.0 is.0.one.1.0 first.0 in
+    omega (arith, first.1, young, is.1)
+
+files_last : (now : ℕ) (transfers : List Transfer) (time : Option ℕ) → IsFileTime now transfers time → Lasts time
+files_last now transfers None is = tt
+files_last now transfers (Some left) (due, is) = let later = is.0.0 in omega (arith, later, is.1)
+
+flows_last : (now : ℕ) (due time : Option ℕ) → time ≡ option_map (λ at. at - now) due → ((at : ℕ) → due ≡ Some at → now < at) → Lasts time
+flows_last now None time left later = subst Lasts (sym left) tt
+flows_last now (Some at) time left later = subst Lasts (sym left) (let soon = later at refl in omega (arith, soon))
+
+-- A wait lasts some time: where no host had its time to connect, no socket for datagrams is idle for long, no fragments that wait are to be dropped, and the flows are in time unless the link is blocked.
+pub some_time_is : (config : Config) (at : Standing) (slirp : SlirpState) (link : LinkState) (past : List Entry) → Holds config at slirp (flowing true slirp.flows) link past
+    → (timeout : Option ℕ) → ((held : List PartSet) → IsHeld slirp.fragments held → IsTimeout slirp link.blocked held timeout) → AreInTime slirp.moment slirp.flows.flows.slots
+    → (link.blocked ≡ false → (n : ℕ) → IsInTime slirp.moment slirp.flows.flows.slots n) → AreFresh slirp.moment slirp.fragments
+    → All (λ a. is_idle_association slirp.moment a ≡ false) slirp.associations → All (λ q. is_idle_question slirp.moment q ≡ false) slirp.questions
+    → timeout ≡ Some 0 → ⊥
+some_time_is config at slirp link past holds timeout times early timely fresh young_now recent none = absurd (omega (arith, too_short))
+  where
+    time : IsTimeout slirp link.blocked holds.guests.fragments.held timeout
+    time = times holds.guests.fragments.held holds.guests.fragments.is_held
+
+    suits : SuitsFlows config slirp.moment link.blocked slirp.flows.flows.slots past time.flows
+    suits = time.suits_flows config slirp.moment past holds.flows.holds
+
+    lasts : Lasts timeout
+    lasts = subst Lasts (sym time.is)
+        (sooner_lasts _ time.files
+        (sooner_lasts _ time.flows
+        (sooner_lasts _ time.fragments
+        (sooner_lasts (time_left slirp.moment slirp.associations) (question_left slirp.moment slirp.questions) (sockets_last slirp.moment slirp.associations young_now)
+        (questions_last slirp.moment slirp.questions recent))
+        (fragments_last slirp.moment holds.guests.fragments.held (fresh holds.guests.fragments.held holds.guests.fragments.is_held) time.fragments time.of_fragments))
+        (flows_last slirp.moment suits.due time.flows suits.left (suits.later holds.clock.moment early timely)))
+        (files_last slirp.moment slirp.transfers time.files time.of_files))
+
+    too_short : 0 < 0
+    too_short = subst Lasts none lasts

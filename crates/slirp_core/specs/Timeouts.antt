@@ -1,5 +1,5 @@
 -- How long a wait may last.
-use Rattle.std.specs.Prelude.{◌≡◌, ℕ, ◌-◌, Bool, true, false, List, [], Option, Some, None, option_map}
+use Rattle.std.specs.Prelude.{◌≡◌, ℕ, ◌-◌, ◌<◌, Bool, true, false, List, [], Option, Some, None, option_map}
 use Rattle.world_face.specs.Journal.{Entry}
 use Rattle.host_policy.specs.Addresses.{Config}
 use Rattle.ipv4_head.specs.Sets.{PartSet}
@@ -11,7 +11,10 @@ use Rattle.flow_splice.specs.Splice.{Splice}
 use Rattle.run_duties.specs.Times.{of_flows, rest_ends}
 use Rattle.flows_follow.specs.Core.{CoreHolds}
 use Rattle.tcp_flows.specs.Reading.{AllClear, IsDue, IsDueAfter, NoneDue, NoneDueAfter}
+use Rattle.tcp_flows.specs.Settled.{IsInTime}
 use Rattle.tcp_flows.specs.Waits.{IsForSome, RestOnce}
+use Rattle.run_laws.specs.Moments.{moment}
+use Rattle.slirp_core.specs.Connecting.{AreInTime}
 use Rattle.slirp_core.specs.Pumps.{question_left, time_left}
 use Rattle.slirp_core.specs.State.{SlirpState}
 use Rattle.world_face.specs.Moments.{sooner}
@@ -32,7 +35,7 @@ IsFlowTime false now parts (Some left) = (at : ℕ) × (IsDue parts at × (left 
 
 -- By the record a wait that ends with this time suits the flows. It isn't too long for one that connects, if no host's time to connect is over, nor, where the
 -- link isn't blocked and no flow owes a frame, for one that waits for its guest, nor for one that rests; and it isn't too short: something of a flow is to be
--- done by then, or a rest is over.
+-- done by then, or a rest is over. Where no flow is late it is some time.
 pub record SuitsFlows (config : Config) (now : ℕ) (blocked : Bool) (parts : List (Option Splice)) (past : List Entry) (time : Option ℕ) : Type 0 where
   pub due : Option ℕ
   pub left : time ≡ option_map (λ at. at - now) due
@@ -40,6 +43,7 @@ pub record SuitsFlows (config : Config) (now : ℕ) (blocked : Bool) (parts : Li
   pub resends : blocked ≡ false → AllClear parts → IsBy due (of_flows resend_deadline (book config past).flows)
   pub rests : RestOnce config past → AreAhead now (rest_ends config past) → IsBy due (rest_ends config past)
   pub for_some : IsForSome config past due
+  pub later : moment past ≡ now → AreInTime now parts → (blocked ≡ false → (n : ℕ) → IsInTime now parts n) → (at : ℕ) → due ≡ Some at → now < at
 
 -- what is left until the first packet of these transfers is due to go again, of those that aren't due yet
 abbrev pub IsFileTime : ℕ → List Transfer → Option ℕ → Type 0

@@ -1,7 +1,8 @@
-use Rattle.std.proofs.Common.{ℕ, ◌-◌, Bool, List, Option, None, Some, true, ap, refl, subst}
+use Rattle.std.proofs.Common.{◌≡◌, ℕ, ◌-◌, ◌&&◌, nat_le, Bool, List, Option, None, Some, true, false, ap, refl, subst}
 use Rattle.world_face.specs.Journal.{Entry}
 use Rattle.host_policy.specs.Addresses.{Config}
 use Rattle.flows_follow.specs.Core.{CoreHolds}
+use Rattle.tcp_flows.specs.Reading.{IsDue}
 use Rattle.slirp_core.specs.State.{SlirpState}
 use Rattle.slirp_core.specs.Timeouts.{SuitsFlows}
 use Rattle.slirp_core.proofs.Bounding.{suits_after, suits_due}
@@ -17,7 +18,8 @@ returns-in_err-due-clause-suits c =
     subst (λ (s : SlirpState). Suits s c.args.blocked c.from_residual.result) c.self.view_is
     (λ config before past holds.
     suits_due config i.moment c.args.blocked i.flows.flows.slots past None c.from_residual.result c.from_residual.ensures (c.in_err-due.ensures.for_some config before past holds)
-    (c.in_err-due.ensures.in_time config before true past holds) (c.in_err-due.ensures.rests config before past holds))
+    (c.in_err-due.ensures.in_time config before true past holds) (c.in_err-due.ensures.rests config before past holds) (c.in_err-due.ensures.rests_later config before past holds)
+    (λ at is. absurd cc))
 
 pub returns-clause-suits : goal.returns-clause-suits
 returns-clause-suits c =
@@ -26,7 +28,9 @@ returns-clause-suits c =
     (λ config before past holds.
     suits_due config i.moment c.args.blocked i.flows.flows.slots past (Some c.in_ok-due.due) (Some c.saturating_sub.result) (ap Some c.saturating_sub.ensures)
     (c.in_ok-due.ensures.for_some config before past holds)
-    (c.in_ok-due.ensures.in_time config before true past holds) (c.in_ok-due.ensures.rests config before past holds))
+    (c.in_ok-due.ensures.in_time config before true past holds) (c.in_ok-due.ensures.rests config before past holds) (c.in_ok-due.ensures.rests_later config before past holds)
+    (λ at is. let same : c.in_ok-due.due ≡ at = cc in subst (λ (m : ℕ). IsDue i.flows.flows.slots m × ((c.args.blocked && nat_le m i.moment) ≡ false)) same
+    (c.in_ok-due.ensures.due, c.if-blocked.false)))
 
 -- where the link is blocked and the first is due already
 
@@ -37,7 +41,7 @@ returns-in_err-later-clause-suits c =
     (λ config before past holds.
     suits_after config i.moment c.args.blocked i.flows.flows.slots past None c.from_residual-in_err-later.result c.from_residual-in_err-later.ensures
     (c.in_err-later.ensures.for_some config before past holds) c.if-blocked.true
-    (c.in_err-later.ensures.in_time config before true past holds) (c.in_err-later.ensures.rests config before past holds))
+    (c.in_err-later.ensures.in_time config before true past holds) (c.in_err-later.ensures.rests config before past holds) c.in_err-later.ensures.next)
 
 pub returns-then-due-self-clause-suits : goal.returns-then-due-self-clause-suits
 returns-then-due-self-clause-suits c =
@@ -46,4 +50,4 @@ returns-then-due-self-clause-suits c =
     (λ config before past holds.
     suits_after config i.moment c.args.blocked i.flows.flows.slots past (Some c.in_ok-later.later) (Some (c.in_ok-later.later - i.moment)) refl
     (c.in_ok-later.ensures.for_some config before past holds) c.if-blocked.true
-    (c.in_ok-later.ensures.in_time config before true past holds) (c.in_ok-later.ensures.rests config before past holds))
+    (c.in_ok-later.ensures.in_time config before true past holds) (c.in_ok-later.ensures.rests config before past holds) c.in_ok-later.ensures.next)
