@@ -183,7 +183,7 @@ fn sum_after(start: u32, octets: &[u8]) -> u16
     requires { length octets.now ≤ 65535 }
     ensures { result ≡ with_carries (start + word_sum octets.now) }
 {
-    fold(start as u64 + sum_of_pairs(octets))
+    fold(start as u64 + sum_of_quads(octets))
 }
 
 /// The sum of the two 16-bit words of an address.
@@ -212,36 +212,20 @@ fn sum_of_words(octets: &[u8]) -> u64
     }
 }
 
-/// The sum of the 32-bit words, and of the 16-bit words of the last one to three octets.
+/// The sum of the 32-bit words as the processor reads them, the first octet lowest, times 256; and of the 16-bit words of the last one to three octets. Four of the
+/// words are added at a time, side by side.
 fn sum_of_quads(octets: &[u8]) -> u64
     requires { length octets.now ≤ 65535 }
     ensures sum { result ≡ quad_sum octets.now }
-    ensures small { result ≤ 4294967296 * length octets.now }
+    ensures small { result ≤ 1099511627776 * length octets.now }
 {
     let mut sum: u64 = 0;
     let mut rest = octets;
     while let [a, b, c, d, tail @ ..] = rest {
-        sum += u32::from_be_bytes([*a, *b, *c, *d]) as u64;
+        sum += u32::from_le_bytes([*a, *b, *c, *d]) as u64;
         rest = tail;
     }
-    sum + sum_of_words(rest)
-}
-
-/// The sum of the 32-bit words, two at a time: each has a sum of its own, so that neither waits for the other.
-fn sum_of_pairs(octets: &[u8]) -> u64
-    requires { length octets.now ≤ 65535 }
-    ensures sum { result ≡ quad_sum octets.now }
-    ensures small { result ≤ 4294967296 * length octets.now }
-{
-    let mut sum: u64 = 0;
-    let mut other: u64 = 0;
-    let mut rest = octets;
-    while let [a, b, c, d, e, f, g, h, tail @ ..] = rest {
-        sum += u32::from_be_bytes([*a, *b, *c, *d]) as u64;
-        other += u32::from_be_bytes([*e, *f, *g, *h]) as u64;
-        rest = tail;
-    }
-    sum + other + sum_of_quads(rest)
+    256 * sum + sum_of_words(rest)
 }
 
 /// The one's complement sum that a plain sum of words comes to.

@@ -23,7 +23,7 @@ written_holds sum = elim (cases_Bool (checksum sum == 0)) [
   | inl none ↦ (let zero_is : checksum sum ≡ 0 = grind (arith, nat_tests, none) in
       let whole = whole_sum sum zero_is in
       ap (λ b. sum_ok (sum + (if b then 65535 else checksum sum))) none
-      ∙ ap (λ n. n == 65535) (with_carries-add sum 1 whole.0 ∙ whole.1))
+      ∙ ap (λ n. n == 65535) (with_carries-add sum 1 (λ zero_is. let some = whole.0 in absurd (omega (arith, zero_is, some))) ∙ whole.1))
   | inr some ↦ ap (λ b. sum_ok (sum + (if b then 65535 else checksum sum))) some ∙ sum_holds sum
 ]
 

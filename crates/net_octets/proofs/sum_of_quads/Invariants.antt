@@ -4,7 +4,7 @@ use Rattle.net_octets.proofs.sum_of_quads.Given as goal
 
 abbrev pub invariant-loop-rest : goal.invariant-loop-rest
 invariant-loop-rest l = record {
-  sums : l.sum + quad_sum l.rest ≡ quad_sum l.fn.octets;
+  sums : 256 * l.sum + quad_sum l.rest ≡ quad_sum l.fn.octets;
   small : l.sum + 4294967296 * length l.rest ≤ 4294967296 * length l.fn.octets;
 }
 
