@@ -107,7 +107,7 @@ option_lines =
     ∷ codes "  --dns A               the name server's address in it, .3"
     ∷ codes "  --dhcpstart A         the first of 16 addresses for DHCP, .15"
     ∷ codes "  --restrict            nothing leaves the network"
-    ∷ codes "  --deny A/N            nothing reaches this network, up to 8 times"
+    ∷ codes "  --deny A/N            guests don't reach this network, up to 8 times"
     ∷ codes "  --no-loopback         nothing reaches the host's loopback"
     ∷ codes "  --hostname T          the guest's name, told by DHCP"
     ∷ codes "  --domainname T        the guest's domain, told by DHCP"

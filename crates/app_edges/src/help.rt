@@ -21,7 +21,7 @@ const OPTIONS: &str = concat!(
     "  --dns A               the name server's address in it, .3\n",
     "  --dhcpstart A         the first of 16 addresses for DHCP, .15\n",
     "  --restrict            nothing leaves the network\n",
-    "  --deny A/N            nothing reaches this network, up to 8 times\n",
+    "  --deny A/N            guests don't reach this network, up to 8 times\n",
     "  --no-loopback         nothing reaches the host's loopback\n",
     "  --hostname T          the guest's name, told by DHCP\n",
     "  --domainname T        the guest's domain, told by DHCP\n",

@@ -101,7 +101,8 @@ opened_still past m (Accepts ours) none = absurd (none tt)
 opened_still past m _ none = refl
 
 -- one after which the connection holds, and whether our SYN is to go out is as before
-pub goes_on : (s : Settings) (f : Splice) (c : Connection) (up : Upward) (down : Downward) (told : Bool) (past : Story) (before now : ℕ) (e : Event) → before ≤ now → (Opens e → ⊥) → IsOpen s f past before
+pub goes_on : (s : Settings) (f : Splice) (c : Connection) (up : Upward) (down : Downward) (told : Bool) (past : Story)
+    (before now : ℕ) (e : Event) → before ≤ now → (Opens e → ⊥) → IsOpen s f past before
     → Holds s c up down (At now e ∷ past) now → host_was_ended (At now e ∷ past) ≡ told → is_done c ≡ false
     → (f.mac ≡ None → (is_calls c.stage ≡ true) × (has_gone c.sendings ≡ false)) → (c.ack_owed ≡ false → follows_reset true (At now e ∷ past) ≡ false)
     → IsOpen s (record f { conn = c; up = up; down = down; told_end = told }) (At now e ∷ past) now
