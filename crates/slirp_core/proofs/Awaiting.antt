@@ -1,5 +1,5 @@
 -- What the core waits for is all that can be taken, and where the link isn't blocked all that is owed is out.
-use Rattle.std.proofs.Common.{◌≡◌, ℕ, zero, suc, ◌+◌, ◌<◌, ◌≤◌, ◌==◌, ◌&&◌, ◌||◌, not, nat_lt, Bool, true, false, is_some, List, [], ◌∷◌, ◌++◌, All, filter, length, slice_get}
+use Rattle.std.proofs.Common.{◌≡◌, ℕ, zero, suc, ◌+◌, ◌<◌, ◌≤◌, ◌==◌, ◌&&◌, ◌||◌, not, nat_lt, Bool, true, false, is_some, List, [], ◌∷◌, ◌++◌, All, filter, length, slice_get, nat_le, IsTrue}
 use Rattle.std.proofs.Common.{IsPermutation, Option, None, Some, option_map, inl, inr, refl, sym, ap, ◌∙◌, subst, arith, if◌then◌else◌}
 use Rattle.std.proofs.lemmas.Bool.Decides.{nat_tests}
 use Rattle.std.proofs.lemmas.List.Sorted.{list_any-IsPermutation}
@@ -46,7 +46,7 @@ use Rattle.tcp_flows.proofs.Settling.{are_settled}
 use Rattle.tcp_flows.specs.Waits.{AreWaitedFor}
 use Rattle.flow_splice.specs.Splice.{Splice}
 use Rattle.flow_laws.specs.Close.{is_in_use}
-use Rattle.flow_laws.specs.Dutiful.{AreAhead, IsSettled, MayWait, moment_if}
+use Rattle.flow_laws.specs.Dutiful.{AreAhead, IsSettled, MayWait, moment_if, oldest_unheard}
 use Rattle.flow_laws.specs.Event.{Story}
 use Rattle.flow_laws.specs.Flow.{has_connected, is_accepted, is_closed, opened_at}
 use Rattle.record_flows.specs.Laws.{flow_settings}
@@ -433,7 +433,11 @@ closed_waits : (story : Story) (now : ℕ) → is_in_use story ≡ false → May
 closed_waits story now unused = record {
   closes = λ honest done. not_in_use story unused;
   connects = subst (λ (b : Bool). AreAhead now (moment_if b (opened_at story + 75000))) (sym (no_connecting (is_accepted story || has_connected story) (is_closed story) (not_in_use story unused))) tt;
+  calls = first_true (is_closed story) (nat_le (oldest_unheard story) 9) (not_in_use story unused);
 }
+  where
+    first_true : (a b : Bool) → a ≡ true → IsTrue (a || b)
+    first_true a b is = rw is refl
 
 each_waits : (config : Config) (at : Standing) (slirp : SlirpState) (link : LinkState) (past : List Entry) → Holds config at slirp (flowing true slirp.flows) link past →
     AreInTime slirp.moment slirp.flows.flows.slots → EachFlow config past (λ f. MayWait f.story (moment past))

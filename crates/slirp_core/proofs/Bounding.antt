@@ -1,7 +1,8 @@
 -- The core waits no longer than the record allows, and is woken for nothing else than what the record asks for.
-use Rattle.std.proofs.Common.{◌≡◌, ℕ, zero, suc, ◌+◌, ◌-◌, ◌<◌, ◌≤◌, ◌&&◌, ◌||◌, not, cond, min, nat_le, nat_lt, if◌then◌else◌, Bool, true, false, is_some, List, [], ◌∷◌, ◌++◌, All, Any, filter, map}
-use Rattle.std.proofs.Common.{slice_get, Option, Some, None, option_map, inl, inr, ◌⊎◌, refl, sym, ap, ◌∙◌, subst, arith}
+use Rattle.std.proofs.Common.{◌≡◌, ℕ, zero, suc, ◌+◌, ◌-◌, ◌<◌, ◌≤◌, ◌&&◌, ◌||◌, not, cond, min, nat_le, nat_lt, Bool, true, false, is_some, List, [], ◌∷◌, ◌++◌, All, Any, filter, map}
+use Rattle.std.proofs.Common.{slice_get, Option, Some, None, option_map, inl, inr, refl, sym, ap, ◌∙◌, subst, arith}
 use Rattle.std.proofs.lemmas.Bool.Decides.{nat_tests}
+use Rattle.std.proofs.lemmas.List.Elements.{All-head, All-tail}
 use Rattle.world_face.specs.Journal.{Entry}
 use Rattle.world_face.specs.Frames.{is_blocked}
 use Rattle.host_policy.specs.Addresses.{Config}
@@ -13,9 +14,9 @@ use Rattle.dns_relay.specs.declared.Question.{Question}
 use Rattle.tftp_server.specs.Transfers.{Transfer, next_again, ticked}
 use Rattle.tftp_server.proofs.Turning.{next_left, ticked_none}
 use Rattle.flow_laws.specs.Close.{is_in_use}
-use Rattle.flow_laws.specs.Dutiful.{AreAhead, connect_deadline, moment_if, resend_deadline, waits_since, wakes}
+use Rattle.flow_laws.specs.Dutiful.{AreAhead, connect_deadline, moment_if, resend_deadline, wakes}
 use Rattle.flow_laws.specs.Event.{Story}
-use Rattle.flow_laws.specs.Flow.{has_connected, is_accepted, is_closed, is_under_way, opened_at}
+use Rattle.flow_laws.specs.Flow.{has_connected, is_accepted, is_closed, opened_at}
 use Rattle.halves_follow.specs.Bounds.{IsBy, IsFrom}
 use Rattle.record_flows.specs.Book.{book, is_young as is_young_rest, longest_rest}
 use Rattle.record_flows.specs.Flows.{Flow, Rest}
@@ -37,13 +38,10 @@ use Rattle.slirp_laws.proofs.Waiting.{IsUsed, are_waiting, same_waiting}
 use Rattle.stream_netdev.specs.State.{LinkState}
 use Rattle.flows_follow.specs.FlowsHold.{rests_at}
 use Rattle.flow_splice.proofs.Stages.{no_connecting, resends_none}
-use Rattle.flow_splice.specs.Ahead.{IsTimely}
-use Rattle.flow_splice.specs.Splice.{Splice, is_open}
-use Rattle.flow_splice.specs.Wants.{connect_end, due_of, seeks}
+use Rattle.flow_splice.specs.Splice.{Splice}
+use Rattle.flow_splice.specs.Wants.{due_of}
 use Rattle.flow_splice.specs.declared.Place.{Place}
 use Rattle.flow_splice.specs.declared.Place.TheVariants.{Empty, InUse, Resting}
-use Rattle.tcp_guest.specs.Timing.{due_of as conn_due}
-use Rattle.connection_follows.specs.Holding.{is_connects}
 use Rattle.flow_splice.proofs.Promises.{settled_is, waited_is}
 use Rattle.flows_follow.specs.Core.{Following, number_of}
 use Rattle.flows_follow.proofs.Options.{true_false}
@@ -53,11 +51,11 @@ use Rattle.run_duties.proofs.Waited.{questions_by, questions_from}
 use Rattle.halves_follow.proofs.Moments.{by_both}
 use Rattle.waiting_flows.proofs.Bounding.{by_any, by_earlier, flows_by, from_first, from_later, from_second}
 use Rattle.waiting_flows.proofs.Placing.{each, not_in_use}
-use Rattle.tcp_flows.specs.Reading.{AllClear, IsDue, IsNextAfter, IsOpenAt, rest_end, time_at}
+use Rattle.tcp_flows.specs.Reading.{AllClear, IsDue, IsNextAfter, rest_end, time_at}
 use Rattle.tcp_flows.specs.Settled.{IsInTime}
-use Rattle.tcp_flows.specs.Waits.{IsForSome, IsInTimeAfter, IsInTimeFor, RestLater, RestOnce, young_rests}
+use Rattle.tcp_flows.specs.Waits.{IsForSome, IsInTimeAfter, IsInTimeFor, RestLater, RestOnce}
 use Rattle.tcp_flows.proofs.Apart.{are_once, once_filter}
-use Rattle.tcp_flows.proofs.Ahead.{have_stories, story_ahead}
+use Rattle.tcp_flows.proofs.Ahead.{due_later, have_stories, story_ahead}
 use Rattle.tcp_flows.proofs.Awaiting.{same_later}
 use Rattle.slirp_core.specs.Connecting.{AreInTime}
 use Rattle.slirp_core.specs.Fragments.{IsHeld}
@@ -126,21 +124,6 @@ by_next now (m ∷ ms) is = ((let low = is.0 in omega (arith, low)), by_next now
 
 module _ (config : Config) (now : ℕ) (blocked : Bool) (parts : List (Option Splice)) (past : List Entry) (due time : Option ℕ) (left : time ≡ option_map (λ at. at - now) due)
     (for_some : IsForSome config past due) where
-  -- a flow isn't late, and so has a moment that is later than now
-  due_later : (p : Splice) (at : ℕ) → (is_open p ≡ true → is_connects p.conn.stage ≡ true → now < connect_end p) → (is_open p ≡ true → IsTimely p now) → due_of p ≡ Some at → now < at
-  due_later p at early timely is = by (is_open p) (is_connects p.conn.stage) (seeks p) p.asks refl refl refl refl is
-    where
-      some_at : (m : ℕ) → ◌≡◌ {A = Option ℕ} (Some m) (Some at) → m ≡ at
-      some_at m is = cc
-
-      by : (a b d e : Bool) → is_open p ≡ a → is_connects p.conn.stage ≡ b → seeks p ≡ d → p.asks ≡ e
-          → (if a then (if b then Some (connect_end p) else (if d then (if not e then Some p.ask_at else None) else conn_due p.conn)) else None) ≡ Some at → now < at
-      by false b d e open_yet connects seeking asking is = absurd cc
-      by true true d e open_yet connects seeking asking is = let same = some_at (connect_end p) is in let soon = early open_yet connects in omega (arith, same, soon)
-      by true false true true open_yet connects seeking asking is = absurd cc
-      by true false true false open_yet connects seeking asking is = let same = some_at p.ask_at is in let soon = (timely open_yet).1 open_yet seeking asking in omega (arith, same, soon)
-      by true false false e open_yet connects seeking asking is = (timely open_yet).0 at is
-
   part_later : moment past ≡ now → RestLater (moment past) parts → AreInTime now parts → ((n : ℕ) → IsInTime now parts n) → (at : ℕ) → IsDue parts at → now < at
   part_later clock rests early timely at is = by is.some.1.place refl
     where
@@ -158,7 +141,7 @@ module _ (config : Config) (now : ℕ) (blocked : Bool) (parts : List (Option Sp
 
       by : (x : Place) → p.place ≡ x → now < at
       by Empty place = let none = time_is Empty place in absurd cc
-      by InUse place = due_later p at (λ open_yet connects. early k p (record { here = is.some.2; open_yet = open_yet }) connects)
+      by InUse place = due_later now p at (λ open_yet connects. early k p (record { here = is.some.2; open_yet = open_yet }) connects)
           (λ open_yet. timely (number_of p) k p (record { here = is.some.2; open_yet = open_yet }) refl) (time_is InUse place)
       by (Resting since) place =
           let same = some_at (rest_end since) (time_is (Resting since) place) in
@@ -597,22 +580,22 @@ sooner_lasts (Some one) (Some other) first second = omega (arith, first, second)
 
 all_at : (P : PartSet → Type 0) (sets : List PartSet) → All P sets → (i : ℕ) (s : PartSet) → slice_get sets i ≡ Some s → P s
 all_at P [] all i s is = absurd cc
-all_at P (x ∷ sets) all zero s is = let same : x ≡ s = some_set x s is in subst P same all.0
+all_at P (x ∷ sets) all zero s is = let same : x ≡ s = some_set x s is in subst P same (All-head P x sets all)
   where
     some_set : (a b : PartSet) → ◌≡◌ {A = Option PartSet} (Some a) (Some b) → a ≡ b
     some_set a b is = cc
-all_at P (x ∷ sets) all (suc i) s is = all_at P sets all.1 i s is
+all_at P (x ∷ sets) all (suc i) s is = all_at P sets (All-tail P x sets all) i s is
 
 sockets_last : (now : ℕ) (associations : List Association) → All (λ a. is_idle_association now a ≡ false) associations → Lasts (time_left now associations)
 sockets_last now [] young = tt
-sockets_last now (a ∷ associations) young = left a.used young.0
+sockets_last now (a ∷ associations) young = left a.used (All-head (λ (b : Association). is_idle_association now b ≡ false) a associations young)
   where
     left : (used : ℕ) → nat_le (used + idle_life) now ≡ false → 0 < idle_life - (now - used)
     left used is = grind (arith, nat_tests)
 
 questions_last : (now : ℕ) (questions : List Question) → All (λ q. is_idle_question now q ≡ false) questions → Lasts (question_left now questions)
 questions_last now [] recent = tt
-questions_last now (q ∷ questions) recent = left q.used recent.0
+questions_last now (q ∷ questions) recent = left q.used (All-head (λ (b : Question). is_idle_question now b ≡ false) q questions recent)
   where
     left : (used : ℕ) → nat_le (used + question_life) now ≡ false → 0 < question_life - (now - used)
     left used is = grind (arith, nat_tests)

@@ -1,4 +1,5 @@
-use Rattle.std.proofs.Common.{◌≡◌, ℕ, ◌-◌, ◌&&◌, nat_le, Bool, List, Option, None, Some, true, false, ap, refl, subst}
+use Rattle.std.proofs.Common.{◌≡◌, ℕ, ◌-◌, ◌<◌, arith, ◌&&◌, nat_le, Bool, List, Option, None, Some, true, false, ap, refl, subst, ◌∙◌}
+use Rattle.std.proofs.lemmas.Bool.Decides.{nat_tests}
 use Rattle.world_face.specs.Journal.{Entry}
 use Rattle.host_policy.specs.Addresses.{Config}
 use Rattle.flows_follow.specs.Core.{CoreHolds}
@@ -6,11 +7,15 @@ use Rattle.tcp_flows.specs.Reading.{IsDue}
 use Rattle.slirp_core.specs.State.{SlirpState}
 use Rattle.slirp_core.specs.Timeouts.{SuitsFlows}
 use Rattle.slirp_core.proofs.Bounding.{suits_after, suits_due}
+use Rattle.slirp_core.proofs.network.Slirp.time_of_flows.Goals.{else-blocked-via-else-blocked, else-blocked-via-then-blocked+else-due-self}
 use Rattle.slirp_core.proofs.network.Slirp.time_of_flows.Goals as goal
 
 -- a time suits the flows by each record for which they stand
 abbrev Suits : SlirpState → Bool → Option ℕ → Type 0
 Suits s blocked time = (config : Config) (before : ℕ) (past : List Entry) → CoreHolds config before true None s.flows.flows past → SuitsFlows config s.moment blocked s.flows.flows.slots past time
+
+not_yet : (at now : ℕ) → now < at → nat_le at now ≡ false
+not_yet at now later = grind (arith, nat_tests)
 
 pub returns-in_err-due-clause-suits : goal.returns-in_err-due-clause-suits
 returns-in_err-due-clause-suits c =
@@ -30,7 +35,10 @@ returns-clause-suits c =
     (c.in_ok-due.ensures.for_some config before past holds)
     (c.in_ok-due.ensures.in_time config before true past holds) (c.in_ok-due.ensures.rests config before past holds) (c.in_ok-due.ensures.rests_later config before past holds)
     (λ at is. let same : c.in_ok-due.due ≡ at = cc in subst (λ (m : ℕ). IsDue i.flows.flows.slots m × ((c.args.blocked && nat_le m i.moment) ≡ false)) same
-    (c.in_ok-due.ensures.due, c.if-blocked.false)))
+    (c.in_ok-due.ensures.due, elim c.else-blocked.branch [
+      | else-blocked-via-else-blocked w ↦ ap (λ (b : Bool). b && nat_le c.in_ok-due.due i.moment) w.if-blocked.false
+      | else-blocked-via-then-blocked+else-due-self w ↦ ap (λ (b : Bool). b && nat_le c.in_ok-due.due i.moment) w.if-blocked.true ∙ not_yet c.in_ok-due.due i.moment w.if-due-self.false
+    ])))
 
 -- where the link is blocked and the first is due already
 
