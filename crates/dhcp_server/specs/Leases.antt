@@ -29,22 +29,17 @@ at_moment now (Declined until) = if nat_lt now until then Declined until else Fr
 
 abbrev pub is_free : Lease → Bool
 is_free Free = true
-is_free (Reserved mac until) = false
-is_free (Bound mac until) = false
-is_free (Declined until) = false
+is_free _ = false
 
 -- bound or reserved to this hardware address
 abbrev pub is_of : Mac → Lease → Bool
-is_of mac Free = false
 is_of mac (Reserved owner until) = same_mac owner mac
 is_of mac (Bound owner until) = same_mac owner mac
-is_of mac (Declined until) = false
+is_of mac _ = false
 
 abbrev pub is_reserved_for : Mac → Lease → Bool
-is_reserved_for mac Free = false
 is_reserved_for mac (Reserved owner until) = same_mac owner mac
-is_reserved_for mac (Bound owner until) = false
-is_reserved_for mac (Declined until) = false
+is_reserved_for mac _ = false
 
 abbrev pub lease_at : List Lease → ℕ → Lease
 lease_at leases place = slice_index_or leases place Free
@@ -69,9 +64,7 @@ offered mac asked leases =
 -- an offer reserves the address from now on, but a lease stays as it is
 abbrev pub reserved : ℕ → Mac → Lease → Lease
 reserved now mac (Bound owner until) = Bound owner until
-reserved now mac Free = Reserved mac (now + offer_time)
-reserved now mac (Reserved owner until) = Reserved mac (now + offer_time)
-reserved now mac (Declined until) = Reserved mac (now + offer_time)
+reserved now mac _ = Reserved mac (now + offer_time)
 
 abbrev pub reserve : ℕ → Mac → ℕ → List Lease → List Lease
 reserve now mac place leases = slice_set leases place (reserved now mac (lease_at leases place))

@@ -32,17 +32,11 @@ kind_of Refuses = 6
 
 abbrev pub is_silence : Answer → Bool
 is_silence Silence = true
-is_silence (Offers place) = false
-is_silence (Lends place) = false
-is_silence Informs = false
-is_silence Refuses = false
+is_silence _ = false
 
 abbrev pub is_refusal : Answer → Bool
-is_refusal Silence = false
-is_refusal (Offers place) = false
-is_refusal (Lends place) = false
-is_refusal Informs = false
 is_refusal Refuses = true
+is_refusal _ = false
 
 abbrev pub is_ack : Answer → Bool
 is_ack answer = kind_of answer == 5
@@ -57,11 +51,9 @@ IsPlaced Refuses = ⊤
 
 -- the address that is given
 abbrev pub given : Config → Answer → ℕ
-given config Silence = 0
 given config (Offers place) = address_of config place
 given config (Lends place) = address_of config place
-given config Informs = 0
-given config Refuses = 0
+given config _ = 0
 
 abbrev pub zeros : ℕ → List ℕ
 zeros count = replicate count 0
@@ -118,11 +110,10 @@ abbrev pub lease_option : List (ℕ × List ℕ)
 lease_option = (51, four 86400) ∷ []
 
 abbrev pub further_options : Config → Answer → List (ℕ × List ℕ)
-further_options config Silence = []
 further_options config (Offers place) = lease_option ++ network_options config
 further_options config (Lends place) = lease_option ++ network_options config
 further_options config Informs = network_options config
-further_options config Refuses = []
+further_options config _ = []
 
 abbrev pub options : Config → Answer → List (ℕ × List ℕ)
 options config answer = ((53, kind_of answer ∷ []) ∷ []) ++ ((54, four config.vhost) ∷ []) ++ further_options config answer

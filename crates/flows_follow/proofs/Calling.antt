@@ -1,5 +1,6 @@
 -- Calls on the socket of a flow: each may come, and is the flow's event.
 use Rattle.std.proofs.Common.{◌≡◌, ℕ, ◌&&◌, ◌||◌, not, Bool, true, false, List, [], ◌∷◌, ◌++◌, is_some, MatchOption, Option, Some, None, if◌then◌else◌, IsTrue, inl, inr, refl, sym, ◌∙◌, ap, subst}
+use Rattle.std.specs.Option.{option_or}
 use Rattle.poll_list.specs.Listing.{reads, writes}
 use Rattle.poll_list.specs.declared.Who.TheVariants.{Tcp}
 use Rattle.world_face.specs.Journal.{Entry, Call, Close, CallConnected, CallTcpRead, CallTcpWrite, CallTcpEnd, CallClose}
@@ -25,7 +26,7 @@ use Rattle.flows_follow.proofs.Seats.{owner_id, same_or_not}
 use Rattle.slirp_laws.specs.Agenda.{agenda}
 use Rattle.slirp_laws.specs.Asking.{step, step_of}
 use Rattle.slirp_laws.specs.Datagrams.{due_for}
-use Rattle.slirp_laws.specs.Laws.{May, MayDue, due, due_for_services, has_just_written, is_closing, is_least, joins, may_leave, may_part, parts, unless_due}
+use Rattle.slirp_laws.specs.Laws.{May, MayDue, due, due_for_services, has_just_written, is_closing, is_least, joins, may_leave, may_part, parts}
 use Rattle.slirp_laws.specs.Names.{kind_for}
 use Rattle.slirp_laws.proofs.Sorts.{same_flow}
 use Rattle.slirp_laws.proofs.Bools.{and_both, first_of, second_of}
@@ -41,9 +42,9 @@ pub due_is : (config : Config) (past : List Entry) → InWork config past → du
 due_is config past work =
     let flows = due_for_flows config (book config past) (next_number past) in
     let services = due_for_services config past in
-    ap (λ (p : Phase). unless_due (due_in p past) (unless_due (due_for config (step config past) (next_number past)) (unless_due services flows))) work.working
-    ∙ ap (λ e. unless_due (due_for config (step_of config past e) (next_number past)) (unless_due services flows)) work.errand
-    ∙ ap (λ o. unless_due o flows) work.services
+    ap (λ (p : Phase). option_or (due_in p past) (option_or (due_for config (step config past) (next_number past)) (option_or services flows))) work.working
+    ∙ ap (λ e. option_or (due_for config (step_of config past e) (next_number past)) (option_or services flows)) work.errand
+    ∙ ap (λ o. option_or o flows) work.services
 
 module _ (config : Config) (face : Face) (f : Flow) (past : List Entry) (work : InWork config past) (has : HasFlow config face f past) where
   -- after a call that failed the close is due, and else nothing
@@ -56,8 +57,8 @@ module _ (config : Config) (face : Face) (f : Flow) (past : List Entry) (work : 
   flows_due : host_failed f.story ≡ false → due_for_flows config (book config past) (next_number past) ≡ None
   flows_due well = has.due ∙ ap (λ b. close_if b face.number) well
 
-  on_yet : (not (is_closing config past) || false) ≡ true
-  on_yet = ap (λ (c : Bool). not c || false) work.open_yet
+  on_yet : not (is_closing config past) ≡ true
+  on_yet = ap not work.open_yet
 
   working : is_working (phase config past) ≡ true
   working = ap is_working work.working

@@ -75,7 +75,7 @@ module _ (config : Config) (state : FlowsState Splice) (past : List Entry) (now 
   pub may_connect : May config past (CallConnect (next_number past) to)
   may_connect =
       gathered config past (CallConnect (next_number past) to) tt (this_one config past (CallConnect (next_number past) to) is_due) (ap is_some is_due) (same (next_number past)) refl refl
-      (ap (λ (c : Bool). not c || false) work.open_yet)
+      (ap not work.open_yet)
       (record {
         due = subst (λ o. MatchOption o (Unit {0}) (λ d. CallConnect (next_number past) to ≡ d)) (sym holds.asked) refl;
         touches = holds.asked;

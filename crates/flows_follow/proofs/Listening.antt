@@ -1,5 +1,6 @@
 -- In a lawful record a listener is for a port of the host that is given to a guest: each was opened for the next of the forwards of the settings.
 use Rattle.std.proofs.Common.{◌≡◌, ℕ, zero, suc, ◌+◌, ◌==◌, nat_lt, Bool, true, false, List, [], ◌∷◌, drop, slice_get, is_some, MatchOption, Option, Some, None, option_and_then}
+use Rattle.std.specs.Option.{option_or}
 use Rattle.std.proofs.Common.{option_map, if◌then◌else◌, refl, sym, ◌∙◌, ap, subst, arith}
 use Rattle.world_face.specs.Journal.{Entry, Call, Now, Wait, Connect, Listen, Accept, UdpOpen, CallNow, CallConnect, CallListen, CallAccept, CallClose, CallUdpOpen, call_of}
 use Rattle.world_face.specs.Frames.{Ending, ending, partial}
@@ -18,9 +19,9 @@ use Rattle.record_flows.specs.Lots.{connects_to, due_by, due_for_flows}
 use Rattle.slirp_laws.specs.Asking.{step}
 use Rattle.slirp_laws.specs.Names.{answered}
 use Rattle.tftp_server.specs.Asking.{call_for}
-use Rattle.tftp_server.specs.Transfers.{Quest, Settled as NothingSought, SeeksLength, SeeksOctets}
-use Rattle.slirp_laws.specs.Datagrams.{Step, Settled, NeedsRoom, NeedsSocket, NeedsSending, due_for}
-use Rattle.slirp_laws.specs.Laws.{Lawful, May, due, due_for_answer, due_for_services, unless_due}
+use Rattle.tftp_server.specs.Transfers.{Quest, Settled as SeeksNothing, SeeksLength, SeeksOctets}
+use Rattle.slirp_laws.specs.Datagrams.{Step, NeedsNothing, NeedsRoom, NeedsSocket, NeedsSending, due_for}
+use Rattle.slirp_laws.specs.Laws.{Lawful, May, due, due_for_services}
 use Rattle.slirp_laws.specs.Answers.{serving}
 use Rattle.slirp_laws.proofs.Bools.{equal}
 use Rattle.flows_follow.proofs.Options.{none_some, some_same, true_false}
@@ -31,22 +32,22 @@ abbrev listens : Option Call → Bool
 listens (Some (CallListen socket at)) = true
 listens _ = false
 
-neither_listens : (a b : Option Call) → listens a ≡ false → listens b ≡ false → listens (unless_due a b) ≡ false
+neither_listens : (a b : Option Call) → listens a ≡ false → listens b ≡ false → listens (option_or a b) ≡ false
 neither_listens None b one other = other
 neither_listens (Some call) b one other = one
 
 step_listens : (config : Config) (s : Step) (number : ℕ) → listens (due_for config s number) ≡ false
-step_listens config Settled number = refl
+step_listens config NeedsNothing number = refl
 step_listens config (NeedsRoom oldest errand) number = refl
 step_listens config (NeedsSocket errand) number = refl
 step_listens config (NeedsSending socket errand) number = refl
 
-answer_listens : (o : Option ℕ) → listens (due_for_answer o) ≡ false
+answer_listens : (o : Option ℕ) → listens (option_map CallClose o) ≡ false
 answer_listens None = refl
 answer_listens (Some socket) = refl
 
 quest_listens : (q : Quest) → listens (call_for q) ≡ false
-quest_listens NothingSought = refl
+quest_listens SeeksNothing = refl
 quest_listens (SeeksLength s) = refl
 quest_listens (SeeksOctets t there) = refl
 
@@ -61,14 +62,14 @@ close_listens (Some socket) = refl
 
 -- neither a guest's datagram does, nor a flow
 abbrev asked : Config → List Entry → Option Call
-asked config past = unless_due (due_for config (step config past) (next_number past)) (unless_due (due_for_services config past) (due_for_flows config (book config past) (next_number past)))
+asked config past = option_or (due_for config (step config past) (next_number past)) (option_or (due_for_services config past) (due_for_flows config (book config past) (next_number past)))
 
 asked_listens : (config : Config) (past : List Entry) → listens (asked config past) ≡ false
 asked_listens config past =
-    neither_listens (due_for config (step config past) (next_number past)) (unless_due (due_for_services config past) (due_for_flows config (book config past) (next_number past)))
+    neither_listens (due_for config (step config past) (next_number past)) (option_or (due_for_services config past) (due_for_flows config (book config past) (next_number past)))
     (step_listens config (step config past) (next_number past))
     (neither_listens (due_for_services config past) (due_for_flows config (book config past) (next_number past))
-    (neither_listens (due_for_answer (answered config past)) (call_for (serving config past).files.quest) (answer_listens (answered config past)) (quest_listens (serving config past).files.quest))
+    (neither_listens (option_map CallClose (answered config past)) (call_for (serving config past).files.quest) (answer_listens (answered config past)) (quest_listens (serving config past).files.quest))
     (flow_listens (book config past).doomed (connects_to config (book config past)) (next_number past)))
 
 never_listens : (o : Option Call) (socket : ℕ) (at : Endpoint) → listens o ≡ false → o ≡ Some (CallListen socket at) → ⊥
@@ -93,7 +94,7 @@ OpensIn (Opening count []) past call = call ≡ CallNow
 OpensIn (Opening count (f ∷ forwards)) past call = call ≡ opening_of f.proto (next_number past) f
 OpensIn _ past call = Unit {0}
 
-opens_in : (p : Phase) (past : List Entry) (other : Option Call) (call : Call) → MatchOption (unless_due (due_in p past) other) (Unit {0}) (λ d. call ≡ d) → OpensIn p past call
+opens_in : (p : Phase) (past : List Entry) (other : Option Call) (call : Call) → MatchOption (option_or (due_in p past) other) (Unit {0}) (λ d. call ≡ d) → OpensIn p past call
 opens_in (Opening count []) past other call is = is
 opens_in (Opening count (f ∷ forwards)) past other call is = is
 opens_in Started past other call is = tt
@@ -194,7 +195,7 @@ module _ (config : Config) (past : List Entry) (socket : ℕ) (at : Endpoint) wh
       ap (λ o. is_some (option_and_then (λ (g : Forward). port_by g.proto g.guest) o)) (ap (slice_get config.forwards) (sym number) ∙ got) ∙ ap (λ proto. is_some (port_by proto f.guest)) tcp
   for_port f ByUdp udp got is = cc
 
-  listens_for : (p : Phase) (other : Option Call) → listens other ≡ false → AreLeft config.forwards (next_number past) p → unless_due (due_in p past) other ≡ Some
+  listens_for : (p : Phase) (other : Option Call) → listens other ≡ false → AreLeft config.forwards (next_number past) p → option_or (due_in p past) other ≡ Some
       (CallListen socket at) → HasPort config socket
   listens_for (Opening count []) other none left is = cc
   listens_for (Opening count (f ∷ forwards)) other none left is =
@@ -203,7 +204,7 @@ module _ (config : Config) (past : List Entry) (socket : ℕ) (at : Endpoint) wh
   listens_for Woken other none left is = cc
   listens_for Working other none left is = absurd (never_listens other socket at none is)
   listens_for (Over cause) other none left is =
-      absurd (never_listens (unless_due (option_map CallClose (first (open_sockets past))) other) socket at
+      absurd (never_listens (option_or (option_map CallClose (first (open_sockets past))) other) socket at
       (neither_listens (option_map CallClose (first (open_sockets past))) other (close_listens (first (open_sockets past))) none) is)
 
   new_listener : Lawful config past → May config past (CallListen socket at) → HasPort config socket

@@ -35,7 +35,7 @@ use Rattle.record_flows.specs.Book.{book, is_young, quiet, scene, turned}
 use Rattle.record_flows.specs.Doings.{Doing, Seeks, comes, doing, doing_by, ended_by, goes, joined, read_by, seeks, visits, written_by}
 use Rattle.record_flows.specs.Flows.{Flow, Book, Rest, Scene, flow_of, is_on, is_resting, is_strange, is_used, owner, sends, used}
 use Rattle.record_flows.specs.Laws.{MaySend, MaySendOn, MayShut, MayWrite, MustSend, MustSendOn, MustWrite, flow_settings}
-use Rattle.record_flows.specs.Lots.{Lot, OfFlow, Dropped, Strange, due_for_flows, is_mistaken, is_opening, is_reset, is_reset_by, is_to_many, lot_by}
+use Rattle.record_flows.specs.Lots.{Lot, OfFlow, Dropped, GetsReset, due_for_flows, is_mistaken, is_opening, is_reset, is_reset_by, is_to_many, lot_by}
 use Rattle.record_flows.specs.Said.{ConnectsAsAsked}
 use Rattle.record_flows.specs.Segments.{OnTuple, asked_in, from_guest, segment_by, segment_came, segment_in}
 use Rattle.record_flows.proofs.Laws.{connects_as_asked}
@@ -52,7 +52,7 @@ use Rattle.tftp_server.specs.Asking.{by_answer}
 use Rattle.tftp_server.specs.Transfers.{Outcome, Said}
 use Rattle.slirp_laws.specs.Answers.{Serving, is_flows, starts, again_frames, begins_again, is_first, is_out, ledger, left_by_file, left_by_outcome, may_go_again, serving, told_of_files}
 use Rattle.slirp_laws.specs.Answers.{frames_of, identification, left, left_after, owed_for_packet, owed_for_segment, strays, taken, unsent}
-use Rattle.slirp_laws.specs.Datagrams.{Step, Settled, NeedsRoom, NeedsSocket, NeedsSending}
+use Rattle.slirp_laws.specs.Datagrams.{Step, NeedsNothing, NeedsRoom, NeedsSocket, NeedsSending}
 use Rattle.slirp_laws.specs.Laws.{Lawful, May}
 use Rattle.slirp_laws.proofs.Deeds.{FlowsLetWrite}
 use Rattle.slirp_laws.specs.Ports.{last_datagram}
@@ -87,7 +87,7 @@ reset_why config b on reset = by (is_used on.tuple b.flows) refl reset
   where
     other : Lot
     other = if on.segment.rst || is_to_many config on.tuple.other then Dropped
-        else (if is_opening on.segment then lot_by (target config OverTcp on.tuple.other) (nat_lt (used b.flows) config.flows) else Strange)
+        else (if is_opening on.segment then lot_by (target config OverTcp on.tuple.other) (nat_lt (used b.flows) config.flows) else GetsReset)
 
     by : (t : Bool) → is_used on.tuple b.flows ≡ t → is_reset_by (if t || is_resting on.tuple b then OfFlow else other) (is_mistaken on.segment (owner on.tuple b.flows)) ≡ true →
         (on.segment.ack ≡ true) ⊎ (is_used on.tuple b.flows ≡ false)
@@ -103,7 +103,7 @@ asks_none config b to asked =
     asked.free asked.awake asked.opening asked.target
   where
     by : (used resting many opening room : Bool) (v : Verdict) (mistaken : Bool) → used ≡ false → resting ≡ false → opening ≡ true → v ≡ Go to
-        → is_reset_by (if used || resting then OfFlow else (if many then Dropped else (if opening then lot_by v room else Strange))) mistaken ≡ false
+        → is_reset_by (if used || resting then OfFlow else (if many then Dropped else (if opening then lot_by v room else GetsReset))) mistaken ≡ false
     by true resting many opening room v mistaken u r o t = cc
     by false true many opening room v mistaken u r o t = cc
     by false false true opening room v mistaken u r o t = refl
@@ -344,7 +344,7 @@ after_connect config past socket to answer may = by answer
 
 -- a datagram could get no socket, or couldn't be sent
 unsent_same : (config : Config) (past : List Entry) (s : Step) → step config past ≡ s → last_datagram config past ≡ None → unsent config (identification past) s (left config past) ≡ left config past
-unsent_same config past Settled is none = refl
+unsent_same config past NeedsNothing is none = refl
 unsent_same config past (NeedsRoom oldest errand) is none = refl
 unsent_same config past (NeedsSocket errand) is none =
     absurd (none_some (sym none ∙ (errand_asks config past errand (errand_is config past (NeedsSocket errand) is)).datagram))

@@ -22,7 +22,7 @@ use Rattle.run_laws.specs.Sockets.{next_number}
 use Rattle.record_flows.specs.Book.{book, scene, story, story_in}
 use Rattle.record_flows.specs.Flows.{Flow, Book, comes_directly, comes_last, flow_of, guest_is_known, is_numbered, is_used, used, is_resting}
 use Rattle.record_flows.specs.Laws.{flow_settings, AsksForRoom, MayShut, KeepsFlows}
-use Rattle.record_flows.specs.Lots.{OfFlow, Dropped, Strange, asked_for, connects_to, due_by, due_for_flows, is_opening, is_to_many, lot, lot_by}
+use Rattle.record_flows.specs.Lots.{OfFlow, Dropped, GetsReset, asked_for, connects_to, due_by, due_for_flows, is_opening, is_to_many, lot, lot_by}
 use Rattle.record_flows.specs.Said.{Kept, taken_on, ConnectsAsAsked}
 use Rattle.record_flows.specs.Segments.{OnTuple}
 use Rattle.record_flows.proofs.Agreeing.{taken_is}
@@ -81,20 +81,20 @@ connects_as_asked config b number socket to is = by_came b.came refl (asks b.doo
     goes (Denied rule) room is = cc
 
     by_opening : (on : OnTuple) → (t : Bool) → is_opening on.segment ≡ t
-        → asked_for (if t then lot_by (target config OverTcp on.tuple.other) (nat_lt (used b.flows) config.flows) else Strange) ≡ Some to
+        → asked_for (if t then lot_by (target config OverTcp on.tuple.other) (nat_lt (used b.flows) config.flows) else GetsReset) ≡ Some to
         → (is_opening on.segment ≡ true) × (target config OverTcp on.tuple.other ≡ Go to) × (nat_lt (used b.flows) config.flows ≡ true)
     by_opening on true opening is = let parts = goes (target config OverTcp on.tuple.other) (nat_lt (used b.flows) config.flows) is in (opening, parts.0, parts.1)
     by_opening on false opening is = cc
 
     by_dropped : (on : OnTuple) → (t : Bool)
-        → asked_for (if t then Dropped else (if is_opening on.segment then lot_by (target config OverTcp on.tuple.other) (nat_lt (used b.flows) config.flows) else Strange)) ≡ Some to
+        → asked_for (if t then Dropped else (if is_opening on.segment then lot_by (target config OverTcp on.tuple.other) (nat_lt (used b.flows) config.flows) else GetsReset)) ≡ Some to
         → (is_opening on.segment ≡ true) × (target config OverTcp on.tuple.other ≡ Go to) × (nat_lt (used b.flows) config.flows ≡ true)
     by_dropped on true is = cc
     by_dropped on false is = by_opening on (is_opening on.segment) refl is
 
     by_owner : (on : OnTuple) → (t : Bool) → (is_used on.tuple b.flows || is_resting on.tuple b) ≡ t
         → asked_for (if t then OfFlow else (if on.segment.rst || is_to_many config on.tuple.other then Dropped
-        else (if is_opening on.segment then lot_by (target config OverTcp on.tuple.other) (nat_lt (used b.flows) config.flows) else Strange))) ≡ Some to
+        else (if is_opening on.segment then lot_by (target config OverTcp on.tuple.other) (nat_lt (used b.flows) config.flows) else GetsReset))) ≡ Some to
         → ((is_used on.tuple b.flows || is_resting on.tuple b) ≡ false) × (is_opening on.segment ≡ true) × (target config OverTcp on.tuple.other ≡ Go to) × (nat_lt (used b.flows) config.flows ≡ true)
     by_owner on true has is = cc
     by_owner on false has is = let parts = by_dropped on (on.segment.rst || is_to_many config on.tuple.other) is in (has, parts.0, parts.1, parts.2)

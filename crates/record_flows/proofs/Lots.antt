@@ -10,7 +10,7 @@ use Rattle.flow_laws.specs.Event.{Segment}
 use Rattle.flow_laws.specs.Flow.{host, is_closed, next_number, our_number, syn_is_out}
 use Rattle.flow_laws.specs.Host.{answered}
 use Rattle.record_flows.specs.Flows.{Flow, Book, owner, is_used, used, is_resting}
-use Rattle.record_flows.specs.Lots.{Lot, OfFlow, Dropped, Strange, is_mistaken, is_opening, is_reset, is_reset_by, is_to_many, lot, lot_by}
+use Rattle.record_flows.specs.Lots.{Lot, OfFlow, Dropped, GetsReset, is_mistaken, is_opening, is_reset, is_reset_by, is_to_many, lot, lot_by}
 use Rattle.record_flows.specs.Said.{IsDenied, IsIgnored, IsNobodys}
 use Rattle.record_flows.specs.Segments.{OnTuple}
 
@@ -47,7 +47,7 @@ module _ (config : Config) (b : Book) (on : OnTuple) (opening : is_opening on.se
       → lot config b on ≡ (if owned then OfFlow else (if many then Dropped else lot_by (target config OverTcp on.tuple.other) (nat_lt (used b.flows) config.flows)))
   lot_is owned many is_owned is_many =
       (λ i. if is_owned i then OfFlow else (if (rst_is i) || (is_many i) then Dropped else (if opening i then lot_by (target config OverTcp on.tuple.other)
-      (nat_lt (used b.flows) config.flows) else Strange)))
+      (nat_lt (used b.flows) config.flows) else GetsReset)))
 
   nobodys : (is_used on.tuple b.flows || is_resting on.tuple b) ≡ false → IsNobodys b on
   nobodys is = let parts = both (is_used on.tuple b.flows) (is_resting on.tuple b) is in record { free = parts.0; awake = parts.1 }

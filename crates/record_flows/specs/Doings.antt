@@ -12,7 +12,7 @@ use Rattle.world_face.specs.declared.Accepted.TheVariants.{From, NotYet as NotYe
 use Rattle.net_octets.specs.declared.Endpoint.{Endpoint}
 use Rattle.host_policy.specs.Addresses.{Config}
 use Rattle.flow_laws.specs.Event.{Event, Connected as HostConnected, ConnectsYet, ConnectFails, Writes, WriteFails, Reads, ReadsEnd, ReadFails, EndsHost, EndFails}
-use Rattle.run_laws.specs.Happenings.{Arrival, Happening, happens}
+use Rattle.run_laws.specs.Happenings.{Arrival, happens}
 use Rattle.record_flows.specs.Segments.{OnTuple, segment_came, segment_in, asked_in}
 
 pub data Doing : Type 0 where
@@ -38,8 +38,7 @@ joins MadeFailed socket = Nothing
 
 abbrev pub visits : Accepted → ℕ → ℕ → Doing
 visits (From peer) listener socket = Visits listener socket peer
-visits NotYetAccepted listener socket = Nothing
-visits AcceptFailed listener socket = Nothing
+visits _ listener socket = Nothing
 
 -- the answers of calls on a flow's socket
 abbrev pub joined : Joined → Event
@@ -55,9 +54,8 @@ read_by Failed octets = ReadFails
 
 abbrev pub written_by : Io → List ℕ → Event
 written_by (Done n) octets = Writes octets n
-written_by End octets = Writes octets 0
-written_by NotYet octets = Writes octets 0
 written_by Failed octets = WriteFails octets
+written_by _ octets = Writes octets 0
 
 abbrev pub ended_by : Made → Event
 ended_by MadeDone = EndsHost
@@ -92,8 +90,5 @@ doing_by (Some arrival) went e = comes (segment_came (Some arrival))
 doing_by None (Some frame) e = goes (segment_in frame) (asked_in frame)
 doing_by None None e = by_call e
 
-abbrev pub doing_of : Happening → Doing
-doing_of h = doing_by h.came h.went h.call
-
 abbrev pub doing : Config → List Entry → Entry → Doing
-doing config past e = doing_of (happens config past e)
+doing config past e = doing_by (happens config past e).came (happens config past e).went e

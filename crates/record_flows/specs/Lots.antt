@@ -20,7 +20,7 @@ pub data Lot : Type 0 where
   OfFlow : Lot
   Dropped : Lot
   AsksFor : (to : Endpoint) → Lot
-  Strange : Lot
+  GetsReset : Lot
 
 -- SYN and none of ACK, RST and FIN
 abbrev pub is_opening : Segment → Bool
@@ -33,21 +33,19 @@ is_to_many config to = is_group_or_reserved (address to) || (address to == last_
 -- where there is no room for a flow more, the segment is ignored
 abbrev pub lot_by : Verdict → Bool → Lot
 lot_by (Go to) has_room = if has_room then AsksFor to else Dropped
-lot_by (Denied rule) has_room = Strange
+lot_by (Denied rule) has_room = GetsReset
 
 abbrev pub lot : Config → Book → OnTuple → Lot
 lot config book on =
     if is_used on.tuple book.flows || is_resting on.tuple book then OfFlow
     else (if on.segment.rst || is_to_many config on.tuple.other then Dropped
-    else (if is_opening on.segment then lot_by (target config OverTcp on.tuple.other) (nat_lt (used book.flows) config.flows) else Strange))
+    else (if is_opening on.segment then lot_by (target config OverTcp on.tuple.other) (nat_lt (used book.flows) config.flows) else GetsReset))
 
 -- ---- the call that is due
 
 abbrev pub asked_for : Lot → Option Endpoint
-asked_for OfFlow = None
-asked_for Dropped = None
 asked_for (AsksFor to) = Some to
-asked_for Strange = None
+asked_for _ = None
 
 -- to which endpoint the host is to connect for the segment that came last
 abbrev pub connects_to : Config → Book → Option Endpoint
@@ -82,9 +80,8 @@ is_mistaken seg (Some f) =
 
 abbrev pub is_reset_by : Lot → Bool → Bool
 is_reset_by OfFlow mistaken = mistaken
-is_reset_by Dropped mistaken = false
-is_reset_by (AsksFor to) mistaken = false
-is_reset_by Strange mistaken = true
+is_reset_by GetsReset mistaken = true
+is_reset_by _ mistaken = false
 
 -- a segment that came owes a reset
 abbrev pub is_reset : Config → Book → OnTuple → Bool

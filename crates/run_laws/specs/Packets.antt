@@ -1,5 +1,5 @@
 -- What the guests' frames hold.
-use Rattle.std.specs.Prelude.{ℕ, ◌==◌, ◌&&◌, ◌||◌, Bool, List, ◌++◌, take, Option, Some, None, option_and_then, option_map, if◌then◌else◌}
+use Rattle.std.specs.Prelude.{ℕ, ◌==◌, ◌&&◌, ◌||◌, Bool, List, ◌++◌, take, Option, Some, None, option_and_then, option_map, unwrap_or, if◌then◌else◌}
 use Rattle.net_octets.specs.declared.Endpoint.{Endpoint}
 use Rattle.net_octets.specs.Kinds.{arp_kind, ipv4_kind, icmp_proto, udp_proto, tcp_proto}
 use Rattle.host_policy.specs.Addresses.{Config, endpoint, is_guest}
@@ -40,10 +40,6 @@ pub data Packet : Type 0 where
   DatagramPacket : Datagram → Packet
   Segment : (mac : List ℕ) → Ip → Tcp → Packet
 
-abbrev pub unless_unheard : Option Packet → Packet
-unless_unheard None = Unheard
-unless_unheard (Some packet) = packet
-
 abbrev pub datagram_in : Config → List ℕ → Ip → Option Packet
 datagram_in config mac ip = option_and_then (λ udp. if may_come config ip udp then Some (DatagramPacket (datagram_of mac ip udp)) else None) (read_udp ip.from ip.to ip.body)
 
@@ -66,7 +62,7 @@ packet_of config now waiting ether =
     else (if ether.kind == ipv4_kind then option_and_then (whole_packet config now waiting ether.from ether.body) (read_ip ether.body) else None)
 
 abbrev pub packet_in : Config → ℕ → List PartSet → List ℕ → Packet
-packet_in config now waiting frame = unless_unheard (option_and_then (packet_of config now waiting) (read_ether frame))
+packet_in config now waiting frame = unwrap_or (option_and_then (packet_of config now waiting) (read_ether frame)) Unheard
 
 -- A guest's address and a hardware address that a frame teaches (RFC 826: the sender's; and the source of each datagram).
 pub record Pair : Type 0 where
@@ -76,16 +72,10 @@ pub record Pair : Type 0 where
 abbrev pub pair_of : Config → ℕ → List ℕ → Option Pair
 pair_of config address mac = if is_guest config address then Some (record { address = address; mac = mac }) else None
 
-abbrev pub pair_by_arp : Config → Arp → Option Pair
-pair_by_arp config arp = pair_of config arp.sender arp.sender_mac
-
-abbrev pub pair_by_ip : Config → List ℕ → Ip → Option Pair
-pair_by_ip config mac ip = pair_of config ip.from mac
-
 abbrev pub pair_by : Config → Ether → Option Pair
 pair_by config ether =
-    if ether.kind == arp_kind then option_and_then (pair_by_arp config) (read_arp ether.body)
-    else (if ether.kind == ipv4_kind then option_and_then (pair_by_ip config ether.from) (read_ip ether.body) else None)
+    if ether.kind == arp_kind then option_and_then (λ arp. pair_of config arp.sender arp.sender_mac) (read_arp ether.body)
+    else (if ether.kind == ipv4_kind then option_and_then (λ ip. pair_of config ip.from ether.from) (read_ip ether.body) else None)
 
 abbrev pub pair_in : Config → List ℕ → Option Pair
 pair_in config frame = option_and_then (pair_by config) (read_ether frame)

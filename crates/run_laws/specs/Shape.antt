@@ -27,10 +27,8 @@ pub data Phase : Type 0 where
 -- the clock is asked when all forwards are open, and after each wait
 abbrev pub clocked : Phase → Phase
 clocked (Opening opened forwards) = Started
-clocked Started = Started
 clocked Woken = Working
-clocked Working = Working
-clocked (Over cause) = Over cause
+clocked phase = phase
 
 -- a forward is open, or was refused
 abbrev pub opened : Made → Phase → Phase
@@ -90,7 +88,6 @@ opening_of Udp number forward = CallUdpOpen number forward.host
 abbrev pub due_in : Phase → List Entry → Option Call
 due_in (Opening count []) past = Some CallNow
 due_in (Opening count (forward ∷ forwards)) past = Some (opening_of forward.proto (next_number past) forward)
-due_in Started past = None
 due_in Woken past = Some CallNow
-due_in Working past = None
 due_in (Over cause) past = option_map CallClose (first (open_sockets past))
+due_in _ past = None

@@ -8,7 +8,7 @@ use Rattle.world_face.proofs.Following.{heard}
 use Rattle.host_policy.specs.Addresses.{Config}
 use Rattle.run_laws.specs.Moments.{waits}
 use Rattle.run_laws.specs.Shape.{phase}
-use Rattle.slirp_laws.specs.Datagrams.{Settled}
+use Rattle.slirp_laws.specs.Datagrams.{NeedsNothing}
 use Rattle.slirp_laws.specs.Laws.{Finished, Lawful}
 use Rattle.slirp_laws.specs.Served.{Served}
 use Rattle.slirp_laws.proofs.Sentences.{served}
@@ -85,7 +85,7 @@ spent config count turns service made some all is holds = record {
   is = ap TurnsSpent is ∙ so holds.stands;
 }
   where
-    so : Stands config Settled service.slirp service.slirp.flows service.link made → TurnsSpent config.turns ≡ end_of config (phase config made)
+    so : Stands config NeedsNothing service.slirp service.slirp.flows service.link made → TurnsSpent config.turns ≡ end_of config (phase config made)
     so (Turns turn) = sym (ap (end_of config) turn.working)
     so (Begins first free unrested) = sym (ap (end_of config) first.started)
 

@@ -5,13 +5,13 @@ use Rattle.run_duties.proofs.Ended.{ended_yet}
 use Rattle.run_laws.specs.Moments.{waits}
 use Rattle.run_laws.specs.Shape.{Phase, Opening, Started, Woken, Working, Over, is_ended, is_over, is_working, may_turn, phase}
 use Rattle.run_laws.specs.Sockets.{is_among, open_sockets}
-use Rattle.slirp_laws.specs.Laws.{Deed, Asks, Waits, Reads, Writes, Opens, Sends, Hears, Connects, Accepts, Looks, Gives, Ends, Takes, Shuts, Seeks, Unbuilt, Finished, Lawful, May}
-use Rattle.slirp_laws.specs.Laws.{deed_of, due, has_place, has_socket, is_closing, is_least, parts}
+use Rattle.slirp_laws.specs.Laws.{Finished, Lawful, May}
+use Rattle.slirp_laws.specs.Laws.{due, has_place, has_socket, is_closing, is_least, parts}
 use Rattle.slirp_laws.proofs.Bools.{first_of}
 use Rattle.slirp_app.proofs.Copied.{later_than, onto}
 use Rattle.std.specs.Prelude.{nat_lt}
 use Rattle.world_face.proofs.Following.{follows_before}
-use Rattle.world_face.specs.Journal.{Call, Entry, call_of}
+use Rattle.world_face.specs.Journal.{Call, Entry, call_of, CallNow, CallWait, CallLinkOpen, CallConnect, CallListen, CallClose, CallUdpOpen, CallUdpSend, CallFileLen, CallFileRead}
 
 not_both : (b : Bool) → b ≡ false → b ≡ true → ⊥
 not_both true is_not is = cc
@@ -44,27 +44,22 @@ module _ (config : Config) (past : List Entry) (finished : Finished config past)
   none_open : (socket : ℕ) (b : Bool) → (is_among socket (open_sockets past) && b) ≡ true → ⊥
   none_open socket b may = not_both (is_among socket (open_sockets past)) (ap (is_among socket) finished.closed) (first_of (is_among socket (open_sockets past)) b may)
 
-  no_deed : (deed : Deed) → has_place config past deed ≡ true → has_socket config past deed ≡ true → ⊥
-  no_deed Asks place socket_is = none_due place
-  no_deed Waits place socket_is = no_turn place
-  no_deed Reads place socket_is = no_work place
-  no_deed (Writes octets) place socket_is = no_work place
-  no_deed (Opens socket) place socket_is = none_due place
-  no_deed (Sends socket) place socket_is = none_due place
-  no_deed (Hears socket asked) place socket_is = no_work place
-  no_deed (Connects socket) place socket_is = none_due place
-  no_deed (Accepts listener socket) place socket_is = no_work place
-  no_deed (Looks socket) place socket_is = no_work place
-  no_deed (Gives socket) place socket_is = no_work place
-  no_deed (Ends socket) place socket_is = no_work place
-  no_deed (Takes socket) place socket_is = no_work place
-  no_deed (Shuts socket) place socket_is = none_open socket (cond (is_closing config past) (is_least socket (open_sockets past))
+  no_call : (call : Call) → has_place config past call ≡ true → has_socket config past call ≡ true → ⊥
+  no_call CallNow place socket_is = none_due place
+  no_call (CallWait wants timeout) place socket_is = no_turn place
+  no_call (CallLinkOpen at) place socket_is = cc
+  no_call (CallConnect socket to) place socket_is = none_due place
+  no_call (CallListen socket at) place socket_is = none_due place
+  no_call (CallClose socket) place socket_is = none_open socket (cond (is_closing config past) (is_least socket (open_sockets past))
       (parts config past socket || (is_ended config past && is_least socket (open_sockets past)))) socket_is
-  no_deed Seeks place socket_is = none_due place
-  no_deed Unbuilt place socket_is = cc
+  no_call (CallUdpOpen socket at) place socket_is = none_due place
+  no_call (CallUdpSend socket to octets) place socket_is = none_due place
+  no_call (CallFileLen name) place socket_is = none_due place
+  no_call (CallFileRead name place_in asked) place socket_is = none_due place
+  no_call _ place socket_is = no_work place
 
   pub no_more : (call : Call) → May config past call → ⊥
-  no_more call may = no_deed (deed_of call) may.place may.socket
+  no_more call may = no_call call may.place may.socket
 
   pub nothing_later : (back : List Entry) → Lawful config (onto back past) → back ≡ []
   nothing_later [] lawful = refl

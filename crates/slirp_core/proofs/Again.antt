@@ -1,5 +1,6 @@
 -- A frame of a packet of a file that goes again goes out, and a packet is sent on its way.
 use Rattle.std.proofs.Common.{◌≡◌, ℕ, ◌<◌, ◌≤◌, not, Bool, true, false, is_some, List, [], ◌∷◌, drop, take, length, map, Option, Some, None, option_map, inl, inr, refl, sym, ◌∙◌, ap, subst, arith}
+use Rattle.std.specs.Option.{option_or}
 use Rattle.std.proofs.lemmas.List.{length-take}
 use Rattle.net_octets.specs.Kinds.{udp_proto}
 use Rattle.world_face.specs.Journal.{Entry, LinkWrite}
@@ -21,8 +22,8 @@ use Rattle.record_flows.specs.Laws.{MaySendOn, MayWrite, MustSendOn, MustWrite, 
 use Rattle.record_flows.specs.Segments.{asked_in, segment_in}
 use Rattle.run_laws.specs.Moments.{moment}
 use Rattle.tftp_server.specs.Transfers.{Files, Said, Transfer, are_left, begun, next_again, said_again, ticked}
-use Rattle.slirp_laws.specs.Answers.{files_begun, frames_of, is_first, left, or_begun, part_frame, serving, told_of_files, uncut}
-use Rattle.slirp_laws.specs.Datagrams.{Settled as SettledStep}
+use Rattle.slirp_laws.specs.Answers.{files_begun, frames_of, is_first, left, part_frame, serving, told_of_files, uncut}
+use Rattle.slirp_laws.specs.Datagrams.{NeedsNothing}
 use Rattle.slirp_laws.specs.Laws.{Lawful}
 use Rattle.slirp_laws.proofs.Deeds.{FlowsLetWrite}
 use Rattle.slirp_laws.specs.Sending.{asked_beside, requests, requests_by}
@@ -173,7 +174,7 @@ module _ (config : Config) (at : Standing) (slirp : SlirpState) (kept : Kept) (l
       inr (record {
         said = said;
         left = l.left ∙ none;
-        may = (λ i. or_begun (l.again i) (option_map said_again (found i)));
+        may = (λ i. option_or (l.again i) (option_map said_again (found i)));
         some = subst (λ o. 0 < length (frames_of slirp.config slirp.sent (told_of_files slirp.config o))) (sym goes) (frames_some slirp.config slirp.sent said (fits said goes));
         pending = (λ i. frames_of (holds.guests.settings i) (sym holds.answers.sent i) (told_of_files (holds.guests.settings i) (goes i)));
         on_its_way = λ never. cc;
@@ -206,7 +207,7 @@ module _ (config : Config) (at : Standing) (slirp : SlirpState) (kept : Kept) (l
     open_yet = holds.open_yet;
   }
     where
-      stands : Stands config SettledStep slirp kept link past → Stands config SettledStep sends_now kept link past
+      stands : Stands config NeedsNothing slirp kept link past → Stands config NeedsNothing sends_now kept link past
       stands (Turns turn) = Turns turn
       stands (Begins u free unrested) = Begins (record {
         started = u.started;

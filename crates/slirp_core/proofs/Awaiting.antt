@@ -1,5 +1,7 @@
 -- What the core waits for is all that can be taken, and where the link isn't blocked all that is owed is out.
 use Rattle.std.proofs.Common.{◌≡◌, ℕ, zero, suc, ◌+◌, ◌<◌, ◌≤◌, ◌==◌, ◌&&◌, ◌||◌, not, nat_lt, Bool, true, false, is_some, List, [], ◌∷◌, ◌++◌, All, filter, length, slice_get, nat_le, IsTrue}
+use Rattle.flow_laws.specs.Guest.{is_empty}
+use Rattle.std.specs.Option.{option_or}
 use Rattle.std.proofs.Common.{IsPermutation, Option, None, Some, option_map, inl, inr, refl, sym, ap, ◌∙◌, subst, arith, if◌then◌else◌}
 use Rattle.std.proofs.lemmas.Bool.Decides.{nat_tests}
 use Rattle.std.proofs.lemmas.List.Sorted.{list_any-IsPermutation}
@@ -23,9 +25,9 @@ use Rattle.record_flows.specs.Book.{book, is_young, scene}
 use Rattle.record_flows.specs.Flows.{guest_is_known, rests_among, used}
 use Rattle.flows_follow.specs.Seats.{in_use_slots}
 use Rattle.run_laws.specs.Sockets.{Kind, Association, DnsSocket, Forward as OfForward, Listener, Flow, is_among, is_association, is_forward, is_listener, kind_of, next_number, open_sockets}
-use Rattle.slirp_laws.specs.Answers.{is_out, left, may_go_again, or_begun, serving}
-use Rattle.slirp_laws.specs.Datagrams.{Settled}
-use Rattle.slirp_laws.specs.Laws.{is_nothing, takes_peers}
+use Rattle.slirp_laws.specs.Answers.{is_out, left, may_go_again, serving}
+use Rattle.slirp_laws.specs.Datagrams.{NeedsNothing}
+use Rattle.slirp_laws.specs.Laws.{takes_peers}
 use Rattle.slirp_laws.specs.Names.{questions}
 use Rattle.slirp_laws.specs.Ports.{last_use}
 use Rattle.slirp_laws.specs.Questions.{is_for_question}
@@ -81,7 +83,7 @@ use Rattle.slirp_core.proofs.Parts.{carried_by, given_in}
 
 -- ---- what is left
 
-nothing_is : (octets : List ℕ) → is_nothing octets ≡ (length octets == 0)
+nothing_is : (octets : List ℕ) → is_empty octets ≡ (length octets == 0)
 nothing_is [] = refl
 nothing_is (x ∷ octets) = grind (arith, nat_tests)
 
@@ -110,7 +112,7 @@ module _ (config : Config) (slirp : SlirpState) (link : LinkState) (past : List 
   by_left [] is l =
       let nothing : next_again (serving config past).now (serving config past).files.transfers ≡ None =
       sym (next_left (serving config past).now (serving config past).files.transfers) ∙ (λ i. next_again (at i) (sym l.files i)) ∙ none_again is in
-      let none : more ≡ None = (λ i. or_begun (l.again i) (option_map said_again (nothing i))) in
+      let none : more ≡ None = (λ i. option_or (l.again i) (option_map said_again (nothing i))) in
       (λ i. (tail_is && is_out ((l.left ∙ is) i)) && not (is_some (none i))) ∙ all_and tail_is ∙ ap (λ (frames : List (List ℕ)). tail_is && not (nat_lt 0 (length frames))) (sym is)
   by_left (frame ∷ frames) is l =
       let some : not (nat_lt 0 (length (frame ∷ frames))) ≡ false = grind (arith, nat_tests) in
@@ -339,7 +341,7 @@ unquestioned config n past (inr (is, was)) = ap is_for_question was
 
 module _ (config : Config) (at : Standing) (slirp : SlirpState) (f : Flowing) (link : LinkState) (past : List Entry) (holds : Holds config at slirp f link past) where
   abbrev has : HasGiven config (length config.forwards) past
-  has = given_in config at Settled None slirp f link past holds
+  has = given_in config at NeedsNothing None slirp f link past holds
 
   -- a port of the host with this protocol is open where the settings have it
   module _ (p : Proto) (test : Option Kind → Bool) (tells : (q : Proto) → test (Some (given_kind q)) ≡ same_proto p q)
@@ -376,7 +378,7 @@ module _ (config : Config) (at : Standing) (slirp : SlirpState) (f : Flowing) (l
   pub sockets_are : (sockets : List ℕ) → IsPermutation (carriers (holders_of slirp)) sockets → (n : ℕ) → takes_datagrams past n ≡ is_among n (sockets_over Udp slirp.forwards ++ sockets)
   sockets_are sockets moved n =
       two_kinds (is_among n (open_sockets past)) (kind_of n past) (unquestioned config n past (known_of config past holds.lawful n))
-      ∙ (λ i. for_datagrams n i || (carried_by config at Settled None slirp f link past holds n ∙ among_moved n (carriers (holders_of slirp)) sockets moved) i)
+      ∙ (λ i. for_datagrams n i || (carried_by config at NeedsNothing None slirp f link past holds n ∙ among_moved n (carriers (holders_of slirp)) sockets moved) i)
       ∙ sym (among_both n (sockets_over Udp slirp.forwards) sockets)
 
   room_is : nat_lt (used (book config past).flows) config.flows ≡ nat_lt (in_use_slots f.kept.flows.table.slots) (length f.kept.flows.table.slots)
@@ -406,7 +408,7 @@ module _ (config : Config) (at : Standing) (slirp : SlirpState) (f : Flowing) (l
       rise_both (sockets_over Udp slirp.forwards) sockets
       (subst (λ l. DoRise (sockets_over Udp l)) (sym holds.forwards) (rise_given Udp config.forwards 0))
       (rise_of sockets (climbs sockets rising) (IsDistinct-IsPermutation same_number flips (carriers (holders_of slirp)) sockets moved all_differ))
-      (λ n m one other. (are_open config at Settled None slirp f link past holds).first n m (among_all Udp slirp.forwards n one)
+      (λ n m one other. (are_open config at NeedsNothing None slirp f link past holds).first n m (among_all Udp slirp.forwards n one)
       (inl (among_moved m (carriers (holders_of slirp)) sockets moved ∙ other)))
     where
       all_differ : IsDistinct same_number (carriers (holders_of slirp))
@@ -490,6 +492,6 @@ must_wait config at slirp link past wants timeout holds none_again quiet young r
   where
     sent_is : is_all_sent config past ≡ is_settled slirp link
     sent_is =
-        ap (λ octets. (is_nothing octets && is_out (left config past)) && not (is_some (may_go_again (serving config past)))) holds.keeps.rest
+        ap (λ octets. (is_empty octets && is_out (left config past)) && not (is_some (may_go_again (serving config past)))) holds.keeps.rest
         ∙ ap (λ b. (b && is_out (left config past)) && not (is_some (may_go_again (serving config past)))) (nothing_is link.tail)
         ∙ by_owed config slirp link past (now_is config past ∙ holds.clock.moment) none_again holds.answers.owed

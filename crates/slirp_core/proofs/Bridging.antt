@@ -1,5 +1,6 @@
 -- What the core makes of a frame, step by step, is what the packet in it asks for.
 use Rattle.std.proofs.Common.{◌≡◌, ℕ, ◌==◌, ◌&&◌, Bool, true, false, List, [], Option, Some, None, if◌then◌else◌, refl, ap, arith, ◌∙◌}
+use Rattle.std.specs.Prelude.{unwrap_or}
 use Rattle.std.proofs.lemmas.Bool.Decides.{nat_tests}
 use Rattle.std.specs.Option.{option_and_then, option_map}
 use Rattle.net_octets.specs.declared.Ip4.{Ip4}
@@ -17,7 +18,7 @@ use Rattle.tcp_segment.specs.Tcp.{Tcp, read_tcp}
 use Rattle.run_laws.specs.Guests.{with_pair}
 use Rattle.run_laws.specs.Fragments.{arrived}
 use Rattle.run_laws.specs.Packets.{Packet, Unheard, packet_of_ip, ArpPacket, Message, DatagramPacket, Segment, Datagram, datagram_in, datagram_of, may_come, packet_of, pair_by}
-use Rattle.run_laws.specs.Packets.{pair_by_arp, pair_by_ip, pair_in, pair_of, packet_in, unless_unheard, whole_packet}
+use Rattle.run_laws.specs.Packets.{pair_in, pair_of, packet_in, whole_packet}
 use Rattle.slirp_laws.specs.Answers.{Answer, Serving, owed_for_arp, owed_for_icmp}
 use Rattle.dhcp_server.specs.declared.leases.Lease.{Lease}
 use Rattle.run_laws.specs.Happenings.{datagram_by}
@@ -28,13 +29,13 @@ use Rattle.slirp_core.specs.Packets.{owed_for_ether, owed_for_frame, owed_for_ip
 
 -- what a packet that may be none owes at once, and the datagram that it is
 abbrev owes : Config → Serving → Option Packet → List Answer
-owes config s p = owed_with config s (unless_unheard p)
+owes config s p = owed_with config s (unwrap_or p Unheard)
 
 abbrev carries : Option Packet → Option Datagram
-carries p = datagram_by (unless_unheard p)
+carries p = datagram_by (unwrap_or p Unheard)
 
 abbrev brings : Option Packet → Option Coming
-brings p = coming_by (unless_unheard p)
+brings p = coming_by (unwrap_or p Unheard)
 
 arp_owes : (config : Config) (s : Serving) (o : Option Arp) → owes config s (option_map ArpPacket o) ≡ owed_for (owed_for_arp config) o
 arp_owes config s None = refl
@@ -291,11 +292,11 @@ pair_same config address mac pairs = by (is_guest config address)
     by true = refl
     by false = refl
 
-arp_teaches : (config : Config) (o : Option Arp) (pairs : List (Ip4 × Mac)) → with_pair (option_and_then (pair_by_arp config) o) pairs ≡ with_arp config o pairs
+arp_teaches : (config : Config) (o : Option Arp) (pairs : List (Ip4 × Mac)) → with_pair (option_and_then (λ arp. pair_of config arp.sender arp.sender_mac) o) pairs ≡ with_arp config o pairs
 arp_teaches config None pairs = refl
 arp_teaches config (Some arp) pairs = pair_same config arp.sender arp.sender_mac pairs
 
-ip_teaches : (config : Config) (mac : List ℕ) (o : Option Ip) (pairs : List (Ip4 × Mac)) → with_pair (option_and_then (pair_by_ip config mac) o) pairs ≡ with_ip config mac o pairs
+ip_teaches : (config : Config) (mac : List ℕ) (o : Option Ip) (pairs : List (Ip4 × Mac)) → with_pair (option_and_then (λ ip. pair_of config ip.from mac) o) pairs ≡ with_ip config mac o pairs
 ip_teaches config mac None pairs = refl
 ip_teaches config mac (Some ip) pairs = pair_same config ip.from mac pairs
 
@@ -303,7 +304,7 @@ ether_teaches : (config : Config) (o : Option Ether) (pairs : List (Ip4 × Mac))
 ether_teaches config None pairs = refl
 ether_teaches config (Some ether) pairs = by (ether.kind == arp_kind) (ether.kind == ipv4_kind)
   where
-    by : (arp ip : Bool) → with_pair (if arp then option_and_then (pair_by_arp config) (read_arp ether.body) else (if ip then option_and_then (pair_by_ip config ether.from)
+    by : (arp ip : Bool) → with_pair (if arp then option_and_then (λ arp. pair_of config arp.sender arp.sender_mac) (read_arp ether.body) else (if ip then option_and_then (λ ip. pair_of config ip.from ether.from)
         (read_ip ether.body) else None)) pairs
         ≡ (if arp then with_arp config (read_arp ether.body) pairs else (if ip then with_ip config ether.from (read_ip ether.body) pairs else pairs))
     by true ip = arp_teaches config (read_arp ether.body) pairs

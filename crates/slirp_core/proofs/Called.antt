@@ -13,7 +13,7 @@ use Rattle.run_laws.specs.Shape.{By, Over, is_ended, is_over}
 use Rattle.run_laws.specs.Sockets.{is_among, kind_of, next_number, open_sockets}
 use Rattle.slirp_laws.specs.Agenda.{agenda, all_wanted, wanted_of}
 use Rattle.slirp_laws.specs.Errands.{errand_left}
-use Rattle.slirp_laws.specs.Datagrams.{Settled}
+use Rattle.slirp_laws.specs.Datagrams.{NeedsNothing}
 use Rattle.slirp_laws.specs.Laws.{Lawful}
 use Rattle.stream_netdev.specs.State.{LinkState}
 use Rattle.slirp_core.specs.Forwards.{forward_sockets}
@@ -56,7 +56,7 @@ between config at slirp f link past turn holds = record {
   lawful = holds.lawful;
   work = record {
     working = turn.working;
-    errand = errand_for config Settled None slirp past holds.relayed;
+    errand = errand_for config NeedsNothing None slirp past holds.relayed;
     services = none_due_for_services config past holds.relayed.heard holds.services.quest;
     open_yet = holds.open_yet;
   };
@@ -174,7 +174,7 @@ pub addresses_told : (config : Config) (at : Standing) (slirp : SlirpState) (age
     → Holds config at slirp (flowing aged kept) link past → Holds config at slirp (flowing aged new) link past
 addresses_told config at slirp aged kept new link past learns idle holds = by holds.stands
   where
-    by : Stands config Settled slirp kept link past → Holds config at slirp (flowing aged new) link past
+    by : Stands config NeedsNothing slirp kept link past → Holds config at slirp (flowing aged new) link past
     by (Turns turn) =
         let then_is = learns config slirp.moment aged past holds.guests.known (between config at slirp (flowing aged kept) link past turn holds) in
         record {
@@ -251,7 +251,7 @@ unticked config at slirp kept link past unrested holds = record {
   open_yet = holds.open_yet;
 }
   where
-    stands : Stands config Settled slirp kept link past → Stands config Settled (without_over slirp) kept link past
+    stands : Stands config NeedsNothing slirp kept link past → Stands config NeedsNothing (without_over slirp) kept link past
     stands (Turns turn) = Turns turn
     stands (Begins u free unrested) = Begins (record {
       started = u.started;
@@ -293,7 +293,7 @@ flows_put config at slirp k f link past holds = record {
   open_yet = holds.open_yet;
 }
   where
-    stands : Stands config Settled slirp f.kept link past → Stands config Settled (record slirp { flows = k }) f.kept link past
+    stands : Stands config NeedsNothing slirp f.kept link past → Stands config NeedsNothing (record slirp { flows = k }) f.kept link past
     stands (Turns turn) = Turns turn
     stands (Begins u free unrested) = Begins (record {
       started = u.started;
@@ -338,7 +338,7 @@ turn_begins config at slirp aged kept link past holds = record {
   open_yet = holds.open_yet;
 }
   where
-    stands : Stands config Settled slirp kept link past → Stands config Settled slirp (record kept { turn = kept.turn + 1 }) link past
+    stands : Stands config NeedsNothing slirp kept link past → Stands config NeedsNothing slirp (record kept { turn = kept.turn + 1 }) link past
     stands (Turns turn) = Turns turn
     stands (Begins unbegun free unrested) = Begins unbegun free unrested
 
@@ -348,7 +348,7 @@ pub told_the_time : (config : Config) (count : ℕ) (slirp : SlirpState) (kept n
     → Holds config (after count) slirp (flowing false kept) link past → Holds config (after count) (without_over slirp) (flowing true new) link (made ++ past)
 told_the_time config count slirp kept new link past made Closes few told ticks idle allowed holds = by holds.stands
   where
-    by : Stands config Settled slirp kept link past → Holds config (after count) (without_over slirp) (flowing true new) link (made ++ past)
+    by : Stands config NeedsNothing slirp kept link past → Holds config (after count) (without_over slirp) (flowing true new) link (made ++ past)
     by (Turns turn) = ticked config count slirp kept new link past made Closes few told ticks allowed turn holds
     by (Begins unbegun free unrested) =
         let none = idle free in
@@ -361,7 +361,7 @@ pub told_rising : (config : Config) (count : ℕ) (slirp : SlirpState) (kept new
     → Holds config (after count) slirp (flowing false kept) link past → ClosesRising made
 told_rising config count slirp kept new link past made few told ticks idle holds = by holds.stands
   where
-    by : Stands config Settled slirp kept link past → ClosesRising made
+    by : Stands config NeedsNothing slirp kept link past → ClosesRising made
     by (Turns turn) = (ticks config past (not_ended config count slirp kept link past few turn holds) (between config (after count) slirp (flowing false kept) link past turn holds)
         (told_now config slirp kept past told holds.guests.known)).1
     by (Begins unbegun free unrested) = subst ClosesRising (sym (idle free).1) tt
@@ -425,7 +425,7 @@ module _ (config : Config) (at : Standing) (slirp : SlirpState) (f : Flowing) (l
     lawful = then_is.lawful;
     over = then_is.over;
     waited = others.waits ∙ holds.clock.counted;
-    errand = others.errand ∙ errand_for config Settled None slirp past holds.relayed;
+    errand = others.errand ∙ errand_for config NeedsNothing None slirp past holds.relayed;
     served = then_is.served;
     idle = then_is.asks;
     stay = core_stays config slirp.moment f.aged None new.flows (made ++ past) then_is.holds;
@@ -450,7 +450,7 @@ pub pumped_so : (config : Config) (at : Standing) (slirp : SlirpState) (aged : B
     → AfterPump result config at (record slirp { sent = last }) (flowing aged new) next (made ++ past)
 pumped_so config at slirp aged kept new link next past made last result none allowed pumps idle holds = by holds.stands
   where
-    by : Stands config Settled slirp kept link past → AfterPump result config at (record slirp { sent = last }) (flowing aged new) next (made ++ past)
+    by : Stands config NeedsNothing slirp kept link past → AfterPump result config at (record slirp { sent = last }) (flowing aged new) next (made ++ past)
     by (Turns turn) = pumped config at slirp (flowing aged kept) link next past made new last none allowed turn holds result pumps
     by (Begins unbegun free unrested) =
         let still = idle free in

@@ -1,5 +1,6 @@
 -- The sockets of a run that is over are closed by rising number, those of associations, of questions and of flows.
 use Rattle.std.proofs.Common.{append_assoc, ◌≡◌, ℕ, suc, length, find, if◌then◌else◌, ◌<◌, ◌≤◌, ◌+◌, ◌==◌, ◌&&◌, ◌||◌, ◌⊎◌, not, All, Bool, true, false, List, [], ◌∷◌, ◌++◌, filter, set}
+use Rattle.std.specs.Option.{option_or}
 use Rattle.std.proofs.Common.{slice_get, Option, Some, None, option_map, inl, inr, refl, sym, ◌∙◌, ap, subst, arith}
 use Rattle.std.proofs.lemmas.List.Elements.{All-head, All-tail}
 use Rattle.world_face.specs.Journal.{Entry, Call, Close, CallClose}
@@ -12,8 +13,8 @@ use Rattle.flow_splice.specs.Splice.{Splice}
 use Rattle.run_laws.specs.Shape.{Phase, Over, Working, is_over, is_working, phase}
 use Rattle.run_laws.specs.Sockets.{first, is_among, next_number, open_sockets}
 use Rattle.slirp_laws.specs.Asking.{step, step_of}
-use Rattle.slirp_laws.specs.Datagrams.{Settled, due_for}
-use Rattle.slirp_laws.specs.Laws.{May, MayDue, due, unless_due}
+use Rattle.slirp_laws.specs.Datagrams.{NeedsNothing, due_for}
+use Rattle.slirp_laws.specs.Laws.{May, MayDue, due}
 use Rattle.slirp_laws.proofs.Listed.{asked_without}
 use Rattle.slirp_laws.proofs.Bools.{among_without, and_both, equal, or_second, same}
 use Rattle.slirp_laws.proofs.Deeds.{any_one, quest_none, this_one}
@@ -94,8 +95,8 @@ module _ (Open : List Entry → Type 0) (o : Holders) (config : Config) (over : 
   is_due : Rests config past → MayDue config past (CallClose n)
   is_due (OverFor cause ended) =
       this_one config past (CallClose n) (due_in_phase config past (Over cause) ended closing.served closing.idle
-      ∙ ap (λ (o : Option Call). unless_due o (due_for config (step config past) (next_number past))) (ap (option_map CallClose) first_is))
-  is_due (AllWaited working) = any_one config past (CallClose n) (due_is config past Settled working closing.served closing.idle (ap (step_of config past) closing.errand))
+      ∙ ap (λ (o : Option Call). option_or o (due_for config (step config past) (next_number past))) (ap (option_map CallClose) first_is))
+  is_due (AllWaited working) = any_one config past (CallClose n) (due_is config past NeedsNothing working closing.served closing.idle (ap (step_of config past) closing.errand))
 
   may_close : May config past (CallClose n)
   may_close = may_close_least config past closing.lawful closing.ended n first_is (is_due closing.rests) (place closing.rests) (record { due = closing.idle; stay = closing.stay })
@@ -293,7 +294,7 @@ module _ (config : Config) (over : Phase) (o : Holders) (past : List Entry) (clo
     none_due : Rests config past → due config past ≡ None
     none_due (OverFor cause is) =
         due_in_phase config past (Over cause) is closing.served closing.idle
-        ∙ ap (λ (s : List ℕ). unless_due (option_map CallClose (first s)) (due_for config (step config past) (next_number past))) shut ∙ ap
+        ∙ ap (λ (s : List ℕ). option_or (option_map CallClose (first s)) (due_for config (step config past) (next_number past))) shut ∙ ap
         (λ s. due_for config s (next_number past)) (ap (step_of config past) closing.errand)
     none_due (AllWaited working) = due_in_phase config past Working working closing.served closing.idle ∙ ap (λ s. due_for config s (next_number past)) (ap (step_of config past) closing.errand)
 

@@ -2,7 +2,7 @@
 use Rattle.std.proofs.Common.{◌≡◌, ℕ, zero, suc, ◌+◌, ◌<◌, ◌≤◌, ◌==◌, ◌&&◌, ◌||◌, ◌⊎◌, not, nat_lt, Bool, true, false, List, [], ◌∷◌, ◌++◌, drop, filter, find, length, slice_get, Option}
 use Rattle.std.proofs.Common.{Some, None, MatchOption, option_map, if◌then◌else◌, inl, inr, refl, sym, ◌∙◌, ap, subst, arith}
 use Rattle.std.proofs.lemmas.Bool.Decides.{nat_tests}
-use Rattle.std.specs.Option.{option_and_then}
+use Rattle.std.specs.Option.{option_and_then, option_or}
 use Rattle.net_octets.specs.declared.Endpoint.{Endpoint}
 use Rattle.world_face.specs.Journal.{Entry, Call, Connect, Listen, Accept, Close, UdpOpen, Now, Wait, CallClose, CallNow, CallListen, CallUdpOpen, call_of}
 use Rattle.world_face.specs.Frames.{Ending, ending, partial}
@@ -23,7 +23,7 @@ use Rattle.run_laws.specs.Moments.{waits}
 use Rattle.run_laws.specs.Shape.{Phase, Opening, Started, Woken, Working, Over, By, Refused, due_in, may_turn, opened, opening_of, phase, phase_after, phase_by}
 use Rattle.run_laws.specs.Sockets.{Kind, Association as OfAssociation, DnsSocket, Forward as OfForward, Listener, Flow as OfFlow, datagram_kind, is_among, is_forward, kind_of, next_number}
 use Rattle.run_laws.specs.Sockets.{open_sockets, with_made}
-use Rattle.slirp_laws.specs.Laws.{Lawful, May, due, due_for_services, is_closing, may_part, parts, unless_due}
+use Rattle.slirp_laws.specs.Laws.{Lawful, May, due, due_for_services, is_closing, may_part, parts}
 use Rattle.slirp_laws.proofs.Bools.{among_last, among_without, and_both, equal, first_of, or_second, same, second_of, turned}
 use Rattle.slirp_laws.proofs.OpenSockets.{open_below, peer_next}
 use Rattle.slirp_laws.proofs.Giving.{leads}
@@ -31,7 +31,7 @@ use Rattle.slirp_laws.proofs.Joining.{waited_for}
 use Rattle.slirp_laws.proofs.Phases.{IsForOther, OpensNone, due_call, for_others, opens}
 use Rattle.slirp_laws.proofs.Steps.{errand_is}
 use Rattle.slirp_laws.specs.Asking.{step}
-use Rattle.slirp_laws.specs.Datagrams.{Step, Settled, NeedsRoom, NeedsSocket, NeedsSending, due_for}
+use Rattle.slirp_laws.specs.Datagrams.{Step, NeedsNothing, NeedsRoom, NeedsSocket, NeedsSending, due_for}
 use Rattle.run_laws.specs.Sockets.{first}
 use Rattle.slirp_laws.specs.Ports.{forward_for, given_by, given_port, is_port, opened_for}
 use Rattle.slirp_core.specs.Forwards.{forward_sockets, given, guest_on, with_numbers}
@@ -47,14 +47,14 @@ use Rattle.slirp_laws.specs.Questions.{is_for_question}
 -- ---- a port of the host is opened where it is due alone
 
 abbrev others_due : Config → List Entry → Option Call
-others_due config past = unless_due (due_for_services config past) (due_for_flows config (book config past) (next_number past))
+others_due config past = option_or (due_for_services config past) (due_for_flows config (book config past) (next_number past))
 
 no_listen : (o : Option Call) (socket : ℕ) (at : Endpoint) → IsForOther o → o ≡ Some (CallListen socket at) → ⊥
 no_listen o socket at is call = subst IsForOther call is
 
-no_step_listens : (config : Config) (s : Step) (other : Option Call) (number socket : ℕ) (at : Endpoint) → IsForOther other → unless_due (due_for config s number) other ≡ Some
+no_step_listens : (config : Config) (s : Step) (other : Option Call) (number socket : ℕ) (at : Endpoint) → IsForOther other → option_or (due_for config s number) other ≡ Some
     (CallListen socket at) → ⊥
-no_step_listens config Settled other number socket at flow is = no_listen other socket at flow is
+no_step_listens config NeedsNothing other number socket at flow is = no_listen other socket at flow is
 no_step_listens config (NeedsRoom oldest errand) other number socket at flow is = cc
 no_step_listens config (NeedsSocket errand) other number socket at flow is = cc
 no_step_listens config (NeedsSending s errand) other number socket at flow is = cc
@@ -64,7 +64,7 @@ abbrev pub is_opening : Phase → Bool
 is_opening (Opening count forwards) = true
 is_opening _ = false
 
-none_listens : (p : Phase) (past : List Entry) (other : Option Call) (socket : ℕ) (at : Endpoint) → is_opening p ≡ false → (other ≡ Some (CallListen socket at) → ⊥) → unless_due
+none_listens : (p : Phase) (past : List Entry) (other : Option Call) (socket : ℕ) (at : Endpoint) → is_opening p ≡ false → (other ≡ Some (CallListen socket at) → ⊥) → option_or
     (due_in p past) other ≡ Some (CallListen socket at) → ⊥
 none_listens (Opening count forwards) past other socket at later never is = cc
 none_listens Started past other socket at later never is = never is
@@ -72,13 +72,13 @@ none_listens Woken past other socket at later never is = cc
 none_listens Working past other socket at later never is = never is
 none_listens (Over cause) past other socket at later never is = by (first (open_sockets past)) is
   where
-    by : (o : Option ℕ) → unless_due (option_map CallClose o) other ≡ Some (CallListen socket at) → ⊥
+    by : (o : Option ℕ) → option_or (option_map CallClose o) other ≡ Some (CallListen socket at) → ⊥
     by None is = never is
     by (Some s) is = cc
 
 listens_first : (config : Config) (past : List Entry) (socket : ℕ) (at : Endpoint) → is_opening (phase config past) ≡ false → May config past (CallListen socket at) → ⊥
 listens_first config past socket at later may =
-    none_listens (phase config past) past (unless_due (due_for config (step config past) (next_number past)) (others_due config past)) socket at later
+    none_listens (phase config past) past (option_or (due_for config (step config past) (next_number past)) (others_due config past)) socket at later
     (no_step_listens config (step config past) (others_due config past) (next_number past) socket at (for_others config past)) (due_call (due config past) (CallListen socket at) may.place may.due)
 
 -- ---- what is so of them
@@ -327,11 +327,11 @@ module _ (config : Config) where
   due_opens : (past : List Entry) (count : ℕ) (f : Forward) (fs : List Forward) → phase config past ≡ Opening count (f ∷ fs) → (call : Call) → MatchOption (due config past)
       (Unit {0}) (λ d. call ≡ d) → call ≡ opening_of f.proto (next_number past) f
   due_opens past count f fs is call may = subst (λ o. MatchOption o (Unit {0}) (λ d. call ≡ d))
-      (ap (λ p. unless_due (due_in p past) (unless_due (due_for config (step config past) (next_number past)) (others_due config past))) is) may
+      (ap (λ p. option_or (due_in p past) (option_or (due_for config (step config past) (next_number past)) (others_due config past))) is) may
 
   due_asks : (past : List Entry) (count : ℕ) → phase config past ≡ Opening count [] → (call : Call) → MatchOption (due config past) (Unit {0}) (λ d. call ≡ d) → call ≡ CallNow
   due_asks past count is call may = subst (λ o. MatchOption o (Unit {0}) (λ d. call ≡ d))
-      (ap (λ p. unless_due (due_in p past) (unless_due (due_for config (step config past) (next_number past)) (others_due config past))) is) may
+      (ap (λ p. option_or (due_in p past) (option_or (due_for config (step config past) (next_number past)) (others_due config past))) is) may
 
   -- an entry with that call
   is_opened : (e : Entry) (p : Proto) (number : ℕ) (f : Forward) → call_of e ≡ opening_of p number f → (answer : Made) × (e ≡ port_opening p number f.host answer)

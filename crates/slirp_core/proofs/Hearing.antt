@@ -17,7 +17,7 @@ use Rattle.host_policy.specs.declared.Verdict.TheVariants.{Go, Denied}
 use Rattle.record_flows.specs.Book.{book, scene, turned}
 use Rattle.record_flows.specs.Doings.{Comes as ComesOn}
 use Rattle.record_flows.specs.Flows.{Book, owner}
-use Rattle.record_flows.specs.Lots.{Lot, Dropped, AsksFor, Strange as LotStrange, asked_for, due_by, due_for_flows, is_mistaken, is_opening, is_to_many, lot_by, is_reset, is_reset_by, lot}
+use Rattle.record_flows.specs.Lots.{Lot, Dropped, AsksFor, GetsReset, asked_for, due_by, due_for_flows, is_mistaken, is_opening, is_to_many, lot_by, is_reset, is_reset_by, lot}
 use Rattle.record_flows.specs.Segments.{OnTuple}
 use Rattle.record_flows.specs.Taught.{taught}
 use Rattle.run_laws.specs.Sockets.{Flow as FlowKind, is_among, kind_of, next_number, open_sockets, with_made}
@@ -74,11 +74,11 @@ asks_for_room config used slots on to is = by (nat_lt used slots) refl is
     by_verdict (Go at) is = cc
     by_verdict (Denied rule) is = cc
 
-    by_opening : (b : Bool) → (if b then lot_by (target config OverTcp on.tuple.other) false else LotStrange) ≡ AsksFor to → ⊥
+    by_opening : (b : Bool) → (if b then lot_by (target config OverTcp on.tuple.other) false else GetsReset) ≡ AsksFor to → ⊥
     by_opening true is = by_verdict (target config OverTcp on.tuple.other) is
     by_opening false is = cc
 
-    by_dropped : (b : Bool) → (if b then Dropped else (if is_opening on.segment then lot_by (target config OverTcp on.tuple.other) false else LotStrange)) ≡ AsksFor to → ⊥
+    by_dropped : (b : Bool) → (if b then Dropped else (if is_opening on.segment then lot_by (target config OverTcp on.tuple.other) false else GetsReset)) ≡ AsksFor to → ⊥
     by_dropped true is = cc
     by_dropped false is = by_opening (is_opening on.segment) is
 
@@ -201,8 +201,8 @@ module _ (config : Config) (at : Standing) (slirp : SlirpState) (kept : Kept) (l
       alone_dropped is = settles made new slirp.pending allowed (no_call (then_between Dropped is)) t.2 t.3 (owed_none (reset_by Dropped (t.1 ∙ is)))
 
       -- it is answered by a reset
-      pub alone_reset : its ≡ LotStrange → Holds config at (record slirp { pending = reset_frames }) (flowing false new) link (made ++ past)
-      alone_reset is = settles made new reset_frames allowed (no_call (then_between LotStrange is)) t.2 t.3 (owed_reset (reset_by LotStrange (t.1 ∙ is)))
+      pub alone_reset : its ≡ GetsReset → Holds config at (record slirp { pending = reset_frames }) (flowing false new) link (made ++ past)
+      alone_reset is = settles made new reset_frames allowed (no_call (then_between GetsReset is)) t.2 t.3 (owed_reset (reset_by GetsReset (t.1 ∙ is)))
 
       -- ---- the host is to connect for it
 

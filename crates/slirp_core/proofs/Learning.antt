@@ -1,5 +1,6 @@
 -- The frame that brings a segment teaches the hardware address of its guest.
 use Rattle.std.proofs.Common.{◌≡◌, ℕ, ◌==◌, ◌&&◌, not, Bool, true, false, List, Option, Some, None, option_map, slice_get, if◌then◌else◌, refl, sym, ◌∙◌, ap}
+use Rattle.std.specs.Prelude.{unwrap_or}
 use Rattle.std.specs.Option.{option_and_then}
 use Rattle.net_octets.specs.Kinds.{arp_kind, icmp_proto, ipv4_kind, tcp_proto, udp_proto}
 use Rattle.host_policy.specs.Addresses.{Config, is_guest}
@@ -12,8 +13,8 @@ use Rattle.ipv4_head.proofs.Members.{found_key, same_key}
 use Rattle.tcp_segment.specs.Tcp.{Tcp, read_tcp}
 use Rattle.udp_assoc.specs.Udp.{Udp, read_udp}
 use Rattle.run_laws.specs.Fragments.{arrived, joined_by, key_by, part_by}
-use Rattle.run_laws.specs.Packets.{Packet, ArpPacket, Message, DatagramPacket, Pair, Segment, datagram_in, datagram_of, may_come, packet_in, packet_of, packet_of_ip, pair_by, pair_in}
-use Rattle.run_laws.specs.Packets.{unless_unheard, whole_packet}
+use Rattle.run_laws.specs.Packets.{Packet, ArpPacket, Message, DatagramPacket, Pair, Segment, datagram_in, datagram_of, may_come, packet_in, packet_of, packet_of_ip, pair_by, pair_in, Unheard}
+use Rattle.run_laws.specs.Packets.{whole_packet}
 
 none_some : {A : Type 0} {x : A} → None ≡ Some x → ⊥
 none_some is = cc
@@ -89,7 +90,7 @@ segment_of_guest config mac ip to of tcp is = by (ip.proto == udp_proto) (is_gue
 
 -- ---- so its frame teaches where it is
 
-heard_is : (o : Option Packet) (mac : List ℕ) (ip : Ip) (tcp : Tcp) → unless_unheard o ≡ Segment mac ip tcp → o ≡ Some (Segment mac ip tcp)
+heard_is : (o : Option Packet) (mac : List ℕ) (ip : Ip) (tcp : Tcp) → unwrap_or o Unheard ≡ Segment mac ip tcp → o ≡ Some (Segment mac ip tcp)
 heard_is None mac ip tcp is = cc
 heard_is (Some p) mac ip tcp is = ap Some is
 

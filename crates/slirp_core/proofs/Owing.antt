@@ -1,5 +1,6 @@
 -- Which frames are pending and which transfers of files are kept, entry by entry.
 use Rattle.std.proofs.Common.{◌≡◌, ℕ, ◌<◌, ◌%◌, ◌^◌, ◌&&◌, not, Bool, true, false, is_some, List, [], ◌∷◌, ◌++◌, length, Option, Some, None, option_map, inl, inr, refl, sym, ◌∙◌, ap, subst, arith}
+use Rattle.std.specs.Option.{option_or}
 use Rattle.poll_list.specs.declared.Want.{Want}
 use Rattle.world_face.specs.Journal.{Entry, LinkWrite, Wait}
 use Rattle.world_face.specs.Frames.{goes_out}
@@ -7,13 +8,13 @@ use Rattle.world_face.specs.declared.Io.{Io}
 use Rattle.world_face.specs.declared.Waited.{Waited}
 use Rattle.host_policy.specs.Addresses.{Config}
 use Rattle.run_laws.specs.Moments.{moment}
-use Rattle.tftp_server.specs.Transfers.{Files, Said, Settled, Transfer, are_left, begun, next_again, said_again, ticked}
+use Rattle.tftp_server.specs.Transfers.{Files, Said, Settled as SeeksNothing, Transfer, are_left, begun, next_again, said_again, ticked}
 use Rattle.tftp_server.proofs.Turning.{next_left, ticked_none}
 use Rattle.slirp_laws.specs.Answers.{Serving, again_frames, begins_again, begun_by, datagrams_out, files_begun, files_sent, frames_of, identification, is_free, is_out, ledger, left}
-use Rattle.slirp_laws.specs.Answers.{or_begun, serving, starts, taken, told_of_files, unless_begun, with_datagrams}
+use Rattle.slirp_laws.specs.Answers.{serving, starts, taken, told_of_files, unless_begun, with_datagrams}
 use Rattle.slirp_laws.proofs.KeptFiles.{now_is}
 use Rattle.tcp_flows.specs.Runs.{LeavesOthers}
-use Rattle.slirp_laws.specs.Datagrams.{Step, Settled as SettledStep, NeedsRoom, NeedsSocket, NeedsSending}
+use Rattle.slirp_laws.specs.Datagrams.{Step, NeedsNothing, NeedsRoom, NeedsSocket, NeedsSending}
 use Rattle.slirp_core.specs.Owed.{IsOwed, IsOwedAt, OfFile, OfLeft, kept_by}
 use Rattle.slirp_core.specs.State.{SlirpState}
 
@@ -45,7 +46,7 @@ owed_on config aged slirp past later same (inl l) = inl (record {
 owed_on config aged slirp past later same (inr f) = inr (record {
   said = f.said;
   left = same.left ∙ f.left;
-  may = (λ i. or_begun (same.again i) (option_map said_again (next_again (same.now i) (same.files i).transfers))) ∙ f.may;
+  may = (λ i. option_or (same.again i) (option_map said_again (next_again (same.now i) (same.files i).transfers))) ∙ f.may;
   some = f.some;
   pending = f.pending ∙ sym (ap (λ n. frames_of config n (told_of_files config (Some f.said))) same.ident);
   on_its_way = λ is. same.again ∙ f.on_its_way is;
@@ -104,7 +105,7 @@ module _ (config : Config) (aged : Bool) (slirp new : SlirpState) (e : Entry) (p
 
 -- where something is still asked for
 pub owed_at : (step : Step) (config : Config) (aged : Bool) (slirp : SlirpState) (past : List Entry) → OfLeft config aged slirp past → IsOwedAt step config aged slirp past
-owed_at SettledStep config aged slirp past l = inl l
+owed_at NeedsNothing config aged slirp past l = inl l
 owed_at (NeedsRoom oldest errand) config aged slirp past l = l
 owed_at (NeedsSocket errand) config aged slirp past l = l
 owed_at (NeedsSending socket errand) config aged slirp past l = l
@@ -131,7 +132,7 @@ module _ (config : Config) (slirp : SlirpState) (past : List Entry) (wants : Lis
   transfers_then free = ticked (serving config past).now free (serving config past).files.transfers
 
   abbrev again_then : Option Said → Bool → Option Said
-  again_then o free = or_begun o (begun (serving config past).now free (serving config past).files.transfers)
+  again_then o free = option_or o (begun (serving config past).now free (serving config past).files.transfers)
 
   free_by : (o : Option Said) (frames : List (List ℕ)) → left config past ≡ frames → (serving config past).again ≡ o → is_free (ledger config past) ≡ is_out frames && not (is_some o)
   free_by o frames out again = λ i. is_out (out i) && not (is_some (again i))
@@ -160,18 +161,18 @@ module _ (config : Config) (slirp : SlirpState) (past : List Entry) (wants : Lis
       let s = serving config past in
       let after = serving config (Wait wants timeout answer ready ∷ past) in
       let free : is_free (ledger config past) ≡ not (is_some s.again) = ap (λ l. is_out l && not (is_some s.again)) f.left in
-      let goes : or_begun s.again (begun s.now (is_free (ledger config past)) s.files.transfers) ≡ Some f.said = ap (again_then s.again) free ∙ by s.again ∙ f.may in
+      let goes : option_or s.again (begun s.now (is_free (ledger config past)) s.files.transfers) ≡ Some f.said = ap (again_then s.again) free ∙ by s.again ∙ f.may in
       record {
         said = f.said;
         left = f.left;
-        may = ap (λ o. or_begun o (option_map said_again (next_again after.now after.files.transfers))) goes;
+        may = ap (λ o. option_or o (option_map said_again (next_again after.now after.files.transfers))) goes;
         some = f.some;
         pending = f.pending;
         on_its_way = λ is. goes;
         files = f.files ∙ sym (ap transfers_then free);
       }
     where
-      by : (o : Option Said) → again_then o (not (is_some o)) ≡ or_begun o (option_map said_again (next_again (serving config past).now (serving config past).files.transfers))
+      by : (o : Option Said) → again_then o (not (is_some o)) ≡ option_or o (option_map said_again (next_again (serving config past).now (serving config past).files.transfers))
       by None = refl
       by (Some said) = refl
 
@@ -194,7 +195,7 @@ owed_told config slirp new past later same_left same_files same_again same_ident
     inr (record {
       said = f.said;
       left = same_left ∙ f.left;
-      may = ap (λ o. or_begun o (option_map said_again (next_again (serving config later).now (serving config later).files.transfers))) goes;
+      may = ap (λ o. option_or o (option_map said_again (next_again (serving config later).now (serving config later).files.transfers))) goes;
       some = subst (λ (p : List (List ℕ)). 0 < length p) (sym pending) f.some;
       pending = pending ∙ f.pending ∙ sym (ap (λ n. frames_of config n (told_of_files config (Some f.said))) same_ident);
       on_its_way = λ is. goes;
@@ -241,6 +242,6 @@ sought_sent true s = by s.again
     by None = next (next_again s.now s.files.transfers)
     by (Some said) = refl
 
-pub quest_written : (config : Config) (octets : List ℕ) (answer : Io) (past : List Entry) → (serving config past).files.quest ≡ Settled →
-    (serving config (LinkWrite octets answer ∷ past)).files.quest ≡ Settled
+pub quest_written : (config : Config) (octets : List ℕ) (answer : Io) (past : List Entry) → (serving config past).files.quest ≡ SeeksNothing →
+    (serving config (LinkWrite octets answer ∷ past)).files.quest ≡ SeeksNothing
 quest_written config octets answer past is = sought_sent (begins_again config (identification past) (ledger config past) (goes_out (LinkWrite octets answer) past)) (serving config past) ∙ is

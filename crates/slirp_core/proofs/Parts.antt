@@ -1,5 +1,6 @@
 -- What the core has, part by part, after a call on a socket that isn't a flow's.
 use Rattle.std.proofs.Common.{◌≡◌, ℕ, ◌&&◌, ◌||◌, Bool, true, false, List, [], ◌∷◌, Option, Some, None, refl, sym, ◌∙◌, ap, subst, arith, nat_le, ◌++◌, length, if◌then◌else◌}
+use Rattle.std.specs.Option.{option_or}
 use Rattle.net_octets.specs.declared.Endpoint.{Endpoint}
 use Rattle.poll_list.specs.declared.Want.{Want}
 use Rattle.world_face.specs.Journal.{Entry, Call, Allowed, call_of, Close, UdpOpen, UdpSend, UdpRecv}
@@ -18,11 +19,11 @@ use Rattle.run_laws.specs.Sockets.{is_among, next_number}
 use Rattle.slirp_laws.specs.Agenda.{agenda, all_wanted, behind, from, is_to_read}
 use Rattle.slirp_laws.specs.Asking.{step}
 use Rattle.slirp_laws.specs.Errands.{errand_left}
-use Rattle.slirp_laws.specs.Datagrams.{Step, due_for, Errand, Settled, NeedsRoom, NeedsSocket, asks_a_name}
+use Rattle.slirp_laws.specs.Datagrams.{Step, due_for, Errand, NeedsNothing, NeedsRoom, NeedsSocket, asks_a_name}
 use Rattle.slirp_laws.specs.Names.{questions, step_to_names, with_socket as with_question}
 use Rattle.slirp_laws.specs.Ports.{forward_for}
 use Rattle.slirp_laws.specs.Relayed.{associations, step_for, with_forward, with_socket, without_socket}
-use Rattle.slirp_laws.specs.Laws.{Lawful, May, carries, due, due_for_services, is_closing, unless_due, begins_closing}
+use Rattle.slirp_laws.specs.Laws.{Lawful, May, carries, due, due_for_services, is_closing, begins_closing}
 use Rattle.slirp_laws.proofs.Joining.{joined_step}
 use Rattle.stream_netdev.specs.Keeps.{Keeps}
 use Rattle.stream_netdev.specs.State.{LinkState}
@@ -44,15 +45,15 @@ use Rattle.slirp_laws.proofs.Steps.{errand_in}
 
 -- by where the run stands; services and flows ask for none
 pub due_in_phase : (config : Config) (past : List Entry) (p : Phase) → phase config past ≡ p → due_for_services config past ≡ None → due_for_flows config (book config past) (next_number past) ≡ None
-    → due config past ≡ unless_due (due_in p past) (due_for config (step config past) (next_number past))
+    → due config past ≡ option_or (due_in p past) (due_for config (step config past) (next_number past))
 due_in_phase config past p is serves asks =
-    ap (λ q. unless_due (due_in q past) (unless_due (due_for config (step config past) (next_number past))
-    (unless_due (due_for_services config past) (due_for_flows config (book config past) (next_number past))))) is
-    ∙ ap (λ o. unless_due (due_in p past) (unless_due (due_for config (step config past) (next_number past)) (unless_due o (due_for_flows config (book config past) (next_number past))))) serves
-    ∙ ap (λ o. unless_due (due_in p past) (unless_due (due_for config (step config past) (next_number past)) o)) asks
-    ∙ ap (unless_due (due_in p past)) (unless_none (due_for config (step config past) (next_number past)))
+    ap (λ q. option_or (due_in q past) (option_or (due_for config (step config past) (next_number past))
+    (option_or (due_for_services config past) (due_for_flows config (book config past) (next_number past))))) is
+    ∙ ap (λ o. option_or (due_in p past) (option_or (due_for config (step config past) (next_number past)) (option_or o (due_for_flows config (book config past) (next_number past))))) serves
+    ∙ ap (λ o. option_or (due_in p past) (option_or (due_for config (step config past) (next_number past)) o)) asks
+    ∙ ap (option_or (due_in p past)) (unless_none (due_for config (step config past) (next_number past)))
   where
-    unless_none : (o : Option Call) → unless_due o None ≡ o
+    unless_none : (o : Option Call) → option_or o None ≡ o
     unless_none None = refl
     unless_none (Some call) = refl
 
@@ -97,7 +98,7 @@ pub errand_for : (config : Config) (s : Step) (heard : Option ℕ) (slirp : Slir
 errand_for config s heard slirp past relayed = sym (in_step config slirp.questions (λ guest. port_for guest slirp.forwards) slirp.associations (errand_left config past)) ∙ ap errand_in relayed.asks
 
 -- nothing is asked for, whatever the lists
-pub asks_nothing : (config : Config) (slirp : SlirpState) (o : Option Errand) → o ≡ None → asked_by config slirp o ≡ Settled
+pub asks_nothing : (config : Config) (slirp : SlirpState) (o : Option Errand) → o ≡ None → asked_by config slirp o ≡ NeedsNothing
 asks_nothing config slirp o is = ap (asked_by config slirp) is
 
 pub or_first : (a b : Bool) → a ≡ true → (a || b) ≡ true

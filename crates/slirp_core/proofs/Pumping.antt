@@ -13,7 +13,7 @@ use Rattle.record_flows.specs.Book.{book}
 use Rattle.record_flows.specs.Doings.{doing_by}
 use Rattle.record_flows.specs.Laws.{MayWrite, MustWrite, flow_settings}
 use Rattle.run_laws.specs.Moments.{moment}
-use Rattle.slirp_laws.specs.Datagrams.{Settled}
+use Rattle.slirp_laws.specs.Datagrams.{NeedsNothing}
 use Rattle.slirp_laws.specs.Sending.{is_beside, is_explained}
 use Rattle.slirp_laws.specs.Laws.{Lawful, may_begin}
 use Rattle.run_laws.specs.Shape.{phase, is_working, unless_over}
@@ -56,8 +56,8 @@ after_write config at slirp new_slirp f old new past octets answer blocked holds
   where
     lawful : (a : Io) → Keeps new (LinkWrite octets a ∷ past) → Lawful config (LinkWrite octets a ∷ past)
     lawful a k = (
-      writes config past octets k.framed.0 (due_is config past Settled turn.working
-          (none_due_for_services config past holds.relayed.heard holds.services.quest) holds.flows.holds.asked (asked_for config at Settled None slirp f old past holds))
+      writes config past octets k.framed.0 (due_is config past NeedsNothing turn.working
+          (none_due_for_services config past holds.relayed.heard holds.services.quest) holds.flows.holds.asked (asked_for config at NeedsNothing None slirp f old past holds))
           (flows_stay_open config f slirp.moment past holds.flows) (ap is_working turn.working) may holds.open_yet sent,
       holds.lawful,
     )
@@ -73,7 +73,7 @@ after_write config at slirp new_slirp f old new past octets answer blocked holds
       relayed = record {
         list = holds.relayed.list ∙ sym (ap (λ (s : SlirpState). s.associations) same);
         questions = holds.relayed.questions ∙ sym (ap (λ (s : SlirpState). s.questions) same);
-        asks = asks_nothing config new_slirp (errand_left config past) (errand_for config Settled None slirp past holds.relayed);
+        asks = asks_nothing config new_slirp (errand_left config past) (errand_for config NeedsNothing None slirp past holds.relayed);
         heard = refl;
       };
       services = record { leases = holds.services.leases ∙ sym (ap (λ (s : SlirpState). s.leases) same); quest = quest_written config octets a past holds.services.quest };
@@ -87,7 +87,7 @@ after_write config at slirp new_slirp f old new past octets answer blocked holds
     }
 
     now_open : AreOpenWith (forward_sockets slirp.forwards) (carriers (holders_with slirp f.kept)) f.kept.flows.slots past
-    now_open = are_open config at Settled None slirp f old past holds
+    now_open = are_open config at NeedsNothing None slirp f old past holds
 
     by_answer : (a : Io) (b : Bool) → Keeps new (LinkWrite octets a ∷ past) → Allowed (LinkWrite octets a) → Left config f.aged past octets a new_slirp → AfterPump
         (pumped_of (offered a) b) config at new_slirp f new (LinkWrite octets a ∷ past)
@@ -101,7 +101,7 @@ after_write config at slirp new_slirp f old new past octets answer blocked holds
       lawful = lawful Failed k;
       over = ap (λ p. unless_over p LinkFailed) turn.working;
       waited = holds.clock.counted;
-      errand = errand_for config Settled None slirp past holds.relayed;
+      errand = errand_for config NeedsNothing None slirp past holds.relayed;
       served = none_due_for_services config (LinkWrite octets Failed ∷ past) refl (quest_written config octets Failed past holds.services.quest);
       idle = (flows Failed).holds.asked;
       stay = flows_stay_open config f slirp.moment (LinkWrite octets Failed ∷ past) (flows Failed);

@@ -1,5 +1,6 @@
 -- Reads of the link, and what a frame brings.
 use Rattle.std.proofs.Common.{◌≡◌, ℕ, ◌<◌, ◌&&◌, not, Bool, true, false, List, [], ◌∷◌, ◌++◌, drop, Option, Some, None, option_map, if◌then◌else◌, refl, sym, ◌∙◌, ap, subst, arith}
+use Rattle.flow_laws.specs.Guest.{is_empty}
 use Rattle.poll_list.specs.declared.Want.{Want}
 use Rattle.poll_list.specs.declared.Who.TheVariants.{Link as TheLink}
 use Rattle.net_octets.specs.declared.Ip4.{Ip4}
@@ -28,9 +29,9 @@ use Rattle.slirp_laws.specs.Answers.{Serving, files_after, files_by_fate, files_
 use Rattle.slirp_laws.specs.Leasing.{leases, leases_by, leases_by_packet}
 use Rattle.slirp_laws.specs.Asking.{step_of}
 use Rattle.slirp_laws.specs.Errands.{errand_after, errand_left}
-use Rattle.slirp_laws.specs.Datagrams.{Fate, Ignored, Refused, ForLeases, ForFiles, GoesTo, Settled, errand_by, errand_by_packet, fate}
+use Rattle.slirp_laws.specs.Datagrams.{Fate, Ignored, Refused, ForLeases, ForFiles, GoesTo, NeedsNothing, errand_by, errand_by_packet, fate}
 use Rattle.tftp_server.specs.Transfers.{Files, settled}
-use Rattle.slirp_laws.specs.Laws.{Lawful, May, is_closing, is_nothing, joins}
+use Rattle.slirp_laws.specs.Laws.{Lawful, May, is_closing, joins}
 use Rattle.run_laws.specs.Sockets.{next_number}
 use Rattle.flows_follow.specs.Stands.{InWork}
 use Rattle.slirp_laws.specs.Relayed.{associations}
@@ -90,10 +91,10 @@ module _ (config : Config) (count : ℕ) (wants : List Want) (item : Want) (item
   -- a read may come, that asks for what is missing
   may_read : (asked : ℕ) (past : List Entry) → MayFrame past (CallLinkRead asked) → Quiet config count wants item items slirp kept wait past → May config past (CallLinkRead asked)
   may_read asked past framed q =
-      reads_on config past asked framed (due_is config past Settled q.turn.working (none_due_for_services config past q.heard q.serves.quest) q.flows.holds.asked
+      reads_on config past asked framed (due_is config past NeedsNothing q.turn.working (none_due_for_services config past q.heard q.serves.quest) q.flows.holds.asked
       (ap (step_of config past) q.unasked)) (flows_stay_open config (flowing false kept) slirp.moment past q.flows) (ap is_working q.turn.working)
       (reads_of TheLink (wanted_of wants item) (all_wanted wants items) (agenda past) reads_it q.reported)
-      (ap (λ t. is_nothing t && is_out (left config past)) q.out ∙ ap is_out q.none) q.open_yet
+      (ap (λ t. is_empty t && is_out (left config past)) q.out ∙ ap is_out q.none) q.open_yet
 
   -- a frame that isn't handed over isn't whole
   not_whole : (octets : List ℕ) → (if is_whole octets then Some (drop 4 octets) else None) ≡ None → is_whole octets ≡ false
@@ -415,7 +416,7 @@ module _ (config : Config) (count : ℕ) (wants : List Want) (item : Want) (item
         list = holds.relayed.list;
         named = holds.relayed.questions;
         heard = holds.relayed.heard;
-        unasked = errand_for config Settled None slirp past holds.relayed;
+        unasked = errand_for config NeedsNothing None slirp past holds.relayed;
         clock = holds.clock.moment;
         fragments = holds.guests.fragments;
         waits = refl;

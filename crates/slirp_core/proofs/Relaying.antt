@@ -1,5 +1,7 @@
 -- Calls on the sockets of datagrams: those of associations, of questions, and of ports of the host that are given to guests.
 use Rattle.std.proofs.Common.{◌≡◌, ℕ, ◌+◌, ◌<◌, ◌==◌, ◌&&◌, ◌||◌, not, Bool, true, false, nat_le, nat_lt, zero, suc, List, [], ◌∷◌, ◌++◌, length, find, slice_get, Option, Some, None}
+use Rattle.flow_laws.specs.Guest.{is_empty}
+use Rattle.std.specs.Option.{option_or}
 use Rattle.std.proofs.Common.{option_map, unwrap_or, if◌then◌else◌, inl, refl, sym, ◌∙◌, ap, arith}
 use Rattle.std.proofs.lemmas.Bool.Decides.{nat_tests}
 use Rattle.poll_list.specs.declared.Want.{Want}
@@ -34,17 +36,17 @@ use Rattle.run_laws.specs.Shape.{due_in, phase, is_ended, is_over as is_run_over
 use Rattle.run_laws.specs.Sockets.{Association as OfAssociation, DnsSocket, Flow as OfFlow, Forward, Kind, Listener, datagram_kind, is_among, is_association, is_forward, kind_of}
 use Rattle.run_laws.specs.Sockets.{next_number, open_sockets, with_made}
 use Rattle.slirp_laws.specs.Agenda.{agenda, all_wanted, is_to_read, wanted_of}
-use Rattle.slirp_laws.specs.Answers.{frames_of, identification, is_out, left, name_answer, serving, told_about, no_network, unsent, unless_sent, reply_at, reply_for, reply_on}
+use Rattle.slirp_laws.specs.Answers.{frames_of, identification, is_out, left, name_answer, serving, told_about, no_network, unsent, reply_at, reply_for, reply_on}
 use Rattle.slirp_laws.specs.Asking.{step as asked}
 use Rattle.slirp_laws.specs.Errands.{errand_left}
 use Rattle.slirp_laws.specs.Names.{answered, answered_on, has_waited, question, questions, step_to_names, with_opened as name_opened, with_sent as name_sent, with_socket as with_question}
 use Rattle.slirp_laws.specs.Names.{without_socket as without_question}
 use Rattle.slirp_laws.specs.Ports.{forwards_open, is_port, mac_for, mac_known, mac_of, opened_for}
 use Rattle.slirp_laws.specs.Said.{SaysOf}
-use Rattle.slirp_laws.specs.Datagrams.{Errand, Step, Settled, NeedsRoom, NeedsSocket, NeedsSending, asks_a_name, due_for, opened_at}
+use Rattle.slirp_laws.specs.Datagrams.{Errand, Step, NeedsNothing, NeedsRoom, NeedsSocket, NeedsSending, asks_a_name, due_for, opened_at}
 use Rattle.slirp_laws.specs.Relayed.{association, associations, with_forward, with_opened, with_sent, with_socket, without_socket}
-use Rattle.slirp_laws.specs.Laws.{May, MayDue, carries, due, due_for_services, gives_way, is_all_out, is_for_datagrams, is_just_answered, is_least, is_nothing, is_unused, may_part}
-use Rattle.slirp_laws.specs.Laws.{name_gives_way, parts, relays, unless_due}
+use Rattle.slirp_laws.specs.Laws.{May, MayDue, carries, due, due_for_services, gives_way, is_all_out, is_for_datagrams, is_least, is_unused, may_part}
+use Rattle.slirp_laws.specs.Laws.{name_gives_way, parts, relays}
 use Rattle.slirp_laws.proofs.Bools.{among_last, among_without, and_both, first_of, same, second_of, turned}
 use Rattle.slirp_laws.proofs.Deeds.{any_one, closes, hears, opens, sends, this_one}
 use Rattle.slirp_laws.proofs.Finding.{idle_is, says_of}
@@ -60,11 +62,22 @@ use Rattle.slirp_core.proofs.Given.{leads_at}
 use Rattle.slirp_core.proofs.Names.{association_unmoved, carried as carried_names, kind_carried, kind_named, named_apart, neither, none_moved, none_numbered, none_without, one_numbered, two_apart}
 use Rattle.slirp_core.proofs.Parts.{asks_nothing, behind_of, errand_for, forward_in, given_in, or_first, or_second, reads_of, still_open, after_socket, asked_for, due_is, in_turn}
 use Rattle.slirp_core.specs.Owed.{IsOwedAt}
-use Rattle.tftp_server.specs.Transfers.{Settled as QuestSettled}
+use Rattle.tftp_server.specs.Transfers.{Settled as SeeksNothing}
 use Rattle.slirp_core.proofs.Owing.{left_stays, left_then, nothing_left as none_left, of_left, owed_stays}
 use Rattle.slirp_core.proofs.Services.{asks_resolver, close_due, none_due_for_services, opened_for_name, opened_for_other}
 use Rattle.slirp_core.proofs.Sockets.{numbered_among, idle_among}
 use Rattle.slirp_core.proofs.Flows.{closes_freely, flows_ask_nothing, flows_stay_open, no_flow}
+
+-- what is left of a datagram that was sent on: nothing new where it could be sent
+abbrev pub unless_sent : Sent → List (List ℕ) → List (List ℕ) → List (List ℕ)
+unless_sent SentFailed told left = told
+unless_sent _ told left = left
+
+left_sent : (config : Config) (past : List Entry) (socket : ℕ) (to : Endpoint) (octets : List ℕ) (answer : Sent)
+    → left config (UdpSend socket to octets answer ∷ past) ≡ unless_sent answer (unsent config (identification past) (asked config past) (left config past)) (left config past)
+left_sent config past socket to octets SentDone = refl
+left_sent config past socket to octets SentNotYet = refl
+left_sent config past socket to octets SentFailed = refl
 
 -- the kinds of sockets, one more
 kinds_open : (number : ℕ) (at : Endpoint) (answer : Made) (past : List Entry) → 0 < waits past → ((n : ℕ) → is_among n (open_sockets past) ≡ true → is_ours (kind_of n past) ≡ true)
@@ -197,13 +210,13 @@ unclosed n (a ∷ list) none = by (a.number == n) (turned n a.number false (none
     by false is rest = ap (λ l. a ∷ l) rest
 
 -- the close of the socket is due
-close_is_due : (config : Config) (past : List Entry) (socket : ℕ) → InTurn config past → asked config past ≡ Settled → answered config past ≡ Some socket →
-    (serving config past).files.quest ≡ QuestSettled → due config past ≡ Some (CallClose socket)
+close_is_due : (config : Config) (past : List Entry) (socket : ℕ) → InTurn config past → asked config past ≡ NeedsNothing → answered config past ≡ Some socket →
+    (serving config past).files.quest ≡ SeeksNothing → due config past ≡ Some (CallClose socket)
 close_is_due config past socket turn settled heard unsought =
-    ap (λ q. unless_due (due_in q past) (unless_due (due_for config (asked config past) (next_number past))
-    (unless_due (due_for_services config past) (due_for_flows config (book config past) (next_number past))))) turn.working
-    ∙ ap (λ t. unless_due (due_for config t (next_number past)) (unless_due (due_for_services config past) (due_for_flows config (book config past) (next_number past)))) settled
-    ∙ ap (λ o. unless_due o (due_for_flows config (book config past) (next_number past))) (close_due config past socket heard unsought)
+    ap (λ q. option_or (due_in q past) (option_or (due_for config (asked config past) (next_number past))
+    (option_or (due_for_services config past) (due_for_flows config (book config past) (next_number past))))) turn.working
+    ∙ ap (λ t. option_or (due_for config t (next_number past)) (option_or (due_for_services config past) (due_for_flows config (book config past) (next_number past)))) settled
+    ∙ ap (λ o. option_or o (due_for_flows config (book config past) (next_number past))) (close_due config past socket heard unsought)
 
 module _ (config : Config) (at : Standing) (slirp : SlirpState) (f : Flowing) (link : LinkState) (past : List Entry) where
   module _ (step : Step) (heard : Option ℕ) (holds : HoldsOn config at step heard slirp f link past) where
@@ -252,7 +265,7 @@ module _ (config : Config) (at : Standing) (slirp : SlirpState) (f : Flowing) (l
     parted socket among why = ap (may_part config past socket) (kind_carried config past holds.lawful socket (in_record socket among)) ∙ why
 
     name_parted : (socket : ℕ) → is_among socket (question_numbers slirp.questions) ≡ true →
-        (name_gives_way config socket (asked config past) || is_just_answered config past socket || has_waited config past socket) ≡ true
+        (name_gives_way config socket (asked config past) || is_it socket (answered config past) || has_waited config past socket) ≡ true
         → parts config past socket ≡ true
     name_parted socket among why = ap (may_part config past socket) (kind_named config past holds.lawful socket (named_record socket among)) ∙ why
 
@@ -302,7 +315,7 @@ module _ (config : Config) (at : Standing) (slirp : SlirpState) (f : Flowing) (l
       pub after_refusal : Allowed (UdpOpen slirp.number port MadeFailed) → Holds config at
           (record slirp { number = slirp.number + 1; pending = frames_of slirp.config slirp.sent (told_about slirp.config no_network errand.datagram) }) f link
           (UdpOpen slirp.number port MadeFailed ∷ past)
-      after_refusal allowed = after_socket config at at (NeedsSocket errand) Settled None None slirp
+      after_refusal allowed = after_socket config at at (NeedsSocket errand) NeedsNothing None None slirp
           (record slirp { number = slirp.number + 1; pending = frames_of slirp.config slirp.sent (told_about slirp.config no_network errand.datagram) }) f link
           (UdpOpen slirp.number port MadeFailed) past tt refl refl refl refl refl turn holds (record {
             may = may_open;
@@ -402,7 +415,7 @@ module _ (config : Config) (at : Standing) (slirp : SlirpState) (f : Flowing) (l
         → Holds config at (record slirp { associations = list; questions = named; pending = pending }) f link (UdpSend socket errand.to errand.datagram.body answer ∷ past)
     after_sending answer pending allowed owes =
         let e = UdpSend socket errand.to errand.datagram.body answer in
-        after_socket config at at (NeedsSending socket errand) Settled None None slirp
+        after_socket config at at (NeedsSending socket errand) NeedsNothing None None slirp
         (record slirp { associations = list; questions = named; pending = pending }) f link e past tt refl refl refl refl refl send_turn holds (record {
           may = may_send;
           allowed = allowed;
@@ -410,7 +423,9 @@ module _ (config : Config) (at : Standing) (slirp : SlirpState) (f : Flowing) (l
           answers = record {
             sent = holds.answers.sent;
             owed = inl (left_then config f.aged slirp (record slirp { associations = list; questions = named; pending = pending }) e past refl refl refl refl
-                (ap (λ s. unless_sent answer (unsent config (identification past) s (left config past)) (left config past)) (asks (NeedsSending socket errand) None holds) ∙ owes) holds.answers.owed);
+                (left_sent config past socket errand.to errand.datagram.body answer
+                ∙ ap (λ s. unless_sent answer (unsent config (identification past) s (left config past)) (left config past)) (asks (NeedsSending socket errand) None holds)
+                ∙ owes) holds.answers.owed);
           };
           relayed = record {
             list = ap (λ o. with_sent socket (moment past) o (associations config past)) (errand_is (NeedsSending socket errand) None holds)
@@ -524,8 +539,8 @@ module _ (config : Config) (at : Standing) (slirp : SlirpState) (f : Flowing) (l
       (left_stays config f.aged slirp then_state (Close socket) past refl refl refl refl refl refl)
       (this_one config past (CallClose socket) (due_is config past step turn.working
       (none_due_for_services config past holds.relayed.heard holds.services.quest) holds.flows.holds.asked (asks step None holds)))
-      (name_parted step None holds socket among (or_first (name_gives_way config socket (asked config past) || is_just_answered config past socket) (has_waited config past socket)
-      (or_first (name_gives_way config socket (asked config past)) (is_just_answered config past socket) (ap (name_gives_way config socket) (asks step None holds) ∙
+      (name_parted step None holds socket among (or_first (name_gives_way config socket (asked config past) || is_it socket (answered config past)) (has_waited config past socket)
+      (or_first (name_gives_way config socket (asked config past)) (is_it socket (answered config past)) (ap (name_gives_way config socket) (asks step None holds) ∙
       (λ i. same socket i && name i)))))
       (ap (asked_by config then_state) left ∙ asks_by_name config then_state errand name
       ∙ ap (λ o. with_question o (question_without socket slirp.questions) errand) (question_still_none errand.datagram.from (ident_in errand.datagram.body) socket slirp.questions none)
@@ -540,13 +555,13 @@ module _ (config : Config) (at : Standing) (slirp : SlirpState) (f : Flowing) (l
       let over : is_idle socket (moment past) (associations config past) ≡ true = ap (is_idle socket (moment past)) holds.relayed.list ∙ ap
       (λ m. is_idle socket m slirp.associations) holds.clock.moment ∙ idle in
       let long = idle_is config past socket (moment past) (associations config past) (joined config past holds.lawful).kept over in
-      parted_from socket Settled Settled None (without socket slirp.associations) slirp.questions refl
-      (none_without socket slirp.questions (no_name Settled None holds socket among)) holds turn (carried Settled None holds socket among) allowed
+      parted_from socket NeedsNothing NeedsNothing None (without socket slirp.associations) slirp.questions refl
+      (none_without socket slirp.questions (no_name NeedsNothing None holds socket among)) holds turn (carried NeedsNothing None holds socket among) allowed
       (owed_stays config f.aged slirp (record slirp { associations = without socket slirp.associations }) (Close socket) past refl refl refl refl refl refl refl)
-      (any_one config past (CallClose socket) (due_is config past Settled turn.working
-      (none_due_for_services config past holds.relayed.heard holds.services.quest) holds.flows.holds.asked (asks Settled None holds)))
-      (parted Settled None holds socket among (or_second (gives_way config socket (asked config past)) (is_unused socket past) (grind (arith, nat_tests, long))))
-      (asks_nothing config (record slirp { associations = without socket slirp.associations }) (errand_left config past) (errand_is Settled None holds))
+      (any_one config past (CallClose socket) (due_is config past NeedsNothing turn.working
+      (none_due_for_services config past holds.relayed.heard holds.services.quest) holds.flows.holds.asked (asks NeedsNothing None holds)))
+      (parted NeedsNothing None holds socket among (or_second (gives_way config socket (asked config past)) (is_unused socket past) (grind (arith, nat_tests, long))))
+      (asks_nothing config (record slirp { associations = without socket slirp.associations }) (errand_left config past) (errand_is NeedsNothing None holds))
 
   -- a question had waited for long enough
   pub after_waiting : (socket : ℕ) → Allowed (Close socket) → is_over socket slirp.moment slirp.questions ≡ true → is_among socket (question_numbers slirp.questions) ≡ true →
@@ -555,30 +570,30 @@ module _ (config : Config) (at : Standing) (slirp : SlirpState) (f : Flowing) (l
   after_waiting socket allowed waited among holds =
       let turn : InTurn config past = in_turn holds.stands (λ u. cc (sym (ap (λ l. is_among socket (question_numbers l)) u.unnamed) ∙ among)) in
       let over : has_waited config past socket ≡ true = ap (is_over socket (moment past)) holds.relayed.questions ∙ ap (λ m. is_over socket m slirp.questions) holds.clock.moment ∙ waited in
-      parted_from socket Settled Settled None slirp.associations (question_without socket slirp.questions)
-      (unclosed socket slirp.associations (no_port Settled None holds socket among)) refl holds turn (named Settled None holds socket among) allowed
+      parted_from socket NeedsNothing NeedsNothing None slirp.associations (question_without socket slirp.questions)
+      (unclosed socket slirp.associations (no_port NeedsNothing None holds socket among)) refl holds turn (named NeedsNothing None holds socket among) allowed
       (owed_stays config f.aged slirp (record slirp { questions = question_without socket slirp.questions }) (Close socket) past refl refl refl refl refl refl refl)
-      (any_one config past (CallClose socket) (due_is config past Settled turn.working
-      (none_due_for_services config past holds.relayed.heard holds.services.quest) holds.flows.holds.asked (asks Settled None holds)))
-      (name_parted Settled None holds socket among (or_second (name_gives_way config socket (asked config past) || is_just_answered config past socket) (has_waited config past socket) over))
-      (asks_nothing config (record slirp { questions = question_without socket slirp.questions }) (errand_left config past) (errand_is Settled None holds))
+      (any_one config past (CallClose socket) (due_is config past NeedsNothing turn.working
+      (none_due_for_services config past holds.relayed.heard holds.services.quest) holds.flows.holds.asked (asks NeedsNothing None holds)))
+      (name_parted NeedsNothing None holds socket among (or_second (name_gives_way config socket (asked config past) || is_it socket (answered config past)) (has_waited config past socket) over))
+      (asks_nothing config (record slirp { questions = question_without socket slirp.questions }) (errand_left config past) (errand_is NeedsNothing None holds))
 
   -- its answer came just now
-  pub after_answered : (socket : ℕ) → Allowed (Close socket) → is_among socket (question_numbers slirp.questions) ≡ true → InTurn config past → HoldsOn config at Settled
+  pub after_answered : (socket : ℕ) → Allowed (Close socket) → is_among socket (question_numbers slirp.questions) ≡ true → InTurn config past → HoldsOn config at NeedsNothing
       (Some socket) slirp f link past
       → Holds config at (record slirp { questions = question_without socket slirp.questions }) f link (Close socket ∷ past)
   after_answered socket allowed among in_one holds =
-      parted_from socket Settled Settled (Some socket) slirp.associations (question_without socket slirp.questions)
-      (unclosed socket slirp.associations (no_port Settled (Some socket) holds socket among)) refl holds in_one (named Settled (Some socket) holds socket among) allowed
+      parted_from socket NeedsNothing NeedsNothing (Some socket) slirp.associations (question_without socket slirp.questions)
+      (unclosed socket slirp.associations (no_port NeedsNothing (Some socket) holds socket among)) refl holds in_one (named NeedsNothing (Some socket) holds socket among) allowed
       (owed_stays config f.aged slirp (record slirp { questions = question_without socket slirp.questions }) (Close socket) past refl refl refl refl refl refl refl)
-      (this_one config past (CallClose socket) (close_is_due config past socket in_one (asks Settled (Some socket) holds) holds.relayed.heard holds.services.quest))
-      (name_parted Settled (Some socket) holds socket among (or_first (name_gives_way config socket (asked config past) || is_just_answered config past socket) (has_waited config past socket)
-      (or_second (name_gives_way config socket (asked config past)) (is_just_answered config past socket) (ap (is_it socket) holds.relayed.heard ∙ same socket))))
-      (asks_nothing config (record slirp { questions = question_without socket slirp.questions }) (errand_left config past) (errand_is Settled (Some socket) holds))
+      (this_one config past (CallClose socket) (close_is_due config past socket in_one (asks NeedsNothing (Some socket) holds) holds.relayed.heard holds.services.quest))
+      (name_parted NeedsNothing (Some socket) holds socket among (or_first (name_gives_way config socket (asked config past) || is_it socket (answered config past)) (has_waited config past socket)
+      (or_second (name_gives_way config socket (asked config past)) (is_it socket (answered config past)) (ap (is_it socket) holds.relayed.heard ∙ same socket))))
+      (asks_nothing config (record slirp { questions = question_without socket slirp.questions }) (errand_left config past) (errand_is NeedsNothing (Some socket) holds))
 
   -- nothing is left to be sent
   pub all_out : slirp.pending ≡ [] → link.tail ≡ [] → Holds config at slirp f link past → is_all_out config past ≡ true
-  all_out none out holds = ap (λ t. is_nothing t && is_out (left config past)) (holds.keeps.rest ∙ out) ∙ ap is_out (none_left config f.aged slirp past none holds.answers.owed)
+  all_out none out holds = ap (λ t. is_empty t && is_out (left config past)) (holds.keeps.rest ∙ out) ∙ ap is_out (none_left config f.aged slirp past none holds.answers.owed)
 
 -- the first port of the host that is given to a port of a guest is open for datagrams, and no one else's
 pub record IsForward (past : List Entry) (slirp : SlirpState) (socket : ℕ) : Type 0 where
@@ -637,8 +652,8 @@ module _ (config : Config) (count : ℕ) (wants : List Want) (item : Want) (item
       none_reported x rest (y ∷ front) is = cc
 
   may_hear : relays past socket ≡ true → May config past (CallUdpRecv socket size)
-  may_hear on = hears config past socket size (due_is config past Settled hear_turn.working
-      (none_due_for_services config past holds.relayed.heard holds.services.quest) holds.flows.holds.asked (asks config before slirp f link past Settled None holds))
+  may_hear on = hears config past socket size (due_is config past NeedsNothing hear_turn.working
+      (none_due_for_services config past holds.relayed.heard holds.services.quest) holds.flows.holds.asked (asks config before slirp f link past NeedsNothing None holds))
       (flows_stay_open config f slirp.moment past holds.flows) (ap is_working hear_turn.working)
       on whole (reads_of (UdpAt socket) (wanted_of wants item) (all_wanted wants items) (agenda past) reported holds.agenda) (all_out config before slirp f link past none out holds) holds.open_yet
 
@@ -646,7 +661,7 @@ module _ (config : Config) (count : ℕ) (wants : List Want) (item : Want) (item
   agenda_behind answer octets = behind_of (UdpAt socket) (wanted_of wants item) (all_wanted wants items) (agenda past) reported holds.agenda
 
   nothing_left : errand_left config past ≡ None
-  nothing_left = errand_is config before slirp f link past Settled None holds
+  nothing_left = errand_is config before slirp f link past NeedsNothing None holds
 
   module _ (on : relays past socket ≡ true) where
     -- none came
@@ -655,7 +670,7 @@ module _ (config : Config) (count : ℕ) (wants : List Want) (item : Want) (item
         → associations config (UdpRecv socket size answer octets ∷ past) ≡ associations config past → questions config (UdpRecv socket size answer octets ∷ past) ≡ questions config past
         → Holds config behind_it slirp f link (UdpRecv socket size answer octets ∷ past)
     heard_nothing answer octets allowed owes unheard same_list same_names =
-        after_socket config before behind_it Settled Settled None None slirp slirp f link (UdpRecv socket size answer octets) past tt refl refl refl refl refl hear_turn holds (record {
+        after_socket config before behind_it NeedsNothing NeedsNothing None None slirp slirp f link (UdpRecv socket size answer octets) past tt refl refl refl refl refl hear_turn holds (record {
           may = may_hear on;
           allowed = allowed;
           own = tt;
@@ -685,9 +700,9 @@ module _ (config : Config) (count : ℕ) (wants : List Want) (item : Want) (item
           (heard_at slirp.moment) socket slirp.associations ≡ list → question_moved (heard_on slirp.moment) socket slirp.questions ≡ named
           → answered_on config peer octets (question_numbered socket slirp.questions) ≡ heard → frames_of config slirp.sent
           (reply_on config past socket peer octets (question_numbered socket slirp.questions)) ≡ pending
-          → HoldsOn config behind_it Settled heard (record slirp { associations = list; questions = named; pending = pending }) f link (e ∷ past)
+          → HoldsOn config behind_it NeedsNothing heard (record slirp { associations = list; questions = named; pending = pending }) f link (e ∷ past)
       heard_with heard list named pending list_is named_is heard_is owes =
-          after_socket config before behind_it Settled Settled None heard slirp
+          after_socket config before behind_it NeedsNothing NeedsNothing None heard slirp
           (record slirp { associations = list; questions = named; pending = pending }) f link e past tt refl refl refl refl refl hear_turn holds (record {
             may = may_hear on;
             allowed = allowed;
@@ -717,13 +732,13 @@ module _ (config : Config) (count : ℕ) (wants : List Want) (item : Want) (item
     among = numbered_among socket slirp.associations a is
 
     own : carries past socket ≡ true
-    own = carried config before slirp f link past Settled None holds socket among
+    own = carried config before slirp f link past NeedsNothing None holds socket among
 
     pub relays_association : relays past socket ≡ true
     relays_association = relays_own past socket own
 
     unnamed : is_among socket (question_numbers slirp.questions) ≡ false
-    unnamed = no_name config before slirp f link past Settled None holds socket among
+    unnamed = no_name config before slirp f link past NeedsNothing None holds socket among
 
     -- the association has what the record says of its socket
     says : SaysOf config past socket a
@@ -749,12 +764,12 @@ module _ (config : Config) (count : ℕ) (wants : List Want) (item : Want) (item
 
   module _ (forward : AForward) (at_place : slice_get config.forwards socket ≡ Some forward) (udp : forward.proto ≡ ByUdp) where
     leads : (kind_of socket past ≡ Some Forward) × (opened_for config socket past ≡ Some forward.guest)
-    leads = leads_at config past holds.lawful (given_in config before Settled None slirp f link past holds) holds.open_yet socket forward at_place udp
+    leads = leads_at config past holds.lawful (given_in config before NeedsNothing None slirp f link past holds) holds.open_yet socket forward at_place udp
 
     pub relays_forward : relays past socket ≡ true
     relays_forward =
         and_both (is_among socket (open_sockets past)) (is_for_datagrams (kind_of socket past))
-        ((given_in config before Settled None slirp f link past holds).stay holds.open_yet socket (within config.forwards socket at_place))
+        ((given_in config before NeedsNothing None slirp f link past holds).stay holds.open_yet socket (within config.forwards socket at_place))
         (ap is_for_datagrams leads.0)
       where
         within : (fs : List AForward) (k : ℕ) → slice_get fs k ≡ Some forward → k < length fs
@@ -766,10 +781,10 @@ module _ (config : Config) (count : ℕ) (wants : List Want) (item : Want) (item
     uncarried = forward_no_carrier (is_among socket (open_sockets past)) (kind_of socket past) (ap is_forward leads.0)
 
     no_list : is_among socket (numbers slirp.associations) ≡ false
-    no_list = (not_carried config before Settled None slirp f link past holds socket uncarried).0
+    no_list = (not_carried config before NeedsNothing None slirp f link past holds socket uncarried).0
 
     no_names : is_among socket (question_numbers slirp.questions) ≡ false
-    no_names = (not_carried config before Settled None slirp f link past holds socket uncarried).1
+    no_names = (not_carried config before NeedsNothing None slirp f link past holds socket uncarried).1
 
     -- its guest hears at the address that was learnt last, if one is known; else it is asked for it
     by_learnt : (peer : Endpoint) (octets : List ℕ) (o : Option Mac) → frames_of slirp.config slirp.sent (reply_for slirp.config peer octets (Some forward.guest)
@@ -803,10 +818,10 @@ module _ (config : Config) (count : ℕ) (wants : List Want) (item : Want) (item
     asked_here = one_numbered socket slirp.questions q is
 
     pub relays_question : relays past socket ≡ true
-    relays_question = relays_own past socket (named config before slirp f link past Settled None holds socket asked_here.1)
+    relays_question = relays_own past socket (named config before slirp f link past NeedsNothing None holds socket asked_here.1)
 
     unlisted : is_among socket (numbers slirp.associations) ≡ false
-    unlisted = no_port config before slirp f link past Settled None holds socket asked_here.1
+    unlisted = no_port config before slirp f link past NeedsNothing None holds socket asked_here.1
 
     -- it is no answer to it
     pub after_stranger : (peer : Endpoint) (count_of : ℕ) (octets : List ℕ) → is_answered config.resolver q peer octets ≡ false → Allowed (UdpRecv socket size (From peer count_of) octets)

@@ -1,7 +1,8 @@
 -- The services of the network: who has which address, to whom questions go, and what is kept of files.
 use Rattle.std.proofs.Common.{◌≡◌, ℕ, ◌&&◌, Bool, true, false, List, [], ◌∷◌, Option, Some, None, unwrap_or, if◌then◌else◌, refl, sym, ◌∙◌, ap}
+use Rattle.std.specs.Prelude.{option_map}
 use Rattle.net_octets.specs.declared.Endpoint.{Endpoint}
-use Rattle.std.specs.Option.{option_map_or}
+use Rattle.std.specs.Option.{option_map_or, option_or}
 use Rattle.world_face.specs.Journal.{CallClose, Entry}
 use Rattle.host_policy.specs.Addresses.{Config, address, endpoint}
 use Rattle.host_policy.specs.Targets.{is_loopback}
@@ -9,14 +10,14 @@ use Rattle.dns_relay.specs.Asking.{bind_for}
 use Rattle.dns_relay.specs.Questions.{is_question}
 use Rattle.tftp_server.specs.Asking.{call_for}
 use Rattle.tftp_server.specs.Serving.{Serving as FileServing}
-use Rattle.tftp_server.specs.Transfers.{Files, Settled, Transfer}
+use Rattle.tftp_server.specs.Transfers.{Files, Settled as SeeksNothing, Transfer}
 use Rattle.run_laws.specs.Happenings.{happens}
 use Rattle.run_laws.specs.Moments.{moment}
 use Rattle.run_laws.specs.Packets.{Datagram}
 use Rattle.slirp_laws.specs.Answers.{serving}
 use Rattle.slirp_laws.specs.Datagrams.{Errand, Fate, ForFiles, Ignored, ForLeases, GoesTo, Refused, asks_a_name, errand_by, errand_of, fate, opened_at}
 use Rattle.slirp_laws.specs.Errands.{errand_left}
-use Rattle.slirp_laws.specs.Laws.{due_for_answer, due_for_services, unless_due}
+use Rattle.slirp_laws.specs.Laws.{due_for_services}
 use Rattle.slirp_laws.specs.Leasing.{leases, leases_by}
 use Rattle.slirp_laws.specs.Names.{answered}
 use Rattle.slirp_laws.proofs.Askers.{is_asked, to_resolver}
@@ -75,23 +76,23 @@ opened_for_other config errand other = ap (λ (b : Bool). if b && is_loopback (a
 
 -- ---- which call is due for a service
 
-due_by_answer : (config : Config) (past : List Entry) (o : Option ℕ) → answered config past ≡ o → (serving config past).files.quest ≡ Settled →
-    due_for_services config past ≡ unless_due (due_for_answer o) None
-due_by_answer config past o is settled = λ i. unless_due (due_for_answer (is i)) (call_for (settled i))
+due_by_answer : (config : Config) (past : List Entry) (o : Option ℕ) → answered config past ≡ o → (serving config past).files.quest ≡ SeeksNothing →
+    due_for_services config past ≡ option_or (option_map CallClose o) None
+due_by_answer config past o is settled = λ i. option_or (option_map CallClose (is i)) (call_for (settled i))
 
 -- none, where no answer to a question came just now, and no file is asked for
-pub none_due_for_services : (config : Config) (past : List Entry) → answered config past ≡ None → (serving config past).files.quest ≡ Settled → due_for_services config past ≡ None
+pub none_due_for_services : (config : Config) (past : List Entry) → answered config past ≡ None → (serving config past).files.quest ≡ SeeksNothing → due_for_services config past ≡ None
 none_due_for_services config past unheard settled = due_by_answer config past None unheard settled
 
 pub unheard : (config : Config) (past : List Entry) → due_for_services config past ≡ None → answered config past ≡ None
 unheard config past none = by (answered config past) none
   where
-    by : (o : Option ℕ) → unless_due (due_for_answer o) (call_for (serving config past).files.quest) ≡ None → o ≡ None
+    by : (o : Option ℕ) → option_or (option_map CallClose o) (call_for (serving config past).files.quest) ≡ None → o ≡ None
     by None is = refl
     by (Some socket) is = cc
 
 -- else the close of its socket
-pub close_due : (config : Config) (past : List Entry) (socket : ℕ) → answered config past ≡ Some socket → (serving config past).files.quest ≡ Settled →
+pub close_due : (config : Config) (past : List Entry) (socket : ℕ) → answered config past ≡ Some socket → (serving config past).files.quest ≡ SeeksNothing →
     due_for_services config past ≡ Some (CallClose socket)
 close_due config past socket heard settled = due_by_answer config past (Some socket) heard settled
 

@@ -6,10 +6,10 @@ use Rattle.host_policy.specs.Addresses.{Config}
 use Rattle.run_laws.specs.Packets.{Datagram}
 use Rattle.tftp_server.specs.Asking.{AreAskedFor, IsServed, after_calls, call_for}
 use Rattle.tftp_server.specs.Packets.{packet_in}
-use Rattle.tftp_server.specs.Transfers.{Files, Outcome, Quest, Said, SeeksLength, SeeksOctets, Settled as QuestSettled, Transfer, came, octets_of, place_of, settled}
+use Rattle.tftp_server.specs.Transfers.{Files, Outcome, Quest, Said, SeeksLength, SeeksOctets, Settled as SeeksNothing, Transfer, came, octets_of, place_of, settled}
 use Rattle.slirp_laws.specs.Agenda.{agenda, all_wanted}
 use Rattle.slirp_laws.specs.Answers.{frames_of, serving, told_of_files}
-use Rattle.slirp_laws.specs.Datagrams.{Settled}
+use Rattle.slirp_laws.specs.Datagrams.{NeedsNothing}
 use Rattle.slirp_laws.specs.Errands.{errand_left}
 use Rattle.slirp_laws.specs.Leasing.{leases}
 use Rattle.slirp_laws.specs.Names.{questions}
@@ -43,7 +43,7 @@ by_call (FileRead name place asked answer octets) s is file = tt
 by_call _ s is file = absurd (subst IsCallOfFile (sym is) file)
 
 asked_of_file : (q : Quest) (e : Entry) → call_for q ≡ Some (call_of e) → IsOfFile e
-asked_of_file QuestSettled e is = cc
+asked_of_file SeeksNothing e is = cc
 asked_of_file (SeeksLength s) e is = by_call e (CallFileLen s.file) (the_call is) tt
   where
     the_call : Some (CallFileLen s.file) ≡ Some (call_of e) → call_of e ≡ CallFileLen s.file
@@ -115,7 +115,7 @@ module _ (config : Config) (at : Standing) (slirp : SlirpState) (kept : Kept) (l
       (settled slirp.transfers)) transfers told made) a.guests.settings is_served in
       let may : MaySeek config past = record {
         working = a.turn.working;
-        settled = errand_for config Settled None slirp past a.relayed;
+        settled = errand_for config NeedsNothing None slirp past a.relayed;
         unheard = a.relayed.heard;
         nothing = flows_ask_nothing config (flowing false kept) slirp.moment past a.flows;
         open_yet = a.open_yet;

@@ -1,5 +1,6 @@
 -- How a run begins, and fragments that are dropped.
 use Rattle.std.proofs.Common.{◌≡◌, ℕ, ◌+◌, ◌^◌, ◌≤◌, ◌==◌, min, max, nat_le, ◌||◌, Bool, true, false, zero, suc, List, [], ◌∷◌, ◌++◌, length, replicate, slice_get, Some, None, inl, inr}
+use Rattle.std.specs.Option.{option_or}
 use Rattle.std.proofs.Common.{refl, sym, ◌∙◌, ap, subst, arith, if◌then◌else◌}
 use Rattle.std.proofs.lemmas.Bool.Decides.{nat_tests}
 use Rattle.std.proofs.lemmas.List.{length-replicate}
@@ -33,8 +34,8 @@ use Rattle.slirp_laws.specs.Errands.{errand_left}
 use Rattle.slirp_laws.specs.Sending.{requests}
 use Rattle.slirp_laws.specs.Names.{answered, questions, with_opened as name_opened}
 use Rattle.slirp_laws.specs.Relayed.{associations, with_opened}
-use Rattle.slirp_laws.specs.Datagrams.{Settled, due_for}
-use Rattle.slirp_laws.specs.Laws.{May, due, due_for_services, unless_due}
+use Rattle.slirp_laws.specs.Datagrams.{NeedsNothing, due_for}
+use Rattle.slirp_laws.specs.Laws.{May, due, due_for_services}
 use Rattle.slirp_laws.proofs.Bools.{among_last, same}
 use Rattle.slirp_laws.proofs.Deeds.{asks, listens, opens as opens_socket}
 use Rattle.stream_netdev.specs.State.{LinkState, under_way}
@@ -66,8 +67,8 @@ use Rattle.slirp_core.proofs.Open.{are_open}
 -- ---- fragments are dropped
 
 -- where the turn is stays
-stands_so : (config : Config) (slirp : SlirpState) (parts : List Gathered) (kept : Kept) (link : LinkState) (past : List Entry) → Stands config Settled slirp kept link past →
-    Stands config Settled (record slirp { fragments = parts }) kept link past
+stands_so : (config : Config) (slirp : SlirpState) (parts : List Gathered) (kept : Kept) (link : LinkState) (past : List Entry) → Stands config NeedsNothing slirp kept link past →
+    Stands config NeedsNothing (record slirp { fragments = parts }) kept link past
 stands_so config slirp parts kept link past (Turns turn) = Turns turn
 stands_so config slirp parts kept link past (Begins u free unrested) =
     Begins (record {
@@ -304,8 +305,8 @@ module _ (config : Config) (slirp : SlirpState) (link : LinkState) (past : List 
     (next : opens.left ≡ f ∷ rest) where
   open_due : due config past ≡ Some (opening_call f.proto slirp.number f)
   open_due =
-      ap (λ p. unless_due (due_in p past) (unless_due (due_for config (step config past) (next_number past))
-      (unless_due (due_for_services config past) (due_for_flows config (book config past) (next_number past)))))
+      ap (λ p. option_or (due_in p past) (option_or (due_for config (step config past) (next_number past))
+      (option_or (due_for_services config past) (due_for_flows config (book config past) (next_number past)))))
       (opens.opening ∙ ap (Opening slirp.number) next)
       ∙ ap (λ n. Some (opening_call f.proto n f)) opens.sockets.number
 
@@ -320,7 +321,7 @@ module _ (config : Config) (slirp : SlirpState) (link : LinkState) (past : List 
       by Udp is = opens_socket config past slirp.number f.host is drawn (flows_ask_nothing config (flowing false slirp.flows) slirp.moment past opens.flows) opens.open_yet
 
   nothing_left : errand_left config past ≡ None
-  nothing_left = errand_for config Settled None slirp past opens.relayed
+  nothing_left = errand_for config NeedsNothing None slirp past opens.relayed
 
   abbrev opened_port : Made → Entry
   opened_port answer = port_opening f.proto slirp.number f.host answer
@@ -504,8 +505,8 @@ started config slirp link told past fine opens = record {
     phase_is = ap clocked opening
 
     asks_due : due config past ≡ Some CallNow
-    asks_due = ap (λ p. unless_due (due_in p past) (unless_due (due_for config (step config past) (next_number past))
-        (unless_due (due_for_services config past) (due_for_flows config (book config past) (next_number past))))) opening
+    asks_due = ap (λ p. option_or (due_in p past) (option_or (due_for config (step config past) (next_number past))
+        (option_or (due_for_services config past) (due_for_flows config (book config past) (next_number past))))) opening
 
 -- ---- the end of the turns
 
@@ -538,17 +539,17 @@ spent config count slirp f link made some all holds = record {
   ended = ap (λ b. is_over (phase config made) || b) none_left ∙ either (is_over (phase config made));
   is = refl;
   rests = rests holds.stands;
-  errand = errand_for config Settled None slirp made holds.relayed;
+  errand = errand_for config NeedsNothing None slirp made holds.relayed;
   served = none_due_for_services config made holds.relayed.heard holds.services.quest;
   idle = holds.flows.holds.asked;
   stay = flows_stay_open config f slirp.moment made holds.flows;
-  sockets = are_open config (after count) Settled None slirp f link made holds;
+  sockets = are_open config (after count) NeedsNothing None slirp f link made holds;
   two = two_in config slirp made holds.lawful holds.relayed.list holds.relayed.questions;
 }
   where
     none_left : nat_le config.turns (waits made) ≡ true
     none_left = let counted : waits made ≡ count = holds.clock.counted in grind (arith, nat_tests, counted, all)
 
-    rests : Stands config Settled slirp f.kept link made → Rests config made
+    rests : Stands config NeedsNothing slirp f.kept link made → Rests config made
     rests (Turns turn) = AllWaited turn.working
     rests (Begins unbegun free unrested) = let none : waits made ≡ 0 = unbegun.unwaited in let counted : waits made ≡ count = holds.clock.counted in absurd (omega (arith, none, counted, some, all))

@@ -1,5 +1,6 @@
 -- What the core tells of the reports that are left to be served.
 use Rattle.std.proofs.Common.{◌≡◌, ◌⊎◌, ℕ, zero, suc, ◌≤◌, ◌==◌, ◌&&◌, ◌||◌, not, nat_lt, Bool, true, false, is_some, List, [], ◌∷◌, length, slice_get, slice_set, Option, None, Some, inl}
+use Rattle.flow_laws.specs.Guest.{is_empty}
 use Rattle.std.proofs.Common.{inr, refl, sym, ap, ◌∙◌, subst, arith}
 use Rattle.std.proofs.lemmas.Bool.Decides.{nat_tests}
 use Rattle.std.specs.List.{list_any}
@@ -18,7 +19,7 @@ use Rattle.record_flows.specs.Book.{book}
 use Rattle.record_flows.specs.Flows.{Flow, flow_of}
 use Rattle.run_laws.specs.Sockets.{Kind, Association, DnsSocket, Forward, Flow as OfFlow, Listener as OfListener, is_among, is_flow, is_listener, kind_of, next_number, open_sockets}
 use Rattle.slirp_laws.specs.Answers.{is_out, left, may_go_again, serving}
-use Rattle.slirp_laws.specs.Laws.{Lawful, is_nothing}
+use Rattle.slirp_laws.specs.Laws.{Lawful}
 use Rattle.slirp_laws.proofs.Bools.{equal, first_of, same, second_of}
 use Rattle.flows_follow.proofs.Options.{true_false}
 use Rattle.flows_follow.proofs.Sockets.{open_has_socket, open_is_young}
@@ -42,7 +43,7 @@ some_part p q is = some_option p q is
 
 -- ---- where something is left to be sent not all is sent
 
-no_tail : (octets : List ℕ) → (length octets == 0) ≡ false → is_nothing octets ≡ false
+no_tail : (octets : List ℕ) → (length octets == 0) ≡ false → is_empty octets ≡ false
 no_tail [] is = absurd (true_false is)
 no_tail (x ∷ octets) is = refl
 
@@ -77,7 +78,7 @@ unsent config at slirp f link past holds unsettled = by (length link.tail == 0) 
 
     by : (b : Bool) → (length link.tail == 0) ≡ b → (b && not (nat_lt 0 (length slirp.pending))) ≡ false → is_all_sent config past ≡ false
     by true is some = by_owed holds.answers.owed some
-    by false is some = first_false (is_nothing (tail past)) _ _ (ap is_nothing holds.keeps.rest ∙ no_tail link.tail is)
+    by false is some = first_false (is_empty (tail past)) _ _ (ap is_empty holds.keeps.rest ∙ no_tail link.tail is)
 
 -- ---- a flow that wasn't opened yet has no report
 

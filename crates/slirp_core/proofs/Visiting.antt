@@ -42,7 +42,7 @@ use Rattle.flows_follow.proofs.Known.{known_was_taught}
 use Rattle.tcp_flows.specs.Kept.{Kept}
 use Rattle.tcp_flows.specs.Runs.{Between, Welcomes}
 use Rattle.port_forward.specs.Opened.{Opened}
-use Rattle.slirp_laws.specs.Datagrams.{Settled}
+use Rattle.slirp_laws.specs.Datagrams.{NeedsNothing}
 use Rattle.udp_assoc.specs.Associations.{numbers, without}
 use Rattle.slirp_laws.proofs.OpenSockets.{next_is_new}
 use Rattle.slirp_core.proofs.Given.{HasGiven, given_kind}
@@ -94,12 +94,12 @@ module _ (config : Config) (count : ℕ) (wants : List Want) (item : Want) (item
       no_last [] x rest is = cc
       no_last (y ∷ before) x rest is = cc
 
-      by : Stands config Settled slirp slirp.flows link past → InTurn config past
+      by : Stands config NeedsNothing slirp slirp.flows link past → InTurn config past
       by (Turns t) = t
       by (Begins unbegun free unrested) = absurd (no_last holds.agenda.0 (wanted_of wants item) (all_wanted wants items) (sym unbegun.unreported ∙ holds.agenda.1))
 
   has : HasGiven config (length config.forwards) past
-  has = given_in config (standing count wants (item ∷ items)) Settled None slirp (flowing false slirp.flows) link past holds
+  has = given_in config (standing count wants (item ∷ items)) NeedsNothing None slirp (flowing false slirp.flows) link past holds
 
   takes : takes_peers config past listener ≡ true
   takes =
@@ -109,8 +109,8 @@ module _ (config : Config) (count : ℕ) (wants : List Want) (item : Want) (item
 
   may_accept : May config past (CallAccept listener slirp.number)
   may_accept = accepts config past listener slirp.number
-      (due_is config past Settled turn.working (none_due_for_services config past holds.relayed.heard holds.services.quest) holds.flows.holds.asked
-      (asked_for config (standing count wants (item ∷ items)) Settled None slirp (flowing false slirp.flows) link past holds))
+      (due_is config past NeedsNothing turn.working (none_due_for_services config past holds.relayed.heard holds.services.quest) holds.flows.holds.asked
+      (asked_for config (standing count wants (item ∷ items)) NeedsNothing None slirp (flowing false slirp.flows) link past holds))
       (flows_stay_open config (flowing false slirp.flows) slirp.moment past holds.flows) (ap is_working turn.working) takes (ap (λ n. slirp.number == n) holds.sockets.number ∙ same slirp.number)
       (reads_of (AListener listener) (wanted_of wants item) (all_wanted wants items) (agenda past) reads_it holds.agenda) holds.open_yet
 
@@ -159,7 +159,7 @@ module _ (config : Config) (count : ℕ) (wants : List Want) (item : Want) (item
       lawful = (may_accept, holds.lawful);
       work = record {
         working = turn.working;
-        errand = errand_for config Settled None slirp past holds.relayed;
+        errand = errand_for config NeedsNothing None slirp past holds.relayed;
         services = none_due_for_services config
             (none_at ∷ past) refl holds.services.quest;
         open_yet = holds.open_yet;
@@ -189,7 +189,7 @@ module _ (config : Config) (count : ℕ) (wants : List Want) (item : Want) (item
           lawful = (may_accept, holds.lawful);
           work = record {
             working = turn.working;
-            errand = errand_for config Settled None slirp past holds.relayed;
+            errand = errand_for config NeedsNothing None slirp past holds.relayed;
             services = none_due_for_services config
                 (visit ∷ past) refl holds.services.quest;
             open_yet = holds.open_yet;
@@ -220,7 +220,7 @@ module _ (config : Config) (count : ℕ) (wants : List Want) (item : Want) (item
       work_then : InWork config (visit ∷ past)
       work_then = record {
         working = turn.working;
-        errand = errand_for config Settled None slirp past holds.relayed;
+        errand = errand_for config NeedsNothing None slirp past holds.relayed;
         services = none_due_for_services config
             (visit ∷ past) refl holds.services.quest;
         open_yet = holds.open_yet;
@@ -263,7 +263,7 @@ module _ (config : Config) (count : ℕ) (wants : List Want) (item : Want) (item
       uncarried = ap (λ b. b && is_association (kind_of slirp.number past)) (ap (λ n. is_among n (open_sockets past)) (sym holds.sockets.number) ∙ next_is_new config past holds.lawful)
 
       unlisted : (is_among slirp.number (numbers slirp.associations) ≡ false) × (is_among slirp.number (question_numbers slirp.questions) ≡ false)
-      unlisted = not_carried config (standing count wants (item ∷ items)) Settled None slirp (flowing false slirp.flows) link past holds slirp.number uncarried
+      unlisted = not_carried config (standing count wants (item ∷ items)) NeedsNothing None slirp (flowing false slirp.flows) link past holds slirp.number uncarried
 
       kinds_then : (n : ℕ) → is_among n (open_sockets shut_again) ≡ true → is_ours (kind_of n shut_again) ≡ true
       kinds_then n among =
@@ -320,7 +320,7 @@ module _ (config : Config) (count : ℕ) (wants : List Want) (item : Want) (item
   is_open : (listener < length config.forwards) × (kind_of listener past ≡ Some OfListener)
   is_open = (
     place.1,
-    (given_in config (standing count wants (item ∷ items)) Settled None slirp (flowing false slirp.flows) link past holds).kinds listener forward place.1 place.0
+    (given_in config (standing count wants (item ∷ items)) NeedsNothing None slirp (flowing false slirp.flows) link past holds).kinds listener forward place.1 place.0
         ∙ ap (λ p. Some (given_kind p)) tcp,
   )
 

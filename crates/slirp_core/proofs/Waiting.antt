@@ -12,7 +12,7 @@ use Rattle.host_policy.specs.Addresses.{Config}
 use Rattle.run_laws.specs.Moments.{waits}
 use Rattle.run_laws.specs.Shape.{Started, Over, By, phase, phase_after, unless_over, may_turn}
 use Rattle.run_laws.specs.Sockets.{next_number}
-use Rattle.slirp_laws.specs.Datagrams.{Step, Settled, due_for}
+use Rattle.slirp_laws.specs.Datagrams.{Step, NeedsNothing, due_for}
 use Rattle.slirp_laws.specs.Laws.{Lawful, due}
 use Rattle.slirp_laws.proofs.Deeds.{asks, waits_now}
 use Rattle.stream_netdev.specs.State.{LinkState, under_way}
@@ -34,14 +34,14 @@ not_before told now = omega arith
 module _ (config : Config) (count : ℕ) (slirp : SlirpState) (kept : Kept) (old : LinkState) (past : List Entry) (wants : List Want) (timeout : Option ℕ)
     (few : count < config.turns) (none_again : slirp.pending ≡ [] → next_again slirp.moment slirp.transfers ≡ None) (holds : Holds config (after count) slirp (flowing true kept) old past) where
   -- a wait may begin a turn, the first or a later one
-  none_due : Stands config Settled slirp kept old past → due config past ≡ None
-  none_due (Turns turn) = due_is config past Settled turn.working (none_due_for_services config past holds.relayed.heard holds.services.quest) holds.flows.holds.asked
-      (asked_for config (after count) Settled None slirp (flowing true kept) old past holds)
+  none_due : Stands config NeedsNothing slirp kept old past → due config past ≡ None
+  none_due (Turns turn) = due_is config past NeedsNothing turn.working (none_due_for_services config past holds.relayed.heard holds.services.quest) holds.flows.holds.asked
+      (asked_for config (after count) NeedsNothing None slirp (flowing true kept) old past holds)
   none_due (Begins unbegun free unrested) =
       due_in_phase config past Started unbegun.started (none_due_for_services config past holds.relayed.heard holds.services.quest) holds.flows.holds.asked
-      ∙ ap (λ (t : Step). due_for config t (next_number past)) (asked_for config (after count) Settled None slirp (flowing true kept) old past holds)
+      ∙ ap (λ (t : Step). due_for config t (next_number past)) (asked_for config (after count) NeedsNothing None slirp (flowing true kept) old past holds)
 
-  turns_on : Stands config Settled slirp kept old past → may_turn (phase config past) ≡ true
+  turns_on : Stands config NeedsNothing slirp kept old past → may_turn (phase config past) ≡ true
   turns_on (Turns turn) = ap may_turn turn.working
   turns_on (Begins unbegun free unrested) = ap may_turn unbegun.started
 
@@ -54,7 +54,7 @@ module _ (config : Config) (count : ℕ) (slirp : SlirpState) (kept : Kept) (old
     holds.lawful,
   )
 
-  ends : (why : Ending) → Stands config Settled slirp kept old past → unless_over (phase config past) why ≡ Over (By why)
+  ends : (why : Ending) → Stands config NeedsNothing slirp kept old past → unless_over (phase config past) why ≡ Over (By why)
   ends why (Turns turn) = ap (λ p. unless_over p why) turn.working
   ends why (Begins unbegun free unrested) = ap (λ p. unless_over p why) unbegun.started
 
@@ -62,7 +62,7 @@ module _ (config : Config) (count : ℕ) (slirp : SlirpState) (kept : Kept) (old
   flows_then answer ready = flows_paused config kept slirp.moment wants timeout answer ready past holds.flows
 
   now_open : AreOpenWith (forward_sockets slirp.forwards) (carriers (holders_with slirp kept)) kept.flows.slots past
-  now_open = are_open config (after count) Settled None slirp (flowing true kept) old past holds
+  now_open = are_open config (after count) NeedsNothing None slirp (flowing true kept) old past holds
 
   pub wait_ends_it : (answer : Waited) (ready : List Want) (why : Ending) → wait_ending answer ≡ Some why → Ended config (count + 1) why slirp.forwards (holders_with slirp kept)
       (Wait wants timeout answer ready ∷ past)
@@ -70,7 +70,7 @@ module _ (config : Config) (count : ℕ) (slirp : SlirpState) (kept : Kept) (old
     lawful = waited answer ready;
     over = ap (λ o. phase_after (Wait wants timeout answer ready) o (phase config past)) is ∙ ends why holds.stands;
     waited = ap (λ n. n + 1) holds.clock.counted;
-    errand = errand_for config Settled None slirp past holds.relayed;
+    errand = errand_for config NeedsNothing None slirp past holds.relayed;
     served = none_due_for_services config (Wait wants timeout answer ready ∷ past) refl holds.services.quest;
     idle = (flows_then answer ready).holds.asked;
     stay = flows_stay_open config (flowing false kept) slirp.moment (Wait wants timeout answer ready ∷ past) (flows_then answer ready);

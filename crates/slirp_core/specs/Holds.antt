@@ -24,7 +24,7 @@ use Rattle.run_laws.specs.Sockets.{Kind, is_among, is_association, is_flow, is_f
 use Rattle.slirp_laws.specs.Agenda.{agenda, all_wanted}
 use Rattle.slirp_laws.specs.Answers.{frames_of, identification, left, owed_for_segment, serving, served_file, told_of_files}
 use Rattle.slirp_laws.specs.Errands.{errand_left}
-use Rattle.slirp_laws.specs.Datagrams.{Errand, Step, Settled}
+use Rattle.slirp_laws.specs.Datagrams.{Errand, Step, NeedsNothing}
 use Rattle.slirp_laws.specs.Relayed.{associations, step_for}
 use Rattle.slirp_laws.specs.Laws.{Finished, Lawful, due_for_services, is_closing}
 use Rattle.slirp_laws.specs.Names.{answered, questions}
@@ -72,7 +72,7 @@ pub record Unbegun (config : Config) (step : Step) (slirp : SlirpState) (link : 
   pub started : phase config past ≡ Started
   pub unwaited : waits past ≡ 0
   pub unreported : agenda past ≡ []
-  pub unasked : step ≡ Settled
+  pub unasked : step ≡ NeedsNothing
   pub alone : slirp.associations ≡ []
   pub unnamed : slirp.questions ≡ []
   pub nothing : slirp.pending ≡ []
@@ -143,9 +143,9 @@ pub record Opens (config : Config) (count : ℕ) (slirp : SlirpState) (link : Li
   pub lawful : Lawful config past
   pub allowed : AreAllowed past
   pub keeps : Keeps link past
-  pub answers : OfAnswers config Settled false slirp past
+  pub answers : OfAnswers config NeedsNothing false slirp past
   pub guests : OfGuests config slirp past
-  pub relayed : OfRelay config Settled None slirp past
+  pub relayed : OfRelay config NeedsNothing None slirp past
   pub services : OfServices config slirp past
   pub done : List Forward
   pub left : List Forward
@@ -191,7 +191,7 @@ HoldsAt config at step slirp f link past = HoldsOn config at step None slirp f l
 
 -- the same, and it asks for nothing
 abbrev pub Holds : Config → Standing → SlirpState → Flowing → LinkState → List Entry → Type 0
-Holds config at slirp f link past = HoldsAt config at Settled slirp f link past
+Holds config at slirp f link past = HoldsAt config at NeedsNothing slirp f link past
 
 -- ---- a segment came
 
@@ -209,7 +209,7 @@ pub record Comes (config : Config) (at : Standing) (slirp : SlirpState) (kept : 
   pub again : (serving config past).again ≡ None
   pub files : slirp.transfers ≡ (serving config past).files.transfers
   pub guests : OfGuests config slirp past
-  pub relayed : OfRelay config Settled None slirp past
+  pub relayed : OfRelay config NeedsNothing None slirp past
   pub services : OfServices config slirp past
   pub forwards : slirp.forwards ≡ given config
   pub learnt : Contains (taught config past) (c.on.tuple.guest.addr, record { 0 = c.on.mac })
@@ -232,7 +232,7 @@ pub record AsksFile (config : Config) (at : Standing) (slirp : SlirpState) (kept
   pub none : slirp.pending ≡ []
   pub again : (serving config past).again ≡ None
   pub guests : OfGuests config slirp past
-  pub relayed : OfRelay config Settled None slirp past
+  pub relayed : OfRelay config NeedsNothing None slirp past
   pub leases : leases config past ≡ slirp.leases
   pub forwards : slirp.forwards ≡ given config
   pub flows : OfFlows config (flowing false kept) slirp.moment past

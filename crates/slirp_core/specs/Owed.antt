@@ -4,7 +4,7 @@ use Rattle.world_face.specs.Journal.{Entry}
 use Rattle.host_policy.specs.Addresses.{Config}
 use Rattle.tftp_server.specs.Transfers.{Said, Transfer, ticked}
 use Rattle.slirp_laws.specs.Answers.{frames_of, identification, left, may_go_again, serving, told_of_files}
-use Rattle.slirp_laws.specs.Datagrams.{Step, Settled}
+use Rattle.slirp_laws.specs.Datagrams.{Step, NeedsNothing}
 use Rattle.slirp_core.specs.State.{SlirpState}
 
 -- The transfers that the core keeps of these. Before a wait those that are over are gone, and where nothing else was to be sent the first packet that is due was counted.
@@ -33,5 +33,5 @@ abbrev pub IsOwed : Config → Bool → SlirpState → List Entry → Type 0
 IsOwed config aged slirp past = OfLeft config aged slirp past ⊎ OfFile config aged slirp past
 
 abbrev pub IsOwedAt : Step → Config → Bool → SlirpState → List Entry → Type 0
-IsOwedAt Settled config aged slirp past = IsOwed config aged slirp past
+IsOwedAt NeedsNothing config aged slirp past = IsOwed config aged slirp past
 IsOwedAt _ config aged slirp past = OfLeft config aged slirp past

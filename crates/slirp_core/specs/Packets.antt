@@ -19,7 +19,7 @@ use Rattle.arp_table.specs.declared.ArpView.{ArpView}
 use Rattle.arp_table.specs.Arp.{Arp, arp_of, read_arp}
 use Rattle.icmp_echo.specs.declared.IcmpView.{IcmpView}
 use Rattle.icmp_echo.specs.declared.IcmpView.TheVariants.{Echo, Unreachable, Other}
-use Rattle.slirp_laws.specs.Answers.{Answer, ArpAnswer, Serving, owed_for_arp, owed_for_fate, owed_for_icmp, owed_for_message}
+use Rattle.slirp_laws.specs.Answers.{Answer, ArpAnswer, Serving, owed_for_arp, owed_for_fate, owed_for_icmp}
 
 abbrev pub packet_of : ArpView → Answer
 packet_of view = ArpAnswer view.target_mac.0 (arp_of view)
@@ -124,7 +124,7 @@ file_in (Some (ToServe d)) = Some d
 abbrev pub owed_with : Config → Serving → Packet → List Answer
 owed_with config serving Unheard = []
 owed_with config serving (ArpPacket arp) = owed_for_arp config arp
-owed_with config serving (Message mac ip message) = owed_for_message config mac ip message
+owed_with config serving (Message mac ip message) = if is_ours config ip.to then owed_for_icmp mac ip message else []
 owed_with config serving (DatagramPacket d) = owed_at_once config serving d
 owed_with config serving (Segment mac ip tcp) = []
 

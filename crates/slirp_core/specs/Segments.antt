@@ -7,7 +7,7 @@ use Rattle.ether_frame.specs.Ether.{Ether, read_ether}
 use Rattle.ipv4_head.specs.Ip.{Ip, read_ip}
 use Rattle.ipv4_head.specs.Sets.{PartSet}
 use Rattle.tcp_segment.specs.Tcp.{Tcp, read_tcp, tcp_of}
-use Rattle.record_flows.specs.Lots.{Lot, Dropped, AsksFor, Strange}
+use Rattle.record_flows.specs.Lots.{Lot, Dropped, AsksFor, GetsReset}
 use Rattle.record_flows.specs.Segments.{OnTuple, from_guest, segment_of}
 use Rattle.run_laws.specs.Fragments.{arrived}
 use Rattle.run_laws.specs.Packets.{Packet, Segment}
@@ -67,5 +67,5 @@ FitsTask config (ASegment s) = length s.segment.body.now ≤ 65515
 -- what becomes of a segment without a flow
 abbrev pub lot_of : StrayLot → Lot
 lot_of SeenDropped = Dropped
-lot_of Reset = Strange
+lot_of Reset = GetsReset
 lot_of (Connects to) = AsksFor to

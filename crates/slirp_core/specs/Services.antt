@@ -6,7 +6,7 @@ use Rattle.dns_relay.specs.Asking.{bind_for}
 use Rattle.dns_relay.specs.Questions.{numbers}
 use Rattle.dns_relay.specs.State.{RelayState}
 use Rattle.tftp_server.specs.Serving.{Serving as FileServing}
-use Rattle.tftp_server.specs.Transfers.{Settled}
+use Rattle.tftp_server.specs.Transfers.{Settled as SeeksNothing}
 use Rattle.slirp_laws.specs.Answers.{serving}
 use Rattle.slirp_laws.specs.Leasing.{leases}
 use Rattle.slirp_core.specs.State.{SlirpState}
@@ -14,7 +14,7 @@ use Rattle.slirp_core.specs.State.{SlirpState}
 -- who has which address; and no file is asked for
 pub record OfServices (config : Config) (slirp : SlirpState) (past : List Entry) : Type 0 where
   pub leases : leases config past ≡ slirp.leases
-  pub quest : (serving config past).files.quest ≡ Settled
+  pub quest : (serving config past).files.quest ≡ SeeksNothing
 
 -- The relay of questions has the settings, and each of its sockets a number under that of the next one.
 pub record AreAsked (next : ℕ) (config : Config) (relay : RelayState) : Type 0 where

@@ -1,5 +1,6 @@
 -- Of each question that waits the record has that it was asked, or it is sent next.
 use Rattle.std.proofs.Common.{◌≡◌, ℕ, ◌<◌, ◌==◌, ◌&&◌, not, Bool, true, false, List, [], ◌∷◌, ◌++◌, MatchOption, Option, Some, None, option_map, unwrap_or, if◌then◌else◌, ◌⊎◌, inl, inr}
+use Rattle.std.specs.Option.{option_or}
 use Rattle.std.proofs.Common.{refl, sym, ◌∙◌, ap, subst, arith}
 use Rattle.std.proofs.lemmas.Bool.Decides.{nat_tests}
 use Rattle.world_face.specs.Journal.{Entry, Call, Close, UdpOpen, UdpSend, UdpRecv, CallClose, CallUdpOpen, CallUdpSend, CallUdpRecv, call_of}
@@ -25,7 +26,7 @@ use Rattle.run_laws.specs.Sockets.{first, next_number, open_sockets}
 use Rattle.slirp_laws.specs.Asking.{step}
 use Rattle.slirp_laws.specs.Datagrams.{Errand, GoesTo, Ignored, NeedsSending, NeedsSocket, asks_a_name, due_for, fate, fate_by, is_to_names}
 use Rattle.slirp_laws.specs.Errands.{errand_left}
-use Rattle.slirp_laws.specs.Laws.{May, Lawful, due, unless_due}
+use Rattle.slirp_laws.specs.Laws.{May, Lawful, due}
 use Rattle.slirp_laws.specs.Names.{question, questions, step_to_names, with_heard, with_opened, with_sent, with_socket}
 use Rattle.slirp_laws.specs.Ports.{last_datagram}
 use Rattle.slirp_laws.specs.Questions.{WasAsked}
@@ -87,7 +88,7 @@ record IsUnsent (config : Config) (past : List Entry) (n : ℕ) (guest : Endpoin
   identifier : ident_in errand.datagram.body ≡ ident
   ahead : (due_in (phase config past) past ≡ None) ⊎ (due_in (phase config past) past ≡ Some (CallClose n))
 
-first_due : (p : Phase) (past : List Entry) (other : Option Call) (socket : ℕ) (at : Endpoint) → HasWaited p (waits past) → 0 < waits past → unless_due (due_in p past) other ≡ Some
+first_due : (p : Phase) (past : List Entry) (other : Option Call) (socket : ℕ) (at : Endpoint) → HasWaited p (waits past) → 0 < waits past → option_or (due_in p past) other ≡ Some
     (CallUdpOpen socket at)
     → (due_in (opened Done p) (UdpOpen socket at Done ∷ past) ≡ None) ⊎ (due_in (opened Done p) (UdpOpen socket at Done ∷ past) ≡ Some (CallClose socket))
 first_due (Opening count forwards) past other socket at waited some is = absurd (omega (arith, waited, some))
@@ -96,7 +97,7 @@ first_due Woken past other socket at waited some is = absurd cc
 first_due Working past other socket at waited some is = inl refl
 first_due (Over cause) past other socket at waited some is = by (open_sockets past) is
   where
-    by : (sockets : List ℕ) → unless_due (option_map CallClose (first sockets)) other ≡ Some (CallUdpOpen socket at)
+    by : (sockets : List ℕ) → option_or (option_map CallClose (first sockets)) other ≡ Some (CallUdpOpen socket at)
         → (option_map CallClose (first (sockets ++ (socket ∷ []))) ≡ None) ⊎ (option_map CallClose (first (sockets ++ (socket ∷ []))) ≡ Some (CallClose socket))
     by [] is = inr refl
     by (s ∷ sockets) is = absurd cc
@@ -137,7 +138,7 @@ opened_unsent config past socket at errand may lawful left names = record {
   names = names;
   port = refl;
   identifier = refl;
-  ahead = first_due (phase config past) past (unless_due (due_for config (step config past) (next_number past)) (others_due config past)) socket at (has_waited config past)
+  ahead = first_due (phase config past) past (option_or (due_for config (step config past) (next_number past)) (others_due config past)) socket at (has_waited config past)
       (let waited = waited_for config past errand left lawful in grind (arith, nat_tests, waited))
       (due_call (due config past) (CallUdpOpen socket at) may.place may.due);
 }
@@ -158,10 +159,10 @@ following : (config : Config) (past : List Entry) (n : ℕ) (guest : Endpoint) (
 following config past n guest ident call u may = elim u.ahead [
   | inl none ↦ AskedNext u.errand
       (is_due config past call (CallUdpSend n u.errand.to u.errand.datagram.body) may
-      (ap (λ o. unless_due o (unless_due (due_for config (step config past) (next_number past)) (others_due config past))) none
-      ∙ ap (λ s. unless_due (due_for config s (next_number past)) (others_due config past)) u.needs))
+      (ap (λ o. option_or o (option_or (due_for config (step config past) (next_number past)) (others_due config past))) none
+      ∙ ap (λ s. option_or (due_for config s (next_number past)) (others_due config past)) u.needs))
       (errand_is config past (NeedsSending n u.errand) u.needs) u.names u.port u.identifier
-  | inr shut ↦ ShutNext (is_due config past call (CallClose n) may (ap (λ o. unless_due o (unless_due (due_for config (step config past) (next_number past)) (others_due config past))) shut))
+  | inr shut ↦ ShutNext (is_due config past call (CallClose n) may (ap (λ o. option_or o (option_or (due_for config (step config past) (next_number past)) (others_due config past))) shut))
 ]
 
 -- ---- so each was asked, or is asked next

@@ -1,6 +1,8 @@
 -- A call may come: one lemma for each kind of call, which has what is to be shown of that kind. Only `gathered` builds the record of the sentences, so that one
 -- more sentence is one more line there, and a premise of the kinds of which it speaks.
 use Rattle.std.proofs.Common.{◌∷◌, ◌≡◌, ℕ, ◌==◌, ◌||◌, not, nat_lt, Bool, true, false, List, is_some, MatchOption, Option, Some, None, refl, sym, ◌∙◌, ap, subst}
+use Rattle.std.specs.Prelude.{option_map}
+use Rattle.std.specs.Option.{option_or}
 use Rattle.poll_list.specs.Listing.{reads}
 use Rattle.poll_list.specs.declared.Want.{Want}
 use Rattle.poll_list.specs.declared.Who.TheVariants.{Link, Udp, Listener as AListener}
@@ -17,8 +19,8 @@ use Rattle.record_flows.specs.Laws.{MayFlow, MayTouch, MustTouch, NoneMustClose}
 use Rattle.record_flows.specs.Lots.{due_for_flows}
 use Rattle.run_laws.specs.Moments.{waits}
 use Rattle.slirp_laws.specs.Agenda.{agenda}
-use Rattle.slirp_laws.specs.Laws.{May, MayDue, deed_of, due, due_for_answer, due_for_services, goes_on, has_place, has_socket, is_all_out, is_answered, is_closing, is_served, may_begin}
-use Rattle.slirp_laws.specs.Laws.{may_close, unless_due, relays, takes_peers}
+use Rattle.slirp_laws.specs.Laws.{May, MayDue, due, due_for_services, goes_on, has_place, has_socket, is_all_out, is_answered, is_closing, is_served, may_begin}
+use Rattle.slirp_laws.specs.Laws.{may_close, relays, takes_peers}
 use Rattle.slirp_laws.specs.Asking.{step}
 use Rattle.slirp_laws.specs.Datagrams.{due_for}
 use Rattle.world_face.specs.declared.Io.{Io}
@@ -28,9 +30,9 @@ use Rattle.tftp_server.specs.Asking.{call_for}
 use Rattle.tftp_server.specs.Transfers.{Said, Transfer, next_again}
 use Rattle.slirp_laws.proofs.Bools.{and_both, same, equal}
 
-pub gathered : (config : Config) (past : List Entry) (call : Call) → MayFrame past call → MayDue config past call → has_place config past (deed_of call) ≡ true →
-    has_socket config past (deed_of call) ≡ true
-    → is_served past (deed_of call) ≡ true → is_answered config past (deed_of call) ≡ true → goes_on config past (deed_of call) ≡ true → MayFlow config past call → May config past call
+pub gathered : (config : Config) (past : List Entry) (call : Call) → MayFrame past call → MayDue config past call → has_place config past call ≡ true →
+    has_socket config past call ≡ true
+    → is_served past call ≡ true → is_answered config past call ≡ true → goes_on config past call ≡ true → MayFlow config past call → May config past call
 gathered config past call framed is_due has_place has_socket served answered on flows = record {
   framed = framed;
   due = is_due;
@@ -62,7 +64,7 @@ untouched config past call nothing touches must = record {
   at_once = λ number f found closes. absurd (nothing.stay number f found closes);
 }
 
-second_none : (first second : Option Call) → unless_due first second ≡ None → second ≡ None
+second_none : (first second : Option Call) → option_or first second ≡ None → second ≡ None
 second_none None second is = is
 second_none (Some call) second is = cc
 
@@ -70,8 +72,8 @@ second_none (Some call) second is = cc
 pub ask_nothing : (config : Config) (past : List Entry) → due config past ≡ None → NoneMustClose config past → FlowsAskNothing config past
 ask_nothing config past none stay =
     let flows = due_for_flows config (book config past) (next_number past) in
-    let services = unless_due (due_for_services config past) flows in
-    let datagrams = unless_due (due_for config (step config past) (next_number past)) services in
+    let services = option_or (due_for_services config past) flows in
+    let datagrams = option_or (due_for config (step config past) (next_number past)) services in
     record {
       due = second_none (due_for_services config past) flows
           (second_none (due_for config (step config past) (next_number past)) services (second_none (due_in (phase config past) past) datagrams none));
@@ -90,7 +92,7 @@ some_due config past call is = ap is_some is
 
 -- where no service asks for a call, none asks for a file, and what is written changes none of it
 pub quest_none : (config : Config) (past : List Entry) → due_for_services config past ≡ None → call_for (serving config past).files.quest ≡ None
-quest_none config past none = second_none (due_for_answer (answered config past)) (call_for (serving config past).files.quest) none
+quest_none config past none = second_none (option_map CallClose (answered config past)) (call_for (serving config past).files.quest) none
 
 quest_sent : (b : Bool) (s : Serving) → (files_sent b s).quest ≡ s.files.quest
 quest_sent false s = refl
@@ -108,16 +110,9 @@ pub services_written : (config : Config) (past : List Entry) (octets : List ℕ)
 services_written config past octets answer none =
     ap call_for (quest_sent (begins_again config (identification past) (ledger config past) (goes_out (LinkWrite octets answer) past)) (serving config past)) ∙ quest_none config past none
 
-shuts : (config : Config) (past : List Entry) → (not (is_closing config past) || true) ≡ true
-shuts config past = either (not (is_closing config past))
-  where
-    either : (b : Bool) → (b || true) ≡ true
-    either true = refl
-    either false = refl
-
 module _ (config : Config) (past : List Entry) where
-  on_yet : is_closing config past ≡ false → (not (is_closing config past) || false) ≡ true
-  on_yet open_yet = ap (λ (b : Bool). not b || false) open_yet
+  on_yet : is_closing config past ≡ false → not (is_closing config past) ≡ true
+  on_yet open_yet = ap not open_yet
 
   -- the clock is asked where that is due
   pub asks : due config past ≡ Some CallNow → FlowsAskNothing config past → is_closing config past ≡ false → May config past CallNow
@@ -192,7 +187,7 @@ module _ (config : Config) (past : List Entry) where
   pub closes : (socket : ℕ) → MayDue config past (CallClose socket) → (is_working (phase config past) || is_over (phase config past)) ≡ true → may_close config past socket ≡ true →
       MayFlow config past (CallClose socket)
       → May config past (CallClose socket)
-  closes socket is_due place may flows = gathered config past (CallClose socket) tt is_due place may refl refl (shuts config past) flows
+  closes socket is_due place may flows = gathered config past (CallClose socket) tt is_due place may refl refl refl flows
 
   -- the length of a file, or octets of it, are asked for where that is due
   pub measures : (name : List ℕ) → due config past ≡ Some (CallFileLen name) → FlowsAskNothing config past → is_closing config past ≡ false → May config past (CallFileLen name)

@@ -1,5 +1,6 @@
 -- What the laws on files come to.
 use Rattle.std.proofs.Common.{◌≡◌, ℕ, ◌<◌, ◌+◌, ◌-◌, ◌≤◌, ◌⊎◌, inl, inr, Bool, true, false, List, [], ◌∷◌, find, length, Option, Some, None, option_map, if◌then◌else◌, refl, sym, ◌∙◌, ap}
+use Rattle.std.specs.Option.{option_or}
 use Rattle.std.proofs.Common.{subst, arith}
 use Rattle.net_octets.specs.Octets.{two_at}
 use Rattle.world_face.specs.Journal.{Entry, CallFileLen, CallFileRead, LinkWrite, Wait}
@@ -7,8 +8,8 @@ use Rattle.world_face.specs.Frames.{goes_out}
 use Rattle.host_policy.specs.Addresses.{Config}
 use Rattle.run_laws.specs.Moments.{moment}
 use Rattle.tftp_server.specs.Asking.{call_for}
-use Rattle.tftp_server.specs.Transfers.{Quest, Said, SeeksLength, SeeksOctets, Settled, Transfer, begun, goes_again, next_again, octets_of, place_of, said_again}
-use Rattle.slirp_laws.specs.Answers.{begins_again, identification, is_free, ledger, may_go_again, or_begun, serving, unless_begun}
+use Rattle.tftp_server.specs.Transfers.{Quest, Said, SeeksLength, SeeksOctets, Settled as SeeksNothing, Transfer, begun, goes_again, next_again, octets_of, place_of, said_again}
+use Rattle.slirp_laws.specs.Answers.{begins_again, identification, is_free, ledger, may_go_again, serving, unless_begun}
 use Rattle.slirp_laws.specs.Files.{AreInTime, IsAsTold, IsAskedFor, IsBlockAsRead, IsOnItsWay, ReadsWanted, goes_by, is_told_to, sent_again_by, told_by, unless_on_its_way}
 use Rattle.slirp_laws.specs.Laws.{May, Lawful}
 use Rattle.tftp_server.proofs.Choosing.{all_found, found_own}
@@ -28,7 +29,7 @@ pub octets_asked : (config : Config) (past : List Entry) (name : List ℕ) (plac
 octets_asked config past name place asked lawful may = by (serving config past).files.quest (holds config past lawful).quest (sought_octets config past name place asked may)
   where
     by : (q : Quest) → IsQuest config past (serving config past).files.transfers q → call_for q ≡ Some (CallFileRead name place asked) → ReadsWanted config past name place asked
-    by Settled on is = cc
+    by SeeksNothing on is = cc
     by (SeeksLength s) on is = cc
     by (SeeksOctets t there) on is =
         let call = the_call t there name place asked (SeeksOctets t there) refl is in
@@ -69,7 +70,7 @@ way_by : (config : Config) (e : Entry) (past : List Entry) → ((said : Said) �
 way_by config (Wait wants timeout answer ready) past before said is = by (serving config past).again before is
   where
     by : (o : Option Said) → ((said : Said) → o ≡ Some said → IsOnItsWay config past said)
-        → or_begun o (begun (serving config past).now (is_free (ledger config past)) (serving config past).files.transfers) ≡ Some said → IsOnItsWay config
+        → option_or o (begun (serving config past).now (is_free (ledger config past)) (serving config past).files.transfers) ≡ Some said → IsOnItsWay config
         (Wait wants timeout answer ready ∷ past) said
     by None before is = record { later = []; sender = Wait wants timeout answer ready; before = past; record_is = refl; sent = is; none_goes = tt }
     by (Some other) before is = on_further config (Wait wants timeout answer ready) past said refl (before said is)
@@ -92,7 +93,7 @@ goes_once config (LinkWrite octets answer) past said is = by (begins_again confi
         (unless_on_its_way (serving config past).again (goes_by config past (LinkWrite octets answer)) ≡ Some said) ⊎ IsOnItsWay config past said
     of None none may = inl (ap (λ o. unless_on_its_way o (goes_by config past (LinkWrite octets answer))) none ∙ is)
     of (Some other) some may = inr (on_way config past said (some ∙ sym
-        (ap (λ o. or_begun o (option_map said_again (next_again (serving config past).now (serving config past).files.transfers))) some) ∙ may))
+        (ap (λ o. option_or o (option_map said_again (next_again (serving config past).now (serving config past).files.transfers))) some) ∙ may))
 
     by : (b : Bool) → begins_again config (identification past) (ledger config past) (goes_out (LinkWrite octets answer) past) ≡ b →
         (unless_on_its_way (serving config past).again (goes_by config past (LinkWrite octets answer)) ≡ Some said) ⊎ IsOnItsWay config past said
@@ -147,7 +148,7 @@ by_frame config e past said lawful sent is = by (serving config past).again refl
   where
     begins : (b : Bool) → (serving config past).again ≡ None → (if b then may_go_again (serving config past) else None) ≡ Some said → IsAsTold config e past said
     begins true none is = of_next config e past said lawful (sym (ap
-        (λ o. or_begun o (option_map said_again (next_again (serving config past).now (serving config past).files.transfers))) none) ∙ is) sent
+        (λ o. option_or o (option_map said_again (next_again (serving config past).now (serving config past).files.transfers))) none) ∙ is) sent
     begins false none is = cc
 
     by : (o : Option Said) → (serving config past).again ≡ o → unless_on_its_way o (goes_by config past e) ≡ Some said → IsAsTold config e past said

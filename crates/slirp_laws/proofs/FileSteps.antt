@@ -1,8 +1,10 @@
 -- The calls on files for which a packet asks may come one after another, and the record keeps of files what they bring.
 use Rattle.std.proofs.Common.{◌≡◌, ℕ, ◌+◌, ◌-◌, ◌%◌, ◌^◌, ◌==◌, ◌⊎◌, inl, inr, nat_le, Bool, true, false, List, [], ◌∷◌, ◌++◌, length, take, Option, Some, None, if◌then◌else◌, refl, sym}
+use Rattle.std.specs.Prelude.{option_map}
+use Rattle.std.specs.Option.{option_or}
 use Rattle.std.proofs.Common.{◌∙◌, ap, subst, codes, find}
 use Rattle.net_octets.specs.declared.Endpoint.{Endpoint}
-use Rattle.world_face.specs.Journal.{Call, CallFileLen, CallFileRead, Entry, FileLen, FileRead, call_of}
+use Rattle.world_face.specs.Journal.{Call, CallFileLen, CallFileRead, Entry, FileLen, FileRead, call_of, CallClose}
 use Rattle.world_face.specs.declared.FileSize.{FileSize}
 use Rattle.world_face.specs.declared.FileSize.TheVariants.{Length, Missing, Failed as SizeFailed}
 use Rattle.world_face.specs.declared.Io.{Io}
@@ -17,14 +19,14 @@ use Rattle.run_laws.specs.Sockets.{next_number}
 use Rattle.tftp_server.specs.Asking.{AreAskedFor, after_calls, by_answer, call_for, or_outcome}
 use Rattle.tftp_server.specs.Packets.{Packet, Asks, AsksToWrite, Acknowledges, GivesUp, Unheard, Request, Terms, is_name, request_in, says, terms_of}
 use Rattle.tftp_server.specs.Serving.{IsFromServer, said_by}
-use Rattle.tftp_server.specs.Transfers.{Files, Outcome, Quest, Said, SeeksLength, SeeksOctets, Settled, Sought, Transfer, acknowledged, is_for, length_came, measured, octets_came}
+use Rattle.tftp_server.specs.Transfers.{Files, Outcome, Quest, Said, SeeksLength, SeeksOctets, Settled as SeeksNothing, Sought, Transfer, acknowledged, is_for, length_came, measured, octets_came}
 use Rattle.tftp_server.specs.Transfers.{octets_of, place_of, requested, requested_file, seeks_block, taken_in, transfer, with_room, without}
 use Rattle.slirp_laws.specs.Answers.{answer_of, answers_of, frames_of, identification, left, left_by_file, serving, told_of_files}
 use Rattle.slirp_laws.specs.Asking.{step, step_of}
 use Rattle.slirp_laws.specs.Datagrams.{due_for}
 use Rattle.slirp_laws.specs.Errands.{errand_left}
 use Rattle.slirp_laws.specs.Leasing.{Sending}
-use Rattle.slirp_laws.specs.Laws.{Lawful, due, due_for_answer, due_for_services, is_closing, unless_due}
+use Rattle.slirp_laws.specs.Laws.{Lawful, due, due_for_services, is_closing}
 use Rattle.slirp_laws.specs.Names.{answered}
 use Rattle.slirp_laws.proofs.Deeds.{FlowsAskNothing, measures, takes_octets}
 use Rattle.slirp_laws.proofs.KeptFiles.{now_is}
@@ -32,7 +34,7 @@ use Rattle.slirp_laws.proofs.KeptFiles.{now_is}
 -- ---- a guest is told nothing while something is sought
 
 abbrev pub IsSilent : Outcome → Type 0
-IsSilent o = (o.files.quest ≡ Settled) ⊎ (o.told ≡ None)
+IsSilent o = (o.files.quest ≡ SeeksNothing) ⊎ (o.told ≡ None)
 
 silent_if : (b : Bool) (one other : Outcome) → IsSilent one → IsSilent other → IsSilent (if b then one else other)
 silent_if true one other is else_ = is
@@ -66,14 +68,14 @@ silent_measured now n s None ts = inl refl
 silent_measured now n s (Some terms) ts = silent_if (length terms.answered == 0) _ _ (silent_block now (record (transfer n s terms) { block = 1 }) (with_room ts)) (inl refl)
 
 silent_length : (now : ℕ) (answer : FileSize) (q : Quest) (ts : List Transfer) → IsSilent (length_came now answer q ts)
-silent_length now answer Settled ts = inl refl
+silent_length now answer SeeksNothing ts = inl refl
 silent_length now answer (SeeksOctets t there) ts = inl refl
 silent_length now (Length n) (SeeksLength s) ts = silent_measured now n s (terms_of n s.options) ts
 silent_length now Missing (SeeksLength s) ts = inl refl
 silent_length now SizeFailed (SeeksLength s) ts = inl refl
 
 silent_octets : (now : ℕ) (answer : Io) (octets : List ℕ) (q : Quest) (ts : List Transfer) → IsSilent (octets_came now answer octets q ts)
-silent_octets now answer octets Settled ts = inl refl
+silent_octets now answer octets SeeksNothing ts = inl refl
 silent_octets now answer octets (SeeksLength s) ts = inl refl
 silent_octets now (Done n) octets (SeeksOctets t there) ts = silent_if (nat_le (octets_of t) (length (there ++ octets))) _ _ (inl refl) (inr refl)
 silent_octets now End octets (SeeksOctets t there) ts = inl refl
@@ -93,11 +95,11 @@ pub record MaySeek (config : Config) (past : List Entry) : Type 0 where
 due_then : (config : Config) (past : List Entry) (call : Call) → MaySeek config past → call_for (serving config past).files.quest ≡ Some call → due config past ≡ Some call
 due_then config past call m is =
     let flows = due_for_flows config (book config past) (next_number past) in
-    let services = unless_due (due_for_services config past) flows in
-    ap (λ p. unless_due (due_in p past) (unless_due (due_for config (step config past) (next_number past)) services)) m.working
-    ∙ ap (λ o. unless_due (due_for config (step_of config past o) (next_number past)) services) m.settled
-    ∙ ap (λ o. unless_due (unless_due (due_for_answer o) (call_for (serving config past).files.quest)) flows) m.unheard
-    ∙ ap (λ o. unless_due o flows) is
+    let services = option_or (due_for_services config past) flows in
+    ap (λ p. option_or (due_in p past) (option_or (due_for config (step config past) (next_number past)) services)) m.working
+    ∙ ap (λ o. option_or (due_for config (step_of config past o) (next_number past)) services) m.settled
+    ∙ ap (λ o. option_or (option_or (option_map CallClose o) (call_for (serving config past).files.quest)) flows) m.unheard
+    ∙ ap (λ o. option_or o flows) is
 
 -- ---- one call
 
@@ -151,7 +153,7 @@ is_read config (FileRead n p a answer octets) past name place asked is = of_octe
 is_read config _ past name place asked is = cc
 
 file_call : (config : Config) (e : Entry) (past : List Entry) (q : Quest) → call_for q ≡ Some (call_of e) → IsFileCall config e past
-file_call config e past Settled is = cc
+file_call config e past SeeksNothing is = cc
 file_call config e past (SeeksLength s) is = let call : call_of e ≡ CallFileLen s.file = cc in is_length config e past s.file call
 file_call config e past (SeeksOctets t there) is =
     let call : call_of e ≡ CallFileRead t.file (place_of t + length there) (octets_of t - length there) = cc in

@@ -1,5 +1,6 @@
 -- The first frame of a packet of a file that goes again may go out where nothing is left of an answer, and what the record keeps then.
 use Rattle.std.proofs.Common.{◌≡◌, ℕ, ◌≤◌, ◌==◌, ◌&&◌, ◌||◌, not, Bool, true, false, bytes_eq, List, [], ◌∷◌, drop, length, Option, Some, None, is_some, option_and_then, option_map}
+use Rattle.std.specs.Option.{option_or}
 use Rattle.std.proofs.Common.{if◌then◌else◌, refl, sym, ◌∙◌, ap, subst, lit<}
 use Rattle.net_octets.specs.Kinds.{ipv4_kind, tcp_proto, udp_proto}
 use Rattle.world_face.specs.Journal.{Entry, LinkWrite}
@@ -16,7 +17,7 @@ use Rattle.record_flows.specs.Segments.{asked_in, asked_of, segment_in, to_guest
 use Rattle.tftp_server.specs.Transfers.{Files, Said, Transfer, are_left, next_again, said_again, ticked}
 use Rattle.tftp_server.proofs.Turning.{ticked_some}
 use Rattle.slirp_laws.specs.Answers.{IpAnswer, again_frames, begins_again, begun_by, files_begun, files_sent, frames_for, frames_of, identification, is_first, is_out, ledger, left}
-use Rattle.slirp_laws.specs.Answers.{may_go_again, or_begun, serving, starts, taken, told_of_files, uncut, unless_begun}
+use Rattle.slirp_laws.specs.Answers.{may_go_again, serving, starts, taken, told_of_files, uncut, unless_begun}
 use Rattle.slirp_laws.specs.Laws.{Lawful}
 use Rattle.slirp_laws.specs.Sending.{is_beside, is_explained, may_ask, sends_again, sends_segment}
 use Rattle.slirp_laws.proofs.Bools.{and_both, same}
@@ -122,7 +123,7 @@ module _ (config : Config) (past : List Entry) (said : Said) (frame : List ℕ) 
       let s = serving config past in
       let after : (serving config (LinkWrite octets answer ∷ past)).files ≡ files_begun s.now None s.files = files_again octets answer out ∙ ap (λ o. files_begun s.now o s.files) idle in
       let same : (serving config (LinkWrite octets answer ∷ past)).now ≡ s.now = sym (now_is config past) in
-      is ∙ by (next_again s.now s.files.transfers) refl (sym (ap (λ o. or_begun o (option_map said_again (next_again s.now s.files.transfers))) idle) ∙ m.may)
+      is ∙ by (next_again s.now s.files.transfers) refl (sym (ap (λ o. option_or o (option_map said_again (next_again s.now s.files.transfers))) idle) ∙ m.may)
       ∙ sym (ap (λ n. are_left n (serving config (LinkWrite octets answer ∷ past)).files.transfers) same ∙ ap (λ (f : Files). are_left s.now f.transfers) after)
     where
       by : (o : Option Transfer) → next_again (serving config past).now (serving config past).files.transfers ≡ o → option_map said_again o ≡ Some said

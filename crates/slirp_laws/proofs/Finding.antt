@@ -1,5 +1,6 @@
 -- What is found in the list of associations is what the record says.
 use Rattle.std.proofs.Common.{◌≡◌, ℕ, ◌+◌, ◌<◌, ◌≤◌, ◌==◌, ◌&&◌, ◌||◌, nat_le, Bool, true, false, List, [], ◌∷◌, find, length, Option, Some, None, option_map, if◌then◌else◌, refl, sym}
+use Rattle.std.specs.Option.{option_or}
 use Rattle.std.proofs.Common.{◌∙◌, ap, subst, arith}
 use Rattle.std.proofs.lemmas.Bool.Decides.{nat_tests}
 use Rattle.world_face.specs.Journal.{Entry}
@@ -9,7 +10,7 @@ use Rattle.host_policy.specs.Targets.{same_endpoint}
 use Rattle.udp_assoc.specs.Associations.{idle_life, is_idle, is_of, is_over, most_associations, numbered, numbers, socket_of}
 use Rattle.udp_assoc.specs.declared.assocs.Association.{Association}
 use Rattle.run_laws.specs.Sockets.{first, is_among, is_association, open_sockets}
-use Rattle.slirp_laws.specs.Asking.{step_of, step_on, yields, step_at}
+use Rattle.slirp_laws.specs.Asking.{step_of, step_on, yields}
 use Rattle.slirp_laws.specs.Datagrams.{Errand, NeedsRoom, NeedsSocket, asks_a_name}
 use Rattle.slirp_laws.specs.Names.{kind_for, questions, step_to_names}
 use Rattle.slirp_laws.specs.Ports.{associations_open, is_port, last_use, longest_unused, opened_for, serves_port, socket_for, used_at, forward_for}
@@ -232,13 +233,13 @@ module _ (config : Config) (past : List Entry) (list : List Association) (once :
       ap (λ n. if nat_le most_associations n then yields (longest_unused config past) errand else NeedsSocket errand) (same_count config past list once j)
       ∙ yields_same (longest_unused config past) list errand (same_oldest config past list j)
 
-  on_forward : (forward : Option ℕ) (errand : Errand) → step_at config forward (socket_for config errand.datagram.from past) past errand ≡ with_forward forward list errand
+  on_forward : (forward : Option ℕ) (errand : Errand) → step_on config (option_or forward (socket_for config errand.datagram.from past)) past errand ≡ with_forward forward list errand
   on_forward (Some forward) errand = refl
   on_forward None errand =
       on_same (socket_for config errand.datagram.from past) errand ∙ ap (λ o. with_socket o list errand) (sym (same_port_socket config past errand.datagram.from list j))
 
   by_name : (errand : Errand) (name : Bool)
-      → (if name then step_to_names (questions config past) errand else step_at config (forward_for config errand.datagram.from past) (socket_for config errand.datagram.from past) past errand)
+      → (if name then step_to_names (questions config past) errand else step_on config (option_or (forward_for config errand.datagram.from past) (socket_for config errand.datagram.from past)) past errand)
       ≡ (if name then step_to_names (questions config past) errand else with_forward (forward_for config errand.datagram.from past) list errand)
   by_name errand true = refl
   by_name errand false = on_forward (forward_for config errand.datagram.from past) errand

@@ -298,37 +298,29 @@ sent_joins config past socket to octets answer may joined =
     (moved_joins config (UdpSend socket to octets answer) past (sent_from (record { 0 = s.errand.datagram.mac }) (moment past)) socket (associations config past)
     (send_use config past socket to octets answer s.errand (errand_asks config past s.errand left)) (λ n. refl) joined)
 
-and_true : (b : Bool) → b ≡ true → (b && true) ≡ true
-and_true true is = refl
-and_true false is = cc
-
-and_none : (b : Bool) → b ≡ false → (b && true) ≡ false
-and_none true is = cc
-and_none false is = refl
-
 hear_use : (config : Config) (past : List Entry) (socket asked : ℕ) (peer : Endpoint) (count : ℕ) (octets : List ℕ) → Use config
     (UdpRecv socket asked (From peer count) octets) past (heard_at (moment past)) socket
 hear_use config past socket asked peer count octets = record {
   number = λ a. refl;
   guest = λ a. refl;
-  last = ap (λ (b : Bool). if b then length past else last_use socket past) (and_true (socket == socket) (same socket));
+  last = ap (λ (b : Bool). if b then length past else last_use socket past) (same socket);
   kept = λ a this kept. record {
     guest = kept.guest;
     mac = kept.mac;
-    used = ap (λ (b : Bool). if b then moment past else used_at a.number past) (and_true (socket == a.number) (this_one socket a.number this));
+    used = ap (λ (b : Bool). if b then moment past else used_at a.number past) (this_one socket a.number this);
     placed = (let now : last_use a.number (UdpRecv socket asked (From peer count) octets ∷ past) ≡ length past = ap
-        (λ (b : Bool). if b then length past else last_use a.number past) (and_true (socket == a.number) (this_one socket a.number this)) in omega (arith, now));
+        (λ (b : Bool). if b then length past else last_use a.number past) (this_one socket a.number this) in omega (arith, now));
     drawn = kept.drawn;
   };
-  others = λ n other. and_none (socket == n) (turned n socket false other);
+  others = λ n other. turned n socket false other;
 }
 
 heard_joins : (config : Config) (past : List Entry) (socket asked : ℕ) (answer : Got) (octets : List ℕ) → JoinedAt config past → JoinedAt config (UdpRecv socket asked answer octets ∷ past)
 heard_joins config past socket asked (From peer count) octets joined =
     moved_joins config (UdpRecv socket asked (From peer count) octets) past (heard_at (moment past)) socket (associations config past)
     (hear_use config past socket asked peer count octets) (λ n. refl) joined
-heard_joins config past socket asked GotNotYet octets joined = silent config (UdpRecv socket asked GotNotYet octets) past (associations config past) (λ n. and_false (socket == n)) (λ n. refl) joined
-heard_joins config past socket asked GotFailed octets joined = silent config (UdpRecv socket asked GotFailed octets) past (associations config past) (λ n. and_false (socket == n)) (λ n. refl) joined
+heard_joins config past socket asked GotNotYet octets joined = silent config (UdpRecv socket asked GotNotYet octets) past (associations config past) (λ n. refl) (λ n. refl) joined
+heard_joins config past socket asked GotFailed octets joined = silent config (UdpRecv socket asked GotFailed octets) past (associations config past) (λ n. refl) (λ n. refl) joined
 
 -- ---- a socket is closed
 

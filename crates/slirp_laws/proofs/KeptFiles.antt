@@ -1,5 +1,6 @@
 -- Each open transfer is as the record has it: told by an entry, and sent again since in its time; and what is sought is what the datagram that came last asks for.
 use Rattle.std.proofs.Common.{◌≡◌, ℕ, ◌+◌, ◌-◌, ◌%◌, ◌^◌, ◌<◌, ◌≤◌, ◌⊎◌, inl, inr, Bool, true, false, List, [], ◌∷◌, ◌++◌, length, find, Option, Some, None, option_map, if◌then◌else◌}
+use Rattle.std.specs.Option.{option_or}
 use Rattle.std.proofs.Common.{refl, sym, ◌∙◌, ap, subst, arith}
 use Rattle.net_octets.specs.declared.Endpoint.{Endpoint}
 use Rattle.world_face.specs.Journal.{Entry, Call, CallFileLen, CallFileRead, CallLinkRead, FileLen, FileRead, LinkRead, LinkWrite, Now, Wait, call_of}
@@ -15,7 +16,7 @@ use Rattle.tftp_server.specs.Asking.{call_for}
 use Rattle.tftp_server.specs.Laws.{IsInFolder, octets_done, octets_read}
 use Rattle.tftp_server.specs.Packets.{Acknowledges, Asks, Request, Terms, block_octets, error_octets, file_in, is_name, options_octets, packet_in, request_in, terms_of}
 use Rattle.tftp_server.specs.Rows.{AreApart, WaitsWell}
-use Rattle.tftp_server.specs.Transfers.{Files, Outcome, Quest, Said, SeeksLength, SeeksOctets, Settled, Sought, Transfer, are_left, begun, goes_again, is_for, length_came, next_again}
+use Rattle.tftp_server.specs.Transfers.{Files, Outcome, Quest, Said, SeeksLength, SeeksOctets, Settled as SeeksNothing, Sought, Transfer, are_left, begun, goes_again, is_for, length_came, next_again}
 use Rattle.tftp_server.specs.Transfers.{octets_came, octets_of, place_of, said_again, sending, sent_again, ticked, ticked_by, transfer, with_again}
 use Rattle.tftp_server.proofs.Choosing.{AllTransfers, IfThere, all_filtered, all_found, all_last, all_so, if_there}
 use Rattle.tftp_server.proofs.Listing.{apart_again, apart_filter, apart_push, same_refl, same_swap}
@@ -23,12 +24,12 @@ use Rattle.tftp_server.proofs.Repeating.{due_at}
 use Rattle.tftp_server.proofs.Staying.{parts_below}
 use Rattle.tftp_server.proofs.Waiting.{terms_well}
 use Rattle.slirp_laws.specs.Answers.{Serving, begins_again, begun_by, files_after, files_begun, files_by_call, files_by_fate, files_by_packet, files_sent, identification, is_free, ledger}
-use Rattle.slirp_laws.specs.Answers.{may_go_again, or_begun, served_file, serving}
+use Rattle.slirp_laws.specs.Answers.{may_go_again, served_file, serving}
 use Rattle.slirp_laws.specs.Datagrams.{Fate, Ignored, Refused, ForLeases, ForFiles, GoesTo, fate}
 use Rattle.slirp_laws.specs.Files.{AreInTime, AreReadsOfIt, IsAskedFor, IsBlockAsRead, IsFirstBlock, IsNextBlock, IsWanted, before_last, is_told_to, length_found, length_of, moments_again}
 use Rattle.slirp_laws.specs.Files.{or_made, sent_again_by, since_last, told_at, told_by, told_by_fate, told_by_packet, unless_came, unless_on_its_way}
 use Rattle.slirp_laws.specs.Laws.{May, Lawful}
-use Rattle.slirp_laws.specs.Ports.{last_datagram, or_before}
+use Rattle.slirp_laws.specs.Ports.{last_datagram}
 use Rattle.slirp_laws.proofs.FileCalls.{settled, sought_octets}
 use Rattle.slirp_laws.proofs.Outcomes.{AnError, APacket, Comes, IsNew, MakesPackets, Nothing, OnQuest, Tells, all_again, length_comes, octets_come, packet_comes}
 
@@ -64,7 +65,7 @@ record SameLast (config : Config) (e : Entry) (past : List Entry) : Type 0 where
 
 same_last : (config : Config) (e : Entry) (past : List Entry) → datagram_came (happens config past e).came ≡ None → SameLast config e past
 same_last config e past none = record {
-  last = ap (λ o. or_before o (last_datagram config past)) none;
+  last = ap (λ o. option_or o (last_datagram config past)) none;
   before = ap (λ o. unless_came o past (before_last config past)) none;
   since = ap (λ o. unless_came o [] (e ∷ since_last config past)) none;
 }
@@ -105,7 +106,7 @@ wanted_on config e past t same found is = record {
 
 quest_on : (config : Config) (e : Entry) (past : List Entry) (transfers : List Transfer) (quest : Quest) → SameLast config e past → is_on_file e ≡ false →
     IsQuest config past transfers quest → IsQuest config (e ∷ past) transfers quest
-quest_on config e past transfers Settled same other is = tt
+quest_on config e past transfers SeeksNothing same other is = tt
 quest_on config e past transfers (SeeksLength s) same other is =
     let q = quiet e (since_last config past) other in
     (is.0, record { asked = asked_on config e past s.file same is.1.asked; options = is.1.options; none = subst NoReads (sym same.since) (q.none is.1.none) })
@@ -326,7 +327,7 @@ tells_none config e past none said is = let never : None ≡ Some said = sym non
 
 -- one after which nothing is sought
 with_settled : (config : Config) (e : Entry) (past : List Entry) (files : Files) → ((guest : Endpoint) → is_told_to guest (sent_again_by config past e) ≡ false) →
-    told_by config past e ≡ None → files.quest ≡ Settled → HoldsOf config past files → Step config e past files
+    told_by config past e ≡ None → files.quest ≡ SeeksNothing → HoldsOf config past files → Step config e past files
 with_settled config e past files none told settles h = record {
   holds = record { all = kept_all config e past files.transfers none h.all; apart = h.apart; quest = subst (IsQuest config (e ∷ past) files.transfers) (sym settles) tt };
   tells = tells_none config e past told;
@@ -349,7 +350,7 @@ record IsLast (config : Config) (e : Entry) (past : List Entry) (d : Datagram) :
 
 is_last_one : (config : Config) (e : Entry) (past : List Entry) (d : Datagram) → datagram_came (happens config past e).came ≡ Some d → IsLast config e past d
 is_last_one config e past d is = record {
-  last = ap (λ o. or_before o (last_datagram config past)) is;
+  last = ap (λ o. option_or o (last_datagram config past)) is;
   before = ap (λ o. unless_came o past (before_last config past)) is;
   since = ap (λ o. unless_came o [] (e ∷ since_last config past)) is;
 }
@@ -411,7 +412,7 @@ for_files config e past arrival d came packet to_server none h =
     (λ t packet found more. next config e past d to_server last t h.all packet found more))
 
 by_packet : (config : Config) (e : Entry) (past : List Entry) (arrival : Arrival) (packet : Packet) → (happens config past e).came ≡ Some arrival → arrival.packet ≡ packet →
-    (serving config past).files.quest ≡ Settled
+    (serving config past).files.quest ≡ SeeksNothing
     → ((guest : Endpoint) → is_told_to guest (sent_again_by config past e) ≡ false) → HoldsOf config past (serving config past).files → Step config e past
     (files_by_packet config (serving config past) packet)
 by_packet config e past arrival (DatagramPacket d) came is settles none h = by (fate config d) refl
@@ -558,7 +559,7 @@ goes_too config e past t ts sent all = all_again (IfThere (Kept config past) (go
 -- ---- by a wait
 
 by_wait : (config : Config) (e : Entry) (past : List Entry) (free : Bool) → sent_again_by config past e ≡ begun (serving config past).now free
-    (serving config past).files.transfers → told_by config past e ≡ None → (serving config past).files.quest ≡ Settled
+    (serving config past).files.transfers → told_by config past e ≡ None → (serving config past).files.quest ≡ SeeksNothing
     → HoldsOf config past (serving config past).files → Step config e past
     (record (serving config past).files { transfers = ticked (serving config past).now free (serving config past).files.transfers })
 by_wait config e past free sent told settles h = by free sent
@@ -595,7 +596,7 @@ by_wait config e past free sent told settles h = by free sent
 
 by_frame : (config : Config) (e : Entry) (past : List Entry) (b : Bool) → sent_again_by config past e ≡ unless_on_its_way (serving config past).again
     (if b then may_go_again (serving config past) else None) → told_by config past e ≡ None
-    → (serving config past).files.quest ≡ Settled → HoldsOf config past (serving config past).files → Step config e past (files_sent b (serving config past))
+    → (serving config past).files.quest ≡ SeeksNothing → HoldsOf config past (serving config past).files → Step config e past (files_sent b (serving config past))
 by_frame config e past false sent told settles h = with_settled config e past (serving config past).files (λ guest. ap (is_told_to guest) sent ∙ not_sent guest
     (serving config past).again) told settles h
 by_frame config e past true sent told settles h = by (serving config past).again refl
@@ -615,7 +616,7 @@ by_frame config e past true sent told settles h = by (serving config past).again
 
     by : (o : Option Said) → (serving config past).again ≡ o → Step config e past (files_begun (serving config past).now o (serving config past).files)
     by None none = begins (next_again (serving config past).now (serving config past).files.transfers) refl
-        (sent ∙ ap (λ o. unless_on_its_way o (or_begun o (option_map said_again (next_again (serving config past).now (serving config past).files.transfers)))) none)
+        (sent ∙ ap (λ o. unless_on_its_way o (option_or o (option_map said_again (next_again (serving config past).now (serving config past).files.transfers)))) none)
     by (Some said) some = with_settled config e past (serving config past).files
         (λ guest. ap (is_told_to guest) (sent ∙ ap (λ o. unless_on_its_way o (may_go_again (serving config past))) some)) told settles h
 
@@ -650,7 +651,7 @@ holds config (e ∷ past) lawful = (after config e past lawful.0 (holds config p
 
 pub asked_for_length : (config : Config) (past : List Entry) (name : List ℕ) (quest : Quest) (transfers : List Transfer) → IsQuest config past transfers quest →
     call_for quest ≡ Some (CallFileLen name) → IsAskedFor config past name
-asked_for_length config past name Settled transfers on is = cc
+asked_for_length config past name SeeksNothing transfers on is = cc
 asked_for_length config past name (SeeksOctets t there) transfers on is = cc
 asked_for_length config past name (SeeksLength s) transfers on is =
     let one : CallFileLen s.file ≡ CallFileLen name = (let both : Some (CallFileLen s.file) ≡ Some (CallFileLen name) = is in cc) in

@@ -1,5 +1,6 @@
 -- Why the socket of a question is closed, and that it is after the answer.
 use Rattle.std.proofs.Common.{◌≡◌, ℕ, ◌+◌, ◌<◌, ◌≤◌, ◌==◌, ◌&&◌, ◌||◌, not, nat_le, Bool, true, false, List, [], ◌∷◌, ◌++◌, length, find, Option, Some, None, option_map, if◌then◌else◌}
+use Rattle.std.specs.Option.{option_or}
 use Rattle.std.proofs.Common.{◌⊎◌, inl, inr, refl, sym, ◌∙◌, ap, subst, arith}
 use Rattle.std.proofs.lemmas.Bool.Decides.{nat_tests}
 use Rattle.world_face.specs.Journal.{Entry, Close, UdpOpen, UdpSend, UdpRecv, CallClose, call_of}
@@ -23,9 +24,9 @@ use Rattle.record_flows.specs.Lots.{due_for_flows}
 use Rattle.tftp_server.specs.Asking.{call_for}
 use Rattle.slirp_laws.specs.Answers.{serving}
 use Rattle.slirp_laws.specs.Asking.{step, step_of}
-use Rattle.slirp_laws.specs.Datagrams.{Errand, Step, Settled, NeedsRoom, NeedsSocket, NeedsSending, asks_a_name, due_for}
+use Rattle.slirp_laws.specs.Datagrams.{Errand, Step, NeedsNothing, NeedsRoom, NeedsSocket, NeedsSending, asks_a_name, due_for}
 use Rattle.slirp_laws.specs.Errands.{errand_left}
-use Rattle.slirp_laws.specs.Laws.{May, Lawful, due_for_answer, is_closing, is_just_answered, is_least, may_part, name_gives_way, parts, unless_due}
+use Rattle.slirp_laws.specs.Laws.{May, Lawful, is_closing, is_least, may_part, name_gives_way, parts}
 use Rattle.slirp_laws.specs.Names.{answered, answered_on, has_waited, kind_for, question, questions, with_heard, with_opened, with_sent, with_socket}
 use Rattle.slirp_laws.specs.Ports.{last_datagram, last_use, used_at}
 use Rattle.slirp_laws.specs.Questions.{HasWaitedLong, HasWaitedLongest, IsAnswerTo, WasAsked, WasJustAnswered, is_for_question, questions_open}
@@ -102,7 +103,7 @@ gives_way config past socket (NeedsRoom oldest errand) at lawful is =
     subst (λ n. HasWaitedLongest config n past) this
     (longest config past (socket_of errand.datagram.from (ident_in errand.datagram.body) (questions config past)) (questions config past) errand oldest (are_waiting config past lawful)
     (sym (step_to_name config past errand names (errand_is config past (NeedsRoom oldest errand) at)) ∙ at))
-gives_way config past socket Settled at lawful is = absurd cc
+gives_way config past socket NeedsNothing at lawful is = absurd cc
 gives_way config past socket (NeedsSocket errand) at lawful is = absurd cc
 gives_way config past socket (NeedsSending s errand) at lawful is = absurd cc
 
@@ -169,7 +170,7 @@ abbrev Reasons : Config → ℕ → List Entry → Type 0
 Reasons config socket past = WasJustAnswered config socket past ⊎ (HasWaitedLong socket past ⊎ HasWaitedLongest config socket past)
 
 by_reason : (config : Config) (past : List Entry) (socket : ℕ) (a b c : Bool) → Lawful config past → name_gives_way config socket (step config past) ≡ a →
-    is_just_answered config past socket ≡ b → has_waited config past socket ≡ c → (a || b || c) ≡ true → Reasons config socket past
+    is_it socket (answered config past) ≡ b → has_waited config past socket ≡ c → (a || b || c) ≡ true → Reasons config socket past
 by_reason config past socket true b c lawful way came long is = inr (inr (gives_way config past socket (step config past) refl lawful way))
 by_reason config past socket false true c lawful way came long is = inl (just_answered config socket past lawful came)
 by_reason config past socket false false true lawful way came long is = inr (inl (waited_long past socket (moment past) (questions config past) (are_waiting config past lawful).used long))
@@ -177,7 +178,7 @@ by_reason config past socket false false false lawful way came long is = absurd 
 
 by_kind : (config : Config) (past : List Entry) (socket : ℕ) (k : Option Kind) → Lawful config past → is_for_question k ≡ true → may_part config past socket k ≡ true → Reasons config socket past
 by_kind config past socket (Some DnsSocket) lawful one is =
-    by_reason config past socket (name_gives_way config socket (step config past)) (is_just_answered config past socket) (has_waited config past socket) lawful refl refl refl is
+    by_reason config past socket (name_gives_way config socket (step config past)) (is_it socket (answered config past)) (has_waited config past socket) lawful refl refl refl is
 by_kind config past socket (Some Association) lawful one is = absurd cc
 by_kind config past socket (Some Forward) lawful one is = absurd cc
 by_kind config past socket (Some Listener) lawful one is = absurd cc
@@ -364,12 +365,12 @@ closed_next config e past socket asked count guest peer octets lawful a =
     let counts = counts_of config q.0 peer octets a.resolves a.answers (known.0 known.1).1 in
     let this : answered config now ≡ Some socket = ap (answered_on config peer octets) q.1 ∙ ap (λ (b : Bool). if b then Some q.0.number else None) counts ∙ ap Some known.1 in
     let first : due_in (phase config now) now ≡ None = working_none (phase config past) now may.place in
-    let none : errand_left config past ≡ None = errand_is config past Settled (hears_settled config past socket asked may) in
-    let settled : step config now ≡ Settled = ap (step_of config now) none in
+    let none : errand_left config past ≡ None = errand_is config past NeedsNothing (hears_settled config past socket asked may) in
+    let settled : step config now ≡ NeedsNothing = ap (step_of config now) none in
     is_due config now (call_of e) (CallClose socket) lawful.0
-    (ap (λ o. unless_due o (unless_due (due_for config (step config now) (next_number now)) (others_due config now))) first
-    ∙ ap (λ s. unless_due (due_for config s (next_number now)) (others_due config now)) settled
-    ∙ ap (λ o. unless_due (unless_due (due_for_answer o) (call_for (serving config now).files.quest)) (due_for_flows config (book config now) (next_number now))) this)
+    (ap (λ o. option_or o (option_or (due_for config (step config now) (next_number now)) (others_due config now))) first
+    ∙ ap (λ s. option_or (due_for config s (next_number now)) (others_due config now)) settled
+    ∙ ap (λ o. option_or (option_or (option_map CallClose o) (call_for (serving config now).files.quest)) (due_for_flows config (book config now) (next_number now))) this)
 
 close_entry : (e : Entry) (n : ℕ) → call_of e ≡ CallClose n → e ≡ Close n
 close_entry (Close socket) n is = cc

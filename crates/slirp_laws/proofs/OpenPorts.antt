@@ -1,6 +1,7 @@
 -- Where the ports of the host that are given to guests are opened, and when they are closed.
-use Rattle.std.proofs.Common.{◌≡◌, ℕ, suc, zero, ◌+◌, ◌<◌, ◌==◌, ◌&&◌, ◌||◌, Bool, true, false, List, [], ◌∷◌, drop, slice_get, is_some, MatchOption, Option, Some, None, option_map}
-use Rattle.std.proofs.Common.{if◌then◌else◌, refl, sym, ap, ◌∙◌, subst, arith}
+use Rattle.std.proofs.Common.{◌≡◌, ℕ, suc, zero, ◌+◌, ◌<◌, ◌&&◌, ◌||◌, Bool, true, false, List, [], ◌∷◌, drop, slice_get, Option, Some, None, option_map}
+use Rattle.std.specs.Option.{option_or}
+use Rattle.std.proofs.Common.{if◌then◌else◌, refl, ap, ◌∙◌, subst, arith}
 use Rattle.world_face.specs.Journal.{Entry, Call, Now, Wait, Listen, UdpOpen, CallClose, CallListen, CallUdpOpen}
 use Rattle.world_face.specs.Frames.{Ending, ending, partial}
 use Rattle.world_face.specs.declared.Made.{Made}
@@ -14,9 +15,9 @@ use Rattle.run_laws.specs.Moments.{waits}
 use Rattle.run_laws.specs.Shape.{Phase, Opening, Started, Woken, Working, Over, is_ended, phase, phase_by, phase_after, opened, clocked, unless_over, due_in, opening_of}
 use Rattle.run_laws.specs.Sockets.{Kind, Association as OfAssociation, DnsSocket, Forward as OfForward, Listener as OfListener, Flow as OfFlow, first, is_among, next_number, open_sockets}
 use Rattle.slirp_laws.specs.Asking.{step}
-use Rattle.slirp_laws.specs.Datagrams.{Errand, Step, Settled, NeedsRoom, NeedsSocket, NeedsSending, due_for}
+use Rattle.slirp_laws.specs.Datagrams.{Errand, Step, NeedsNothing, NeedsRoom, NeedsSocket, NeedsSending, due_for}
 use Rattle.slirp_laws.specs.Names.{kind_for}
-use Rattle.slirp_laws.specs.Laws.{May, Lawful, due, is_closing, is_least, may_part, parts, unless_due}
+use Rattle.slirp_laws.specs.Laws.{May, Lawful, due, is_closing, is_least, may_part, parts}
 use Rattle.slirp_laws.specs.Said.{OpensGiven, is_given}
 use Rattle.slirp_laws.proofs.Bools.{first_of, second_of}
 use Rattle.slirp_laws.proofs.Parting.{closing_ended}
@@ -92,20 +93,20 @@ opens_at all Tcp number socket f at k proto here is = absurd cc
 some_call : (c d : Call) → ◌≡◌ {A = Option Call} (Some c) (Some d) → c ≡ d
 some_call c d is = cc
 
-closes_first : (o : Option ℕ) (other : Option Call) (call : Call) → ((s : ℕ) → CallClose s ≡ call → ⊥) → unless_due (option_map CallClose o) other ≡ Some call → other ≡ Some call
+closes_first : (o : Option ℕ) (other : Option Call) (call : Call) → ((s : ℕ) → CallClose s ≡ call → ⊥) → option_or (option_map CallClose o) other ≡ Some call → other ≡ Some call
 closes_first None other call never is = is
 closes_first (Some s) other call never is = absurd (never s (some_call (CallClose s) call is))
 
 -- a listener is opened for a port of the settings alone
-no_listening : (config : Config) (st : Step) (other : Option Call) (number socket : ℕ) (at : Endpoint) → IsForOther other → unless_due (due_for config st number) other ≡ Some
+no_listening : (config : Config) (st : Step) (other : Option Call) (number socket : ℕ) (at : Endpoint) → IsForOther other → option_or (due_for config st number) other ≡ Some
     (CallListen socket at) → ⊥
-no_listening config Settled other number socket at flow is = subst IsForOther is flow
+no_listening config NeedsNothing other number socket at flow is = subst IsForOther is flow
 no_listening config (NeedsRoom oldest errand) other number socket at flow is = cc
 no_listening config (NeedsSocket errand) other number socket at flow is = cc
 no_listening config (NeedsSending s errand) other number socket at flow is = cc
 
 listening : (all : List Forward) (p : Phase) (past : List Entry) (other : Option Call) (socket : ℕ) (at : Endpoint) → IsLeft all p → (other ≡ Some (CallListen socket at) → ⊥) →
-    unless_due (due_in p past) other ≡ Some (CallListen socket at) → OpensGiven all Tcp at
+    option_or (due_in p past) other ≡ Some (CallListen socket at) → OpensGiven all Tcp at
 listening all (Opening count []) past other socket at left never is = absurd cc
 listening all (Opening count (f ∷ forwards)) past other socket at left never is =
     listens_at all f.proto (next_number past) socket f at count refl (drop_next count all forwards f left).1 (some_call (opening_of f.proto (next_number past) f) (CallListen socket at) is)
@@ -116,12 +117,12 @@ listening all (Over cause) past other socket at left never is = absurd (never (c
 
 pub listens_where_given : (config : Config) (past : List Entry) (socket : ℕ) (at : Endpoint) → May config past (CallListen socket at) → OpensGiven config.forwards Tcp at
 listens_where_given config past socket at may =
-    listening config.forwards (phase config past) past (unless_due (due_for config (step config past) (next_number past)) (others_due config past)) socket at (are_left config past)
+    listening config.forwards (phase config past) past (option_or (due_for config (step config past) (next_number past)) (others_due config past)) socket at (are_left config past)
     (no_listening config (step config past) (others_due config past) (next_number past) socket at (for_others config past))
     (due_call (due config past) (CallListen socket at) may.place may.due)
 
 -- what is asked for by a datagram was asked for after a wait
-asked_later : (config : Config) (past : List Entry) (socket : ℕ) (at : Endpoint) → Lawful config past → unless_due (due_for config (step config past) (next_number past))
+asked_later : (config : Config) (past : List Entry) (socket : ℕ) (at : Endpoint) → Lawful config past → option_or (due_for config (step config past) (next_number past))
     (others_due config past) ≡ Some (CallUdpOpen socket at) → 0 < waits past
 asked_later config past socket at lawful is =
     let o = opens_for config (step config past) (others_due config past) (next_number past) socket at (for_others config past) is in
@@ -130,7 +131,7 @@ asked_later config past socket at lawful is =
 -- a socket for datagrams that is opened before the first wait is one of them too
 opening : (all : List Forward) (p : Phase) (past : List Entry) (other : Option Call) (socket : ℕ) (at : Endpoint) → IsLeft all p → HasWaited p (waits past) → waits past ≡ 0 →
     (other ≡ Some (CallUdpOpen socket at) → 0 < waits past)
-    → unless_due (due_in p past) other ≡ Some (CallUdpOpen socket at) → OpensGiven all Udp at
+    → option_or (due_in p past) other ≡ Some (CallUdpOpen socket at) → OpensGiven all Udp at
 opening all (Opening count []) past other socket at left waited early later is = absurd cc
 opening all (Opening count (f ∷ forwards)) past other socket at left waited early later is =
     opens_at all f.proto (next_number past) socket f at count refl (drop_next count all forwards f left).1 (some_call (opening_of f.proto (next_number past) f) (CallUdpOpen socket at) is)
@@ -143,7 +144,7 @@ opening all (Over cause) past other socket at left waited early later is = let m
 pub opens_where_given : (config : Config) (past : List Entry) (socket : ℕ) (at : Endpoint) → Lawful config past → waits past ≡ 0 → May config past (CallUdpOpen socket at) →
     OpensGiven config.forwards Udp at
 opens_where_given config past socket at lawful early may =
-    opening config.forwards (phase config past) past (unless_due (due_for config (step config past) (next_number past)) (others_due config past)) socket at (are_left config past)
+    opening config.forwards (phase config past) past (option_or (due_for config (step config past) (next_number past)) (others_due config past)) socket at (are_left config past)
     (has_waited config past) early
     (asked_later config past socket at lawful) (due_call (due config past) (CallUdpOpen socket at) may.place may.due)
 

@@ -10,7 +10,7 @@ use Rattle.tftp_server.specs.Laws.{octets_done}
 use Rattle.tftp_server.specs.Packets.{Packet, Asks, AsksToWrite, Acknowledges, GivesUp, Unheard, Request, Terms, block_octets, error_octets, file_in, is_name, options_octets, request_in}
 use Rattle.tftp_server.specs.Packets.{says, terms_of}
 use Rattle.tftp_server.specs.Rows.{AreApart}
-use Rattle.tftp_server.specs.Transfers.{Outcome, Quest, Said, SeeksLength, SeeksOctets, Settled, Sought, Transfer, acknowledged, begins, is_for, leaves, length_came, measured}
+use Rattle.tftp_server.specs.Transfers.{Outcome, Quest, Said, SeeksLength, SeeksOctets, Settled as SeeksNothing, Sought, Transfer, acknowledged, begins, is_for, leaves, length_came, measured}
 use Rattle.tftp_server.specs.Transfers.{most_transfers, octets_came, octets_of, reads_on, refuses, requested, requested_file, said_again, seeks_block, sending, sends, taken_in, transfer}
 use Rattle.tftp_server.specs.Transfers.{with_again, with_room, without, sent_again}
 use Rattle.tftp_server.proofs.Choosing.{AllTransfers, all_filtered}
@@ -56,7 +56,7 @@ none_room guest transfers none = by (nat_le most_transfers (length transfers))
 
 -- what is sought is for a port that has no transfer then
 abbrev pub OnQuest : (Sought → Type 0) → (Transfer → List ℕ → Type 0) → List Transfer → Quest → Type 0
-OnQuest L B transfers Settled = Unit {0}
+OnQuest L B transfers SeeksNothing = Unit {0}
 OnQuest L B transfers (SeeksLength s) = (find (is_for s.guest) transfers ≡ None) × L s
 OnQuest L B transfers (SeeksOctets t there) = (find (is_for t.guest) transfers ≡ None) × B t there
 
@@ -64,7 +64,7 @@ OnQuest L B transfers (SeeksOctets t there) = (find (is_for t.guest) transfers �
 pub record IsNew (U : Transfer → Type 0) (now : ℕ) (o : Outcome) (others : List Transfer) : Type 0 where
   pub t : Transfer
   pub list : o.files.transfers ≡ others ++ (t ∷ [])
-  pub settled : o.files.quest ≡ Settled
+  pub settled : o.files.quest ≡ SeeksNothing
   pub told : o.told ≡ Some (said_again t)
   pub fresh : find (is_for t.guest) others ≡ None
   pub again : t.again ≡ 0
@@ -142,7 +142,7 @@ module _ (P U : Transfer → Type 0) (L : Sought → Type 0) (B : Transfer → L
         → ((s : Sought) (n : ℕ) (terms : Terms) → L' s → answer ≡ Length n → terms_of n s.options ≡ Some terms → U
         (sending now false (options_octets terms) (transfer n s terms)) × B (record (transfer n s terms) { block = 1 }) [])
         → Comes P U L B now (length_came now answer quest ts)
-    length_comes L' B' answer Settled ts all apart on starts = leaves_these ts all apart
+    length_comes L' B' answer SeeksNothing ts all apart on starts = leaves_these ts all apart
     length_comes L' B' answer (SeeksOctets t there) ts all apart on starts = leaves_these ts all apart
     length_comes L' B' Missing (SeeksLength s) ts all apart on starts = refusal 1 s.mac s.guest ts all apart
     length_comes L' B' SizeFailed (SeeksLength s) ts all apart on starts = refusal 0 s.mac s.guest ts all apart
@@ -158,7 +158,7 @@ module _ (P U : Transfer → Type 0) (L : Sought → Type 0) (B : Transfer → L
         AreApart ts → OnQuest L' B' ts quest
         → ((t : Transfer) (there : List ℕ) → quest ≡ SeeksOctets t there → B' t there → B t (there ++ octets_done answer octets))
         → Comes P U L B now (octets_came now answer octets quest ts)
-    octets_come L' B' answer octets Settled ts all apart on more = leaves_these ts all apart
+    octets_come L' B' answer octets SeeksNothing ts all apart on more = leaves_these ts all apart
     octets_come L' B' answer octets (SeeksLength s) ts all apart on more = leaves_these ts all apart
     octets_come L' B' (Done n) octets (SeeksOctets t there) ts all apart on more = goes_on (there ++ octets) t ts all apart on.0 (more t there refl on.1)
     octets_come L' B' End octets (SeeksOctets t there) ts all apart on more = refusal 0 t.mac t.guest ts all apart

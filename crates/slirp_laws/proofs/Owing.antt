@@ -1,5 +1,6 @@
 -- What is left to be sent is what is owed for what came last.
 use Rattle.std.proofs.Common.{not, ◌≡◌, ℕ, zero, suc, ◌+◌, ◌-◌, ◌%◌, ◌^◌, ◌<◌, ◌≤◌, ◌==◌, ◌&&◌, ◌||◌, Bool, true, false, List, [], ◌∷◌, drop, length, bytes_eq, Option, Some, None}
+use Rattle.std.specs.Option.{option_or}
 use Rattle.std.proofs.Common.{if◌then◌else◌, ◌⊎◌, inl, inr, refl, sym, ◌∙◌, ap, subst, arith, nat_lt, option_map}
 use Rattle.std.proofs.lemmas.Bool.Decides.{nat_tests}
 use Rattle.world_face.specs.Journal.{Entry, LinkRead, LinkWrite, Connect, UdpOpen, UdpSend, UdpRecv, FileLen, FileRead, call_of, Accept, Listen}
@@ -29,7 +30,7 @@ use Rattle.record_flows.specs.Segments.{OnTuple, from_guest}
 use Rattle.slirp_laws.specs.Answers.{is_flows, starts, Answer, ArpAnswer, IpAnswer, Serving, again_frames, answers_of, begins_again, ledger, left_by_file, left_by_outcome, may_go_again}
 use Rattle.slirp_laws.specs.Answers.{reply_on, served_file, serving, told_of_files, datagrams_in, datagrams_out, with_datagrams, frames_for, frames_of, identification, is_first, is_out}
 use Rattle.slirp_laws.specs.Answers.{is_untold, left, left_after, no_network, owed_for_fate, owed_for_icmp, owed_for_packet, reply_for, reset_for, taken, told_about, unconnected, unsent}
-use Rattle.slirp_laws.specs.Datagrams.{Errand, Fate, Ignored, Refused, ForLeases, ForFiles, GoesTo, fate, Step, Settled, NeedsSocket, NeedsSending}
+use Rattle.slirp_laws.specs.Datagrams.{Errand, Fate, Ignored, Refused, ForLeases, ForFiles, GoesTo, fate, Step, NeedsNothing, NeedsSocket, NeedsSending}
 use Rattle.slirp_laws.specs.Asking.{step, step_of}
 use Rattle.slirp_laws.specs.Errands.{errand_after, errand_by_call, errand_left}
 use Rattle.slirp_laws.specs.Leasing.{sending_of}
@@ -41,7 +42,7 @@ use Rattle.tftp_server.specs.Transfers.{Outcome, Said}
 use Rattle.host_policy.specs.declared.Reply.{Reply}
 use Rattle.host_policy.specs.declared.Reply.TheVariants.{Nothing, Datagram as ADatagram, Unreachable}
 use Rattle.slirp_laws.specs.Laws.{May, Lawful, may_begin}
-use Rattle.slirp_laws.specs.Ports.{last_datagram, last_mac, mac_of, opened_for, or_before, mac_for, mac_known, port_for}
+use Rattle.slirp_laws.specs.Ports.{last_datagram, last_mac, mac_of, opened_for, mac_for, mac_known, port_for}
 use Rattle.slirp_laws.specs.Said.{AnswersLast, IsRest, Occasion, NoOccasion, Came, Heard, HeardOfName, OfFile, Unsent, Unconnected, by_outcome, by_said, heard_on as heard_of}
 use Rattle.slirp_laws.specs.Said.{identification_with, last_occasion, occasion_after, owed_for, refused_or, unsent_or}
 use Rattle.slirp_laws.specs.Sending.{is_beside}
@@ -116,7 +117,7 @@ one_answer config past (Unconnected on) = omega arith
 -- ---- nothing came before the first wait
 
 came_by : (config : Config) (past : List Entry) (o : Option Arrival) (last : Option Datagram) → ((arrival : Arrival) → o ≡ Some arrival → 0 < waits past) → (last ≡ None) ⊎
-    (0 < waits past) → (or_before (datagram_came o) last ≡ None) ⊎ (0 < waits past)
+    (0 < waits past) → (option_or (datagram_came o) last ≡ None) ⊎ (0 < waits past)
 came_by config past None last waited before = before
 came_by config past (Some arrival) last waited before = inr (waited arrival refl)
 
@@ -450,7 +451,7 @@ by_hearing config past socket asked (From peer n) octets may lawful is = by (num
         (frames_of config (identification past) (reply_on config past socket peer octets o)) (datagrams_out past) (heard_of socket peer octets o) (errand_left config past)
     by None = record {
       owed = inr (0, refl);
-      heard = (open_below config past lawful socket (hears_on_open config past socket asked may.socket), errand_is config past Settled (hears_settled config past socket asked may));
+      heard = (open_below config past lawful socket (hears_on_open config past socket asked may.socket), errand_is config past NeedsNothing (hears_settled config past socket asked may));
     }
     by (Some q) = record { owed = inr (0, refl); heard = tt }
 by_hearing config past socket asked GotNotYet octets may lawful is = unchanged config (UdpRecv socket asked GotNotYet octets) past may refl is

@@ -1,5 +1,6 @@
 -- Why a socket is closed before the end.
 use Rattle.std.proofs.Common.{◌≡◌, ℕ, ◌≤◌, ◌==◌, ◌&&◌, ◌||◌, not, nat_le, Bool, true, false, List, [], ◌∷◌, Option, Some, None, if◌then◌else◌, ◌⊎◌, inl, inr, refl, sym, ◌∙◌, ap, subst, arith}
+use Rattle.std.specs.Option.{option_or}
 use Rattle.std.proofs.lemmas.Bool.Decides.{nat_tests}
 use Rattle.world_face.specs.Journal.{Entry, Close, Now, Wait, Listen, UdpOpen, CallClose, call_of}
 use Rattle.world_face.specs.Frames.{Ending, ending, partial}
@@ -9,7 +10,7 @@ use Rattle.host_policy.specs.Addresses.{Config}
 use Rattle.run_laws.specs.Moments.{waits}
 use Rattle.run_laws.specs.Shape.{Cause, Phase, Opening, Started, Woken, Working, Over, phase, phase_by, phase_after, opened, may_turn, is_over, is_ended}
 use Rattle.run_laws.specs.Sockets.{Kind, Association as OfAssociation, DnsSocket, Forward as OfForward, Listener, Flow, is_among, is_association, open_sockets}
-use Rattle.slirp_laws.specs.Asking.{is_full, step, step_of, step_on, yields, step_at}
+use Rattle.slirp_laws.specs.Asking.{is_full, step, step_of, step_on, yields}
 use Rattle.slirp_laws.specs.Errands.{errand_left}
 use Rattle.slirp_laws.specs.Names.{kind_for, questions, step_to_names, with_socket}
 use Rattle.slirp_laws.specs.Datagrams.{Errand, NeedsRoom, NeedsSocket, asks_a_name}
@@ -123,13 +124,12 @@ way_given : (config : Config) (past : List Entry) (socket : ℕ) (o : Option Err
 way_given config past socket None is = cc
 way_given config past socket (Some errand) is = by (asks_a_name config errand) refl is
   where
-    on_either : (forward : Option ℕ) → gives_way config socket (step_at config forward (socket_for config errand.datagram.from past) past errand) ≡ true → IsLongestUnused config socket past
+    on_either : (forward : Option ℕ) → gives_way config socket (step_on config (option_or forward (socket_for config errand.datagram.from past)) past errand) ≡ true → IsLongestUnused config socket past
     on_either (Some forward) never = cc
     on_either None given = on_socket config past socket (socket_for config errand.datagram.from past) (is_full config past) errand refl given
 
     by : (b : Bool) → asks_a_name config errand ≡ b
-        → gives_way config socket (if b then step_to_names (questions config past) errand else step_at config (forward_for config errand.datagram.from past)
-        (socket_for config errand.datagram.from past) past errand) ≡ true
+        → gives_way config socket (if b then step_to_names (questions config past) errand else step_on config (option_or (forward_for config errand.datagram.from past) (socket_for config errand.datagram.from past)) past errand) ≡ true
         → IsLongestUnused config socket past
     by true name is = absurd (no_way config socket _ (questions config past) errand name is)
     by false other is = on_either (forward_for config errand.datagram.from past) is

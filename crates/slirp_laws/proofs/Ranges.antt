@@ -1,5 +1,7 @@
 -- What guests and peers say is in its range where each answer is one that a World may give.
 use Rattle.std.proofs.Common.{◌≡◌, ℕ, ◌-◌, ◌^◌, ◌<◌, ◌==◌, Bool, true, false, List, [], ◌∷◌, nat_lt, slice_get, Option, Some, None, option_map, option_and_then, if◌then◌else◌, refl, ap, subst}
+use Rattle.std.specs.Prelude.{unwrap_or}
+use Rattle.std.specs.Option.{option_or}
 use Rattle.std.proofs.lemmas.Option.{cond_some}
 use Rattle.world_face.specs.Journal.{Entry, LinkWrite, Connect, UdpOpen, UdpSend, UdpRecv, FileLen, FileRead, AreAllowed, AreOctets, IsEndpoint}
 use Rattle.world_face.specs.Frames.{arrives, goes_out}
@@ -30,8 +32,8 @@ use Rattle.record_flows.specs.Book.{book}
 use Rattle.record_flows.specs.Segments.{OnTuple}
 use Rattle.run_laws.specs.Happenings.{Arrival, arrival_of, happens, datagram_by, datagram_came}
 use Rattle.run_laws.specs.Packets.{Datagram, Packet, Unheard, ArpPacket, Message, DatagramPacket, Segment, datagram_in, datagram_of, may_come, packet_in, packet_of, packet_of_ip}
-use Rattle.run_laws.specs.Packets.{unless_unheard, whole_packet}
-use Rattle.slirp_laws.specs.Ports.{last_datagram, last_port, opened_by, opened_for, or_before, given_by, given_port, port_for}
+use Rattle.run_laws.specs.Packets.{whole_packet}
+use Rattle.slirp_laws.specs.Ports.{last_datagram, last_port, opened_by, opened_for, given_by, given_port, port_for}
 use Rattle.slirp_laws.specs.Answers.{begins_again, identification, ledger, may_go_again, serving}
 use Rattle.slirp_laws.specs.Names.{questions}
 use Rattle.dns_relay.specs.declared.Question.{Question}
@@ -48,7 +50,7 @@ InRange (DatagramPacket d) = IsEndpoint d.from
 InRange _ = Unit {0}
 
 abbrev RangeIn : Option Packet → Type 0
-RangeIn packet = InRange (unless_unheard packet)
+RangeIn packet = InRange (unwrap_or packet Unheard)
 
 range_if : (b : Bool) (one two : Option Packet) → RangeIn one → RangeIn two → RangeIn (if b then one else two)
 range_if true one two is was = is
@@ -112,7 +114,7 @@ abbrev RangeLast : Option Datagram → Type 0
 RangeLast None = Unit {0}
 RangeLast (Some d) = IsEndpoint d.from
 
-range_by : (packet : Packet) (last : Option Datagram) → InRange packet → RangeLast last → RangeLast (or_before (datagram_by packet) last)
+range_by : (packet : Packet) (last : Option Datagram) → InRange packet → RangeLast last → RangeLast (option_or (datagram_by packet) last)
 range_by (DatagramPacket d) last is before = is
 range_by Unheard last is before = before
 range_by (ArpPacket arp) last is before = before
@@ -121,7 +123,7 @@ range_by (Segment mac ip tcp) last is before = before
 
 range_came : (config : Config) (now : ℕ) (waiting : List PartSet) (o : Option (List ℕ)) (last : Option Datagram) → ((frame : List ℕ) → o ≡ Some frame → AreOctets frame) →
     OfSets RangePart waiting → RangeLast last
-    → RangeLast (or_before (datagram_came (option_map (arrival_of config now waiting) o)) last)
+    → RangeLast (option_or (datagram_came (option_map (arrival_of config now waiting) o)) last)
 range_came config now waiting None last octets kept before = before
 range_came config now waiting (Some frame) last octets kept before = range_by (packet_in config now waiting frame) last (range_packet config now waiting frame (octets frame refl) kept) before
 

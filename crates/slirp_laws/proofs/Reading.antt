@@ -1,5 +1,7 @@
 -- Our frames, as they are read.
 use Rattle.std.proofs.Common.{◌≡◌, ℕ, ◌+◌, ◌/◌, ◌%◌, ◌^◌, ◌<◌, ◌≤◌, ◌==◌, ◌&&◌, not, nat_le, Bool, true, false, List, [], ◌∷◌, ◌++◌, length, take, drop, filter, find, map, Option, Some}
+use Rattle.std.specs.Prelude.{unwrap_or}
+use Rattle.std.specs.Option.{option_or}
 use Rattle.std.proofs.Common.{None, Result, Ok, Err, option_map, option_and_then, if◌then◌else◌, refl, sym, ◌∙◌, ap, subst, arith, lit<, zero, suc}
 use Rattle.std.proofs.lemmas.Bool.Decides.{nat_tests}
 use Rattle.std.proofs.lemmas.Nat.{from_be_bytes-to_be_bytes_2}
@@ -47,7 +49,7 @@ use Rattle.dns_relay.specs.Questions.{is_answered, moved_last, numbered, without
 use Rattle.tftp_server.specs.Asking.{by_answer}
 use Rattle.tftp_server.specs.Packets.{options_octets, Packet as FilePacket, Asks, AsksToWrite, Acknowledges, GivesUp, Unheard as FileUnheard, Request, Terms, is_name}
 use Rattle.tftp_server.specs.Packets.{packet_in as file_packet, request_in, terms_of}
-use Rattle.tftp_server.specs.Transfers.{transfer, Files, Outcome, Quest, Said, Settled as NothingSought, SeeksLength, SeeksOctets, Sought, Transfer, acknowledged, are_left, begins, begun}
+use Rattle.tftp_server.specs.Transfers.{transfer, Files, Outcome, Quest, Said, Settled as SeeksNothing, SeeksLength, SeeksOctets, Sought, Transfer, acknowledged, are_left, begins, begun}
 use Rattle.tftp_server.specs.Transfers.{is_for, leaves, length_came, measured, most_transfers, next_again, octets_came, octets_of, refuses, requested, requested_file, said_again}
 use Rattle.tftp_server.specs.Transfers.{seeks_block, seeks_next, sending, sends, sent_again, settled, taken_in, ticked, ticked_by, told_length, told_octets, with_again, with_room, without}
 use Rattle.run_laws.specs.Fragments.{arrived, waiting}
@@ -56,19 +58,19 @@ use Rattle.run_laws.specs.Guests.{known, with_arrival, with_pair}
 use Rattle.run_laws.specs.Moments.{moment}
 use Rattle.run_laws.specs.Sockets.{is_forward, kind_of}
 use Rattle.run_laws.specs.Packets.{Datagram, Packet, Unheard, ArpPacket, Message, DatagramPacket, Segment, Pair, datagram_in, datagram_of, may_come, packet_in, packet_of, packet_of_ip}
-use Rattle.run_laws.specs.Packets.{pair_by, pair_by_arp, pair_by_ip, pair_in, pair_of, unless_unheard, whole_packet}
+use Rattle.run_laws.specs.Packets.{pair_by, pair_in, pair_of, whole_packet}
 use Rattle.record_flows.specs.Book.{book}
 use Rattle.record_flows.specs.Segments.{OnTuple, from_guest, segment_by, segment_came}
 use Rattle.record_flows.proofs.Newest.{is_newest}
 use Rattle.slirp_laws.specs.Answers.{Answer, ArpAnswer, IpAnswer, Ledger, Serving, again_by_call, answer_of, answers_of, begins_again, begun_by, files_after, files_begun, files_by_call}
-use Rattle.slirp_laws.specs.Answers.{files_by_fate, files_by_outcome, files_by_packet, files_sent, identification, is_free, ledger, may_go_again, or_begun, served_file, serving}
+use Rattle.slirp_laws.specs.Answers.{files_by_fate, files_by_outcome, files_by_packet, files_sent, identification, is_free, ledger, may_go_again, served_file, serving}
 use Rattle.slirp_laws.specs.Answers.{told_of_files, unless_begun, arp_reply, is_untold, no_network, part_frame, owed_for_fate, owed_for_icmp, owed_for_packet, reset_for, told_about}
 use Rattle.slirp_laws.specs.Answers.{reply_for}
 use Rattle.slirp_laws.specs.Datagrams.{Errand, Fate, Ignored, Refused, ForLeases, ForFiles, GoesTo, asks_a_name, fate}
 use Rattle.slirp_laws.specs.Errands.{errand_left}
 use Rattle.slirp_laws.specs.Leasing.{sending_of}
 use Rattle.slirp_laws.specs.Names.{after_call as question_after, question, questions, with_heard as question_heard, with_opened as question_opened, with_sent as question_sent}
-use Rattle.slirp_laws.specs.Ports.{last_datagram, last_mac, mac_by, mac_of, opened_for, or_before, mac_for, mac_known}
+use Rattle.slirp_laws.specs.Ports.{last_datagram, last_mac, mac_by, mac_of, opened_for, mac_for, mac_known}
 use Rattle.slirp_laws.specs.Said.{Carries, is_for_server, Occasion, NoOccasion, Came, Heard, HeardOfName, OfFile, Unsent, Unconnected, by_call, by_got, by_joined, by_made, by_outcome}
 use Rattle.slirp_laws.specs.Said.{by_said, by_sent, heard_on, last_occasion, occasion_after, owed_for, refused_or, unsent_or}
 use Rattle.slirp_laws.proofs.Bools.{first_of}
@@ -86,7 +88,7 @@ SixPacket (DatagramPacket d) = length d.mac ≡ 6
 SixPacket (Segment mac ip tcp) = length mac ≡ 6
 
 abbrev SixIn : Option Packet → Type 0
-SixIn packet = SixPacket (unless_unheard packet)
+SixIn packet = SixPacket (unwrap_or packet Unheard)
 
 six_if : (b : Bool) (one other : Option Packet) → SixIn one → SixIn other → SixIn (if b then one else other)
 six_if true one other is else_ = is
@@ -176,7 +178,7 @@ abbrev SixDatagram : Option Datagram → Type 0
 SixDatagram None = Unit {0}
 SixDatagram (Some d) = length d.mac ≡ 6
 
-six_by : (packet : Packet) (last : Option Datagram) → SixPacket packet → SixDatagram last → SixDatagram (or_before (datagram_by packet) last)
+six_by : (packet : Packet) (last : Option Datagram) → SixPacket packet → SixDatagram last → SixDatagram (option_or (datagram_by packet) last)
 six_by (DatagramPacket d) last is before = is
 six_by Unheard last is before = before
 six_by (ArpPacket arp) last is before = before
@@ -184,7 +186,7 @@ six_by (Message mac ip message) last is before = before
 six_by (Segment mac ip tcp) last is before = before
 
 six_came : (config : Config) (now : ℕ) (sets : List PartSet) (o : Option (List ℕ)) (last : Option Datagram) → SixDatagram last → SixDatagram
-    (or_before (datagram_came (option_map (arrival_of config now sets) o)) last)
+    (option_or (datagram_came (option_map (arrival_of config now sets) o)) last)
 six_came config now sets None last before = before
 six_came config now sets (Some frame) last before = six_by (packet_in config now sets frame) last (six_packet config now sets frame) before
 
@@ -226,11 +228,11 @@ six_pair_if false one other is else_ = else_
 six_pair_of : (config : Config) (addr : ℕ) (mac : List ℕ) → length mac ≡ 6 → SixPair (pair_of config addr mac)
 six_pair_of config addr mac is = six_pair_if (is_guest config addr) (Some (record { address = addr; mac = mac })) None is tt
 
-six_pair_arp : (config : Config) (octets : List ℕ) (o : Option Arp) → read_arp octets ≡ o → SixPair (option_and_then (pair_by_arp config) o)
+six_pair_arp : (config : Config) (octets : List ℕ) (o : Option Arp) → read_arp octets ≡ o → SixPair (option_and_then (λ arp. pair_of config arp.sender arp.sender_mac) o)
 six_pair_arp config octets None is = tt
 six_pair_arp config octets (Some arp) is = six_pair_of config arp.sender arp.sender_mac (six_arp octets (Some arp) is)
 
-six_pair_ip : (config : Config) (mac : List ℕ) (o : Option Ip) → length mac ≡ 6 → SixPair (option_and_then (pair_by_ip config mac) o)
+six_pair_ip : (config : Config) (mac : List ℕ) (o : Option Ip) → length mac ≡ 6 → SixPair (option_and_then (λ ip. pair_of config ip.from mac) o)
 six_pair_ip config mac None is = tt
 six_pair_ip config mac (Some ip) is = six_pair_of config ip.from mac is
 
@@ -240,8 +242,8 @@ six_pair_ether config frame (Some ether) is =
     let found = cond_some (nat_le 14 (length frame)) (record { to = part frame 0 6; from = part frame 6 6; kind = two_at frame 12; body = drop 14 frame }) ether is in
     let enough : 12 ≤ length frame = (let long = found.0 in grind (arith, nat_tests, long)) in
     let mac : length ether.from ≡ 6 = ap (λ (e : Ether). length e.from) (sym found.1) ∙ length-part frame 6 6 enough in
-    six_pair_if (ether.kind == arp_kind) (option_and_then (pair_by_arp config) (read_arp ether.body)) _ (six_pair_arp config ether.body (read_arp ether.body) refl)
-    (six_pair_if (ether.kind == ipv4_kind) (option_and_then (pair_by_ip config ether.from) (read_ip ether.body)) None (six_pair_ip config ether.from (read_ip ether.body) mac) tt)
+    six_pair_if (ether.kind == arp_kind) (option_and_then (λ arp. pair_of config arp.sender arp.sender_mac) (read_arp ether.body)) _ (six_pair_arp config ether.body (read_arp ether.body) refl)
+    (six_pair_if (ether.kind == ipv4_kind) (option_and_then (λ ip. pair_of config ip.from ether.from) (read_ip ether.body)) None (six_pair_ip config ether.from (read_ip ether.body) mac) tt)
 
 six_pair : (config : Config) (frame : List ℕ) → SixPair (pair_in config frame)
 six_pair config frame = six_pair_ether config frame (read_ether frame) refl
@@ -474,7 +476,7 @@ SixTransfers [] = Unit {0}
 SixTransfers (t ∷ transfers) = (length t.mac ≡ 6) × SixTransfers transfers
 
 abbrev pub SixQuest : Quest → Type 0
-SixQuest NothingSought = Unit {0}
+SixQuest SeeksNothing = Unit {0}
 SixQuest (SeeksLength s) = length s.mac ≡ 6
 SixQuest (SeeksOctets t there) = length t.mac ≡ 6
 
@@ -593,12 +595,12 @@ six_told_octets now IoFailed octets there t others one is = six_refuses 0 t.mac 
 
 six_length : (now : ℕ) (answer : FileSize) (q : Quest) (transfers : List Transfer) → SixQuest q → SixTransfers transfers → SixOutcome (length_came now answer q transfers)
 six_length now answer (SeeksLength s) transfers one is = six_told_length now answer s transfers one is
-six_length now answer NothingSought transfers one is = six_leaves transfers is
+six_length now answer SeeksNothing transfers one is = six_leaves transfers is
 six_length now answer (SeeksOctets t there) transfers one is = six_leaves transfers is
 
 six_octets : (now : ℕ) (answer : Io) (octets : List ℕ) (q : Quest) (transfers : List Transfer) → SixQuest q → SixTransfers transfers → SixOutcome (octets_came now answer octets q transfers)
 six_octets now answer octets (SeeksOctets t there) transfers one is = six_told_octets now answer octets there t transfers one is
-six_octets now answer octets NothingSought transfers one is = six_leaves transfers is
+six_octets now answer octets SeeksNothing transfers one is = six_leaves transfers is
 six_octets now answer octets (SeeksLength s) transfers one is = six_leaves transfers is
 
 abbrev SixAnswered : Option Outcome → Type 0
@@ -647,7 +649,7 @@ pub record SixServing (s : Serving) : Type 0 where
   pub files : SixFiles s.files
   pub again : SixSaid s.again
 
-six_or : (one other : Option Said) → SixSaid one → SixSaid other → SixSaid (or_begun one other)
+six_or : (one other : Option Said) → SixSaid one → SixSaid other → SixSaid (option_or one other)
 six_or None other first second = second
 six_or (Some said) other first second = first
 

@@ -1,5 +1,6 @@
 -- What the datagram that came last asks for, by the record.
 use Rattle.std.proofs.Common.{◌≡◌, ℕ, ◌==◌, ◌&&◌, ◌||◌, not, Bool, true, false, List, [], ◌∷◌, Option, Some, None, if◌then◌else◌, refl, sym, ◌∙◌, ap, subst, ◌⊎◌, inl, inr}
+use Rattle.std.specs.Option.{option_or}
 use Rattle.world_face.specs.Journal.{Entry, UdpOpen, UdpSend}
 use Rattle.world_face.specs.declared.Made.TheVariants.{Done, Failed}
 use Rattle.host_policy.specs.declared.Proto.TheVariants.{Udp as ByUdp}
@@ -12,12 +13,12 @@ use Rattle.run_laws.specs.Happenings.{Arrival, happens, datagram_by, datagram_ca
 use Rattle.run_laws.specs.Packets.{Packet, Unheard, ArpPacket, Message, DatagramPacket, Segment, Datagram}
 use Rattle.dns_relay.specs.declared.Question.{Question}
 use Rattle.dns_relay.specs.Questions.{ident_in, is_question, socket_of as question_socket}
-use Rattle.slirp_laws.specs.Asking.{is_full, step, step_of, step_on, yields, step_at}
+use Rattle.slirp_laws.specs.Asking.{is_full, step, step_of, step_on, yields}
 use Rattle.slirp_laws.specs.Errands.{errand_after, errand_by_call, errand_left}
 use Rattle.slirp_laws.specs.Names.{questions, step_to_names, with_socket, without_socket}
 use Rattle.slirp_laws.specs.Datagrams.{Fate, Ignored, Refused, ForLeases, ForFiles, GoesTo, asks_a_name, fate, fate_by, is_to_names, Errand, errand_of, errand_by, errand_by_packet, Step}
-use Rattle.slirp_laws.specs.Datagrams.{Settled, NeedsRoom, NeedsSocket, NeedsSending}
-use Rattle.slirp_laws.specs.Ports.{or_before, last_datagram, longest_unused, socket_for, forward_for}
+use Rattle.slirp_laws.specs.Datagrams.{NeedsNothing, NeedsRoom, NeedsSocket, NeedsSending}
+use Rattle.slirp_laws.specs.Ports.{last_datagram, longest_unused, socket_for, forward_for}
 
 -- ---- an errand is that of the datagram that came last
 
@@ -66,7 +67,7 @@ begun config d (GoesTo to) is errand this =
     let asks : Asks config (Some d) that = record { datagram = refl; goes = is } in
     subst (Asks config (Some d)) whole asks
 
-by_packet : (config : Config) (before : Option Datagram) (packet : Packet) → AsksFor config (or_before (datagram_by packet) before) (errand_by_packet config packet)
+by_packet : (config : Config) (before : Option Datagram) (packet : Packet) → AsksFor config (option_or (datagram_by packet) before) (errand_by_packet config packet)
 by_packet config before (DatagramPacket d) = all_errands (Asks config (Some d)) (errand_of config d) (begun config d (fate config d) refl)
 by_packet config before Unheard = tt
 by_packet config before (ArpPacket arp) = tt
@@ -74,7 +75,7 @@ by_packet config before (Message mac ip message) = tt
 by_packet config before (Segment mac ip tcp) = tt
 
 by_arrival : (config : Config) (e : Entry) (o : Option Arrival) (before : Option Errand) (last : Option Datagram) → AsksFor config last before → AsksFor config
-    (or_before (datagram_came o) last) (errand_after config e o before)
+    (option_or (datagram_came o) last) (errand_after config e o before)
 by_arrival config e None before last is = by_call (Asks config last) e before is
 by_arrival config e (Some arrival) before last is = by_packet config last arrival.packet
 
@@ -88,7 +89,7 @@ errand_asks config past errand is = subst (AsksFor config (last_datagram config 
 -- ---- the step is that of the errand
 
 abbrev pub errand_in : Step → Option Errand
-errand_in Settled = None
+errand_in NeedsNothing = None
 errand_in (NeedsRoom oldest errand) = Some errand
 errand_in (NeedsSocket errand) = Some errand
 errand_in (NeedsSending socket errand) = Some errand
@@ -114,13 +115,12 @@ on_question : (o : Option ℕ) (list : List Question) (errand : Errand) → erra
 on_question None list errand = without_one list errand
 on_question (Some socket) list errand = refl
 
-on_either : (config : Config) (forward own : Option ℕ) (past : List Entry) (errand : Errand) → errand_in (step_at config forward own past errand) ≡ Some errand
+on_either : (config : Config) (forward own : Option ℕ) (past : List Entry) (errand : Errand) → errand_in (step_on config (option_or forward own) past errand) ≡ Some errand
 on_either config (Some forward) own past errand = refl
 on_either config None own past errand = on_socket config own past errand
 
 by_name : (config : Config) (past : List Entry) (errand : Errand) (name : Bool)
-    → errand_in (if name then step_to_names (questions config past) errand else step_at config (forward_for config errand.datagram.from past)
-    (socket_for config errand.datagram.from past) past errand) ≡ Some errand
+    → errand_in (if name then step_to_names (questions config past) errand else step_on config (option_or (forward_for config errand.datagram.from past) (socket_for config errand.datagram.from past)) past errand) ≡ Some errand
 by_name config past errand true = on_question _ (questions config past) errand
 by_name config past errand false = on_either config (forward_for config errand.datagram.from past) (socket_for config errand.datagram.from past) past errand
 
@@ -133,18 +133,16 @@ errand_is config past s is = sym (keeps_errand config past (errand_left config p
 
 -- what was asked of a step is asked of its errand; here of one that is no question to the name server, and of one that is
 pub step_is_of : (config : Config) (past : List Entry) (errand : Errand) → asks_a_name config errand ≡ false → errand_left config past ≡ Some errand
-    → step config past ≡ step_at config (forward_for config errand.datagram.from past) (socket_for config errand.datagram.from past) past errand
+    → step config past ≡ step_on config (option_or (forward_for config errand.datagram.from past) (socket_for config errand.datagram.from past)) past errand
 step_is_of config past errand other is =
     ap (step_of config past) is
-    ∙ ap (λ (b : Bool). if b then step_to_names (questions config past) errand else step_at config (forward_for config errand.datagram.from past)
-    (socket_for config errand.datagram.from past) past errand) other
+    ∙ ap (λ (b : Bool). if b then step_to_names (questions config past) errand else step_on config (option_or (forward_for config errand.datagram.from past) (socket_for config errand.datagram.from past)) past errand) other
 
 pub step_to_name : (config : Config) (past : List Entry) (errand : Errand) → asks_a_name config errand ≡ true → errand_left config past ≡ Some errand →
     step config past ≡ step_to_names (questions config past) errand
 step_to_name config past errand name is =
     ap (step_of config past) is
-    ∙ ap (λ (b : Bool). if b then step_to_names (questions config past) errand else step_at config (forward_for config errand.datagram.from past)
-    (socket_for config errand.datagram.from past) past errand) name
+    ∙ ap (λ (b : Bool). if b then step_to_names (questions config past) errand else step_on config (option_or (forward_for config errand.datagram.from past) (socket_for config errand.datagram.from past)) past errand) name
 
 no_socket : (config : Config) (o : Option ℕ) (past : List Entry) (errand : Errand) → step_on config o past errand ≡ NeedsSocket errand → o ≡ None
 no_socket config None past errand is = refl
@@ -162,11 +160,11 @@ this_socket config None past errand full oldest socket f l is =
     never true (Some oldest) is = cc
     never false oldest is = cc
 
-not_given : (config : Config) (forward own : Option ℕ) (past : List Entry) (errand : Errand) → step_at config forward own past errand ≡ NeedsSocket errand → own ≡ None
+not_given : (config : Config) (forward own : Option ℕ) (past : List Entry) (errand : Errand) → step_on config (option_or forward own) past errand ≡ NeedsSocket errand → own ≡ None
 not_given config None own past errand is = no_socket config own past errand is
 not_given config (Some forward) own past errand is = cc
 
-given_or_own : (config : Config) (forward own : Option ℕ) (past : List Entry) (errand : Errand) (socket : ℕ) → step_at config forward own past errand ≡ NeedsSending socket errand →
+given_or_own : (config : Config) (forward own : Option ℕ) (past : List Entry) (errand : Errand) (socket : ℕ) → step_on config (option_or forward own) past errand ≡ NeedsSending socket errand →
     (forward ≡ Some socket) ⊎ (own ≡ Some socket)
 given_or_own config None own past errand socket is = inr (this_socket config own past errand (is_full config past) (longest_unused config past) socket refl refl is)
 given_or_own config (Some forward) own past errand socket is = inl (let same : forward ≡ socket = cc in ap Some same)

@@ -23,7 +23,7 @@ use Rattle.slirp_laws.specs.Ports.{is_used_by, last_use, used_at}
 use Rattle.slirp_laws.specs.Questions.{is_for_question, questions_open}
 use Rattle.slirp_laws.specs.Said.{AllUsedAfter, AreByLastUse}
 use Rattle.slirp_laws.proofs.Asked.{KeptQuestion, kept_questions}
-use Rattle.slirp_laws.proofs.Bools.{among_without, and_false, and_true, equal, same, turned}
+use Rattle.slirp_laws.proofs.Bools.{among_without, equal, same, turned}
 use Rattle.slirp_laws.proofs.Joining.{and_assoc, fresh_failed, fresh_one, fresh_other}
 use Rattle.slirp_laws.proofs.Listed.{AllQuestions, all_last, all_left, asked_without, numbers_last, numbers_moved}
 use Rattle.slirp_laws.proofs.Longest.{among_if}
@@ -284,27 +284,24 @@ send_use past socket to octets answer errand = record {
   others = λ n other. turned n socket false other;
 }
 
-and_none : (b : Bool) → b ≡ false → (b && true) ≡ false
-and_none b is = and_true b ∙ is
-
 hear_use : (past : List Entry) (socket asked : ℕ) (peer : Endpoint) (count : ℕ) (octets : List ℕ) → Use (UdpRecv socket asked (From peer count) octets) past (heard_at (moment past)) socket
 hear_use past socket asked peer count octets = record {
   number = λ q. refl;
-  last = ap (λ (b : Bool). if b then length past else last_use socket past) (and_true (socket == socket) ∙ same socket);
+  last = ap (λ (b : Bool). if b then length past else last_use socket past) (same socket);
   changed = λ q this. record {
-    used = ap (λ (b : Bool). if b then moment past else used_at q.number past) (and_true (socket == q.number) ∙ this_one socket q.number this);
+    used = ap (λ (b : Bool). if b then moment past else used_at q.number past) (this_one socket q.number this);
     placed = (let now : last_use q.number (UdpRecv socket asked (From peer count) octets ∷ past) ≡ length past = ap
-        (λ (b : Bool). if b then length past else last_use q.number past) (and_true (socket == q.number) ∙ this_one socket q.number this) in omega (arith, now));
+        (λ (b : Bool). if b then length past else last_use q.number past) (this_one socket q.number this) in omega (arith, now));
   };
-  others = λ n other. and_none (socket == n) (turned n socket false other);
+  others = λ n other. turned n socket false other;
 }
 
 heard_waits : (config : Config) (past : List Entry) (socket asked : ℕ) (answer : Got) (octets : List ℕ) (list : List Question) → AreWaiting config past list → AreWaiting config
     (UdpRecv socket asked answer octets ∷ past) (with_heard answer socket (moment past) list)
 heard_waits config past socket asked (From peer count) octets list w =
     moved_waits config (UdpRecv socket asked (From peer count) octets) past (heard_at (moment past)) socket list (hear_use past socket asked peer count octets) (λ n. refl) w
-heard_waits config past socket asked GotNotYet octets list w = silent config (UdpRecv socket asked GotNotYet octets) past list (λ n. and_false (socket == n)) (λ n. refl) w
-heard_waits config past socket asked GotFailed octets list w = silent config (UdpRecv socket asked GotFailed octets) past list (λ n. and_false (socket == n)) (λ n. refl) w
+heard_waits config past socket asked GotNotYet octets list w = silent config (UdpRecv socket asked GotNotYet octets) past list (λ n. refl) (λ n. refl) w
+heard_waits config past socket asked GotFailed octets list w = silent config (UdpRecv socket asked GotFailed octets) past list (λ n. refl) (λ n. refl) w
 
 -- a socket is closed
 closed_waits : (config : Config) (past : List Entry) (socket : ℕ) (list : List Question) → AreWaiting config past list → AreWaiting config (Close socket ∷ past) (without socket list)

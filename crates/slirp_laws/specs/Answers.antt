@@ -1,17 +1,15 @@
 -- What is owed to a guest for the frame or datagram that came last, and what of it isn't out yet.
 use Rattle.std.specs.Prelude.{ℕ, ◌+◌, ◌%◌, ◌^◌, ◌==◌, ◌&&◌, ◌||◌, not, nat_le, Bool, true, false, is_some, List, [], ◌∷◌, ◌++◌, drop, length, map, bytes_eq, Option, Some, None, option_map}
+use Rattle.std.specs.Option.{option_or}
 use Rattle.std.specs.Prelude.{if◌then◌else◌}
 use Rattle.world_face.specs.Frames.{goes_out}
 use Rattle.world_face.specs.Journal.{Entry, Wait, LinkWrite, Connect, UdpOpen, UdpSend, UdpRecv, FileLen, FileRead}
-use Rattle.world_face.specs.declared.Made.{Made}
-use Rattle.world_face.specs.declared.Made.TheVariants.{Done as MadeDone, Failed as MadeFailed}
-use Rattle.world_face.specs.declared.Sent.{Sent}
-use Rattle.world_face.specs.declared.Sent.TheVariants.{Done as SentDone, NotYet as SentNotYet, Failed as SentFailed}
-use Rattle.world_face.specs.declared.Got.{Got}
-use Rattle.world_face.specs.declared.Got.TheVariants.{From, NotYet as GotNotYet, Failed as GotFailed}
+use Rattle.world_face.specs.declared.Made.TheVariants.{Failed as MadeFailed}
+use Rattle.world_face.specs.declared.Sent.TheVariants.{Failed as SentFailed}
+use Rattle.world_face.specs.declared.Got.TheVariants.{From}
 use Rattle.net_octets.specs.declared.Endpoint.{Endpoint}
 use Rattle.net_octets.specs.Kinds.{arp_kind, ipv4_kind, icmp_proto, tcp_proto, udp_proto}
-use Rattle.net_octets.specs.Octets.{two_at, four, our_mac}
+use Rattle.net_octets.specs.Octets.{two_at, our_mac}
 use Rattle.host_policy.specs.Addresses.{address, Config, endpoint, is_answered_for, is_ours, last_address}
 use Rattle.host_policy.specs.Targets.{is_group_or_reserved, shown, is_hidden}
 use Rattle.ether_frame.specs.Ether.{ether_octets}
@@ -19,7 +17,7 @@ use Rattle.arp_table.specs.Arp.{Arp, arp_octets}
 use Rattle.ipv4_head.specs.Cuts.{cuts}
 use Rattle.ipv4_head.specs.Ip.{Ip, fragment_of, ip_octets}
 use Rattle.ipv4_head.specs.Sets.{Part}
-use Rattle.icmp_echo.specs.Icmp.{Icmp, echo, unreachable, other, echo_octets, unreachable_octets}
+use Rattle.icmp_echo.specs.Icmp.{Icmp, echo, echo_octets, unreachable_octets}
 use Rattle.udp_assoc.specs.Udp.{udp_octets}
 use Rattle.tcp_segment.specs.Tcp.{tcp_octets}
 use Rattle.record_flows.specs.Book.{book}
@@ -35,7 +33,7 @@ use Rattle.run_laws.specs.Moments.{moment}
 use Rattle.run_laws.specs.Happenings.{Arrival, Happening, happens}
 use Rattle.run_laws.specs.Packets.{Packet, Unheard, ArpPacket, Message, DatagramPacket, Segment, Datagram}
 use Rattle.slirp_laws.specs.Asking.{step}
-use Rattle.slirp_laws.specs.Datagrams.{Fate, Ignored, Refused, ForLeases, ForFiles, GoesTo, fate, Step, Settled, NeedsRoom, NeedsSocket, NeedsSending}
+use Rattle.slirp_laws.specs.Datagrams.{Fate, Refused, ForLeases, ForFiles, fate, Step, NeedsSocket, NeedsSending}
 use Rattle.slirp_laws.specs.Leasing.{Sending, lease_reply, leases}
 use Rattle.slirp_laws.specs.Names.{questions}
 use Rattle.slirp_laws.specs.Ports.{mac_for, opened_for}
@@ -54,14 +52,8 @@ owed_for_arp config arp = if not arp.is_reply && is_answered_for config arp.targ
 
 -- an echo is answered with its own identifier, number and payload, to the hardware address from which it came (RFC 792; RFC 1122, 3.2.2.6)
 abbrev pub owed_for_icmp : List ℕ → Ip → Icmp → List Answer
-owed_for_icmp mac ip (echo true ident number body) = []
 owed_for_icmp mac ip (echo false ident number body) = IpAnswer mac icmp_proto ip.to ip.from (echo_octets true ident number body) ∷ []
-owed_for_icmp mac ip (unreachable code quoted) = []
-owed_for_icmp mac ip (other kind code) = []
-
--- a message to one of ours
-abbrev pub owed_for_message : Config → List ℕ → Ip → Icmp → List Answer
-owed_for_message config mac ip message = if is_ours config ip.to then owed_for_icmp mac ip message else []
+owed_for_icmp mac ip _ = []
 
 -- no unreachable is sent to nobody, nor about what went to many (RFC 1122, 3.2.2)
 abbrev pub is_untold : Config → Datagram → Bool
@@ -102,14 +94,10 @@ served_file config s d = came config.tftp_path s.now d.mac d.from d.body s.files
 
 -- a datagram that may go nowhere is answered, and so are those for servers of ours
 abbrev pub owed_for_fate : Config → Serving → Datagram → Fate → List Answer
-owed_for_fate config s d Ignored = []
 owed_for_fate config s d Refused = told_about config prohibited d
 owed_for_fate config s d ForLeases = answers_of (lease_reply config s.now s.leases d)
 owed_for_fate config s d ForFiles = told_of_files config (served_file config s d).told
-owed_for_fate config s d (GoesTo to) = []
-
-abbrev pub owed_for_datagram : Config → Serving → Datagram → List Answer
-owed_for_datagram config s d = owed_for_fate config s d (fate config d)
+owed_for_fate config s d _ = []
 
 -- a reset, from the end to which the segment went, to the hardware address from which it came (RFC 9293, 3.10.7.1)
 abbrev pub reset_for : OnTuple → Answer
@@ -124,12 +112,12 @@ strays config b _ = false
 abbrev pub owed_for_segment : Bool → OnTuple → List Answer
 owed_for_segment stray on = if stray then reset_for on ∷ [] else []
 
--- what a packet of the guests owes
+-- what a packet of the guests owes, a message only where it went to one of ours
 abbrev pub owed_for_packet : Config → Serving → (stray : Bool) → Packet → List Answer
 owed_for_packet config s stray Unheard = []
 owed_for_packet config s stray (ArpPacket arp) = owed_for_arp config arp
-owed_for_packet config s stray (Message mac ip message) = owed_for_message config mac ip message
-owed_for_packet config s stray (DatagramPacket d) = owed_for_datagram config s d
+owed_for_packet config s stray (Message mac ip message) = if is_ours config ip.to then owed_for_icmp mac ip message else []
+owed_for_packet config s stray (DatagramPacket d) = owed_for_fate config s d (fate config d)
 owed_for_packet config s stray (Segment mac ip tcp) = owed_for_segment stray (from_guest mac ip tcp)
 
 -- the virtual host asks everyone for the hardware address of a guest (RFC 826)
@@ -213,31 +201,16 @@ datagrams_out (e ∷ past) = with_datagrams (goes_out e past) (datagrams_out pas
 abbrev pub identification : List Entry → ℕ
 identification past = datagrams_out past % 2 ^ 16
 
-abbrev pub left_by_got : Config → List Entry → ℕ → Got → List ℕ → List (List ℕ) → List (List ℕ)
-left_by_got config past socket (From peer n) octets left = frames_of config (identification past) (reply_on config past socket peer octets (numbered socket (questions config past)))
-left_by_got config past socket GotNotYet octets left = left
-left_by_got config past socket GotFailed octets left = left
-
 -- a datagram that could get no socket, or couldn't be sent on it
 abbrev pub unsent : Config → ℕ → Step → List (List ℕ) → List (List ℕ)
-unsent config ident Settled left = left
-unsent config ident (NeedsRoom oldest errand) left = left
 unsent config ident (NeedsSocket errand) left = frames_of config ident (told_about config no_network errand.datagram)
 unsent config ident (NeedsSending socket errand) left = frames_of config ident (told_about config no_network errand.datagram)
+unsent config ident _ left = left
 
 -- a guest whose connection the host refused at once gets a reset (RFC 9293, 3.10.7.1)
 abbrev pub unconnected : Config → ℕ → Option OnTuple → List (List ℕ) → List (List ℕ)
 unconnected config ident None left = left
 unconnected config ident (Some on) left = frames_of config ident (reset_for on ∷ [])
-
-abbrev pub unless_made : Made → List (List ℕ) → List (List ℕ) → List (List ℕ)
-unless_made MadeDone told left = left
-unless_made MadeFailed told left = told
-
-abbrev pub unless_sent : Sent → List (List ℕ) → List (List ℕ) → List (List ℕ)
-unless_sent SentDone told left = left
-unless_sent SentNotYet told left = left
-unless_sent SentFailed told left = told
 
 -- this frame is the first that is left
 abbrev pub is_first : List ℕ → List (List ℕ) → Bool
@@ -257,12 +230,8 @@ pub record Ledger : Type 0 where
   pub serving : Serving
 
 -- A packet that may go again: the one that is on its way, else the longest unused one that is due. Its frames, as they would go out now.
-abbrev pub or_begun : Option Said → Option Said → Option Said
-or_begun (Some said) new = Some said
-or_begun None new = new
-
 abbrev pub may_go_again : Serving → Option Said
-may_go_again s = or_begun s.again (option_map said_again (next_again s.now s.files.transfers))
+may_go_again s = option_or s.again (option_map said_again (next_again s.now s.files.transfers))
 
 abbrev pub again_frames : Config → ℕ → Serving → List (List ℕ)
 again_frames config ident s = frames_of config ident (told_of_files config (may_go_again s))
@@ -290,10 +259,11 @@ left_by_outcome config ident (Some o) left = left_by_file config ident o.told le
 
 abbrev pub left_by_call : Config → List Entry → Happening → Entry → Ledger → List (List ℕ)
 left_by_call config past h (LinkWrite octets answer) l = taken h.went (again_frames config (identification past) l.serving) l.left
-left_by_call config past h (Connect socket to answer) l = unless_made answer (unconnected config (identification past) (book config past).came l.left) l.left
-left_by_call config past h (UdpOpen socket at answer) l = unless_made answer (unsent config (identification past) (step config past) l.left) l.left
-left_by_call config past h (UdpSend socket to octets answer) l = unless_sent answer (unsent config (identification past) (step config past) l.left) l.left
-left_by_call config past h (UdpRecv socket asked answer octets) l = left_by_got config past socket answer octets l.left
+left_by_call config past h (Connect socket to MadeFailed) l = unconnected config (identification past) (book config past).came l.left
+left_by_call config past h (UdpOpen socket at MadeFailed) l = unsent config (identification past) (step config past) l.left
+left_by_call config past h (UdpSend socket to octets SentFailed) l = unsent config (identification past) (step config past) l.left
+left_by_call config past h (UdpRecv socket asked (From peer n) octets) l =
+    frames_of config (identification past) (reply_on config past socket peer octets (numbered socket (questions config past)))
 left_by_call config past h (FileLen name answer) l = left_by_outcome config (identification past) (by_answer l.serving.now (FileLen name answer) l.serving.files) l.left
 left_by_call config past h (FileRead name place asked answer octets) l = left_by_outcome config (identification past)
     (by_answer l.serving.now (FileRead name place asked answer octets) l.serving.files) l.left
@@ -356,7 +326,7 @@ unless_begun true again = None
 unless_begun false again = again
 
 abbrev pub again_by_call : Config → List Entry → Happening → Entry → Ledger → Option Said
-again_by_call config past h (Wait wants timeout answer ready) l = or_begun l.serving.again (begun l.serving.now (is_free l) l.serving.files.transfers)
+again_by_call config past h (Wait wants timeout answer ready) l = option_or l.serving.again (begun l.serving.now (is_free l) l.serving.files.transfers)
 again_by_call config past h (LinkWrite octets answer) l = unless_begun (begins_again config (identification past) l h.went) l.serving.again
 again_by_call config past h _ l = l.serving.again
 

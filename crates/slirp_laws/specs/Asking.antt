@@ -1,9 +1,10 @@
 -- What the datagram that came last still asks for, by the record of calls.
 use Rattle.std.specs.Prelude.{ℕ, nat_le, Bool, List, length, Option, Some, None, if◌then◌else◌}
+use Rattle.std.specs.Option.{option_or}
 use Rattle.world_face.specs.Journal.{Entry}
 use Rattle.host_policy.specs.Addresses.{Config}
 use Rattle.udp_assoc.specs.Associations.{most_associations}
-use Rattle.slirp_laws.specs.Datagrams.{Errand, Step, Settled, NeedsRoom, NeedsSocket, NeedsSending, asks_a_name}
+use Rattle.slirp_laws.specs.Datagrams.{Errand, Step, NeedsNothing, NeedsRoom, NeedsSocket, NeedsSending, asks_a_name}
 use Rattle.slirp_laws.specs.Errands.{errand_left}
 use Rattle.slirp_laws.specs.Names.{questions, step_to_names}
 use Rattle.slirp_laws.specs.Ports.{associations_open, forward_for, longest_unused, socket_for}
@@ -21,16 +22,12 @@ abbrev pub step_on : Config → Option ℕ → List Entry → Errand → Step
 step_on config None past errand = if is_full config past then yields (longest_unused config past) errand else NeedsSocket errand
 step_on config (Some socket) past errand = NeedsSending socket errand
 
-abbrev pub step_at : Config → (forward own : Option ℕ) → List Entry → Errand → Step
-step_at config (Some forward) own past errand = NeedsSending forward errand
-step_at config None own past errand = step_on config own past errand
-
 -- a question to the name server has a socket of its own
 abbrev pub step_of : Config → List Entry → Option Errand → Step
-step_of config past None = Settled
+step_of config past None = NeedsNothing
 step_of config past (Some errand) =
     if asks_a_name config errand then step_to_names (questions config past) errand
-    else step_at config (forward_for config errand.datagram.from past) (socket_for config errand.datagram.from past) past errand
+    else step_on config (option_or (forward_for config errand.datagram.from past) (socket_for config errand.datagram.from past)) past errand
 
 abbrev pub step : Config → List Entry → Step
 step config past = step_of config past (errand_left config past)

@@ -1,5 +1,6 @@
 -- What call may follow what past.
-use Rattle.std.specs.Prelude.{◌≡◌, ℕ, ◌+◌, ◌==◌, ◌&&◌, ◌||◌, not, nat_le, nat_lt, Bool, true, false, is_some, List, [], ◌∷◌, drop, MatchOption, Option, Some, None, if◌then◌else◌}
+use Rattle.std.specs.Prelude.{◌≡◌, ℕ, ◌+◌, ◌==◌, ◌&&◌, ◌||◌, not, nat_le, nat_lt, Bool, true, false, is_some, List, [], ◌∷◌, drop, MatchOption, Option, Some, None, option_map, if◌then◌else◌}
+use Rattle.std.specs.Option.{option_or}
 use Rattle.poll_list.specs.Listing.{reads, writes}
 use Rattle.poll_list.specs.declared.Who.TheVariants.{Link, Listener as AListener, Tcp, Udp}
 use Rattle.world_face.specs.Journal.{Entry, Call, Follows, Close, TcpWrite, CallNow, CallWait, CallLinkOpen, CallLinkRead, CallLinkWrite, CallConnect, CallConnected, CallListen}
@@ -10,7 +11,8 @@ use Rattle.host_policy.specs.Addresses.{Config}
 use Rattle.udp_assoc.specs.Associations.{idle_life}
 use Rattle.run_laws.specs.Moments.{moment, waits}
 use Rattle.run_laws.specs.Shape.{phase, may_turn, is_working, is_over, is_ended, due_in}
-use Rattle.run_laws.specs.Sockets.{Kind, Association, DnsSocket, Forward, Listener, Flow, is_among, is_association, is_flow, is_forward, is_listener, kind_of, next_number, open_sockets}
+use Rattle.run_laws.specs.Sockets.{Kind, Association, DnsSocket, Flow, is_among, is_association, is_flow, is_forward, is_listener, kind_of, next_number, open_sockets}
+use Rattle.flow_laws.specs.Guest.{is_empty}
 use Rattle.flow_laws.specs.Close.{is_done, host_failed, finds_no_guest, follows_reset, gives_up, connects_too_long, newest_rst}
 use Rattle.record_flows.specs.Book.{book, scene}
 use Rattle.record_flows.specs.Flows.{Flow as AFlow, Book, Scene, comes_directly, flow_of, guest_is_known, is_it, used}
@@ -25,90 +27,35 @@ use Rattle.slirp_laws.specs.Datagrams.{Step, NeedsRoom, asks_a_name, due_for}
 use Rattle.slirp_laws.specs.Ports.{used_at}
 use Rattle.slirp_laws.specs.Sending.{is_explained}
 
--- What a call does: it asks the clock, waits, reads of the link or writes to it; opens a socket, sends a datagram on one, asks for one; connects to the host,
--- accepts a peer, asks whether a connection is there, writes to it, ends that, reads from it; closes a socket; or asks for the length or octets of a file. The
--- link isn't opened by these calls.
-pub data Deed : Type 0 where
-  Asks : Deed
-  Waits : Deed
-  Reads : Deed
-  Writes : (octets : List ℕ) → Deed
-  Opens : (socket : ℕ) → Deed
-  Sends : (socket : ℕ) → Deed
-  Hears : (socket asked : ℕ) → Deed
-  Connects : (socket : ℕ) → Deed
-  Accepts : (listener socket : ℕ) → Deed
-  Looks : (socket : ℕ) → Deed
-  Gives : (socket : ℕ) → Deed
-  Ends : (socket : ℕ) → Deed
-  Takes : (socket : ℕ) → Deed
-  Shuts : (socket : ℕ) → Deed
-  Seeks : Deed
-  Unbuilt : Deed
-
-abbrev pub deed_of : Call → Deed
-deed_of CallNow = Asks
-deed_of (CallWait wants timeout) = Waits
-deed_of (CallLinkOpen at) = Unbuilt
-deed_of (CallLinkRead asked) = Reads
-deed_of (CallLinkWrite octets) = Writes octets
-deed_of (CallConnect socket to) = Connects socket
-deed_of (CallConnected socket) = Looks socket
-deed_of (CallListen socket at) = Opens socket
-deed_of (CallAccept listener socket) = Accepts listener socket
-deed_of (CallTcpRead socket asked) = Takes socket
-deed_of (CallTcpWrite socket octets) = Gives socket
-deed_of (CallTcpEnd socket) = Ends socket
-deed_of (CallClose socket) = Shuts socket
-deed_of (CallUdpOpen socket at) = Opens socket
-deed_of (CallUdpSend socket to octets) = Sends socket
-deed_of (CallUdpRecv socket asked) = Hears socket asked
-deed_of (CallFileLen name) = Seeks
-deed_of (CallFileRead name place asked) = Seeks
-
--- the socket of a question that was answered is closed at once
-abbrev pub due_for_answer : Option ℕ → Option Call
-due_for_answer None = None
-due_for_answer (Some socket) = Some (CallClose socket)
+-- for a service of ours: the socket of a question that was answered is closed at once, or a file is asked for
+abbrev pub due_for_services : Config → List Entry → Option Call
+due_for_services config past = option_or (option_map CallClose (answered config past)) (call_for (serving config past).files.quest)
 
 -- the call that must come next, if one must: by where the run stands, else for the datagram that came last, for a service or for a flow
-abbrev pub unless_due : Option Call → Option Call → Option Call
-unless_due None other = other
-unless_due (Some call) other = Some call
-
--- for a service of ours: an answer to a question came, or a file is asked for
-abbrev pub due_for_services : Config → List Entry → Option Call
-due_for_services config past = unless_due (due_for_answer (answered config past)) (call_for (serving config past).files.quest)
-
 abbrev pub due : Config → List Entry → Option Call
 due config past =
-    unless_due (due_in (phase config past) past)
-    (unless_due (due_for config (step config past) (next_number past))
-    (unless_due (due_for_services config past) (due_for_flows config (book config past) (next_number past))))
+    option_or (due_in (phase config past) past)
+    (option_or (due_for config (step config past) (next_number past))
+    (option_or (due_for_services config past) (due_for_flows config (book config past) (next_number past))))
 
 -- Where a call is due, it is the one that comes.
 abbrev pub MayDue : Config → List Entry → Call → Type 0
 MayDue config past call = MatchOption (due config past) (Unit {0}) (λ d. call ≡ d)
 
--- The shape of a run. The clock is asked, sockets are opened, connect, and send datagrams only where that is due. A turn begins with a wait, of which there are
--- only so many; the other calls come after it.
-abbrev pub has_place : Config → List Entry → Deed → Bool
-has_place config past Asks = is_some (due config past)
-has_place config past Waits = may_turn (phase config past) && nat_lt (waits past) config.turns
-has_place config past Reads = is_working (phase config past)
-has_place config past (Writes octets) = is_working (phase config past)
-has_place config past (Opens socket) = is_some (due config past)
-has_place config past (Sends socket) = is_some (due config past)
-has_place config past (Hears socket asked) = is_working (phase config past)
-has_place config past (Connects socket) = is_some (due config past)
-has_place config past (Accepts listener socket) = is_working (phase config past)
-has_place config past (Looks socket) = is_working (phase config past)
-has_place config past (Gives socket) = is_working (phase config past)
-has_place config past (Ends socket) = is_working (phase config past)
-has_place config past (Takes socket) = is_working (phase config past)
-has_place config past (Shuts socket) = is_working (phase config past) || is_over (phase config past)
-has_place config past Seeks = is_some (due config past)
-has_place config past Unbuilt = false
+-- The shape of a run. The clock is asked, sockets are opened, connect, and send datagrams, and files are asked for only where that is due. A turn begins with a
+-- wait, of which there are only so many; the other calls come after it. The link isn't opened by these calls.
+abbrev pub has_place : Config → List Entry → Call → Bool
+has_place config past CallNow = is_some (due config past)
+has_place config past (CallWait wants timeout) = may_turn (phase config past) && nat_lt (waits past) config.turns
+has_place config past (CallLinkOpen at) = false
+has_place config past (CallConnect socket to) = is_some (due config past)
+has_place config past (CallListen socket at) = is_some (due config past)
+has_place config past (CallClose socket) = is_working (phase config past) || is_over (phase config past)
+has_place config past (CallUdpOpen socket at) = is_some (due config past)
+has_place config past (CallUdpSend socket to octets) = is_some (due config past)
+has_place config past (CallFileLen name) = is_some (due config past)
+has_place config past (CallFileRead name place asked) = is_some (due config past)
+has_place config past _ = is_working (phase config past)
 
 -- the longest unused of as many as may be open gives way, of each kind to one of its kind
 abbrev pub gives_way : Config → ℕ → Step → Bool
@@ -135,19 +82,14 @@ may_leave at b socket (Some f) =
 abbrev pub leaves : Config → List Entry → ℕ → Bool
 leaves config past socket = may_leave (scene config past) (book config past) socket (flow_of socket (book config past).flows)
 
--- a question was answered, or waited for long enough
-abbrev pub is_just_answered : Config → List Entry → ℕ → Bool
-is_just_answered config past socket = is_it socket (answered config past)
-
 -- Why a socket may be closed before the end, by its kind: an association, or one of a question, gives way as the longest unused of its kind, or its idle life
 -- is over; that of a question also where the answer came; a flow has its cause.
 abbrev pub may_part : Config → List Entry → ℕ → Option Kind → Bool
-may_part config past socket None = false
 may_part config past socket (Some Association) = gives_way config socket (step config past) || is_unused socket past
-may_part config past socket (Some DnsSocket) = name_gives_way config socket (step config past) || is_just_answered config past socket || has_waited config past socket
-may_part config past socket (Some Forward) = false
-may_part config past socket (Some Listener) = false
+may_part config past socket (Some DnsSocket) =
+    name_gives_way config socket (step config past) || is_it socket (answered config past) || has_waited config past socket
 may_part config past socket (Some Flow) = leaves config past socket
+may_part config past socket _ = false
 
 abbrev pub parts : Config → List Entry → ℕ → Bool
 parts config past socket = may_part config past socket (kind_for config socket past)
@@ -192,23 +134,20 @@ abbrev pub takes_peers : Config → List Entry → ℕ → Bool
 takes_peers config past listener = is_among listener (open_sockets past) && is_listener (kind_of listener past) && nat_lt (used (book config past).flows) config.flows
 
 -- Numbers of sockets are drawn upward; calls on sockets are on such as are open, and of their kind.
-abbrev pub has_socket : Config → List Entry → Deed → Bool
-has_socket config past Asks = true
-has_socket config past Waits = true
-has_socket config past Reads = true
-has_socket config past (Writes octets) = true
-has_socket config past (Opens socket) = socket == next_number past
-has_socket config past (Sends socket) = relays past socket
-has_socket config past (Hears socket asked) = relays past socket && (asked == most_to_udp)
-has_socket config past (Connects socket) = socket == next_number past
-has_socket config past (Accepts listener socket) = takes_peers config past listener && (socket == next_number past)
-has_socket config past (Looks socket) = joins past socket
-has_socket config past (Gives socket) = joins past socket
-has_socket config past (Ends socket) = joins past socket
-has_socket config past (Takes socket) = joins past socket
-has_socket config past (Shuts socket) = may_close config past socket
-has_socket config past Seeks = true
-has_socket config past Unbuilt = false
+abbrev pub has_socket : Config → List Entry → Call → Bool
+has_socket config past (CallLinkOpen at) = false
+has_socket config past (CallConnect socket to) = socket == next_number past
+has_socket config past (CallConnected socket) = joins past socket
+has_socket config past (CallListen socket at) = socket == next_number past
+has_socket config past (CallAccept listener socket) = takes_peers config past listener && (socket == next_number past)
+has_socket config past (CallTcpRead socket asked) = joins past socket
+has_socket config past (CallTcpWrite socket octets) = joins past socket
+has_socket config past (CallTcpEnd socket) = joins past socket
+has_socket config past (CallClose socket) = may_close config past socket
+has_socket config past (CallUdpOpen socket at) = socket == next_number past
+has_socket config past (CallUdpSend socket to octets) = relays past socket
+has_socket config past (CallUdpRecv socket asked) = relays past socket && (asked == most_to_udp)
+has_socket config past _ = true
 
 -- the newest call wrote to this connection
 abbrev pub has_just_written : ℕ → List Entry → Bool
@@ -218,31 +157,19 @@ has_just_written socket (_ ∷ past) = false
 
 -- Frames and datagrams are read, peers accepted, and connections asked, written to and read only where the last wait wanted and reported it, in the order of
 -- its list, and once for each report. A connection is ended for a report, or directly after what was written for one.
-abbrev pub is_served : List Entry → Deed → Bool
-is_served past Asks = true
-is_served past Waits = true
-is_served past Reads = reads Link (agenda past)
-is_served past (Writes octets) = true
-is_served past (Opens socket) = true
-is_served past (Sends socket) = true
-is_served past (Hears socket asked) = reads (Udp socket) (agenda past)
-is_served past (Connects socket) = true
-is_served past (Accepts listener socket) = reads (AListener listener) (agenda past)
-is_served past (Looks socket) = writes (Tcp socket) (agenda past)
-is_served past (Gives socket) = writes (Tcp socket) (agenda past)
-is_served past (Ends socket) = writes (Tcp socket) (agenda past) || has_just_written socket past
-is_served past (Takes socket) = reads (Tcp socket) (agenda past)
-is_served past (Shuts socket) = true
-is_served past Seeks = true
-is_served past Unbuilt = true
+abbrev pub is_served : List Entry → Call → Bool
+is_served past (CallLinkRead asked) = reads Link (agenda past)
+is_served past (CallConnected socket) = writes (Tcp socket) (agenda past)
+is_served past (CallAccept listener socket) = reads (AListener listener) (agenda past)
+is_served past (CallTcpRead socket asked) = reads (Tcp socket) (agenda past)
+is_served past (CallTcpWrite socket octets) = writes (Tcp socket) (agenda past)
+is_served past (CallTcpEnd socket) = writes (Tcp socket) (agenda past) || has_just_written socket past
+is_served past (CallUdpRecv socket asked) = reads (Udp socket) (agenda past)
+is_served past _ = true
 
 -- nothing is left of the frame before, nor of the answer to what came last
-abbrev pub is_nothing : List ℕ → Bool
-is_nothing [] = true
-is_nothing (x ∷ octets) = false
-
 abbrev pub is_all_out : Config → List Entry → Bool
-is_all_out config past = is_nothing (tail past) && is_out (left config past)
+is_all_out config past = is_empty (tail past) && is_out (left config past)
 
 -- a write begins a frame where nothing is left of the one before
 abbrev pub may_begin : Config → List Entry → List ℕ → List ℕ → Bool
@@ -250,41 +177,26 @@ may_begin config past [] octets = is_explained config past (drop 4 octets)
 may_begin config past (x ∷ rest) octets = true
 
 -- Each frame that goes out has its reason. Frames and datagrams are read only where all that was owed is out.
-abbrev pub is_answered : Config → List Entry → Deed → Bool
-is_answered config past Asks = true
-is_answered config past Waits = true
-is_answered config past Reads = is_all_out config past
-is_answered config past (Writes octets) = may_begin config past (tail past) octets
-is_answered config past (Opens socket) = true
-is_answered config past (Sends socket) = true
-is_answered config past (Hears socket asked) = is_all_out config past
-is_answered config past (Connects socket) = true
-is_answered config past (Accepts listener socket) = true
-is_answered config past (Looks socket) = true
-is_answered config past (Gives socket) = true
-is_answered config past (Ends socket) = true
-is_answered config past (Takes socket) = true
-is_answered config past (Shuts socket) = true
-is_answered config past Seeks = true
-is_answered config past Unbuilt = true
+abbrev pub is_answered : Config → List Entry → Call → Bool
+is_answered config past (CallLinkRead asked) = is_all_out config past
+is_answered config past (CallLinkWrite octets) = may_begin config past (tail past) octets
+is_answered config past (CallUdpRecv socket asked) = is_all_out config past
+is_answered config past _ = true
 
 -- Once the closing has begun nothing comes but that sockets are closed.
-abbrev pub is_shut : Deed → Bool
-is_shut (Shuts socket) = true
-is_shut _ = false
-
-abbrev pub goes_on : Config → List Entry → Deed → Bool
-goes_on config past deed = not (is_closing config past) || is_shut deed
+abbrev pub goes_on : Config → List Entry → Call → Bool
+goes_on config past (CallClose socket) = true
+goes_on config past _ = not (is_closing config past)
 
 -- the next call is one that may come
 pub record May (config : Config) (past : List Entry) (call : Call) : Type 0 where
   pub framed : MayFrame past call
   pub due : MayDue config past call
-  pub place : has_place config past (deed_of call) ≡ true
-  pub socket : has_socket config past (deed_of call) ≡ true
-  pub served : is_served past (deed_of call) ≡ true
-  pub answered : is_answered config past (deed_of call) ≡ true
-  pub goes_on : goes_on config past (deed_of call) ≡ true
+  pub place : has_place config past call ≡ true
+  pub socket : has_socket config past call ≡ true
+  pub served : is_served past call ≡ true
+  pub answered : is_answered config past call ≡ true
+  pub goes_on : goes_on config past call ≡ true
   pub flows : MayFlow config past call
 
 -- every call was one that may follow its past

@@ -1,8 +1,8 @@
 -- What the record of calls says of the guests' ports, of the sockets that were opened for them, and of when each was used.
-use Rattle.std.specs.Prelude.{ℕ, ◌==◌, ◌&&◌, nat_lt, Bool, true, false, List, [], ◌∷◌, length, filter, find, slice_get, Option, Some, None, option_and_then, option_map, if◌then◌else◌}
+use Rattle.std.specs.Prelude.{ℕ, ◌==◌, ◌&&◌, nat_lt, Bool, false, List, [], ◌∷◌, length, filter, find, slice_get, Option, Some, None, option_and_then, option_map, if◌then◌else◌}
+use Rattle.std.specs.Option.{option_or}
 use Rattle.world_face.specs.Journal.{Entry, UdpOpen, UdpSend, UdpRecv}
-use Rattle.world_face.specs.declared.Got.{Got}
-use Rattle.world_face.specs.declared.Got.TheVariants.{From, NotYet as GotNotYet, Failed as GotFailed}
+use Rattle.world_face.specs.declared.Got.TheVariants.{From}
 use Rattle.net_octets.specs.declared.Endpoint.{Endpoint}
 use Rattle.net_octets.specs.declared.Mac.{Mac}
 use Rattle.host_policy.specs.declared.Forward.{Forward}
@@ -19,13 +19,9 @@ use Rattle.run_laws.specs.Sockets.{is_among, is_association, is_forward, kind_of
 use Rattle.slirp_laws.specs.Names.{kind_for}
 
 -- the datagram of a guest that came last (RFC 768)
-abbrev pub or_before : {A : Type 0} → Option A → Option A → Option A
-or_before None before = before
-or_before (Some new) before = Some new
-
 abbrev pub last_datagram : Config → List Entry → Option Datagram
 last_datagram config [] = None
-last_datagram config (e ∷ past) = or_before (datagram_came (happens config past e).came) (last_datagram config past)
+last_datagram config (e ∷ past) = option_or (datagram_came (happens config past e).came) (last_datagram config past)
 
 -- the port from which it came, and the hardware address
 abbrev pub last_port : Config → List Entry → Option Endpoint
@@ -75,15 +71,10 @@ abbrev pub mac_for : Config → ℕ → List Entry → Option (List ℕ)
 mac_for config socket past = if is_forward (kind_of socket past) then mac_known config past (opened_for config socket past) else mac_of config socket past
 
 -- A socket is used when it is opened, when a datagram is sent on it, and when one is received (RFC 4787, 4.3).
-abbrev pub is_received : Got → Bool
-is_received (From peer n) = true
-is_received GotNotYet = false
-is_received GotFailed = false
-
 abbrev pub is_used_by : ℕ → Entry → Bool
 is_used_by socket (UdpOpen s at answer) = s == socket
 is_used_by socket (UdpSend s to octets answer) = s == socket
-is_used_by socket (UdpRecv s asked answer octets) = (s == socket) && is_received answer
+is_used_by socket (UdpRecv s asked (From peer n) octets) = s == socket
 is_used_by socket _ = false
 
 -- the place of its last use in the record, and the moment in force there

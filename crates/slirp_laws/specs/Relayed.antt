@@ -13,7 +13,7 @@ use Rattle.dns_relay.specs.declared.Question.{Question}
 use Rattle.run_laws.specs.Moments.{moment}
 use Rattle.slirp_laws.specs.Errands.{errand_left}
 use Rattle.slirp_laws.specs.Names.{step_to_names}
-use Rattle.slirp_laws.specs.Datagrams.{Errand, Step, Settled, NeedsRoom, NeedsSocket, NeedsSending, asks_a_name}
+use Rattle.slirp_laws.specs.Datagrams.{Errand, Step, NeedsNothing, NeedsRoom, NeedsSocket, NeedsSending, asks_a_name}
 
 -- a socket was opened for a datagram that isn't a question to the name server
 abbrev pub association : ℕ → Errand → ℕ → Association
@@ -63,7 +63,7 @@ with_forward None associations errand = with_socket (socket_of errand.datagram.f
 
 -- a question to the name server has a socket of its own
 abbrev pub step_for : Config → List Question → (forward : Endpoint → Option ℕ) → List Association → Option Errand → Step
-step_for config questions forward associations None = Settled
+step_for config questions forward associations None = NeedsNothing
 step_for config questions forward associations (Some errand) =
     if asks_a_name config errand then step_to_names questions errand
     else with_forward (forward errand.datagram.from) associations errand

@@ -1,5 +1,6 @@
 -- What is due for a datagram of a guest: a socket is opened for it once, and it is sent once.
 use Rattle.std.proofs.Common.{◌≡◌, ℕ, ◌+◌, ◌≤◌, ◌==◌, nat_lt, Bool, true, false, List, [], ◌∷◌, ◌++◌, Option, Some, None, option_map, if◌then◌else◌, refl, sym, ◌∙◌, ap, subst, arith}
+use Rattle.std.specs.Option.{option_or}
 use Rattle.net_octets.specs.declared.Endpoint.{Endpoint}
 use Rattle.world_face.specs.Frames.{is_whole, partial}
 use Rattle.world_face.specs.Journal.{AreAllowed, Call, Entry, call_of, Now, Wait, LinkOpen, LinkRead, LinkWrite, Connect, Connected, Listen, Accept, TcpRead, TcpWrite, TcpEnd, Close}
@@ -16,10 +17,10 @@ use Rattle.run_laws.specs.Moments.{moment, waits}
 use Rattle.run_laws.specs.Packets.{Datagram}
 use Rattle.run_laws.specs.Shape.{Phase, Opening, Over, Started, Woken, Working, due_in, is_working, opened, phase, phase_after}
 use Rattle.run_laws.specs.Sockets.{datagram_kind, is_among, is_association, next_number, open_sockets, DnsSocket}
-use Rattle.slirp_laws.specs.Asking.{step, step_at, step_of}
-use Rattle.slirp_laws.specs.Datagrams.{Errand, Step, Settled, NeedsRoom, NeedsSending, NeedsSocket, asks_a_name, due_for}
+use Rattle.slirp_laws.specs.Asking.{step, step_of, step_on}
+use Rattle.slirp_laws.specs.Datagrams.{Errand, Step, NeedsNothing, NeedsRoom, NeedsSending, NeedsSocket, asks_a_name, due_for}
 use Rattle.slirp_laws.specs.Errands.{errand_after, errand_left}
-use Rattle.slirp_laws.specs.Laws.{May, Lawful, due, unless_due}
+use Rattle.slirp_laws.specs.Laws.{May, Lawful, due}
 use Rattle.slirp_laws.specs.Names.{kind_for, question, questions, step_to_names, with_opened, with_socket, datagram_kind_for}
 use Rattle.slirp_laws.specs.Ports.{associations_open, forward_for, given_port, is_port, last_port, opened_for, port_for, socket_for}
 use Rattle.slirp_laws.proofs.Askers.{is_due, no_socket_yet}
@@ -50,8 +51,8 @@ due_now : (config : Config) (past : List Entry) (s : Step) (call : Call) (errand
     due_for config s (next_number past) ≡ Some call → due config past ≡ Some call
 due_now config past s call errand turn is left this =
     let working : is_working (phase config past) ≡ true = subst (λ o. OfErrand (λ (errand : Errand). is_working (phase config past) ≡ true) o) (errand_is config past s is ∙ left) turn in
-    ap (λ o. unless_due o (unless_due (due_for config (step config past) (next_number past)) (others_due config past))) (working_none (phase config past) past working)
-    ∙ ap (λ o. unless_due o (others_due config past)) (ap (λ x. due_for config x (next_number past)) is ∙ this)
+    ap (λ o. option_or o (option_or (due_for config (step config past) (next_number past)) (others_due config past))) (working_none (phase config past) past working)
+    ∙ ap (λ o. option_or o (others_due config past)) (ap (λ x. due_for config x (next_number past)) is ∙ this)
 
 abbrev pub IsIdle : Call → Type 0
 IsIdle (CallClose socket) = ⊥
@@ -63,7 +64,7 @@ pub idle_none : (config : Config) (past : List Entry) (call : Call) → May conf
 idle_none config past call may idle turn = by (step config past) refl
   where
     by : (s : Step) → step config past ≡ s → errand_left config past ≡ None
-    by Settled is = errand_is config past Settled is
+    by NeedsNothing is = errand_is config past NeedsNothing is
     by (NeedsRoom oldest errand) is = absurd (subst IsIdle (is_due config past call (CallClose oldest) may
         (due_now config past (NeedsRoom oldest errand) (CallClose oldest) errand turn is refl refl)) idle)
     by (NeedsSocket errand) is = absurd (subst IsIdle (is_due config past call _ may (due_now config past (NeedsSocket errand) _ errand turn is refl refl)) idle)
@@ -128,13 +129,13 @@ in_turn config (e ∷ past) lawful allowed = by e lawful allowed (in_turn config
 -- ---- how many calls are still due for it, but for closes
 
 abbrev pub calls_for : Step → ℕ
-calls_for Settled = 0
+calls_for NeedsNothing = 0
 calls_for (NeedsRoom oldest errand) = 2
 calls_for (NeedsSocket errand) = 2
 calls_for (NeedsSending socket errand) = 1
 
 pub two_most : (s : Step) → calls_for s ≤ 2
-two_most Settled = omega arith
+two_most NeedsNothing = omega arith
 two_most (NeedsRoom oldest errand) = omega arith
 two_most (NeedsSocket errand) = omega arith
 two_most (NeedsSending socket errand) = omega arith
@@ -151,7 +152,7 @@ pub no_more : (config : Config) (e : Entry) (past : List Entry) → May config p
 no_more config e past may turn other same_left = by (step config past) refl
   where
     by : (s : Step) → step config past ≡ s → calls_for (step config (e ∷ past)) ≤ calls_for s
-    by Settled is = let none = none_for config (e ∷ past) (same_left ∙ errand_is config past Settled is) in omega (arith, none)
+    by NeedsNothing is = let none = none_for config (e ∷ past) (same_left ∙ errand_is config past NeedsNothing is) in omega (arith, none)
     by (NeedsRoom oldest errand) is = two_most (step config (e ∷ past))
     by (NeedsSocket errand) is = two_most (step config (e ∷ past))
     by (NeedsSending socket errand) is = absurd (subst IsNoSending (is_due config past (call_of e) _ may (due_now config past (NeedsSending socket errand) _ errand turn is refl refl)) other)
@@ -194,7 +195,7 @@ module _ (config : Config) (past : List Entry) (socket : ℕ) (at : Endpoint) (e
       ∙ ap (λ (b : Bool). is_association (Some (if b then DnsSocket else datagram_kind (nat_lt 0 (waits past))))) other
       ∙ ap (λ (b : Bool). is_association (Some (datagram_kind b))) waited)
 
-  at_most_one : (forward own : Option ℕ) (later : List Entry) → (own ≡ None → ⊥) → calls_for (step_at config forward own later errand) ≤ 1
+  at_most_one : (forward own : Option ℕ) (later : List Entry) → (own ≡ None → ⊥) → calls_for (step_on config (option_or forward own) later errand) ≤ 1
   at_most_one (Some forward) own later some = omega arith
   at_most_one None (Some s) later some = omega arith
   at_most_one None None later some = absurd (some refl)

@@ -1,5 +1,6 @@
 -- What else is still due: the clock, the link, calls on files, and a connection of the host.
 use Rattle.std.proofs.Common.{◌≡◌, ℕ, suc, ◌+◌, ◌≤◌, ◌==◌, nat_lt, nat_le, Bool, true, false, List, [], ◌∷◌, ◌++◌, length, drop, Option, Some, None, option_and_then, if◌then◌else◌, refl}
+use Rattle.std.specs.Option.{option_or}
 use Rattle.std.proofs.Common.{sym, ◌∙◌, ap, subst, arith, inl, inr}
 use Rattle.std.proofs.lemmas.Bool.Decides.{nat_tests}
 use Rattle.std.proofs.lemmas.List.{drop_all}
@@ -25,14 +26,14 @@ use Rattle.run_laws.specs.Shape.{Phase, Opening, Over, Started, Woken, Working, 
 use Rattle.run_laws.specs.Sockets.{first, next_number, open_sockets}
 use Rattle.slirp_laws.specs.Answers.{Serving, begins_again, begun_by, files_begun, files_by_fate, files_by_packet, files_sent, identification, ledger, served_file, serving}
 use Rattle.slirp_laws.specs.Asking.{step, step_of}
-use Rattle.slirp_laws.specs.Datagrams.{Fate, ForFiles, ForLeases, GoesTo, Ignored, Refused, Step, Settled, NeedsRoom, NeedsSending, NeedsSocket, due_for, errand_by, errand_by_packet, fate, Errand}
-use Rattle.slirp_laws.specs.Errands.{errand_left, unless_refused}
-use Rattle.slirp_laws.specs.Laws.{May, due, unless_due, Lawful}
+use Rattle.slirp_laws.specs.Datagrams.{Fate, ForFiles, ForLeases, GoesTo, Ignored, Refused, Step, NeedsNothing, NeedsRoom, NeedsSending, NeedsSocket, due_for, errand_by, errand_by_packet, fate, Errand}
+use Rattle.slirp_laws.specs.Errands.{errand_by_call, errand_left}
+use Rattle.slirp_laws.specs.Laws.{May, due, Lawful}
 use Rattle.slirp_laws.proofs.FileCalls.{sought_length, sought_octets}
 use Rattle.slirp_laws.proofs.Phases.{IsForOther, due_call, for_others, others_due, OpensNone, asks_after_waits, opens as opens_for_it}
 use Rattle.tftp_server.specs.Asking.{call_for}
 use Rattle.tftp_server.specs.Packets.{Terms, terms_of, options_octets}
-use Rattle.tftp_server.specs.Transfers.{Quest, Said, SeeksLength, SeeksOctets, Settled as NothingSought, Sought, Transfer, begins, length_came, measured, next_again, octets_came}
+use Rattle.tftp_server.specs.Transfers.{Quest, Said, SeeksLength, SeeksOctets, Settled as SeeksNothing, Sought, Transfer, begins, length_came, measured, next_again, octets_came}
 use Rattle.tftp_server.specs.Transfers.{octets_of, reads_on, seeks_block, seeks_next, told_length, told_octets, transfer, with_room, sends_block, sends}
 use Rattle.turn_laws.specs.Tally.{frames_in}
 use Rattle.poll_list.specs.declared.Want.{Want}
@@ -108,13 +109,13 @@ begun_clock config past wants timeout answer ready = by answer (phase config pas
     by WaitFails (Over cause) = omega arith
 
 -- what is due where a run stands, if it is neither a close nor for anything else
-no_clock : (config : Config) (s : Step) (other : Option Call) (number : ℕ) → IsForOther other → unless_due (due_for config s number) other ≡ Some CallNow → ⊥
-no_clock config Settled other number fit is = subst IsForOther is fit
+no_clock : (config : Config) (s : Step) (other : Option Call) (number : ℕ) → IsForOther other → option_or (due_for config s number) other ≡ Some CallNow → ⊥
+no_clock config NeedsNothing other number fit is = subst IsForOther is fit
 no_clock config (NeedsRoom oldest errand) other number fit is = cc
 no_clock config (NeedsSocket errand) other number fit is = cc
 no_clock config (NeedsSending socket errand) other number fit is = cc
 
-closed_first : (o : Option ℕ) (other : Option Call) (call : Call) → ((socket : ℕ) → CallClose socket ≡ call → ⊥) → (other ≡ Some call → ⊥) → unless_due (option_map CallClose o) other ≡ Some call → ⊥
+closed_first : (o : Option ℕ) (other : Option Call) (call : Call) → ((socket : ℕ) → CallClose socket ≡ call → ⊥) → (other ≡ Some call → ⊥) → option_or (option_map CallClose o) other ≡ Some call → ⊥
 closed_first None other call apart never is = never is
 closed_first (Some socket) other call apart never is = apart socket cc
 
@@ -125,7 +126,7 @@ opens_apart ByUdp number forward is = cc
 some_same : (a b : Call) → Some a ≡ Some b → a ≡ b
 some_same a b is = cc
 
-asked_in : (p : Phase) (past : List Entry) (other : Option Call) (told : ℕ) → (other ≡ Some CallNow → ⊥) → unless_due (due_in p past) other ≡ Some CallNow → calls_on_clock
+asked_in : (p : Phase) (past : List Entry) (other : Option Call) (told : ℕ) → (other ≡ Some CallNow → ⊥) → option_or (due_in p past) other ≡ Some CallNow → calls_on_clock
     (phase_after (Now told) None p) + 1 ≤ calls_on_clock p
 asked_in (Opening count []) past other told never is = omega arith
 asked_in (Opening count (forward ∷ forwards)) past other told never is = absurd (opens_apart forward.proto (next_number past) forward
@@ -137,7 +138,7 @@ asked_in (Over cause) past other told never is = absurd (closed_first (first (op
 
 pub asked_once : (config : Config) (past : List Entry) (told : ℕ) → May config past CallNow → calls_on_clock (phase config (Now told ∷ past)) + 1 ≤ calls_on_clock (phase config past)
 asked_once config past told may =
-    asked_in (phase config past) past (unless_due (due_for config (step config past) (next_number past)) (others_due config past)) told
+    asked_in (phase config past) past (option_or (due_for config (step config past) (next_number past)) (others_due config past)) told
     (no_clock config (step config past) (others_due config past) (next_number past) (for_others config past)) (due_call (due config past) CallNow may.place may.due)
 
 -- ---- ports of the host
@@ -147,13 +148,13 @@ opened_less : (answer : Made) (count : ℕ) (forward : Forward) (forwards : List
 opened_less MadeDone count forward forwards = omega arith
 opened_less MadeFailed count forward forwards = omega arith
 
-no_port : (config : Config) (s : Step) (other : Option Call) (number socket : ℕ) (at : Endpoint) → IsForOther other → unless_due (due_for config s number) other ≡ Some (CallListen socket at) → ⊥
-no_port config Settled other number socket at fit is = subst IsForOther is fit
+no_port : (config : Config) (s : Step) (other : Option Call) (number socket : ℕ) (at : Endpoint) → IsForOther other → option_or (due_for config s number) other ≡ Some (CallListen socket at) → ⊥
+no_port config NeedsNothing other number socket at fit is = subst IsForOther is fit
 no_port config (NeedsRoom oldest errand) other number socket at fit is = cc
 no_port config (NeedsSocket errand) other number socket at fit is = cc
 no_port config (NeedsSending s errand) other number socket at fit is = cc
 
-listened_in : (p : Phase) (past : List Entry) (other : Option Call) (socket : ℕ) (at : Endpoint) (answer : Made) → (other ≡ Some (CallListen socket at) → ⊥) → unless_due
+listened_in : (p : Phase) (past : List Entry) (other : Option Call) (socket : ℕ) (at : Endpoint) (answer : Made) → (other ≡ Some (CallListen socket at) → ⊥) → option_or
     (due_in p past) other ≡ Some (CallListen socket at)
     → calls_on_clock (opened answer p) + 1 ≤ calls_on_clock p
 listened_in (Opening count []) past other socket at answer never is = cc
@@ -166,7 +167,7 @@ listened_in (Over cause) past other socket at answer never is = absurd (closed_f
 pub listened_once : (config : Config) (past : List Entry) (socket : ℕ) (at : Endpoint) (answer : Made) → May config past (CallListen socket at) → calls_on_clock
     (phase config (Listen socket at answer ∷ past)) + 1 ≤ calls_on_clock (phase config past)
 listened_once config past socket at answer may =
-    listened_in (phase config past) past (unless_due (due_for config (step config past) (next_number past)) (others_due config past)) socket at answer
+    listened_in (phase config past) past (option_or (due_for config (step config past) (next_number past)) (others_due config past)) socket at answer
     (no_port config (step config past) (others_due config past) (next_number past) socket at (for_others config past)) (due_call (due config past) (CallListen socket at) may.place may.due)
 
 opens_some : (p : Phase) (answer : Made) → (OpensNone p → ⊥) → calls_on_clock (opened answer p) + 1 ≤ calls_on_clock p
@@ -177,9 +178,9 @@ opens_some Woken answer some = absurd (some tt)
 opens_some Working answer some = absurd (some tt)
 opens_some (Over cause) answer some = absurd (some tt)
 
-left_none : (o : Option Errand) (answer : Made) → o ≡ None → unless_refused answer o ≡ None
-left_none o MadeDone none = none
-left_none o MadeFailed none = refl
+left_none : (socket : ℕ) (at : Endpoint) (o : Option Errand) (answer : Made) → o ≡ None → errand_by_call (UdpOpen socket at answer) o ≡ None
+left_none socket at o MadeDone none = none
+left_none socket at o MadeFailed none = refl
 
 -- a socket for datagrams is one of the settings', or one that a guest's datagram asks for
 pub opened_once : (config : Config) (past : List Entry) (socket : ℕ) (at : Endpoint) (answer : Made) → May config past (CallUdpOpen socket at) → Lawful config past
@@ -188,7 +189,7 @@ pub opened_once : (config : Config) (past : List Entry) (socket : ℕ) (at : End
 opened_once config past socket at answer may lawful =
     elim (opens_for_it config past socket at may) [
       | inl early ↦ (let less = opens_some (phase config past) answer early.1 in
-          let none = none_for config (UdpOpen socket at answer ∷ past) (left_none (errand_left config past) answer (none_early (waits past) (errand_left config past) early.0
+          let none = none_for config (UdpOpen socket at answer ∷ past) (left_none socket at (errand_left config past) answer (none_early (waits past) (errand_left config past) early.0
           (asks_after_waits config past lawful))) in omega (arith, less, none))
       | inr o ↦ (let less = sent_next config past socket at answer o may lawful in let same = clock_stays config (UdpOpen socket at answer) past tt in omega (arith, less, same))
     ]
@@ -250,12 +251,12 @@ written_link config past octets answer may given = let free = ap (λ b. calls_on
 -- ---- files
 
 abbrev pub calls_on_files : Quest → ℕ
-calls_on_files NothingSought = 0
+calls_on_files SeeksNothing = 0
 calls_on_files (SeeksLength s) = 2
 calls_on_files (SeeksOctets t there) = 1
 
 pub two_on_files : (q : Quest) → calls_on_files q ≤ 2
-two_on_files NothingSought = omega arith
+two_on_files SeeksNothing = omega arith
 two_on_files (SeeksLength s) = omega arith
 two_on_files (SeeksOctets t there) = omega arith
 
@@ -287,7 +288,7 @@ length_one now SizeFailed s others = omega arith
 
 measured_less : (now : ℕ) (name : List ℕ) (answer : FileSize) (q : Quest) (others : List Transfer) → call_for q ≡ Some (CallFileLen name) → calls_on_files
     (length_came now answer q others).files.quest + 1 ≤ calls_on_files q
-measured_less now name answer NothingSought others is = cc
+measured_less now name answer SeeksNothing others is = cc
 measured_less now name answer (SeeksLength s) others is = let one = length_one now answer s others in omega (arith, one)
 measured_less now name answer (SeeksOctets t there) others is = cc
 
@@ -313,7 +314,7 @@ octets_less now asked Failed octets there t others may many = omega arith
 taken_less : (now asked : ℕ) (name : List ℕ) (place : ℕ) (answer : Io) (octets : List ℕ) (q : Quest) (others : List Transfer) → MayReadFile asked answer →
     length octets ≡ count_of answer → call_for q ≡ Some (CallFileRead name place asked)
     → calls_on_files (octets_came now answer octets q others).files.quest + 1 ≤ calls_on_files q + length octets
-taken_less now asked name place answer octets NothingSought others may many is = cc
+taken_less now asked name place answer octets SeeksNothing others may many is = cc
 taken_less now asked name place answer octets (SeeksLength s) others may many is = cc
 taken_less now asked name place answer octets (SeeksOctets t there) others may many is = let less = octets_less now asked answer octets there t others may many in omega (arith, less)
 
