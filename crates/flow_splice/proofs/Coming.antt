@@ -60,6 +60,7 @@ heard_as_old f tcp now = record {
   face = refl;
   mac = refl;
   since = refl;
+  accepted = refl;
   asked = refl;
   ask_at = refl;
   up_size = (up_stays (verdict_of f.conn f.up tcp) f.conn f.up f.down tcp).0;
@@ -72,15 +73,16 @@ heard_written f tcp now = (up_stays (verdict_of f.conn f.up tcp) f.conn f.up f.d
 
 pub sees_stays : (b : Bool) (mid new : Splice) (now : ℕ) (made : List Entry) → Sees b mid new now made → Stays mid new
 sees_stays true mid new now made sees =
-    rw sees.1 (record { same = record { face = refl; mac = refl; since = refl; asked = refl; ask_at = refl; up_size = refl; down_size = refl; mru = refl }; up = refl; down = refl })
+    rw sees.1 (record { same = record { face = refl; mac = refl; since = refl; accepted = refl; asked = refl; ask_at = refl; up_size = refl; down_size = refl; mru = refl }; up = refl; down = refl })
 sees_stays false mid new now made sees =
-    rw sees.1 (record { same = record { face = refl; mac = refl; since = refl; asked = refl; ask_at = refl; up_size = refl; down_size = refl; mru = refl }; up = refl; down = refl })
+    rw sees.1 (record { same = record { face = refl; mac = refl; since = refl; accepted = refl; asked = refl; ask_at = refl; up_size = refl; down_size = refl; mru = refl }; up = refl; down = refl })
 
 pub as_old_then : (old mid new : Splice) → IsAsOld old mid → IsAsOld mid new → IsAsOld old new
 as_old_then old mid new a b = record {
   face = b.face ∙ a.face;
   mac = b.mac ∙ a.mac;
   since = b.since ∙ a.since;
+  accepted = b.accepted ∙ a.accepted;
   asked = b.asked ∙ a.asked;
   ask_at = b.ask_at ∙ a.ask_at;
   up_size = b.up_size ∙ a.up_size;

@@ -44,24 +44,25 @@ never_both true = refl
 never_both false = refl
 
 as_it_is : (f : Splice) → IsAsOld f f
-as_it_is f = record { face = refl; mac = refl; since = refl; asked = refl; ask_at = refl; up_size = refl; down_size = refl; mru = refl }
+as_it_is f = record { face = refl; mac = refl; since = refl; accepted = refl; asked = refl; ask_at = refl; up_size = refl; down_size = refl; mru = refl }
 
 out_stays : (b : Bool) (what : Owed) (f new : Splice) (now : ℕ) (made : List Entry) → GoesOut b what f new now made → Marked f new made
 out_stays true what f new now made is =
     same_of f (record (went_out f what now) { place = new.place }) new made
-    (record { face = refl; mac = refl; since = refl; asked = refl; ask_at = refl; up_size = refl; down_size = refl; mru = refl }) refl refl
+    (record { face = refl; mac = refl; since = refl; accepted = refl; asked = refl; ask_at = refl; up_size = refl; down_size = refl; mru = refl }) refl refl
     (is.1 ∙ ap (λ p. record (went_out f what now) { place = p }) (sym (ap (λ (y : Splice). y.place) is.1))) (inl is.0)
     (λ is_shut. ap (λ p. is_in_use p && not f.shut) (ap (λ (y : Splice). y.place) is.1))
 out_stays false what f new now made is = by (ends (change_gone what f.conn f.up now)) is
   where
     by : (e : Bool) → Sees e (went_out f what now) new now made → Marked f new made
     by true sees = same_of f (closed (went_out f what now) now) new made
-        (record { face = refl; mac = refl; since = refl; asked = refl; ask_at = refl; up_size = refl; down_size = refl; mru = refl }) refl refl sees.1 (inr (f.face.number, sees.0))
+        (record { face = refl; mac = refl; since = refl; accepted = refl; asked = refl; ask_at = refl; up_size = refl; down_size = refl; mru = refl }) refl refl sees.1 (inr (f.face.number, sees.0))
         (λ is_shut. never_both (is_in_use (closed (went_out f what now) now).place))
     by false sees = same_of f (went_out f what now) new made (record {
       face = refl;
       mac = refl;
       since = refl;
+      accepted = refl;
       asked = refl;
       ask_at = refl;
       up_size = refl;

@@ -163,11 +163,12 @@ hears_at_rest f now since tcp at s past before ident ended known on h =
 
 pub at_rest_as_old : (b : Bool) (f : Splice) (since : ℕ) (tcp : Tcp) (now : ℕ) → IsAsOld f (if b then record f { place = Empty } else record
     (heard f tcp now) { place = Resting (if renews tcp then now else since) })
-at_rest_as_old true f since tcp now = record { face = refl; mac = refl; since = refl; asked = refl; ask_at = refl; up_size = refl; down_size = refl; mru = refl }
+at_rest_as_old true f since tcp now = record { face = refl; mac = refl; since = refl; accepted = refl; asked = refl; ask_at = refl; up_size = refl; down_size = refl; mru = refl }
 at_rest_as_old false f since tcp now = let same = heard_as_old f tcp now in record {
   face = refl;
   mac = refl;
   since = refl;
+  accepted = refl;
   asked = refl;
   ask_at = refl;
   up_size = same.up_size;

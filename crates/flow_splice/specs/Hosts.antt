@@ -12,11 +12,12 @@ use Rattle.connection_follows.specs.Holding.{is_connects}
 use Rattle.flow_splice.specs.Splice.{Splice, closed, is_open}
 use Rattle.flow_splice.specs.Wants.{reads, writes}
 
--- between whom it goes, its guest's hardware address and the sizes stay
+-- between whom it goes, its guest's hardware address, how it began and the sizes stay
 pub record IsAsOld (old new : Splice) : Type 0 where
   pub face : new.face ≡ old.face
   pub mac : new.mac ≡ old.mac
   pub since : new.since ≡ old.since
+  pub accepted : new.accepted ≡ old.accepted
   pub asked : new.asked ≡ old.asked
   pub ask_at : new.ask_at ≡ old.ask_at
   pub up_size : new.up.size ≡ old.up.size

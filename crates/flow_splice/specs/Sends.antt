@@ -98,6 +98,7 @@ pub record IsPumped (mac : Option Mac) (old new : Splice) : Type 0 where
   pub face : new.face ≡ old.face
   pub mac_is : new.mac ≡ or_known mac old.mac
   pub since : new.since ≡ old.since
+  pub accepted : new.accepted ≡ old.accepted
   pub up : new.up ≡ old.up
   pub down : new.down ≡ old.down
   pub mru : new.mru ≡ old.mru

@@ -8,6 +8,7 @@ use Rattle.sock_buffers.specs.Upward.{Upward, empty}
 use Rattle.tcp_guest.specs.Connection.{Connection, HasBuffers}
 use Rattle.tcp_guest.specs.declared.Stage.{Stage}
 use Rattle.tcp_guest.specs.declared.Stage.TheVariants as stage
+use Rattle.connection_follows.specs.Holding.{is_connects}
 use Rattle.flow_splice.specs.declared.Place.{Place}
 use Rattle.flow_splice.specs.declared.Place.TheVariants.{Empty, InUse, Resting}
 
@@ -18,8 +19,8 @@ pub record Face : Type 0 where
   pub number : ℕ
   pub vhost : Ip4
 
--- Where it stands, and whether its socket was closed; its guest's hardware address, where it is known; since when it is open; whether the
--- host was told the guest's end; how often the guest's hardware address was asked for, until when that waits for an answer, and whether it
+-- Where it stands, and whether its socket was closed; its guest's hardware address, where it is known; since when it is open; whether it was accepted, for a
+-- peer of the host; whether the host was told the guest's end; how often the guest's hardware address was asked for, until when that waits for an answer, and whether it
 -- is to be asked for again. Further: the
 -- connection and its two buffers, and the most octets of a datagram that comes from the guest.
 pub record Splice : Type 0 where
@@ -28,6 +29,7 @@ pub record Splice : Type 0 where
   pub face : Face
   pub mac : Option Mac
   pub since : ℕ
+  pub accepted : Bool
   pub told_end : Bool
   pub asked : ℕ
   pub ask_at : ℕ
@@ -92,7 +94,7 @@ place_after stage.Gone now = Empty
 abbrev pub closed : Splice → ℕ → Splice
 closed f now = record f { place = place_after f.conn.stage now; shut = true }
 
--- a flow that begins
+-- a flow that begins: with a socket that is to connect, or accepted
 abbrev pub begun : (now : ℕ) → (guest other : Endpoint) → (number : ℕ) → Ip4 → Option Mac → Connection → Splice → Splice
 begun now guest other number vhost mac c f = record f {
   place = InUse;
@@ -100,6 +102,7 @@ begun now guest other number vhost mac c f = record f {
   face = record { guest = guest; other = other; number = number; vhost = vhost };
   mac = mac;
   since = now;
+  accepted = not (is_connects c.stage);
   told_end = false;
   asked = 0;
   ask_at = 0;

@@ -68,6 +68,8 @@ pub struct Spliced {
     pub(crate) vhost: Ip4,
     pub(crate) mac: Option<Mac>,
     pub(crate) since: u64,
+    // a peer of the host was accepted
+    pub(crate) accepted: bool,
     pub(crate) told_end: bool,
     pub(crate) asked: u8,
     pub(crate) ask_at: u64,
@@ -92,6 +94,7 @@ impl Model for Spliced {
       face = record { guest = s.guest; other = s.other; number = s.number; vhost = s.vhost };
       mac = s.mac;
       since = s.since;
+      accepted = s.accepted;
       told_end = s.told_end;
       asked = s.asked;
       ask_at = s.ask_at;
@@ -147,6 +150,7 @@ impl Spliced {
             vhost: Ip4(0),
             mac: None,
             since: 0,
+            accepted: false,
             told_end: false,
             asked: 0,
             ask_at: 0,
@@ -185,6 +189,7 @@ impl Spliced {
             → s.mru ≡ self.old.mru → most ≡ s.mtu - 40 → conn ≡ to_guest ours most s.ring s.congestion
             → Follows s self.new (At now (Accepts ours) ∷ []) now }
     {
+        self.accepted = is_for_peer(&conn);
         self.up.reset();
         self.down.reset();
         self.conn = conn;
@@ -221,6 +226,13 @@ impl Spliced {
         ensures { result ≡ self.now.face.number }
     {
         self.number
+    }
+
+    /// Whether it was accepted, for a peer of the host; else its guest opened it.
+    pub fn is_accepted(&self) -> bool
+        ensures { result ≡ self.now.accepted }
+    {
+        self.accepted
     }
 
     /// Its guest's end.
@@ -398,4 +410,11 @@ impl Spliced {
             Change::Nothing | Change::Unfit => {}
         }
     }
+}
+
+// Whether a new connection is one for a peer that was accepted: no socket is to connect for it.
+fn is_for_peer(conn: &Conn) -> bool
+    ensures { result ≡ not (is_connects conn.now.stage) }
+{
+    !conn.connecting()
 }

@@ -105,6 +105,49 @@ once_without m (x ∷ xs) once = by_test (x == m) refl (once_without m xs once.1
     by_test true same rest = subst Once (sym (without_head m x xs same)) once.1
     by_test false other rest = subst Once (sym (without_tail m x xs other)) (off (is_among x (without_one m xs)) (is_among x xs) (among_before x m xs) once.0, rest)
 
+length_without : (m : ℕ) (xs : List ℕ) → is_among m xs ≡ true → length xs ≡ suc (length (without_one m xs))
+length_without m [] is = absurd cc
+length_without m (x ∷ xs) is = by_test (x == m) refl (length_without m xs)
+  where
+    not_here : (a b : Bool) → a ≡ false → (a || b) ≡ true → b ≡ true
+    not_here true b off is = cc
+    not_here false b off is = is
+
+    by_test : (b : Bool) → (x == m) ≡ b → (is_among m xs ≡ true → length xs ≡ suc (length (without_one m xs))) → length (x ∷ xs) ≡ suc (length (without_one m (x ∷ xs)))
+    by_test true same rest = ap (λ (ys : List ℕ). suc (length ys)) (sym (without_head m x xs same))
+    by_test false other rest =
+        ap suc (rest (not_here (m == x) (is_among m xs) (turned x m other) is)) ∙ ap (λ (ys : List ℕ). suc (length ys)) (sym (without_tail m x xs other))
+
+-- two lists with the same numbers, each once, are of one length
+pub as_many_stand : (xs ys : List ℕ) → Once xs → Once ys → ((n : ℕ) → is_among n xs ≡ true → is_among n ys ≡ true) → ((n : ℕ) → is_among n ys ≡ true → is_among n xs ≡ true) →
+    length xs ≡ length ys
+as_many_stand [] [] once other all back = refl
+as_many_stand [] (y ∷ ys) once other all back = absurd (none (back y (ap (λ b. b || is_among y ys) (is_number y))))
+  where
+    none : false ≡ true → ⊥
+    none is = cc
+as_many_stand (x ∷ xs) ys once other all back =
+    ap suc (as_many_stand xs (without_one x ys) once.1 (once_without x ys other) there here) ∙ sym (length_without x ys (all x (ap (λ b. b || is_among x xs) (is_number x))))
+  where
+    not_both : false ≡ true → ⊥
+    not_both is = cc
+
+    not_here : (a b : Bool) → a ≡ false → (a || b) ≡ true → b ≡ true
+    not_here true b off is = cc
+    not_here false b off is = is
+
+    there : (n : ℕ) → is_among n xs ≡ true → is_among n (without_one x ys) ≡ true
+    there n is = elim (same_or_not n x) [
+      | inl same ↦ absurd (not_both (sym once.0 ∙ ap (λ m. is_among m xs) (sym same) ∙ is))
+      | inr apart ↦ among_after n x ys apart (all n (among_behind n x x xs is))
+    ]
+
+    here : (n : ℕ) → is_among n (without_one x ys) ≡ true → is_among n xs ≡ true
+    here n is = elim (same_or_not n x) [
+      | inl same ↦ absurd (not_both (sym (gone x ys other) ∙ ap (λ m. is_among m (without_one x ys)) (sym same) ∙ is))
+      | inr apart ↦ not_here (n == x) (is_among n xs) apart (back n (among_before n x ys is))
+    ]
+
 -- ---- sums
 
 abbrev pub sum_over : (ℕ → ℕ) → List ℕ → ℕ

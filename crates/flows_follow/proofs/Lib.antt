@@ -36,6 +36,7 @@ pub mod Looking
 pub mod Others
 pub mod Pumped
 pub mod Requests
+pub mod Peers
 pub mod Sought
 pub mod Told
 pub mod Reported

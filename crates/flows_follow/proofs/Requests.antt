@@ -1,5 +1,5 @@
 -- A flow asks for its guest's hardware address: it may, all flows that were accepted for that guest are told, and the count goes on.
-use Rattle.std.proofs.Common.{◌≡◌, ℕ, suc, ◌+◌, ◌*◌, ◌<◌, ◌≤◌, ◌==◌, ◌&&◌, ◌||◌, Bool, true, false, List, [], ◌∷◌, length, map, filter, set, slice_get, Option, Some, option_map}
+use Rattle.std.proofs.Common.{◌≡◌, ℕ, suc, ◌+◌, ◌*◌, ◌<◌, ◌≤◌, ◌==◌, ◌&&◌, ◌||◌, Bool, true, false, cond, List, [], ◌∷◌, length, map, filter, set, slice_get, Option, Some, None, option_map}
 use Rattle.std.proofs.Common.{if◌then◌else◌, ◌⊎◌, inl, inr, refl, sym, ◌∙◌, ap, subst, arith}
 use Rattle.std.proofs.lemmas.List.{length-map}
 use Rattle.world_face.specs.Journal.{Entry}
@@ -25,9 +25,102 @@ use Rattle.slirp_laws.proofs.Bools.{equal, same, turned}
 use Rattle.flow_splice.specs.Follows.{Follows}
 use Rattle.flow_splice.specs.Splice.{Splice}
 use Rattle.flow_splice.proofs.Asked.{asked_follows}
-use Rattle.flows_follow.specs.Asked.{AreAsked, accepted_numbers, sum_of}
+use Rattle.flows_follow.specs.Asked.{AreAsked, accepted_numbers, sum_of, was_accepted}
 use Rattle.flows_follow.specs.Core.{number_of}
-use Rattle.flows_follow.proofs.Options.{some_same}
+use Rattle.flows_follow.proofs.Options.{none_some, some_same}
+
+-- ---- which flows were accepted
+
+-- a number that no flow has was accepted for none
+pub none_accepted : (n : ℕ) (flows : List Flow) → flow_of n flows ≡ None → was_accepted n flows ≡ false
+none_accepted n [] none = refl
+none_accepted n (f ∷ flows) none = by (f.number == n) (is_accepted f.story) none (none_accepted n flows)
+  where
+    by : (b a : Bool) → cond b (Some f) (flow_of n flows) ≡ None → (flow_of n flows ≡ None → was_accepted n flows ≡ false) → ((a && b) || was_accepted n flows) ≡ false
+    by true a none rest = absurd (none_some (sym none))
+    by false true none rest = rest none
+    by false false none rest = rest none
+
+-- with a flow more, on a number that none has
+pub accepted_first : (f : Flow) (flows : List Flow) (n : ℕ) → f.number ≡ n → flow_of n flows ≡ None → was_accepted n (f ∷ flows) ≡ is_accepted f.story
+accepted_first f flows n is none = ap (λ b. (is_accepted f.story && b) || was_accepted n flows) (ap (λ m. m == n) is ∙ same n) ∙ by (is_accepted f.story)
+  where
+    by : (a : Bool) → ((a && true) || was_accepted n flows) ≡ a
+    by true = refl
+    by false = none_accepted n flows none
+
+pub accepted_behind : (f : Flow) (flows : List Flow) (n : ℕ) → (f.number == n) ≡ false → was_accepted n (f ∷ flows) ≡ was_accepted n flows
+accepted_behind f flows n apart = ap (λ b. (is_accepted f.story && b) || was_accepted n flows) apart ∙ by (is_accepted f.story)
+  where
+    by : (a : Bool) → ((a && false) || was_accepted n flows) ≡ was_accepted n flows
+    by true = refl
+    by false = refl
+
+-- one that was accepted for a guest was accepted, and one that was accepted was so for its guest
+among_accepted : (n guest : ℕ) (flows : List Flow) → is_among n (accepted_numbers guest flows) ≡ true → was_accepted n flows ≡ true
+among_accepted n guest [] is = is
+among_accepted n guest (f ∷ flows) is = by (is_accepted f.story) (address f.tuple.guest == guest) is (among_accepted n guest flows)
+  where
+    or_true : (b : Bool) → (b || true) ≡ true
+    or_true true = refl
+    or_true false = refl
+
+    behind : (b : Bool) → was_accepted n flows ≡ true → (b || was_accepted n flows) ≡ true
+    behind b it = ap (λ c. b || c) it ∙ or_true b
+
+    at_head : (b c : Bool) → (n == f.number) ≡ c → (f.number == n) ≡ b → b ≡ c → (c || is_among n (accepted_numbers guest flows)) ≡ true
+        → (is_among n (accepted_numbers guest flows) ≡ true → was_accepted n flows ≡ true) → (b || was_accepted n flows) ≡ true
+    at_head true c it back both among rest = refl
+    at_head false true it back both among rest = cc
+    at_head false false it back both among rest = rest among
+
+    by : (a b : Bool) → is_among n (map (λ (h : Flow). h.number) (if a && b then f ∷ accepted_for guest flows else accepted_for guest flows)) ≡ true
+        → (is_among n (accepted_numbers guest flows) ≡ true → was_accepted n flows ≡ true) → ((a && (f.number == n)) || was_accepted n flows) ≡ true
+    by true true among rest = at_head (f.number == n) (n == f.number) refl refl (sym (turned f.number n (f.number == n) refl)) among rest
+    by true false among rest = behind (f.number == n) (rest among)
+    by false b among rest = rest among
+
+accepted_among : (n : ℕ) (flows : List Flow) → was_accepted n flows ≡ true → (guest : ℕ) × (is_among n (accepted_numbers guest flows) ≡ true)
+accepted_among n [] is = absurd (not_so is)
+  where
+    not_so : false ≡ true → ⊥
+    not_so it = cc
+accepted_among n (f ∷ flows) is = by (is_accepted f.story) (f.number == n) refl refl is (λ it. accepted_among n flows it)
+  where
+    or_true : (b : Bool) → (b || true) ≡ true
+    or_true true = refl
+    or_true false = refl
+
+    behind : (b : Bool) (guest : ℕ) → is_among n (accepted_numbers guest flows) ≡ true → is_among n (map (λ (h : Flow). h.number)
+        (if b then f ∷ accepted_for guest flows else accepted_for guest flows)) ≡ true
+    behind true guest it = ap (λ c. (n == f.number) || c) it ∙ or_true (n == f.number)
+    behind false guest it = it
+
+    later : (guest : ℕ) × (is_among n (accepted_numbers guest flows) ≡ true) → (guest : ℕ) × (is_among n (accepted_numbers guest (f ∷ flows)) ≡ true)
+    later had = (had.0, behind (is_accepted f.story && (address f.tuple.guest == had.0)) had.0 had.1)
+
+    by : (a b : Bool) → is_accepted f.story ≡ a → (f.number == n) ≡ b → ((a && b) || was_accepted n flows) ≡ true
+        → (was_accepted n flows ≡ true → (guest : ℕ) × (is_among n (accepted_numbers guest flows) ≡ true)) → (guest : ℕ) × (is_among n (accepted_numbers guest (f ∷ flows)) ≡ true)
+    by true true was it among rest = (
+      address f.tuple.guest,
+      ap (λ b. is_among n (map (λ (h : Flow). h.number) (if b then f ∷ accepted_for (address f.tuple.guest) flows else accepted_for (address f.tuple.guest) flows)))
+          (ap (λ b. b && (address f.tuple.guest == address f.tuple.guest)) was ∙ same (address f.tuple.guest))
+          ∙ ap (λ b. b || is_among n (accepted_numbers (address f.tuple.guest) flows)) (turned f.number n true it),
+    )
+    by true false was it among rest = later (rest among)
+    by false b was it among rest = later (rest among)
+
+-- where for each guest the same flows were accepted, the same were accepted
+pub accepted_same : (later flows : List Flow) → ((guest : ℕ) → accepted_numbers guest later ≡ accepted_numbers guest flows) → (n : ℕ) → was_accepted n later ≡ was_accepted n flows
+accepted_same later flows same_numbers n =
+    by (was_accepted n later) (was_accepted n flows)
+    (λ is. let had = accepted_among n later is in among_accepted n had.0 flows (sym (ap (is_among n) (same_numbers had.0)) ∙ had.1))
+    (λ is. let had = accepted_among n flows is in among_accepted n had.0 later (ap (is_among n) (same_numbers had.0) ∙ had.1))
+  where
+    by : (a b : Bool) → (a ≡ true → b ≡ true) → (b ≡ true → a ≡ true) → a ≡ b
+    by true b one other = sym (one refl)
+    by false true one other = other refl
+    by false false one other = refl
 
 -- ---- sums
 
@@ -94,7 +187,7 @@ module _ (now guest : ℕ) where
 -- ---- the count goes on
 
 module _ (config : Config) (past : List Entry) (parts : List (Option Splice)) (k : ℕ) (p q : Splice) (at : slice_get parts k ≡ Some (Some p))
-    (same_number : number_of q ≡ number_of p) (once_more : q.asked ≡ p.asked + 1) (less : p.asked < 9)
+    (same_number : number_of q ≡ number_of p) (same_kind : q.accepted ≡ p.accepted) (once_more : q.asked ≡ p.asked + 1) (less : p.asked < 9)
     (only : (j : ℕ) (r : Splice) → slice_get parts j ≡ Some (Some r) → number_of r ≡ number_of p → j ≡ k) (a : AreAsked config parts past) where
   own_now : (j : ℕ) (r : Splice) → slice_get (set parts k (Some q)) j ≡ Some (Some r) → raised (number_of p) a.asks (number_of r) ≤ r.asked
   own_now j r here = elim (same_or_not j k) [
@@ -161,19 +254,38 @@ module _ (config : Config) (past : List Entry) (parts : List (Option Splice)) (k
             omega (arith, before, more)
         by false other = let before = a.counted g in let more = raised_more (number_of p) a.asks (accepted_numbers g (book config past).flows) in omega (arith, before, more)
 
+    began_now : (j : ℕ) (r : Splice) → slice_get (set parts k (Some q)) j ≡ Some (Some r) → r.accepted ≡ was_accepted (number_of r) (book config (e ∷ past)).flows
+    began_now j r here = elim (same_or_not j k) [
+      | inl at_k ↦
+          let it : r ≡ q = some_same r q (get_set_same parts k (Some p) (Some q) (Some r) at (subst (λ i. slice_get (set parts k (Some q)) i ≡ Some (Some r)) at_k here)) in
+          ap (λ (x : Splice). x.accepted) it ∙ same_kind ∙ a.began k p at ∙ ap (λ n. was_accepted n (book config past).flows) (sym (ap number_of it ∙ same_number)) ∙ stays (number_of r)
+      | inr other ↦ a.began j r (sym (get_set_other parts k j (Some q) (differ j k other)) ∙ here) ∙ stays (number_of r)
+    ]
+      where
+        stays : (n : ℕ) → was_accepted n (book config past).flows ≡ was_accepted n (book config (e ∷ past)).flows
+        stays n = sym (accepted_same (book config (e ∷ past)).flows (book config past).flows numbers_are n)
+
     pub asked_more : AreAsked config (set parts k (Some q)) (e ∷ past)
-    asked_more = record { asks = raised (number_of p) a.asks; few = few_now; own = own_now; counted = counted_now }
+    asked_more = record { asks = raised (number_of p) a.asks; few = few_now; began = began_now; own = own_now; counted = counted_now }
 
 -- ---- it goes on where nothing is asked for
+
+-- each part has a number that one had before, began as that did, and asked no less
+abbrev pub ComeFrom : (parts new : List (Option Splice)) → Type 0
+ComeFrom parts new = (k : ℕ) (q : Splice) → slice_get new k ≡ Some (Some q)
+    → (p : Splice) × (j : ℕ) × (slice_get parts j ≡ Some (Some p)) × (number_of q ≡ number_of p) × (p.asked ≤ q.asked) × (q.accepted ≡ p.accepted)
 
 -- An entry by which no request goes out, and after which the same flows were accepted; each part has its flow's number and asked no less than one before.
 pub asked_on : (config : Config) (past : List Entry) (e : Entry) (parts new : List (Option Splice)) → requests config (e ∷ past) ≡ requests config past
     → ((guest : ℕ) → accepted_numbers guest (book config (e ∷ past)).flows ≡ accepted_numbers guest (book config past).flows)
-    → ((k : ℕ) (q : Splice) → slice_get new k ≡ Some (Some q) → (p : Splice) × (j : ℕ) × (slice_get parts j ≡ Some (Some p)) × (number_of q ≡ number_of p) × (p.asked ≤ q.asked))
+    → ComeFrom parts new
     → AreAsked config parts past → AreAsked config new (e ∷ past)
 asked_on config past e parts new silent same from a = record {
   asks = a.asks;
   few = a.few;
+  began = λ k q here. let old = from k q here in
+      old.5 ∙ a.began old.1 old.0 old.2 ∙ ap (λ n. was_accepted n (book config past).flows) (sym old.3)
+      ∙ sym (accepted_same (book config (e ∷ past)).flows (book config past).flows same (number_of q));
   own = λ k q here. let old = from k q here in let own = a.own old.1 old.0 old.2 in let more = old.4 in let number = ap a.asks old.3 in omega (arith, own, more, number);
   counted = λ guest. subst (λ ns. times guest (requests config (e ∷ past)) ≤ sum_of a.asks ns) (sym (same guest))
       (subst (λ l. times guest l ≤ sum_of a.asks (accepted_numbers guest (book config past).flows)) (sym silent) (a.counted guest));
@@ -202,9 +314,18 @@ pub asked_begun : (config : Config) (past : List Entry) (e : Entry) (parts : Lis
     (book config past).flows))
     → ((guest : ℕ) → is_among n (accepted_numbers guest (book config past).flows) ≡ false)
     → ((j : ℕ) (r : Splice) → slice_get (set parts k (Some q)) j ≡ Some (Some r) → (r ≡ q) ⊎ (slice_get parts j ≡ Some (Some r)))
+    → q.accepted ≡ was_accepted n (book config (e ∷ past)).flows
+    → ((j : ℕ) (r : Splice) → slice_get parts j ≡ Some (Some r) → was_accepted (number_of r) (book config (e ∷ past)).flows ≡ was_accepted (number_of r) (book config past).flows)
     → AreAsked config parts past → AreAsked config (set parts k (Some q)) (e ∷ past)
-asked_begun config past e parts n k q called numbered new silent grown fresh which a = record { asks = zeroed n a.asks; few = few_then; own = own_then; counted = counted_then }
+asked_begun config past e parts n k q called numbered new silent grown fresh which kind others a =
+    record { asks = zeroed n a.asks; few = few_then; began = began_then; own = own_then; counted = counted_then }
   where
+    began_then : (j : ℕ) (r : Splice) → slice_get (set parts k (Some q)) j ≡ Some (Some r) → r.accepted ≡ was_accepted (number_of r) (book config (e ∷ past)).flows
+    began_then j r here = elim (which j r here) [
+      | inl it ↦ ap (λ (x : Splice). x.accepted) it ∙ kind ∙ ap (λ m. was_accepted m (book config (e ∷ past)).flows) (sym (ap number_of it ∙ numbered))
+      | inr was ↦ a.began j r was ∙ sym (others j r was)
+    ]
+
     below : (b : Bool) (x bound : ℕ) → x ≤ bound → (if b then 0 else x) ≤ bound
     below true x bound is = omega arith
     below false x bound is = is

@@ -1,5 +1,5 @@
 -- The flows of a run: each with its two ends and its story.
-use Rattle.std.specs.Prelude.{ℕ, ◌==◌, ◌&&◌, not, Bool, true, false, List, [], ◌∷◌, length, filter, find, Option, Some, None, is_some, if◌then◌else◌}
+use Rattle.std.specs.Prelude.{ℕ, ◌-◌, ◌/◌, ◌==◌, ◌&&◌, not, nat_lt, Bool, true, false, List, [], ◌∷◌, length, filter, find, Option, Some, None, is_some, if◌then◌else◌}
 use Rattle.std.specs.List.{list_any}
 use Rattle.net_octets.specs.declared.Ip4.{Ip4}
 use Rattle.net_octets.specs.declared.Mac.{Mac}
@@ -63,6 +63,14 @@ is_used tuple flows = uses (owner tuple flows)
 -- how many tuples have
 abbrev pub used : List Flow → ℕ
 used flows = length (filter (λ f. is_in_use f.story) flows)
+
+-- Of so many flows a quarter, rounded down, is kept for those that guests open: peers have the others at most.
+abbrev pub most_for_peers : ℕ → ℕ
+most_for_peers flows = flows - flows / 4
+
+-- there is room for the flow of a peer: not all are in use, and of the share of peers not all by flows that were accepted
+abbrev pub has_room_for_peer : ℕ → List Flow → Bool
+has_room_for_peer most flows = nat_lt (used flows) most && nat_lt (length (filter (λ f. is_in_use f.story && is_accepted f.story) flows)) (most_for_peers most)
 
 abbrev pub rests_among : List Rest → Option Flow → Bool
 rests_among rests None = false

@@ -22,8 +22,9 @@ use Rattle.dns_relay.specs.Questions.{is_over as is_idle_question, numbers as qu
 use Rattle.tftp_server.specs.Transfers.{Said, next_again, said_again}
 use Rattle.tftp_server.proofs.Turning.{next_left}
 use Rattle.record_flows.specs.Book.{book, is_young, scene}
-use Rattle.record_flows.specs.Flows.{guest_is_known, rests_among, used}
-use Rattle.flows_follow.specs.Seats.{in_use_slots}
+use Rattle.record_flows.specs.Flows.{guest_is_known, has_room_for_peer, rests_among}
+use Rattle.flows_follow.specs.Peers.{fits_peer}
+use Rattle.flows_follow.proofs.Peers.{room_recorded}
 use Rattle.run_laws.specs.Sockets.{Kind, Association, DnsSocket, Forward as OfForward, Listener, Flow, is_among, is_association, is_forward, is_listener, kind_of, next_number, open_sockets}
 use Rattle.slirp_laws.specs.Answers.{is_out, left, may_go_again, serving}
 use Rattle.slirp_laws.specs.Datagrams.{NeedsNothing}
@@ -381,14 +382,14 @@ module _ (config : Config) (at : Standing) (slirp : SlirpState) (f : Flowing) (l
       ∙ (λ i. for_datagrams n i || (carried_by config at NeedsNothing None slirp f link past holds n ∙ among_moved n (carriers (holders_of slirp)) sockets moved) i)
       ∙ sym (among_both n (sockets_over Udp slirp.forwards) sockets)
 
-  room_is : nat_lt (used (book config past).flows) config.flows ≡ nat_lt (in_use_slots f.kept.flows.table.slots) (length f.kept.flows.table.slots)
-  room_is = λ i. nat_lt (holds.flows.holds.seats.counted i) (sym holds.flows.holds.slots i)
+  room_is : has_room_for_peer config.flows (book config past).flows ≡ fits_peer f.kept.flows
+  room_is = room_recorded config slirp.moment f.aged None f.kept.flows past holds.flows.holds holds.flows.asked
 
   pub listeners_are : f.kept ≡ slirp.flows → (n : ℕ) → takes_peers config past n ≡ is_among n (listeners_of slirp)
   listeners_are same_flows n =
-      and_assoc_by (is_among n (open_sockets past)) (is_listener (kind_of n past)) (nat_lt (used (book config past).flows) config.flows)
-      ∙ (λ i. for_peers n i && (room_is ∙ ap (λ (k : Kept). nat_lt (in_use_slots k.flows.table.slots) (length k.flows.table.slots)) same_flows) i)
-      ∙ by (nat_lt (in_use_slots slirp.flows.flows.table.slots) (length slirp.flows.flows.table.slots))
+      and_assoc_by (is_among n (open_sockets past)) (is_listener (kind_of n past)) (has_room_for_peer config.flows (book config past).flows)
+      ∙ (λ i. for_peers n i && (room_is ∙ ap (λ (k : Kept). fits_peer k.flows) same_flows) i)
+      ∙ by (fits_peer slirp.flows.flows)
     where
       and_assoc_by : (a b c : Bool) → (a && b && c) ≡ ((a && b) && c)
       and_assoc_by true b c = refl
@@ -420,7 +421,7 @@ module _ (config : Config) (at : Standing) (slirp : SlirpState) (f : Flowing) (l
           (used_differ past (question_numbers (questions config past)) (are_waiting config past holds.lawful).order) (two_apart config past holds.lawful)))
 
   rise_listeners : DoRise (listeners_of slirp)
-  rise_listeners = by (nat_lt (in_use_slots slirp.flows.flows.table.slots) (length slirp.flows.flows.table.slots))
+  rise_listeners = by (fits_peer slirp.flows.flows)
     where
       by : (b : Bool) → DoRise (if b then sockets_over Tcp slirp.forwards else [])
       by true = subst (λ l. DoRise (sockets_over Tcp l)) (sym holds.forwards) (rise_given Tcp config.forwards 0)

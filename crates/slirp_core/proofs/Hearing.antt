@@ -264,7 +264,7 @@ module _ (config : Config) (at : Standing) (slirp : SlirpState) (kept : Kept) (l
             (record {
               holds = holds_quiet number_of mac_of (Following config slirp.moment) (Following config slirp.moment) config new.flows past e false
                   (Some (CallConnect (next_number past) to)) refl (omega arith) refl (λ p story follows. follows) due_is.holds;
-              asked = asked_then config past (e ∷ past) new.flows.slots new.flows.slots refl (λ guest. refl) (λ k q here. (q, k, here, refl, omega arith)) due_is.asked;
+              asked = asked_then config past (e ∷ past) new.flows.slots new.flows.slots refl (λ guest. refl) (λ k q here. (q, k, here, refl, omega arith, refl)) due_is.asked;
               settings = due_is.settings;
               lawful = (may, due_is.lawful);
               work = record {

@@ -12,7 +12,7 @@ use Rattle.host_policy.specs.declared.Forward.{Forward}
 use Rattle.host_policy.specs.declared.Proto.{Proto}
 use Rattle.host_policy.specs.declared.Proto.TheVariants.{Tcp, Udp}
 use Rattle.port_forward.specs.Opened.{Opened}
-use Rattle.flows_follow.specs.Seats.{in_use_slots}
+use Rattle.flows_follow.specs.Peers.{fits_peer}
 use Rattle.run_laws.specs.Moments.{waits}
 use Rattle.run_laws.specs.Sockets.{is_among}
 use Rattle.slirp_laws.specs.Laws.{takes_peers}
@@ -75,7 +75,7 @@ module _ (config : Config) (at : Standing) (slirp : SlirpState) (f : Flowing) (l
       ∙ ap is_some (sym (guest_given config n)) ∙ ap (λ (l : List Opened). is_some (guest_on l n)) (sym holds.forwards))
 
   pub awaits_who_is_taken : f.kept ≡ slirp.flows → (n : ℕ) → takes_peers config past n ≡ is_awaited n slirp
-  awaits_who_is_taken same_flows n = listeners_are config at slirp f link past holds same_flows n ∙ by (nat_lt (in_use_slots slirp.flows.flows.table.slots) (length slirp.flows.flows.table.slots))
+  awaits_who_is_taken same_flows n = listeners_are config at slirp f link past holds same_flows n ∙ by (fits_peer slirp.flows.flows)
     where
       by : (b : Bool) → is_among n (if b then sockets_over Tcp slirp.forwards else []) ≡ (b && option_map_or (is_over Tcp) (slice_get slirp.forwards n) false)
       by true =

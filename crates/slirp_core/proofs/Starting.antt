@@ -152,7 +152,7 @@ nothing_holds config now = record {
 unused_holds : (config : Config) (kept : Kept) (now : ℕ) → IsUnused config kept → OfFlows config (flowing false kept) now []
 unused_holds config kept now unused = record {
   holds = subst (λ s. CoreHolds config now false None s []) (sym unused.flows) (nothing_holds config now);
-  asked = record { asks = λ n. 0; few = λ n. omega arith; own = λ k p at. omega arith; counted = λ guest. omega arith };
+  asked = record { asks = λ n. 0; few = λ n. omega arith; began = λ k p at. absurd (all_is_free config kept unused k p at); own = λ k p at. omega arith; counted = λ guest. omega arith };
   settings = unused.settings;
   unit = unused.unit;
 }

@@ -17,7 +17,7 @@ use Rattle.flow_laws.specs.Event.{Accepts}
 use Rattle.flow_laws.specs.Flow.{first_number}
 use Rattle.record_flows.specs.Book.{book, doom, is_refused, opens, port_by, port_of, quiet, scene, tuple_for, visits_for}
 use Rattle.record_flows.specs.Doings.{Nothing, doing}
-use Rattle.record_flows.specs.Flows.{Book, flow_of, is_it, is_used, used}
+use Rattle.record_flows.specs.Flows.{Book, flow_of, has_room_for_peer, is_it, is_used}
 use Rattle.host_policy.specs.Targets.{is_hidden, shown}
 use Rattle.world_face.specs.Tells.{Answers, Brings, Telling}
 use Rattle.world_face.proofs.Telling.{brings_one}
@@ -28,7 +28,8 @@ use Rattle.run_laws.specs.Shape.{is_ended, is_over, is_working}
 use Rattle.host_policy.specs.declared.Proto.TheVariants.{Tcp}
 use Rattle.dns_relay.specs.Questions.{numbers as question_numbers, without as question_without}
 use Rattle.run_laws.specs.Sockets.{Flow as OfFlow, Listener as OfListener, is_among, is_association, is_listener, kind_of, next_number, number_for_peer, open_sockets, with_peer}
-use Rattle.flows_follow.specs.Seats.{in_use_slots}
+use Rattle.flows_follow.specs.Peers.{fits_peer}
+use Rattle.flows_follow.proofs.Peers.{room_recorded}
 use Rattle.slirp_laws.specs.Agenda.{agenda, all_wanted, is_to_read, wanted_of}
 use Rattle.slirp_laws.specs.Errands.{errand_left}
 use Rattle.slirp_laws.specs.Laws.{May, carries, is_least, may_leave, may_part, parts, takes_peers}
@@ -85,7 +86,7 @@ kinds_visited listener number answer past kinds n among = by (number == n) refl
 module _ (config : Config) (count : ℕ) (wants : List Want) (item : Want) (items : List Want) (listener : ℕ)
     (reads_it : is_to_read (AListener listener) (wanted_of wants item) ≡ true) (slirp : SlirpState) (link : LinkState) (past : List Entry)
     (holds : Holds config (standing count wants (item ∷ items)) slirp (flowing false slirp.flows) link past) (is_open : (listener < length config.forwards) ×
-    (kind_of listener past ≡ Some OfListener)) (room : in_use_slots slirp.flows.flows.table.slots < length slirp.flows.flows.table.slots) where
+    (kind_of listener past ≡ Some OfListener)) (room : fits_peer slirp.flows.flows ≡ true) where
   -- something was reported, so the first wait has been
   turn : InTurn config past
   turn = by holds.stands
@@ -103,9 +104,9 @@ module _ (config : Config) (count : ℕ) (wants : List Want) (item : Want) (item
 
   takes : takes_peers config past listener ≡ true
   takes =
-      and_both (is_among listener (open_sockets past) && is_listener (kind_of listener past)) (nat_lt (used (book config past).flows) config.flows)
+      and_both (is_among listener (open_sockets past) && is_listener (kind_of listener past)) (has_room_for_peer config.flows (book config past).flows)
       (and_both (is_among listener (open_sockets past)) (is_listener (kind_of listener past)) (has.stay holds.open_yet listener is_open.0) (ap is_listener is_open.1))
-      (let counted = holds.flows.holds.seats.counted in let slots = holds.flows.holds.slots in grind (arith, nat_tests, counted, slots, room))
+      (room_recorded config slirp.moment false None slirp.flows.flows past holds.flows.holds holds.flows.asked ∙ room)
 
   may_accept : May config past (CallAccept listener slirp.number)
   may_accept = accepts config past listener slirp.number
@@ -311,7 +312,7 @@ at_given (x ∷ fs) n (suc k) f number at = let more = at_given fs (n + 1) k f n
 
 module _ (config : Config) (count : ℕ) (wants : List Want) (item : Want) (items : List Want) (listener : ℕ)
     (reads_it : is_to_read (AListener listener) (wanted_of wants item) ≡ true) (slirp : SlirpState) (link : LinkState) (past : List Entry)
-    (holds : Holds config (standing count wants (item ∷ items)) slirp (flowing false slirp.flows) link past) (room : in_use_slots slirp.flows.flows.table.slots < length slirp.flows.flows.table.slots)
+    (holds : Holds config (standing count wants (item ∷ items)) slirp (flowing false slirp.flows) link past) (room : fits_peer slirp.flows.flows ≡ true)
     (forward : Forward) (number : ℕ) (at : slice_get slirp.forwards listener ≡ Some (forward, number)) (tcp : forward.proto ≡ Tcp) where
   place : (slice_get config.forwards listener ≡ Some forward) × (listener < length config.forwards)
   place = at_given config.forwards 0 listener forward number (sym (ap (λ l. slice_get l listener) holds.forwards) ∙ at)
@@ -372,7 +373,7 @@ module _ (config : Config) (count : ℕ) (wants : List Want) (item : Want) (item
 -- nobody came, or the host failed: nothing is left of the report
 pub passed_by : (a b : Telling) (config : Config) (count : ℕ) (wants : List Want) (item : Want) (items : List Want) (listener : ℕ) → is_to_read (AListener listener)
     (wanted_of wants item) ≡ true → (slirp : SlirpState) (link : LinkState)
-    → in_use_slots slirp.flows.flows.table.slots < length slirp.flows.flows.table.slots → (forward : Forward) (number : ℕ) → slice_get slirp.forwards listener ≡ Some
+    → fits_peer slirp.flows.flows ≡ true → (forward : Forward) (number : ℕ) → slice_get slirp.forwards listener ≡ Some
     (forward, number) → forward.proto ≡ Tcp
     → (answer : Accepted) → (answer ≡ NotYetAccepted) ⊎ (answer ≡ AcceptFailed) → Answers a b (Accept listener slirp.number answer)
     → Brings a b (Holds config (standing count wants (item ∷ items)) slirp (flowing false slirp.flows) link)

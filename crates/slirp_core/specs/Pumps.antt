@@ -12,7 +12,7 @@ use Rattle.dns_relay.specs.declared.Question.{Question}
 use Rattle.host_policy.specs.declared.Proto.TheVariants.{Tcp as OverTcp, Udp as OverUdp}
 use Rattle.stream_netdev.specs.declared.Offered.{Offered}
 use Rattle.stream_netdev.specs.declared.Offered.TheVariants.{Taken, Blocked as OfferBlocked, Failed as OfferFailed}
-use Rattle.flows_follow.specs.Seats.{in_use_slots}
+use Rattle.flows_follow.specs.Peers.{fits_peer}
 use Rattle.tcp_flows.specs.Reading.{AreWantsOf}
 use Rattle.waiting_flows.specs.Wants.{link_want, listener_want, socket_wants}
 use Rattle.slirp_core.specs.Forwards.{sockets_over}
@@ -29,9 +29,9 @@ keep OfferFailed pending = pending
 abbrev pub is_settled : SlirpState → LinkState → Bool
 is_settled slirp link = (length link.tail == 0) && not (nat_lt 0 (length slirp.pending))
 
--- the listeners that are waited for, as there is room for a flow more or not
+-- the listeners that are waited for, as there is room for the flow of a peer more or not
 abbrev pub listeners_of : SlirpState → List ℕ
-listeners_of slirp = if nat_lt (in_use_slots slirp.flows.flows.table.slots) (length slirp.flows.flows.table.slots) then sockets_over OverTcp slirp.forwards else []
+listeners_of slirp = if fits_peer slirp.flows.flows then sockets_over OverTcp slirp.forwards else []
 
 -- two rows of numbers that rise, as one
 abbrev pub into : ℕ → (List ℕ → List ℕ) → List ℕ → List ℕ

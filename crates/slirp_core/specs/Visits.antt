@@ -1,12 +1,12 @@
 -- What becomes of a peer whose connection was accepted for a guest.
-use Rattle.std.specs.Prelude.{◌≡◌, ℕ, ◌++◌, ◌&&◌, nat_lt, Bool, true, false, List, [], ◌∷◌, length, slice_get, if◌then◌else◌}
+use Rattle.std.specs.Prelude.{◌≡◌, ℕ, ◌++◌, ◌&&◌, Bool, true, false, List, [], ◌∷◌, slice_get, if◌then◌else◌}
 use Rattle.std.specs.Option.{option_map_or}
 use Rattle.net_octets.specs.declared.Endpoint.{Endpoint}
 use Rattle.arp_table.specs.Table.{mac_of as learnt_for}
 use Rattle.world_face.specs.Journal.{Accept, Close, Entry}
 use Rattle.world_face.specs.declared.Accepted.{Accepted}
 use Rattle.host_policy.specs.declared.Proto.TheVariants.{Tcp}
-use Rattle.flows_follow.specs.Seats.{in_use_slots}
+use Rattle.flows_follow.specs.Peers.{fits_peer}
 use Rattle.record_flows.specs.Book.{tuple_for}
 use Rattle.tcp_flows.specs.Runs.{Welcomes}
 use Rattle.slirp_core.specs.Forwards.{is_over}
@@ -21,10 +21,9 @@ Treats true guest peer old new made = (made ≡ Close old.number ∷ []) × (new
 abbrev pub ClosesOne : ℕ → List Entry → Type 0
 ClosesOne number made = (closed : Bool) × (made ≡ (if closed then Close number ∷ [] else []))
 
--- there is room for a flow more, and peers come to the port of the host at this place
+-- there is room for the flow of a peer more, and peers come to the port of the host at this place
 abbrev pub is_awaited : ℕ → SlirpState → Bool
-is_awaited place slirp =
-    nat_lt (in_use_slots slirp.flows.flows.table.slots) (length slirp.flows.flows.table.slots) && option_map_or (is_over Tcp) (slice_get slirp.forwards place) false
+is_awaited place slirp = fits_peer slirp.flows.flows && option_map_or (is_over Tcp) (slice_get slirp.forwards place) false
 
 -- a peer is asked for there as this socket, once; it is closed at once where the peer may not come in
 abbrev pub AsksForPeer : (listener number : ℕ) → List Entry → Type 0

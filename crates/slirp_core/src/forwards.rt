@@ -71,7 +71,7 @@ impl Slirp {
             .is_ok()
     }
 
-    /// A peer is taken that came to a port of the host, where there is one and room for a flow more: its flow begins, with the next number, and calls the guest.
+    /// A peer is taken that came to a port of the host, where there is one and room for its flow: that begins, with the next number, and calls the guest.
     /// One that would pass for a guest, or whose two ends are in use, is refused: its socket is closed at once.
     pub fn accept<W: World>(&mut self, world: &mut W, listener: u64)
         requires number { self.old.number + 1 < 2 ^ 64 }
@@ -89,7 +89,7 @@ impl Slirp {
         ensures marks { KeepsMarks self.old.number self.old.flows self.new.flows }
         ensures others { self.new ≡ record self.old { number = self.new.number; flows = self.new.flows } }
     {
-        if !self.flows.has_room() {
+        if !self.flows.has_room_for_peer() {
             return;
         }
         let Some((forward, _)) = self.forwards.at(listener as usize) else {

@@ -233,7 +233,7 @@ impl Slirp {
 
     /// What the network waits for, and how long at most: the link for reading, and each open socket of datagrams, where nothing is left to be sent: those of
     /// ports of the host, then those of associations and questions, by rising number; the link for writing where it is blocked; each port of the host to which
-    /// peers connect exactly where there is room for a flow more; what flows wait for, by rising number; until the idle life of the longest unused socket is
+    /// peers connect exactly where there is room for the flow of a peer more; what flows wait for, by rising number; until the idle life of the longest unused socket is
     /// over, the longest unused question has waited for long enough, the first fragments are dropped, a flow is to be told the time, or a packet of a file is
     /// due to go again.
     pub fn pollfds_fill(&self, link: &Link, wants: &mut TurnWants) -> Option<u64>
@@ -267,12 +267,12 @@ impl Slirp {
         sooner(unless_files, self.time_of_files())
     }
 
-    // The ports of the host for which peers are waited for: all to which they connect where there is room for a flow more, else none.
+    // The ports of the host for which peers are waited for: all to which they connect where there is room for the flow of a peer more, else none.
     fn listeners(&self) -> &[u64]
         ensures items { result.now ≡ listeners_of self.now }
         ensures few { length result.now ≤ length (sockets_over Tcp self.now.forwards) }
     {
-        if self.flows.has_room() {
+        if self.flows.has_room_for_peer() {
             self.ports_over(Proto::Tcp)
         } else {
             &[]

@@ -157,7 +157,7 @@ module _ (config : Config) (past : List Entry) where
       gathered config past (CallListen socket at) tt (this_one config past (CallListen socket at) is) (some_due config past (CallListen socket at) is) next refl refl
       (on_yet open_yet) (untouched config past (CallListen socket at) nothing tt tt)
 
-  -- a peer is taken where the last wait reported the port, while there is room for a flow more
+  -- a peer is taken where the last wait reported the port, while there is room for the flow of one more
   pub accepts : (listener socket : ℕ) → due config past ≡ None → NoneMustClose config past → is_working (phase config past) ≡ true → takes_peers config past listener ≡ true →
       (socket == next_number past) ≡ true → reads (AListener listener) (agenda past) ≡ true
       → is_closing config past ≡ false → May config past (CallAccept listener socket)

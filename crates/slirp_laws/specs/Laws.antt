@@ -15,7 +15,7 @@ use Rattle.run_laws.specs.Sockets.{Kind, Association, DnsSocket, Flow, is_among,
 use Rattle.flow_laws.specs.Guest.{is_empty}
 use Rattle.flow_laws.specs.Close.{is_done, host_failed, finds_no_guest, follows_reset, gives_up, connects_too_long, newest_rst}
 use Rattle.record_flows.specs.Book.{book, scene}
-use Rattle.record_flows.specs.Flows.{Flow as AFlow, Book, Scene, comes_directly, flow_of, guest_is_known, is_it, used}
+use Rattle.record_flows.specs.Flows.{Flow as AFlow, Book, Scene, comes_directly, flow_of, guest_is_known, has_room_for_peer, is_it}
 use Rattle.record_flows.specs.Laws.{MayFlow}
 use Rattle.record_flows.specs.Lots.{due_for_flows}
 use Rattle.slirp_laws.specs.Agenda.{agenda}
@@ -126,12 +126,12 @@ is_for_datagrams kind = is_association kind || is_forward kind
 abbrev pub relays : List Entry → ℕ → Bool
 relays past socket = is_among socket (open_sockets past) && is_for_datagrams (kind_of socket past)
 
--- an open connection; a port of the host that is given to a guest, while there is room for a flow more
+-- an open connection; a port of the host that is given to a guest, while there is room for the flow of a peer
 abbrev pub joins : List Entry → ℕ → Bool
 joins past socket = is_among socket (open_sockets past) && is_flow (kind_of socket past)
 
 abbrev pub takes_peers : Config → List Entry → ℕ → Bool
-takes_peers config past listener = is_among listener (open_sockets past) && is_listener (kind_of listener past) && nat_lt (used (book config past).flows) config.flows
+takes_peers config past listener = is_among listener (open_sockets past) && is_listener (kind_of listener past) && has_room_for_peer config.flows (book config past).flows
 
 -- Numbers of sockets are drawn upward; calls on sockets are on such as are open, and of their kind.
 abbrev pub has_socket : Config → List Entry → Call → Bool

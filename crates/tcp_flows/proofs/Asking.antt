@@ -29,9 +29,10 @@ use Rattle.slirp_laws.specs.Answers.{left}
 use Rattle.slirp_laws.specs.Sending.{accepted_for, requests, requests_by, times}
 use Rattle.slirp_laws.proofs.Bools.{turned as swapped}
 use Rattle.flow_splice.specs.Splice.{Splice}
-use Rattle.flows_follow.specs.Asked.{AreAsked, accepted_numbers, sum_of}
+use Rattle.flows_follow.specs.Asked.{AreAsked, accepted_numbers, sum_of, was_accepted}
 use Rattle.flows_follow.specs.Core.{number_of}
 use Rattle.flows_follow.proofs.Options.{none_some}
+use Rattle.flows_follow.proofs.Requests.{ComeFrom, accepted_same}
 
 -- ---- what was asked for
 
@@ -199,11 +200,14 @@ module _ (guest : ℕ) where
 -- Each part has an old part's number and asked no less; nothing more was asked for, and the same flows were accepted.
 pub asked_then : (config : Config) (past later : List Entry) (parts new : List (Option Splice)) → requests config later ≡ requests config past
     → ((guest : ℕ) → accepted_numbers guest (book config later).flows ≡ accepted_numbers guest (book config past).flows)
-    → ((k : ℕ) (q : Splice) → slice_get new k ≡ Some (Some q) → (p : Splice) × (j : ℕ) × (slice_get parts j ≡ Some (Some p)) × (number_of q ≡ number_of p) × (p.asked ≤ q.asked))
+    → ComeFrom parts new
     → AreAsked config parts past → AreAsked config new later
 asked_then config past later parts new silent same from a = record {
   asks = a.asks;
   few = a.few;
+  began = λ k q here. let old = from k q here in
+      old.5 ∙ a.began old.1 old.0 old.2 ∙ ap (λ n. was_accepted n (book config past).flows) (sym old.3)
+      ∙ sym (accepted_same (book config later).flows (book config past).flows same (number_of q));
   own = λ k q here. let old = from k q here in let own = a.own old.1 old.0 old.2 in let more = old.4 in let number = ap a.asks old.3 in omega (arith, own, more, number);
   counted = λ guest. subst (λ ns. times guest (requests config later) ≤ sum_of a.asks ns) (sym (same guest))
       (subst (λ l. times guest l ≤ sum_of a.asks (accepted_numbers guest (book config past).flows)) (sym silent) (a.counted guest));
@@ -211,20 +215,19 @@ asked_then config past later parts new silent same from a = record {
 
 -- By calls on a flow's socket.
 pub asked_by_calls : (config : Config) (number : ℕ) (past made : List Entry) (parts new : List (Option Splice)) → AreOf config number past made → has_frame made ≡ false
-    → ((k : ℕ) (q : Splice) → slice_get new k ≡ Some (Some q) → (p : Splice) × (j : ℕ) × (slice_get parts j ≡ Some (Some p)) × (number_of q ≡ number_of p) × (p.asked ≤ q.asked))
+    → ComeFrom parts new
     → AreAsked config parts past → AreAsked config new (made ++ past)
 asked_by_calls config number past made parts new of none from =
     asked_then config past (made ++ past) parts new (requests_stay config past made none) (λ guest. numbers_stay guest config number past made of) from
 
 -- the flow of one slot has changed, and asked no less
 pub asked_from : (parts : List (Option Splice)) (k : ℕ) (p : Splice) (x : Option Splice) → slice_get parts k ≡ Some (Some p) →
-    ((q : Splice) → x ≡ Some q → (number_of q ≡ number_of p) × (p.asked ≤ q.asked))
-    → (j : ℕ) (q : Splice) → slice_get (set parts k x) j ≡ Some (Some q) → (r : Splice) × (i : ℕ) × (slice_get parts i ≡ Some (Some r)) × (number_of q ≡ number_of r) × (r.asked ≤ q.asked)
+    ((q : Splice) → x ≡ Some q → (number_of q ≡ number_of p) × (p.asked ≤ q.asked) × (q.accepted ≡ p.accepted)) → ComeFrom parts (set parts k x)
 asked_from parts k p x at one j q here = elim (same_or_not j k) [
   | inl at_k ↦
       let is = one q (sym (get_set_same parts k (Some p) x (Some q) at (subst (λ i. slice_get (set parts k x) i ≡ Some (Some q)) at_k here))) in
-      (p, k, at, is.0, is.1)
-  | inr other ↦ (q, j, sym (get_set_other parts k j x (differ j k other)) ∙ here, refl, omega arith)
+      (p, k, at, is.0, is.1, is.2)
+  | inr other ↦ (q, j, sym (get_set_other parts k j x (differ j k other)) ∙ here, refl, omega arith, refl)
 ]
 
 -- ---- a flow begins

@@ -111,7 +111,7 @@ some_is m is = ap is_some is
 
 -- it goes on as it will
 pub learnt_moves : (p : Splice) (m : Option Mac) → Moves false p (learnt p m)
-learnt_moves p m = record { face = refl; shut = λ was. was; place = stays p.place }
+learnt_moves p m = record { face = refl; accepted = refl; shut = λ was. was; place = stays p.place }
   where
     stays : (x : Place) → MovesAt false x x
     stays Empty = refl
@@ -235,7 +235,7 @@ module _ (guests : List (Ip4 × Mac)) (table : Flows) (parts : List Splice) (ope
     holds = subst (λ s. CoreHolds config now aged None s past) (sym new_is) (by (learnt_for p.face.guest.addr guests) refl);
     asked = subst (λ (s : FlowsState Splice). AreAsked config s.slots past) (sym new_is)
         (asked_then config past past (map part_of parts) (map part_of (set parts k q)) refl (λ guest. refl) (kept_asked parts k p q at some (ap number_of q_is)
-        (let same = ap (λ (x : Splice). x.asked) q_is in omega (arith, same)))
+        (let same = ap (λ (x : Splice). x.asked) q_is in omega (arith, same)) (ap (λ (x : Splice). x.accepted) q_is))
         (subst (λ (s : FlowsState Splice). AreAsked config s.slots past) old_is between.asked));
     settings = settings config between.settings;
     lawful = between.lawful;

@@ -24,6 +24,7 @@ use Rattle.flow_splice.specs.declared.Place.TheVariants.{Empty}
 use Rattle.flows_follow.specs.Asked.{AreAsked, accepted_numbers}
 use Rattle.flows_follow.specs.Core.{number_of}
 use Rattle.flows_follow.proofs.ReadBack.{asks_none, four_off}
+use Rattle.flows_follow.proofs.Requests.{ComeFrom}
 use Rattle.tcp_flows.specs.Kept.{part_of}
 use Rattle.tcp_flows.proofs.Asking.{asked_from, asked_then, has_frame, is_frame, told_numbers}
 use Rattle.tcp_flows.proofs.Keeping.{part_back}
@@ -111,11 +112,10 @@ none_closed (_ ∷ made) is = absurd cc
 
 -- each part has its number then, and asked no less
 pub kept_asked : (parts : List Splice) (k : ℕ) (p q : Splice) → slice_get parts k ≡ Some p → (p.place ≡ Empty → ⊥) → number_of q ≡ number_of p → p.asked ≤ q.asked
-    → (j : ℕ) (r : Splice) → slice_get (map part_of (set parts k q)) j ≡ Some (Some r) → (s : Splice) × (i : ℕ) × (slice_get (map part_of parts) i ≡ Some (Some s)) ×
-    (number_of r ≡ number_of s) × (s.asked ≤ r.asked)
-kept_asked parts k p q at some number more j r here =
+    → q.accepted ≡ p.accepted → ComeFrom (map part_of parts) (map part_of (set parts k q))
+kept_asked parts k p q at some number more kind j r here =
     asked_from (map part_of parts) k p (part_of q) (get_map part_of parts k p at ∙ ap Some (part_is p some))
-    (λ s is. let one = part_back q.place q s is in (ap number_of (sym one) ∙ number, subst (λ (x : Splice). p.asked ≤ x.asked) one more)) j r
+    (λ s is. let one = part_back q.place q s is in (ap number_of (sym one) ∙ number, subst (λ (x : Splice). p.asked ≤ x.asked) one more, ap (λ (x : Splice). x.accepted) (sym one) ∙ kind)) j r
     (ap (λ (l : List (Option Splice)). slice_get l j) (sym (map-set part_of parts k q)) ∙ here)
 
 -- ---- a segment came
@@ -140,7 +140,7 @@ came_asked config e past on comes parts =
     asked_then config past (e ∷ past) parts parts (came_silent config e past on comes)
     (λ guest.
     ap (λ (d : Doing). accepted_numbers guest (turned config (scene config past) d (book config past)).flows) comes
-    ∙ told_numbers guest (is_on on.tuple) (with_event (scene config past).moment (Arrives on.segment)) (λ f. refl) (λ f. refl) (book config past).flows) (λ k q here. (q, k, here, refl, omega arith))
+    ∙ told_numbers guest (is_on on.tuple) (with_event (scene config past).moment (Arrives on.segment)) (λ f. refl) (λ f. refl) (book config past).flows) (λ k q here. (q, k, here, refl, omega arith, refl))
 
 -- ---- segments go out
 

@@ -7,7 +7,7 @@ use Rattle.poll_list.specs.declared.Who.TheVariants.{Link, Listener, Udp}
 abbrev pub link_want : Bool → Bool → List Want
 link_want read write = if read || write then record { of = Link; read = read; write = write } ∷ [] else []
 
--- then the ports of the host to which peers connect, where there is room for a flow more
+-- then the ports of the host to which peers connect, where there is room for the flow of one more
 abbrev pub listener_want : ℕ → Want
 listener_want number = record { of = Listener number; read = true; write = false }
 

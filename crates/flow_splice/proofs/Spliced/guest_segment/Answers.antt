@@ -35,7 +35,7 @@ returns-in_default g c =
     record {
       makes = makes_none _ _ (hears_nothing f c.args.now tcp (sym c.is_open.ensures ∙ c.if-is_open.false) (λ since at. c.in_default.not-Resting since (c.place.ensures ∙ at)), refl);
       unfit = sym (ap (λ (b : Bool). b && is_unfit (change_at f.conn f.up f.down tcp c.args.now)) (sym c.is_open.ensures ∙ c.if-is_open.false));
-      stays = record { same = record { face = refl; mac = refl; since = refl; asked = refl; ask_at = refl; up_size = refl; down_size = refl; mru = refl }; up = refl; down = refl };
+      stays = record { same = record { face = refl; mac = refl; since = refl; accepted = refl; asked = refl; ask_at = refl; up_size = refl; down_size = refl; mru = refl }; up = refl; down = refl };
       rests = λ since at. absurd (c.in_default.not-Resting since (c.place.ensures ∙ at));
       closed = λ shut awake. refl;
       quiet = λ shut. refl;

@@ -16,7 +16,7 @@ loop-what-init g c = record {
   tail = c.requires.none;
   free = c.requires.free;
   stays = record {
-    same = record { face = refl; mac = refl; since = refl; asked = refl; ask_at = refl; up_size = refl; down_size = refl; mru = refl };
+    same = record { face = refl; mac = refl; since = refl; accepted = refl; asked = refl; ask_at = refl; up_size = refl; down_size = refl; mru = refl };
     up = refl;
     down = refl;
   };

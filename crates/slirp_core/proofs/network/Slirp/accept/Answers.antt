@@ -11,7 +11,9 @@ use Rattle.world_face.specs.declared.Accepted.TheVariants.{From}
 use Rattle.world_face.specs.Tells.{Answers, Brings}
 use Rattle.world_face.proofs.Telling.{brings_none, makes_one, makes_then}
 use Rattle.host_policy.specs.Addresses.{Config}
+use Rattle.flows_follow.specs.Peers.{fits_peer, peer_slots}
 use Rattle.flows_follow.specs.Seats.{in_use_slots}
+use Rattle.record_flows.specs.Flows.{most_for_peers}
 use Rattle.record_flows.specs.Book.{book, is_refused}
 use Rattle.flows_follow.specs.Core.{CoreHolds}
 use Rattle.run_duties.specs.Serving.{is_left_to_read}
@@ -35,15 +37,15 @@ none_there : (a b : Bool) → b ≡ false → (a && b) ≡ false
 none_there true b is = is
 none_there false b is = refl
 
-pub returns-then-not-has_room-clause-makes : goal.returns-then-not-has_room-clause-makes
-returns-then-not-has_room-clause-makes g c config count wants item items link reads_it =
-    let full = c.if-not-has_room.ensures in
+pub returns-then-not-has_room_for_peer-clause-makes : goal.returns-then-not-has_room_for_peer-clause-makes
+returns-then-not-has_room_for_peer-clause-makes g c config count wants item items link reads_it =
+    let full = c.if-not-has_room_for_peer.ensures.room in
     brings_none (λ past holds. (
       passes_over config count wants item items c.args.self.now (flowing false c.args.self.now.flows) link past holds,
       unawaited_is_unread config (standing count wants (item ∷ items)) c.args.self.now (flowing false c.args.self.now.flows) link past holds refl c.args.listener
-          (no_room (nat_lt (in_use_slots c.args.self.now.flows.flows.table.slots) (length c.args.self.now.flows.flows.table.slots))
+          (no_room (fits_peer c.args.self.now.flows.flows)
           (option_map_or (is_over Tcp) (slice_get c.args.self.now.forwards c.args.listener) false)
-          (subst (λ (s : SlirpState). nat_lt (in_use_slots s.flows.flows.table.slots) (length s.flows.flows.table.slots) ≡ false) c.self.view_is (sym full))),
+          (subst (λ (s : SlirpState). fits_peer s.flows.flows ≡ false) c.self.view_is (sym full))),
     ))
 
 pub returns-in_default-clause-makes : goal.returns-in_default-clause-makes
@@ -52,9 +54,23 @@ returns-in_default-clause-makes g c config count wants item items link reads_it 
     brings_none (λ past holds. (
       passes_over config count wants item items c.args.self.now (flowing false c.args.self.now.flows) link past holds,
       unawaited_is_unread config (standing count wants (item ∷ items)) c.args.self.now (flowing false c.args.self.now.flows) link past holds refl c.args.listener
-          (none_there (nat_lt (in_use_slots c.args.self.now.flows.flows.table.slots) (length c.args.self.now.flows.flows.table.slots))
+          (none_there (fits_peer c.args.self.now.flows.flows)
           (option_map_or (is_over Tcp) (slice_get c.args.self.now.forwards c.args.listener) false) (ap (λ o. option_map_or (is_over Tcp) o false) none)),
     ))
+
+-- where a peer's flow fits not every slot is in use
+not_full : (a b : ℕ) (c : Bool) → (nat_lt a b && c) ≡ true → a < b
+not_full a b c is = by (nat_lt a b) refl is
+  where
+    by : (t : Bool) → nat_lt a b ≡ t → (t && c) ≡ true → a < b
+    by true less both = grind (arith, nat_tests, less)
+    by false none both = cc
+
+pub welcome-requires-clause-room : goal.welcome-requires-clause-room
+welcome-requires-clause-room g c =
+    let state = c.self.inside.flows.flows in
+    not_full (in_use_slots state.table.slots) (length state.table.slots) (nat_lt (peer_slots state.table.slots state.slots) (most_for_peers (length state.table.slots)))
+    (sym c.if-not-has_room_for_peer.ensures.room)
 
 pub returns-in-NotYet : goal.returns-in-NotYet
 returns-in-NotYet g c =
@@ -74,8 +90,8 @@ returns-in-NotYet g c =
       forwards = i.forwards;
       transfers = i.files.transfers;
     } in
-    let room_is = c.if-not-has_room.ensures in
-    let room : in_use_slots i.flows.flows.table.slots < length i.flows.flows.table.slots = grind (arith, nat_tests, room_is) in
+    let room_is = c.if-not-has_room_for_peer.ensures.room in
+    let room : fits_peer i.flows.flows ≡ true = sym room_is in
     record {
       makes = λ config count wants item items link reads_it.
           subst (λ (s : SlirpState). Brings (g.W.World.tells c.args.world.now) (g.W.World.tells c.accept.new.self) (Holds config (standing count wants (item ∷ items)) s (flowing false s.flows) link)
@@ -100,8 +116,8 @@ HasTreated k guest peer old new made =
 pub returns-in-From-clause-makes : goal.returns-in-From-clause-makes
 returns-in-From-clause-makes g c config count wants item items link reads_it =
     let slirp = c.args.self.now in
-    let room_is = c.if-not-has_room.ensures in
-    let room : in_use_slots c.self.inside.flows.flows.table.slots < length c.self.inside.flows.flows.table.slots = grind (arith, nat_tests, room_is) in
+    let room_is = c.if-not-has_room_for_peer.ensures.room in
+    let room : fits_peer c.self.inside.flows.flows ≡ true = sym room_is in
     let forward = c.in-Some.forward in
     let peer = c.in-From.peer in
     let new = c.welcome.new.self in
@@ -116,7 +132,7 @@ returns-in-From-clause-makes g c config count wants item items link reads_it =
     let then_is : Holds config (standing count wants items) new (flowing false new.flows) link (es ++ past) =
     subst (λ l. Holds config (standing count wants items) new (flowing false new.flows) link (l ++ past)) (sym is)
     (treated config count wants item items c.args.listener reads_it slirp link past holds
-    (subst (λ (s : SlirpState). in_use_slots s.flows.flows.table.slots < length s.flows.flows.table.slots) c.self.view_is room)
+    (subst (λ (s : SlirpState). fits_peer s.flows.flows ≡ true) c.self.view_is room)
     forward c.in-Some.field-0-1 (subst (λ (s : SlirpState). slice_get s.forwards c.args.listener ≡ Some (forward, c.in-Some.field-0-1)) c.self.view_is
     (sym c.at.ensures ∙ c.in-Some.is)) c.in-Tcp.is peer new made (subst AreAllowed is allowed) c.welcome.ensures.others
     (treats config slirp.moment false past holds.flows.holds holds.guests.settings)) in (
@@ -136,22 +152,22 @@ returns-in-Udp-clause-makes g c config count wants item items link reads_it =
     brings_none (λ past holds. (
       passes_over config count wants item items c.args.self.now (flowing false c.args.self.now.flows) link past holds,
       unawaited_is_unread config (standing count wants (item ∷ items)) c.args.self.now (flowing false c.args.self.now.flows) link past holds refl c.args.listener
-          (none_there (nat_lt (in_use_slots c.args.self.now.flows.flows.table.slots) (length c.args.self.now.flows.flows.table.slots))
+          (none_there (fits_peer c.args.self.now.flows.flows)
           (option_map_or (is_over Tcp) (slice_get c.args.self.now.forwards c.args.listener) false) (ap (λ o. option_map_or (is_over Tcp) o false) some ∙ ap (same_proto Tcp) c.in-Udp.is)),
     ))
 
-pub returns-then-not-has_room-clause-asks : goal.returns-then-not-has_room-clause-asks
-returns-then-not-has_room-clause-asks g c awaited =
-    let full = c.if-not-has_room.ensures in
-    let never : false ≡ true = sym (no_room (nat_lt (in_use_slots c.args.self.now.flows.flows.table.slots) (length c.args.self.now.flows.flows.table.slots))
+pub returns-then-not-has_room_for_peer-clause-asks : goal.returns-then-not-has_room_for_peer-clause-asks
+returns-then-not-has_room_for_peer-clause-asks g c awaited =
+    let full = c.if-not-has_room_for_peer.ensures.room in
+    let never : false ≡ true = sym (no_room (fits_peer c.args.self.now.flows.flows)
     (option_map_or (is_over Tcp) (slice_get c.args.self.now.forwards c.args.listener) false)
-    (subst (λ (s : SlirpState). nat_lt (in_use_slots s.flows.flows.table.slots) (length s.flows.flows.table.slots) ≡ false) c.self.view_is (sym full))) ∙ awaited in
+    (subst (λ (s : SlirpState). fits_peer s.flows.flows ≡ false) c.self.view_is (sym full))) ∙ awaited in
     absurd cc
 
 pub returns-in_default-clause-asks : goal.returns-in_default-clause-asks
 returns-in_default-clause-asks g c awaited =
     let none = subst (λ (s : SlirpState). slice_get s.forwards c.args.listener ≡ None) c.self.view_is (sym c.at.ensures ∙ c.in_default.is) in
-    let never : false ≡ true = sym (none_there (nat_lt (in_use_slots c.args.self.now.flows.flows.table.slots) (length c.args.self.now.flows.flows.table.slots))
+    let never : false ≡ true = sym (none_there (fits_peer c.args.self.now.flows.flows)
     (option_map_or (is_over Tcp) (slice_get c.args.self.now.forwards c.args.listener) false)
     (ap (λ o. option_map_or (is_over Tcp) o false) none)) ∙ awaited in
     absurd cc
@@ -159,7 +175,7 @@ returns-in_default-clause-asks g c awaited =
 pub returns-in-Udp-clause-asks : goal.returns-in-Udp-clause-asks
 returns-in-Udp-clause-asks g c awaited =
     let some = subst (λ (s : SlirpState). slice_get s.forwards c.args.listener ≡ Some (c.in-Some.forward, c.in-Some.field-0-1)) c.self.view_is (sym c.at.ensures ∙ c.in-Some.is) in
-    let never : false ≡ true = sym (none_there (nat_lt (in_use_slots c.args.self.now.flows.flows.table.slots) (length c.args.self.now.flows.flows.table.slots))
+    let never : false ≡ true = sym (none_there (fits_peer c.args.self.now.flows.flows)
     (option_map_or (is_over Tcp) (slice_get c.args.self.now.forwards c.args.listener) false)
     (ap (λ o. option_map_or (is_over Tcp) o false) some ∙ ap (same_proto Tcp) c.in-Udp.is)) ∙ awaited in
     absurd cc
@@ -172,8 +188,8 @@ returns-in-From-clause-asks g c awaited =
     (Accept c.args.listener s.number (From c.in-From.peer))) c.self.view_is c.in-From.ensures) (λ allowed. refl)) c.welcome.ensures.closes
     (λ one more is (closed, closes). (From c.in-From.peer, closed, λ i. closes i ++ is i))
 
-pub returns-then-not-has_room-clause-marks : goal.returns-then-not-has_room-clause-marks
-returns-then-not-has_room-clause-marks g c = marks_same c.args.self.now.number c.args.self.now.flows
+pub returns-then-not-has_room_for_peer-clause-marks : goal.returns-then-not-has_room_for_peer-clause-marks
+returns-then-not-has_room_for_peer-clause-marks g c = marks_same c.args.self.now.number c.args.self.now.flows
 
 pub returns-in_default-clause-marks : goal.returns-in_default-clause-marks
 returns-in_default-clause-marks g c = marks_same c.args.self.now.number c.args.self.now.flows

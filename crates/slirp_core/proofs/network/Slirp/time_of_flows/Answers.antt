@@ -34,11 +34,13 @@ returns-clause-suits c =
     suits_due config i.moment c.args.blocked i.flows.flows.slots past (Some c.in_ok-due.due) (Some c.saturating_sub.result) (ap Some c.saturating_sub.ensures)
     (c.in_ok-due.ensures.for_some config before past holds)
     (c.in_ok-due.ensures.in_time config before true past holds) (c.in_ok-due.ensures.rests config before past holds) (c.in_ok-due.ensures.rests_later config before past holds)
-    (λ at is. let same : c.in_ok-due.due ≡ at = cc in subst (λ (m : ℕ). IsDue i.flows.flows.slots m × ((c.args.blocked && nat_le m i.moment) ≡ false)) same
-    (c.in_ok-due.ensures.due, elim c.else-blocked.branch [
-      | else-blocked-via-else-blocked w ↦ ap (λ (b : Bool). b && nat_le c.in_ok-due.due i.moment) w.if-blocked.false
-      | else-blocked-via-then-blocked+else-due-self w ↦ ap (λ (b : Bool). b && nat_le c.in_ok-due.due i.moment) w.if-blocked.true ∙ not_yet c.in_ok-due.due i.moment w.if-due-self.false
-    ])))
+    (λ at is. let same : c.in_ok-due.due ≡ at = cc in subst (λ (m : ℕ). IsDue i.flows.flows.slots m × ((c.args.blocked && nat_le m i.moment) ≡ false)) same (
+      c.in_ok-due.ensures.due,
+      elim c.else-blocked.branch [
+        | else-blocked-via-else-blocked w ↦ ap (λ (b : Bool). b && nat_le c.in_ok-due.due i.moment) w.if-blocked.false
+        | else-blocked-via-then-blocked+else-due-self w ↦ ap (λ (b : Bool). b && nat_le c.in_ok-due.due i.moment) w.if-blocked.true ∙ not_yet c.in_ok-due.due i.moment w.if-due-self.false
+      ],
+    )))
 
 -- where the link is blocked and the first is due already
 

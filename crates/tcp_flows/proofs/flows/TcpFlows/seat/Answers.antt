@@ -14,6 +14,7 @@ use Rattle.flow_splice.specs.Splice.{Splice, is_open}
 use Rattle.flows_follow.specs.Core.{ends_of, number_of}
 use Rattle.tcp_flows.specs.Kept.{IsFor, Kept, part_at, part_of, slot_of}
 use Rattle.tcp_flows.specs.Rows.{count, is_used}
+use Rattle.tcp_flows.specs.declared.rows.Used.{Used}
 use Rattle.tcp_flows.proofs.Joining.{begun_ours, begun_served, joins_are, none_taken, taken_unused}
 use Rattle.tcp_flows.proofs.Keeping.{flows_as, read_here, seen_open}
 use Rattle.tcp_flows.proofs.Looking.{used_counted}
@@ -85,7 +86,7 @@ pub begin-requires-clause-few : goal.begin-requires-clause-few
 begin-requires-clause-few c =
     let room = subst (λ (s : Kept). in_use_slots s.flows.table.slots < length s.flows.table.slots) (sym c.self.view_is) c.requires.room in
     let few = roomy c.self.inside.slots.items c.self.inside.rows.table.slots c.self.inside.rows.sockets.room c.self.invariant.0.slots_are c.self.invariant.1 room in
-    let used = c.self.invariant.0.used_are in
+    let used = ap (λ (u : Used). u.all) c.self.invariant.0.used_are in
     let count_is = c.self.invariant.1 in
     omega (arith, few, used, count_is, c.self.inside.slots.ok.0)
 
@@ -136,6 +137,7 @@ returns-clause-seat c =
           (length-map parts part_of ∙ sym (length-map parts slot_of) ∙ sym (ap (λ (l : List Slot). length l) c.self.invariant.0.slots_are));
       number_is = ap number_of begins;
       mac_is = ap (λ (x : Splice). x.mac) begins;
+      kind = ap (λ (x : Splice). x.accepted) begins;
       unasked = ap (λ (x : Splice). x.asked) begins;
       seated = flows_as (c.begin.ensures.table ∙ c.in-Some.ensures.taken) (set parts k q) (opened + 1)
           ∙ ap (λ l. record { table = with_slot table k (SlotInUse c.args.ends.now); slots = l; opened = opened + 1 })

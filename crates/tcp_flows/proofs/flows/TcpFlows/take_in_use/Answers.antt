@@ -52,6 +52,7 @@ follow-requires-clause-rows g c =
       r.place_is,
       r.open_is,
       used_moves o.0 q used (c.guest_segment-unfit.ensures.stays.same.face ∙ ap (λ (x : Splice). x.face) r.is)
+          (c.guest_segment-unfit.ensures.stays.same.accepted ∙ ap (λ (x : Splice). x.accepted) r.is)
           (λ shut. c.guest_segment-unfit.ensures.closed (ap is_open r.is ∙ shut) (used_awake c.index_mut-part.result.now (ap (λ (x : Splice). x.place) r.is ∙ used)) ∙ r.is),
       c.self.invariant.0,
     )
@@ -71,7 +72,7 @@ invariant_of-self g c =
     c.index_mut-part.ensures.value c.of-before.ensures.place c.of-before.ensures.open in
     let used = in_use_is o.0 o.2 in
     let as_old = subst (λ (x : Splice). IsAsOld x q) r.is c.guest_segment-unfit.ensures.stays.same in
-    let moves = used_moves o.0 q used as_old.face (λ shut. c.guest_segment-unfit.ensures.closed (ap is_open r.is ∙ shut)
+    let moves = used_moves o.0 q used as_old.face as_old.accepted (λ shut. c.guest_segment-unfit.ensures.closed (ap is_open r.is ∙ shut)
     (used_awake c.index_mut-part.result.now (ap (λ (x : Splice). x.place) r.is ∙ used)) ∙ r.is) in (
       c.follow.ensures.rows parts o.0 r.at r.place_is r.open_is moves c.self.invariant.0,
       c.follow.ensures.room ∙ c.self.invariant.1 ∙ sym (length-set parts c.args.slot q),
@@ -93,7 +94,7 @@ returns-clause-makes g c p here =
     let o = c.requires.slot in
     let used = in_use_is p (subst (λ (x : Splice). is_in_use x.place ≡ true) (same_part o.0 p (sym o.1 ∙ here)) o.2) in
     let as_old = subst (λ (x : Splice). IsAsOld x q) r.is c.guest_segment-unfit.ensures.stays.same in
-    let moves = used_moves p q used as_old.face (λ shut. c.guest_segment-unfit.ensures.closed (ap is_open r.is ∙ shut)
+    let moves = used_moves p q used as_old.face as_old.accepted (λ shut. c.guest_segment-unfit.ensures.closed (ap is_open r.is ∙ shut)
     (used_awake c.index_mut-part.result.now (ap (λ (x : Splice). x.place) r.is ∙ used)) ∙ r.is) in
     let slot = slot_raw table parts c.self.invariant.0.slots_are c.args.slot p r.at in
     let has = has_tuple false table c.args.slot p q moves r.some slot in
