@@ -69,8 +69,9 @@ not_full a b c is = by (nat_lt a b) refl is
 pub welcome-requires-clause-room : goal.welcome-requires-clause-room
 welcome-requires-clause-room g c =
     let state = c.self.inside.flows.flows in
-    not_full (in_use_slots state.table.slots) (length state.table.slots) (nat_lt (peer_slots state.table.slots state.slots) (most_for_peers (length state.table.slots)))
-    (sym c.if-not-has_room_for_peer.ensures.room)
+    subst (λ (s : SlirpState). in_use_slots s.flows.flows.table.slots < length s.flows.flows.table.slots) c.self.view_is
+    (not_full (in_use_slots state.table.slots) (length state.table.slots) (nat_lt (peer_slots state.table.slots state.slots) (most_for_peers (length state.table.slots)))
+    (sym c.if-not-has_room_for_peer.ensures.room))
 
 pub returns-in-NotYet : goal.returns-in-NotYet
 returns-in-NotYet g c =
