@@ -28,11 +28,11 @@ sends_both a b c w0 w1 w2 p1 p2 (s1, went1, is1) (s2, went2, is2) = (s1 ++ s2, a
 pub hands_both : (a b c : Option (List ℕ)) (w0 w1 w2 h1 h2 : List ℕ) → HandsOn a b w0 w1 h1 → HandsOn b c w1 w2 h2 → HandsOn a c w0 w2 (h1 ++ h2)
 hands_both a b c w0 w1 w2 h1 h2 (c1, came1, is1) (c2, came2, is2) = (c1 ++ c2, consumes_both a b c c1 c2 came1 came2, behind h1 h2 w0 w1 w2 c1 c2 is1 is2)
 
-sends_nothing : (a : Option (List ℕ)) (w : List ℕ) → SendsOn a a w w []
+pub sends_nothing : (a : Option (List ℕ)) (w : List ℕ) → SendsOn a a w w []
 sends_nothing None w = ([], tt, sym (append-nil w))
 sends_nothing (Some xs) w = ([], sym (append-nil xs), sym (append-nil w))
 
-hands_nothing : (a : Option (List ℕ)) (w : List ℕ) → HandsOn a a w w []
+pub hands_nothing : (a : Option (List ℕ)) (w : List ℕ) → HandsOn a a w w []
 hands_nothing None w = ([], tt, sym (append-nil w))
 hands_nothing (Some xs) w = ([], refl, sym (append-nil w))
 

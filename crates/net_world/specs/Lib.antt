@@ -4,5 +4,7 @@ pub mod Linking
 pub mod Keeping
 pub mod Moments
 pub mod Orders
+pub mod Recording
 pub mod Slots
 pub mod Streaming
+pub mod Tables

@@ -11,6 +11,7 @@ use crate::gathering::{gather, gather_link};
 use crate::link::Link;
 use crate::place::{LINK, Peer};
 use crate::sockets::{Known, MOST, Sockets};
+use mio::net::TcpStream;
 use mio::{Events, Poll};
 use net_octets::NoMemory;
 use poll_list::{ReadyList, Want, Wants, Who};
@@ -30,7 +31,7 @@ const MOST_ASKED: u32 = 1024;
 #[derive(Drop)]
 pub(crate) struct Edge {
     pub link: Link<Peer>,
-    pub sockets: Sockets,
+    pub sockets: Sockets<TcpStream>,
     // None where the system gave none.
     poll: Option<Poll>,
     events: Events,
@@ -319,7 +320,7 @@ fn is_link_read(wants: &[Want]) -> bool {
 }
 
 // Notes what the system told.
-fn note_events(events: &Events, link: &mut Link<Peer>, sockets: &mut Sockets) {
+fn note_events(events: &Events, link: &mut Link<Peer>, sockets: &mut Sockets<TcpStream>) {
     for event in events {
         if event.token() == LINK {
             link.note(event);

@@ -6,6 +6,7 @@ ghost use Rattle.poll_list.specs.declared.Who.TheVariants.{Link};
 ghost use Rattle.poll_list.specs.Picks.{IsPart, IsPickedFrom, GoesOn, Adds, Begins, BeginsWithLink, part_in, as_list};
 
 use crate::sockets::{Known, Listed, Sockets, rank};
+use mio::net::TcpStream;
 use poll_list::{ReadyList, Want, Wants, Who};
 
 /// Puts the parts of the wants that are known to be ready into a list, in place of what it held. What is known of the link is told. Each socket that is ready
@@ -17,7 +18,7 @@ use poll_list::{ReadyList, Want, Wants, Who};
 pub(crate) fn gather(
     wants: &Wants,
     link: Known,
-    sockets: &Sockets,
+    sockets: &Sockets<TcpStream>,
     most: usize,
     ready: &mut ReadyList,
 )
@@ -101,7 +102,7 @@ fn gather_one<'a>(wants: &'a [Want], of: Who, known: Known, ready: &mut ReadyLis
 fn gather_up_to<'a>(
     wants: &'a [Want],
     listed: &Listed,
-    sockets: &Sockets,
+    sockets: &Sockets<TcpStream>,
     ready: &mut ReadyList,
 ) -> &'a [Want]
     requires { length ready.old.items + length wants.now ≤ ready.old.capacity }
@@ -118,7 +119,7 @@ fn gather_up_to<'a>(
 }
 
 // Adds the parts of wants for writing that are ready, for writing alone: which sockets are told for reading is settled before.
-fn gather_written(wants: &[Want], sockets: &Sockets, ready: &mut ReadyList)
+fn gather_written(wants: &[Want], sockets: &Sockets<TcpStream>, ready: &mut ReadyList)
     requires { length ready.old.items + length wants.now ≤ ready.old.capacity }
     ensures goes_on { (all rest : List Want) → GoesOn all (wants.now ++ rest) ready.old.items → GoesOn all rest ready.new.items }
     ensures begins { (first : List Want) → Begins first ready.old.items → Begins first ready.new.items }
@@ -145,7 +146,12 @@ fn is_read_last(told: &[Want], of: Who) -> bool {
 }
 
 // The sockets of a list that are to be told: all of it, where they are at most so many; else those past the one that was told last.
-fn in_turn<'a>(wants: &[Want], listed: &'a [Listed], sockets: &Sockets, most: usize) -> &'a [Listed]
+fn in_turn<'a>(
+    wants: &[Want],
+    listed: &'a [Listed],
+    sockets: &Sockets<TcpStream>,
+    most: usize,
+) -> &'a [Listed]
     ensures end { (passed : ℕ) × (result.now ≡ drop passed listed.now) }
     ensures whole { length listed.now ≤ most → result.now ≡ listed.now }
 {

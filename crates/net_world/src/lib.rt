@@ -15,5 +15,8 @@ mod socket_file;
 mod sockets;
 mod stream_calls;
 
-pub use laws::{what_comes_is_handed_out_in_order, what_is_put_goes_out_in_order};
+pub use laws::{
+    what_a_record_wrote_went_out_in_order, what_came_a_record_read_in_order,
+    what_comes_is_handed_out_in_order, what_is_put_goes_out_in_order,
+};
 pub use net_world::NetWorld;

@@ -1,13 +1,18 @@
 // The sockets of the host, each under its number.
-ghost use Rattle.std.specs.Prelude.{◌≡◌, ℕ, ◌<◌, ◌≤◌, true, false, Ok, IfSome, length, vec_capacity};
-ghost use Rattle.std.specs.List.Sorted.{IsSearchInRange};
+ghost use Rattle.std.specs.Prelude.{◌≡◌, ℕ, List, ◌<◌, ◌≤◌, true, false, Some, None, [], Ok, Err, IfOk, IfSome, length, count_by, is_some, vec_capacity};
+ghost use Rattle.std.specs.List.{Contains};
+ghost use Rattle.std.specs.List.Sorted.{IsSearchInRange, IsBinarySearchResult, IsPartitionPoint};
 ghost use Rattle.std.specs.Bool.{OnFalse};
 ghost use Rattle.std.specs.Io.KnownBytes.{Appends, Consumes, IsAtEnd, Keeps};
+ghost use Rattle.std.specs.Ordering.{nat_cmp};
+ghost use Rattle.std.specs.declared.cmp.Ordering.TheVariants.{Greater};
+ghost use Rattle.mio.specs.Event.{event_token};
 ghost use Rattle.octet_buffer.specs.Streams.{Calls};
-ghost use Rattle.slab.specs.Slab.{slab_len};
 ghost use Rattle.world_face.specs.Journal.{MayRead, MayWrite, MayGet, filled};
-ghost use Rattle.net_world.specs.Slots.{of_stream};
-ghost use Rattle.net_world.specs.Streaming.{read_tells, write_tells, after_read, after_write};
+ghost use Rattle.net_world.specs.Slots.{of_stream, is_connection, are_datagrams};
+ghost use Rattle.net_world.specs.Streaming.{read_tells, write_tells, after_read, after_write, after_event};
+ghost use Rattle.net_world.specs.Tables.{rank_of, number_of, by_rank, InOrder, listed_at, slot_at, AreListed, ArePlaced, IsKnownStarved, Lists, Finds, OthersStay, Becomes, known_of, nothing_known, told_or, last_read};
+ghost use Rattle.net_world.specs.Tables.{IsRead, IsWritten, IsReceived, IsTaken, IsAsked, Opens, fed, fed_at};
 ghost use Rattle.net_world.specs.declared.sockets.TheConstants.{MOST};
 
 use crate::stream_calls;
@@ -21,6 +26,7 @@ use poll_list::{Want, Who};
 use slab::Slab;
 use std::alloc::Global;
 use std::io::ErrorKind;
+use std::marker::Model;
 use std::net::{Ipv4Addr, Net, Shutdown, SocketAddr};
 use world_face::{Accepted, Endpoint, Got, Io, Ip4, Joined, Sent};
 
@@ -54,8 +60,6 @@ struct Slot<S> {
     ready: Ready,
     /// The system refused to give a connection that has come, since it had no descriptor for it.
     starved: bool,
-    /// It stands in the list of those that are ready for reading.
-    listed: bool,
 }
 
 /// Where the slab keeps the socket of a number.
@@ -72,46 +76,65 @@ pub(crate) struct Listed {
     key: usize,
 }
 
-/// The open sockets, the places of their numbers, the least first, and those that are ready for reading, in the order of wants. One that is ready for writing
-/// alone, as each connection is while it idles, stands in no list.
+/// The open sockets over the stream that a connection is, the places of their numbers, the least first, and those that are ready for reading, in the order of
+/// wants. One that is ready for writing alone, as each connection is while it idles, stands in no list.
 #[derive(Drop)]
-pub(crate) struct Sockets {
-    slots: Slab<Slot<TcpStream>>,
+pub(crate) struct Sockets<S> {
+    slots: Slab<Slot<S>>,
     places: Vec<Place>,
     readable: Vec<Listed>,
     /// A listener waits for a descriptor.
     starved: bool,
     /// What was told last for reading.
     last: Who,
-    ghost room: { (MOST ≤ slots.capacity) × (MOST ≤ vec_capacity places) × (MOST ≤ vec_capacity readable) },
 }
 
-impl Sockets {
+impl<S> Model for Sockets<S> {
+    ghost use Rattle.std.specs.Prelude.{◌≤◌, vec_capacity};
+    ghost use Rattle.net_world.specs.Tables.{Table, AreListed, ArePlaced, IsKnownStarved};
+    ghost use Rattle.net_world.specs.declared.sockets.TheConstants.{MOST};
+
+    ghost Value = { Table S };
+
+    ghost view = { λ s. record { slots = s.slots.slots; places = s.places.items; readable = s.readable.items; starved = s.starved; last = s.last } };
+
+    ghost invariant = { λ s. AreListed s.slots.slots s.slots.capacity s.readable.items × ArePlaced s.slots.slots s.places.items × IsKnownStarved s.slots.slots s.starved
+        × (MOST ≤ s.slots.capacity) × (MOST ≤ vec_capacity s.places) × (s.slots.capacity ≤ vec_capacity s.readable) };
+}
+
+impl<S: Drop> Sockets<S> {
     /// No socket, and room for 5,160. Err where there is no memory for them.
-    pub fn open(alloc: Global) -> Result<Sockets, NoMemory> {
-        let (Ok(slots), Ok(places), Ok(readable)) = (
-            Slab::with_capacity(alloc, MOST),
+    pub fn open(alloc: Global) -> Result<Sockets<S>, NoMemory>
+        ensures { IfOk result (λ sockets. sockets.slots ≡ []) }
+    {
+        let Ok(slots) = Slab::with_capacity(alloc, MOST) else {
+            return Err(NoMemory);
+        };
+        let (Ok(places), Ok(readable)) = (
             Vec::with_capacity(alloc, MOST),
-            Vec::with_capacity(alloc, MOST),
+            Vec::with_capacity(alloc, slots.capacity()),
         ) else {
             return Err(NoMemory);
         };
-        Ok(Sockets {
-            slots,
-            places,
-            readable,
-            starved: false,
-            last: Who::Link,
-        })
+        Ok(none_open(slots, places, readable))
     }
 
     /// Those that are ready for reading, in the order of wants.
-    pub fn readable(&self) -> &[Listed] {
+    pub fn readable(&self) -> &[Listed]
+        ensures items { result.now ≡ self.now.readable }
+        ensures order { InOrder result.now }
+        // Each socket that may be read is among them, and no other.
+        ensures all { (key : ℕ) (slot : Slot S) → slot_at self.now.slots key ≡ Some slot → slot.ready.read ≡ true → Contains result.now (listed_at slot.of key) }
+        ensures only { (listed : Listed) → Contains result.now listed → (slot : Slot S) × (slot_at self.now.slots listed.key ≡ Some slot) × (slot.of ≡ listed.of) × (slot.ready.read ≡ true) }
+    {
         self.readable.as_slice()
     }
 
     /// The place in that list past the socket that was told last for reading.
-    pub fn next(&self) -> usize {
+    pub fn next(&self) -> usize
+        ensures { IsPartitionPoint (λ listed. by_rank (rank_of listed.of) (rank_of self.now.last) ≡ Greater → ⊥)
+            (λ listed. by_rank (rank_of listed.of) (rank_of self.now.last) ≡ Greater) self.now.readable result }
+    {
         match find_listed(&self.readable, self.last) {
             Ok(at) => at.saturating_add(1),
             Err(at) => at,
@@ -119,57 +142,245 @@ impl Sockets {
     }
 
     /// These were told: the next that are told for reading come past them.
-    pub fn go_on(&mut self, told: &[Want]) {
-        for want in told {
-            if want.read && want.of != Who::Link {
-                self.last = want.of;
-            }
-        }
+    pub fn go_on(&mut self, told: &[Want])
+        ensures change { self.new ≡ record self.old { last = last_read self.old.last told.now } }
+    {
+        self.last = last_read(self.last, told);
     }
 
     /// In which directions a socket of that list is ready.
-    pub fn known(&self, listed: &Listed) -> Known {
+    pub fn known(&self, listed: &Listed) -> Known
+        ensures found { (slot : Slot S) → slot_at self.now.slots listed.now.key ≡ Some slot → slot.of ≡ listed.now.of → result ≡ known_of slot }
+        ensures none { ((slot : Slot S) → slot_at self.now.slots listed.now.key ≡ Some slot → slot.of ≡ listed.now.of → ⊥) → result ≡ nothing_known }
+    {
         self.known_at(listed.key, listed.of)
     }
 
     /// In which directions a socket is ready that is looked up by what it is; in none where there is no such socket.
-    pub fn look_up(&self, of: Who) -> Known {
+    pub fn look_up(&self, of: Who) -> Known
+        ensures found { (key : ℕ) (slot : Slot S) → slot_at self.now.slots key ≡ Some slot → slot.of ≡ of → result ≡ known_of slot }
+        ensures none { ((key : ℕ) (slot : Slot S) → slot_at self.now.slots key ≡ Some slot → slot.of ≡ of → ⊥) → result ≡ nothing_known }
+    {
         let (_, number) = rank(of);
-        self.known_at(self.key_of(number), of)
-    }
-
-    // In which directions a socket is ready, where it stands at that key.
-    fn known_at(&self, key: usize, of: Who) -> Known {
-        match self.slots.get(key) {
-            Some(slot) if slot.of == of => Known {
-                read: slot.ready.read,
-                write: slot.ready.write,
-            },
-            _ => NOTHING,
+        match self.key_of(number) {
+            Some(key) => self.known_at(key, of),
+            None => NOTHING,
         }
     }
 
+    // In which directions a socket is ready, where it stands at that key.
+    fn known_at(&self, key: usize, of: Who) -> Known
+        ensures found { (slot : Slot S) → slot_at self.now.slots key ≡ Some slot → slot.of ≡ of → result ≡ known_of slot }
+        ensures none { ((slot : Slot S) → slot_at self.now.slots key ≡ Some slot → slot.of ≡ of → ⊥) → result ≡ nothing_known }
+    {
+        match self.slots.get(key) {
+            Some(slot) => known_if(slot, of),
+            None => NOTHING,
+        }
+    }
+
+    // Where the slab keeps the socket of a number; None where there is none.
+    fn key_of(&self, number: u64) -> Option<usize>
+        ensures { Finds self.now.slots number result }
+    {
+        match find(&self.places, number) {
+            Ok(at) => Some(self.places[at].key),
+            Err(_) => None,
+        }
+    }
+
+    /// Notes what the system told of a socket.
+    pub fn note(&mut self, event: &Event)
+        ensures noted { (slot : Slot S) → slot_at self.old.slots (event_token event.now).0 ≡ Some slot
+            → Becomes self.old self.new (event_token event.now).0 (Some (record slot { ready = after_event event.now slot.ready })) }
+        ensures none { slot_at self.old.slots (event_token event.now).0 ≡ None → self.new ≡ self.old }
+    {
+        let key = event.token().0;
+        let Some(slot) = self.slots.get_mut(key) else {
+            return;
+        };
+        let was = slot.ready.read;
+        stream_calls::note(&mut slot.ready, event);
+        let (of, is) = (slot.of, slot.ready.read);
+        relist(&mut self.readable, Listed { of, key }, was, is);
+    }
+}
+
+impl<S: Stream + Drop> Sockets<S> {
     // Whether no more sockets can be open.
     fn is_full(&self) -> bool
-        ensures { OnFalse result (slab_len self.now.slots < MOST) }
+        ensures { OnFalse result (count_by is_some self.now.slots < MOST) }
     {
         self.slots.len() >= MOST
     }
 
-    // The place of a number that isn't taken, where there is room for one more.
-    fn free_place(&self, number: u64) -> Option<usize>
-        ensures at { IfSome result (λ at. at ≤ length self.now.places.items) }
-        ensures places { IfSome result (λ _. length self.now.places.items < MOST) }
-        ensures slots { IfSome result (λ _. slab_len self.now.slots < MOST) }
+    // Takes what a listener gave. Where the system or this list has no room for it, it waits until another socket was closed, and the listener isn't ready before.
+    fn take(&mut self, listener: u64) -> Came
+        ensures none { Finds self.old.slots listener None → (result ≡ Came.Failed) × (self.new ≡ self.old) }
+        ensures takes { (key : ℕ) (slot : Slot S) → slot_at self.old.slots key ≡ Some slot → number_of slot.of ≡ listener → (new : Slot S) × IsTaken self.old self.new key slot new
+            × (new.ready.read ≡ false → slot.ready.read ≡ true → new.starved ≡ false → result ≡ Came.NotYet) }
     {
-        if self.is_full() || self.places.len() >= MOST {
-            return None;
+        let full = self.is_full();
+        let Some(key) = self.key_of(listener) else {
+            return Came::Failed;
+        };
+        let Some(slot) = self.slots.get_mut(key) else {
+            return Came::Failed;
+        };
+        let was = slot.ready.read;
+        let came = take_from(slot, full);
+        let (of, is, starved) = (slot.of, slot.ready.read, slot.starved);
+        self.starved |= starved;
+        relist(&mut self.readable, Listed { of, key }, was, is);
+        came
+    }
+
+    /// Reads octets of a connection. End where its peer has ended, NotYet where none came, Failed where there is no connection of this number or it
+    /// broke.
+    pub fn tcp_read(&mut self, number: u64, into: &mut [u8]) -> Io
+        requires { 0 < length into.old }
+        ensures may { MayRead (length into.old) result }
+        ensures none { Finds self.old.slots number None → (result ≡ Io.Failed) × (self.new ≡ self.old) }
+        ensures reads { (key : ℕ) (slot : Slot S) → slot_at self.old.slots key ≡ Some slot → number_of slot.of ≡ number → (new : Slot S) × Becomes self.old self.new key (Some new)
+            × IsRead S.remaining S.contents S.answers slot new (length into.old) result (filled result into.new) }
+    {
+        let Some(key) = self.key_of(number) else {
+            return Io::Failed;
+        };
+        let Some(slot) = self.slots.get_mut(key) else {
+            return Io::Failed;
+        };
+        let was = slot.ready.read;
+        let answer = read(slot, into);
+        let (of, is) = (slot.of, slot.ready.read);
+        relist(&mut self.readable, Listed { of, key }, was, is);
+        answer
+    }
+
+    /// Writes octets to a connection, as many as the system takes. NotYet where it takes none for now, Failed where there is no connection of this
+    /// number or it broke.
+    pub fn tcp_write(&mut self, number: u64, from: &[u8]) -> Io
+        requires { 0 < length from.now }
+        ensures may { MayWrite (length from.now) result }
+        ensures none { Finds self.old.slots number None → (result ≡ Io.Failed) × (self.new ≡ self.old) }
+        ensures writes { (key : ℕ) (slot : Slot S) → slot_at self.old.slots key ≡ Some slot → number_of slot.of ≡ number → (new : Slot S) × Becomes self.old self.new key (Some new)
+            × IsWritten S.remaining S.contents S.answers slot new (length from.now) result (filled result from.now) }
+    {
+        let Some(key) = self.key_of(number) else {
+            return Io::Failed;
+        };
+        let Some(slot) = self.slots.get_mut(key) else {
+            return Io::Failed;
+        };
+        write(slot, from)
+    }
+
+    /// Sends a datagram to an endpoint. NotYet where the system takes none for now, Failed where there is no socket for datagrams of this number or
+    /// the system refuses.
+    pub fn udp_send(&self, number: u64, to: Endpoint, octets: &[u8]) -> Sent
+        ensures none { Finds self.now.slots number None → result ≡ Sent.Failed }
+        ensures other { (key : ℕ) (slot : Slot S) → slot_at self.now.slots key ≡ Some slot → number_of slot.of ≡ number → are_datagrams slot.socket ≡ false → result ≡ Sent.Failed }
+    {
+        let Some(key) = self.key_of(number) else {
+            return Sent::Failed;
+        };
+        match self.slots.get(key) {
+            Some(slot) => send(slot, to, octets),
+            None => Sent::Failed,
         }
-        find(&self.places, number).err()
+    }
+
+    /// Takes a datagram, and tells its sender and how many octets came. NotYet where none came, Failed where there is no socket for datagrams of
+    /// this number or the system fails.
+    pub fn udp_recv(&mut self, number: u64, into: &mut [u8]) -> Got
+        ensures may { MayGet (length into.old) result }
+        ensures none { Finds self.old.slots number None → (result ≡ Got.Failed) × (self.new ≡ self.old) }
+        ensures receives { (key : ℕ) (slot : Slot S) → slot_at self.old.slots key ≡ Some slot → number_of slot.of ≡ number → (new : Slot S) × Becomes self.old self.new key (Some new)
+            × IsReceived slot new result }
+    {
+        let Some(key) = self.key_of(number) else {
+            return Got::Failed;
+        };
+        let Some(slot) = self.slots.get_mut(key) else {
+            return Got::Failed;
+        };
+        let was = slot.ready.read;
+        let got = receive(slot, into);
+        let (of, is) = (slot.of, slot.ready.read);
+        relist(&mut self.readable, Listed { of, key }, was, is);
+        got
+    }
+
+    /// Closes a socket. Listeners that waited for its descriptor are ready again.
+    pub fn close(&mut self, number: u64)
+        ensures none { Finds self.old.slots number None → self.new ≡ self.old }
+        ensures gone { Finds self.new.slots number None }
+        // Each other slot stays, and a listener that waited is ready again.
+        ensures others { (at : ℕ) → Finds self.old.slots number (Some at) → (key : ℕ) (slot : Slot S) → slot_at self.old.slots key ≡ Some slot → (key ≡ at → ⊥)
+            → slot_at self.new.slots key ≡ Some (fed slot) }
+    {
+        if self.remove(number) {
+            self.feed();
+        }
+    }
+
+    // Listeners that waited for a descriptor are ready again.
+    fn feed(&mut self)
+        ensures { (key : ℕ) → slot_at self.new.slots key ≡ fed_at (slot_at self.old.slots key) }
+    {
+        if self.starved {
+            feed_all(&mut self.slots, &self.places, &mut self.readable);
+            self.starved = false;
+        }
+    }
+
+    // Takes the socket of a number out of the table, and lets it go. False where there is none.
+    fn remove(&mut self, number: u64) -> bool
+        ensures none { Finds self.old.slots number None → (result ≡ false) × (self.new ≡ self.old) }
+        ensures out { Finds self.new.slots number None }
+        ensures gone { (key : ℕ) → Finds self.old.slots number (Some key) → (result ≡ true) × (slot_at self.new.slots key ≡ None) × OthersStay self.old.slots self.new.slots key
+            × (self.new.starved ≡ self.old.starved) }
+    {
+        let Ok(at) = find(&self.places, number) else {
+            return false;
+        };
+        let key = self.places.remove(at).key;
+        let Some(slot) = self.slots.try_remove(key) else {
+            unreachable!();
+        };
+        relist(
+            &mut self.readable,
+            Listed { of: slot.of, key },
+            slot.ready.read,
+            false,
+        );
+        true
+    }
+}
+
+impl Sockets<TcpStream> {
+    /// Opens a socket: a connection to an endpoint, or a listener or a socket for datagrams that is bound there.
+    pub fn open_socket<R: Net>(
+        &mut self,
+        rt: &R,
+        registry: &Registry,
+        of: Who,
+        at: Endpoint,
+    ) -> bool
+        ensures opened { result ≡ true → Opens self.old self.new of }
+        ensures refused { result ≡ false → self.new ≡ self.old }
+    {
+        match new_socket(rt, of, at) {
+            Some(socket) => self.add(registry, of, socket),
+            None => false,
+        }
     }
 
     // Puts a socket under its number, and has the system tell what it is ready for.
-    fn add(&mut self, registry: &Registry, of: Who, mut socket: Socket<TcpStream>) -> bool {
+    fn add(&mut self, registry: &Registry, of: Who, mut socket: Socket<TcpStream>) -> bool
+        ensures opened { result ≡ true → Opens self.old self.new of }
+        ensures refused { result ≡ false → self.new ≡ self.old }
+    {
         let (_, number) = rank(of);
         let Some(at) = self.free_place(number) else {
             return false;
@@ -183,91 +394,47 @@ impl Sockets {
             socket,
             ready: Ready::NONE,
             starved: false,
-            listed: false,
         });
         self.places.insert(at, Place { number, key }).is_ok()
     }
 
-    // Where the slab keeps the socket of a number; nowhere where there is none.
-    fn key_of(&self, number: u64) -> usize {
+    // The place of a number that isn't taken, where there is room for one more.
+    fn free_place(&self, number: u64) -> Option<usize>
+        ensures at { IfSome result (λ at. at ≤ length self.now.places) }
+        ensures places { IfSome result (λ _. length self.now.places < MOST) }
+        ensures slots { IfSome result (λ _. count_by is_some self.now.slots < MOST) }
+        ensures position { IfSome result (λ at. IsBinarySearchResult (λ p. nat_cmp p.number number) self.now.places (Err at)) }
+    {
+        if self.is_full() || self.places.len() >= MOST {
+            return None;
+        }
         match find(&self.places, number) {
-            Ok(at) => self.places[at].key,
-            Err(_) => usize::MAX,
-        }
-    }
-
-    // Puts a socket into the list of those that are ready for reading, or takes it out, as what is known of it says.
-    fn list(&mut self, key: usize) {
-        let Some(slot) = self.slots.get_mut(key) else {
-            return;
-        };
-        let (of, readable) = (slot.of, slot.ready.read);
-        if slot.listed != readable {
-            slot.listed = readable;
-            self.put_into_list(Listed { of, key }, readable);
-        }
-    }
-
-    // Puts a socket at its place in the list, or takes it out.
-    fn put_into_list(&mut self, listed: Listed, readable: bool) {
-        match find_listed(&self.readable, listed.of) {
-            Ok(at) => {
-                if !readable {
-                    let _was = self.readable.remove(at);
-                }
-            }
-            Err(at) => {
-                if readable && self.readable.len() < MOST {
-                    let _put = self.readable.insert(at, listed);
-                }
-            }
-        }
-    }
-
-    /// Notes what the system told of a socket.
-    pub fn note(&mut self, event: &Event) {
-        let key = event.token().0;
-        if let Some(slot) = self.slots.get_mut(key) {
-            stream_calls::note(&mut slot.ready, event);
-            self.list(key);
-        }
-    }
-
-    /// Opens a socket: a connection to an endpoint, or a listener or a socket for datagrams that is bound there.
-    pub fn open_socket<R: Net>(
-        &mut self,
-        rt: &R,
-        registry: &Registry,
-        of: Who,
-        at: Endpoint,
-    ) -> bool {
-        match new_socket(rt, of, at) {
-            Some(socket) => self.add(registry, of, socket),
-            None => false,
+            Ok(_) => None,
+            Err(at) => Some(at),
         }
     }
 
     /// Whether a connection stands: NotYet while it is being made, Failed where it can't be made or there is no connection of this number.
-    pub fn connected(&mut self, number: u64) -> Joined {
-        let key = self.key_of(number);
-        match self.slots.get_mut(key) {
-            Some(slot) => joined(slot),
-            None => Joined::Failed,
-        }
+    pub fn connected(&mut self, number: u64) -> Joined
+        ensures none { Finds self.old.slots number None → (result ≡ Joined.Failed) × (self.new ≡ self.old) }
+        ensures asks { (key : ℕ) (slot : Slot TcpStream) → slot_at self.old.slots key ≡ Some slot → number_of slot.of ≡ number → (new : Slot TcpStream)
+            × Becomes self.old self.new key (Some new) × IsAsked slot new result }
+    {
+        let Some(key) = self.key_of(number) else {
+            return Joined::Failed;
+        };
+        let Some(slot) = self.slots.get_mut(key) else {
+            return Joined::Failed;
+        };
+        joined(slot)
     }
 
     /// Takes a connection from a listener, and puts it under its number. Where the system or this list has no room for it, it waits until another socket was
     /// closed, and the listener isn't ready before.
-    pub fn accept(&mut self, registry: &Registry, listener: u64, number: u64) -> Accepted {
-        let key = self.key_of(listener);
-        let full = self.is_full();
-        let Some(slot) = self.slots.get_mut(key) else {
-            return Accepted::Failed;
-        };
-        let came = if full { starve(slot) } else { accept(slot) };
-        self.starved |= slot.starved;
-        self.list(key);
-        match came {
+    pub fn accept(&mut self, registry: &Registry, listener: u64, number: u64) -> Accepted
+        ensures { Finds self.old.slots listener None → (result ≡ Accepted.Failed) × (self.new ≡ self.old) }
+    {
+        match self.take(listener) {
             Came::From(stream, peer) => {
                 send_at_once(&stream);
                 if self.add(registry, Who::Tcp(number), Socket::Stream(stream)) {
@@ -281,118 +448,182 @@ impl Sockets {
         }
     }
 
-    /// Reads octets of a connection. End where its peer has ended, NotYet where none came, Failed where there is no connection of this number or it
-    /// broke.
-    pub fn tcp_read(&mut self, number: u64, into: &mut [u8]) -> Io
-        requires { 0 < length into.old }
-        ensures { MayRead (length into.old) result }
-    {
-        let key = self.key_of(number);
-        let Some(slot) = self.slots.get_mut(key) else {
-            return Io::Failed;
-        };
-        let read = read(slot, into);
-        self.list(key);
-        read
-    }
-
-    /// Writes octets to a connection, as many as the system takes. NotYet where it takes none for now, Failed where there is no connection of this
-    /// number or it broke.
-    pub fn tcp_write(&mut self, number: u64, from: &[u8]) -> Io
-        requires { 0 < length from.now }
-        ensures { MayWrite (length from.now) result }
-    {
-        let key = self.key_of(number);
-        match self.slots.get_mut(key) {
-            Some(slot) => write(slot, from),
-            None => Io::Failed,
-        }
-    }
-
     /// Ends the writing direction of a connection. False where there is no connection of this number, or the system refuses.
-    pub fn tcp_end(&mut self, number: u64) -> bool {
-        let key = self.key_of(number);
+    pub fn tcp_end(&self, number: u64) -> bool
+        ensures none { Finds self.now.slots number None → result ≡ false }
+        ensures other { (key : ℕ) (slot : Slot TcpStream) → slot_at self.now.slots key ≡ Some slot → number_of slot.of ≡ number → is_connection slot.socket ≡ false → result ≡ false }
+    {
+        let Some(key) = self.key_of(number) else {
+            return false;
+        };
         match self.slots.get(key) {
             Some(slot) => end(slot),
             None => false,
         }
     }
+}
 
-    /// Sends a datagram to an endpoint. NotYet where the system takes none for now, Failed where there is no socket for datagrams of this number or
-    /// the system refuses.
-    pub fn udp_send(&mut self, number: u64, to: Endpoint, octets: &[u8]) -> Sent {
-        let key = self.key_of(number);
-        match self.slots.get(key) {
-            Some(slot) => send(slot, to, octets),
-            None => Sent::Failed,
-        }
+// No socket, with this memory.
+fn none_open<S>(slots: Slab<Slot<S>>, places: Vec<Place>, readable: Vec<Listed>) -> Sockets<S>
+    requires slots { slots.slots ≡ [] }
+    requires places { places.items ≡ [] }
+    requires readable { readable.items ≡ [] }
+    requires room { MOST ≤ slots.capacity }
+    requires most { MOST ≤ vec_capacity places }
+    requires all { slots.capacity ≤ vec_capacity readable }
+    ensures { result.slots ≡ [] }
+{
+    Sockets {
+        slots,
+        places,
+        readable,
+        starved: false,
+        last: Who::Link,
     }
+}
 
-    /// Takes a datagram, and tells its sender and how many octets came. NotYet where none came, Failed where there is no socket for datagrams of
-    /// this number or the system fails.
-    pub fn udp_recv(&mut self, number: u64, into: &mut [u8]) -> Got
-        ensures { MayGet (length into.old) result }
-    {
-        let key = self.key_of(number);
-        let Some(slot) = self.slots.get_mut(key) else {
-            return Got::Failed;
-        };
-        let got = receive(slot, into);
-        self.list(key);
-        got
+// Puts a socket into the list of those that are ready for reading, or takes it out, where that changed.
+fn relist(readable: &mut Vec<Listed>, listed: Listed, was: bool, is: bool)
+    requires rise { InOrder readable.old.items }
+    requires has { was ≡ true → Contains readable.old.items listed }
+    requires alone { (other : Listed) → Contains readable.old.items other → other.of ≡ listed.of → (other ≡ listed) × (was ≡ true) }
+    requires room { was ≡ false → length readable.old.items < vec_capacity readable.old }
+    ensures lists { Lists readable.old.items readable.new.items listed was is }
+    ensures capacity { vec_capacity readable.old ≤ vec_capacity readable.new }
+{
+    if was == is {
+        return;
     }
-
-    /// Closes a socket. Listeners that waited for its descriptor are ready again.
-    pub fn close(&mut self, number: u64) {
-        let Ok(at) = find(&self.places, number) else {
-            return;
-        };
-        let place = self.places.remove(at);
-        if let Some(slot) = self.slots.try_remove(place.key) {
-            let listed = Listed {
-                of: slot.of,
-                key: place.key,
-            };
-            self.put_into_list(listed, false);
-        }
-        if self.starved {
-            self.feed();
-        }
+    if is {
+        put_in(readable, listed);
+    } else {
+        take_out(readable, listed);
     }
+}
 
-    // Listeners that waited for a descriptor are ready again.
-    fn feed(&mut self) {
-        self.starved = false;
-        for at in 0..self.places.len() {
-            let Some(place) = self.places.get(at) else {
-                return;
-            };
-            let key = place.key;
-            if let Some(slot) = self.slots.get_mut(key) {
-                slot.ready.read |= slot.starved;
-                slot.starved = false;
-                self.list(key);
-            }
+// Puts a socket at its place in the list.
+fn put_in(readable: &mut Vec<Listed>, listed: Listed)
+    requires rise { InOrder readable.old.items }
+    requires alone { (other : Listed) → Contains readable.old.items other → other.of ≡ listed.of → ⊥ }
+    requires room { length readable.old.items < vec_capacity readable.old }
+    ensures lists { Lists readable.old.items readable.new.items listed false true }
+    ensures capacity { vec_capacity readable.old ≤ vec_capacity readable.new }
+{
+    let Err(at) = find_listed(readable, listed.of) else {
+        unreachable!();
+    };
+    let _put = readable.insert(at, listed);
+}
+
+// Takes a socket out of the list.
+fn take_out(readable: &mut Vec<Listed>, listed: Listed)
+    requires rise { InOrder readable.old.items }
+    requires has { Contains readable.old.items listed }
+    requires alone { (other : Listed) → Contains readable.old.items other → other.of ≡ listed.of → other ≡ listed }
+    ensures lists { Lists readable.old.items readable.new.items listed true false }
+    ensures capacity { vec_capacity readable.old ≤ vec_capacity readable.new }
+{
+    let Ok(at) = find_listed(readable, listed.of) else {
+        unreachable!();
+    };
+    let _was = readable.remove(at);
+}
+
+// Listeners that waited for a descriptor are ready again.
+fn feed_all<S: Stream>(slots: &mut Slab<Slot<S>>, places: &[Place], readable: &mut Vec<Listed>)
+    requires listed { AreListed slots.old.slots slots.old.capacity readable.old.items }
+    requires placed { ArePlaced slots.old.slots places.now }
+    requires room { slots.old.capacity ≤ vec_capacity readable.old }
+    ensures fed { (key : ℕ) → slot_at slots.new.slots key ≡ fed_at (slot_at slots.old.slots key) }
+    ensures listed { AreListed slots.new.slots slots.new.capacity readable.new.items }
+    ensures placed { ArePlaced slots.new.slots places.now }
+    ensures known { IsKnownStarved slots.new.slots false }
+    ensures capacity { slots.new.capacity ≡ slots.old.capacity }
+    ensures room { slots.new.capacity ≤ vec_capacity readable.new }
+{
+    for place in places {
+        feed_one(slots, readable, place.key);
+    }
+}
+
+// One of them, where it waited.
+fn feed_one<S: Stream>(slots: &mut Slab<Slot<S>>, readable: &mut Vec<Listed>, key: usize)
+    requires listed { AreListed slots.old.slots slots.old.capacity readable.old.items }
+    requires placed { (places : List Place) × ArePlaced slots.old.slots places }
+    requires room { slots.old.capacity ≤ vec_capacity readable.old }
+    ensures fed { slot_at slots.new.slots key ≡ fed_at (slot_at slots.old.slots key) }
+    ensures others { OthersStay slots.old.slots slots.new.slots key }
+    ensures listed { AreListed slots.new.slots slots.new.capacity readable.new.items }
+    ensures placed { (places : List Place) → ArePlaced slots.old.slots places → ArePlaced slots.new.slots places }
+    ensures capacity { slots.new.capacity ≡ slots.old.capacity }
+    ensures room { slots.new.capacity ≤ vec_capacity readable.new }
+{
+    let Some(slot) = slots.get_mut(key) else {
+        return;
+    };
+    let was = slot.ready.read;
+    slot.ready.read |= slot.starved;
+    slot.starved = false;
+    let (of, is) = (slot.of, slot.ready.read);
+    relist(readable, Listed { of, key }, was, is);
+}
+
+// In which directions a slot is ready, where it is of this.
+fn known_if<S>(slot: &Slot<S>, of: Who) -> Known
+    ensures found { slot.now.of ≡ of → result ≡ known_of slot.now }
+    ensures none { (slot.now.of ≡ of → ⊥) → result ≡ nothing_known }
+{
+    if slot.of == of {
+        Known {
+            read: slot.ready.read,
+            write: slot.ready.write,
         }
+    } else {
+        NOTHING
+    }
+}
+
+// What of a list was told last for reading, or what was before.
+fn last_read(last: Who, told: &[Want]) -> Who
+    ensures { result ≡ last_read last told.now }
+{
+    let mut last = last;
+    for want in told {
+        last = told_or(last, want.read, want.of);
+    }
+    last
+}
+
+// What was told last for reading, once this was told.
+fn told_or(last: Who, read: bool, of: Who) -> Who
+    ensures { result ≡ told_or last read of }
+{
+    match of {
+        Who::Link => last,
+        of => { if read { of } else { last } }
     }
 }
 
 // The place of a number, or where it would stand.
 fn find(places: &[Place], number: u64) -> Result<usize, usize>
-    ensures { IsSearchInRange result (length places.now) }
+    ensures range { IsSearchInRange result (length places.now) }
+    ensures position { IsBinarySearchResult (λ p. nat_cmp p.number number) places.now result }
 {
     places.binary_search_by_key(&number, |place| place.number)
 }
 
 // The place of a socket among those that are ready for reading, or where it would stand.
 fn find_listed(readable: &[Listed], of: Who) -> Result<usize, usize>
-    ensures { IsSearchInRange result (length readable.now) }
+    ensures range { IsSearchInRange result (length readable.now) }
+    ensures position { IsBinarySearchResult (λ listed. by_rank (rank_of listed.of) (rank_of of)) readable.now result }
 {
     readable.binary_search_by_key(&rank(of), |listed| rank(listed.of))
 }
 
 /// Where something stands in the order of wants: its kind, then its number.
-pub(crate) fn rank(of: Who) -> (u8, u64) {
+pub(crate) fn rank(of: Who) -> (u8, u64)
+    ensures { result ≡ rank_of of }
+{
     match of {
         Who::Link => (0, 0),
         Who::Listener(number) => (1, number),
@@ -443,6 +674,8 @@ fn joined(slot: &mut Slot<TcpStream>) -> Joined
     ensures stays { slot.new.ready.read ≡ slot.old.ready.read }
     ensures kept { slot.new.ready.write ≡ false → slot.old.ready.write ≡ true → result ≡ Joined.NotYet }
     ensures socket { slot.new.socket ≡ slot.old.socket }
+    ensures of { slot.new.of ≡ slot.old.of }
+    ensures starved { slot.new.starved ≡ slot.old.starved }
 {
     let Socket::Stream(stream) = &slot.socket else {
         return Joined::Failed;
@@ -472,6 +705,8 @@ enum Came {
 fn accept<S>(slot: &mut Slot<S>) -> Came
     ensures kept { slot.new.ready.read ≡ false → slot.old.ready.read ≡ true → slot.new.starved ≡ false → result ≡ Came.NotYet }
     ensures socket { slot.new.socket ≡ slot.old.socket }
+    ensures of { slot.new.of ≡ slot.old.of }
+    ensures stays { slot.new.ready.write ≡ slot.old.ready.write }
 {
     let Socket::Listener(listener) = &slot.socket else {
         return Came::Failed;
@@ -490,10 +725,22 @@ fn accept<S>(slot: &mut Slot<S>) -> Came
     }
 }
 
+// The connection that came, where there is room for it.
+fn take_from<S>(slot: &mut Slot<S>, full: bool) -> Came
+    ensures kept { slot.new.ready.read ≡ false → slot.old.ready.read ≡ true → slot.new.starved ≡ false → result ≡ Came.NotYet }
+    ensures socket { slot.new.socket ≡ slot.old.socket }
+    ensures of { slot.new.of ≡ slot.old.of }
+    ensures stays { slot.new.ready.write ≡ slot.old.ready.write }
+{
+    if full { starve(slot) } else { accept(slot) }
+}
+
 // The connection that came stays where it is.
 fn starve<S>(slot: &mut Slot<S>) -> Came
     ensures starved { slot.new.starved ≡ true }
     ensures socket { slot.new.socket ≡ slot.old.socket }
+    ensures of { slot.new.of ≡ slot.old.of }
+    ensures stays { slot.new.ready.write ≡ slot.old.ready.write }
 {
     slot.ready.read = false;
     slot.starved = true;
@@ -512,6 +759,9 @@ fn read<S: Stream>(slot: &mut Slot<S>, into: &mut [u8]) -> Io
         (result ≡ read_tells answer) × (answer ≡ Ok 0 → IsAtEnd (of_stream S.remaining slot.new.socket))
         × (slot.new.ready ≡ after_read (length into.old) answer slot.old.ready)) }
     ensures rests { result ≡ Io.NotYet → slot.new.ready.read ≡ false }
+    ensures stays { slot.new.ready.write ≡ slot.old.ready.write }
+    ensures of { slot.new.of ≡ slot.old.of }
+    ensures starved { slot.new.starved ≡ slot.old.starved }
     ensures goes_on { slot.old.ready.until_none ≡ true → slot.old.ready.read ≡ true → (count : ℕ) → result ≡ Io.Done count
         → (slot.new.ready.until_none ≡ true) × (slot.new.ready.read ≡ true) }
 {
@@ -532,6 +782,9 @@ fn write<S: Stream>(slot: &mut Slot<S>, from: &[u8]) -> Io
     ensures tells { Calls (of_stream S.answers slot.old.socket) (of_stream S.answers slot.new.socket) (λ answer.
         (result ≡ write_tells answer) × (slot.new.ready ≡ after_write (length from.now) answer slot.old.ready)) }
     ensures rests { result ≡ Io.NotYet → slot.new.ready.write ≡ false }
+    ensures stays { slot.new.ready.read ≡ slot.old.ready.read }
+    ensures of { slot.new.of ≡ slot.old.of }
+    ensures starved { slot.new.starved ≡ slot.old.starved }
 {
     match &mut slot.socket {
         Socket::Stream(stream) => stream_calls::write(stream, &mut slot.ready, from),
@@ -539,14 +792,18 @@ fn write<S: Stream>(slot: &mut Slot<S>, from: &[u8]) -> Io
     }
 }
 
-fn end(slot: &Slot<TcpStream>) -> bool {
+fn end(slot: &Slot<TcpStream>) -> bool
+    ensures { is_connection slot.now.socket ≡ false → result ≡ false }
+{
     match &slot.socket {
         Socket::Stream(stream) => stream.shutdown(Shutdown::Write).is_ok(),
         _ => false,
     }
 }
 
-fn send<S>(slot: &Slot<S>, to: Endpoint, octets: &[u8]) -> Sent {
+fn send<S>(slot: &Slot<S>, to: Endpoint, octets: &[u8]) -> Sent
+    ensures { are_datagrams slot.now.socket ≡ false → result ≡ Sent.Failed }
+{
     let Socket::Datagrams(socket) = &slot.socket else {
         return Sent::Failed;
     };
@@ -562,6 +819,9 @@ fn receive<S>(slot: &mut Slot<S>, into: &mut [u8]) -> Got
     ensures rests { result ≡ Got.NotYet → slot.new.ready.read ≡ false }
     ensures kept { slot.new.ready.read ≡ false → slot.old.ready.read ≡ true → result ≡ Got.NotYet }
     ensures socket { slot.new.socket ≡ slot.old.socket }
+    ensures stays { slot.new.ready.write ≡ slot.old.ready.write }
+    ensures of { slot.new.of ≡ slot.old.of }
+    ensures starved { slot.new.starved ≡ slot.old.starved }
 {
     let Socket::Datagrams(socket) = &slot.socket else {
         return Got::Failed;

@@ -50,6 +50,7 @@ pub(crate) fn read<S: Stream>(stream: &mut S, ready: &mut Ready, into: &mut [u8]
     ensures tells { Calls (S.answers stream.old) (S.answers stream.new) (λ answer. (result ≡ read_tells answer) × (answer ≡ Ok 0 → IsAtEnd (S.remaining stream.new))
         × (ready.new ≡ after_read (length into.old) answer ready.old)) }
     ensures rests { result ≡ Io.NotYet → ready.new.read ≡ false }
+    ensures stays { ready.new.write ≡ ready.old.write }
     ensures goes_on { ready.old.until_none ≡ true → ready.old.read ≡ true → (count : ℕ) → result ≡ Io.Done count → (ready.new.until_none ≡ true) × (ready.new.read ≡ true) }
 {
     let asked = into.len();
@@ -79,6 +80,7 @@ pub(crate) fn write<S: Stream>(stream: &mut S, ready: &mut Ready, from: &[u8]) -
     ensures tells { Calls (S.answers stream.old) (S.answers stream.new) (λ answer. (result ≡ write_tells answer)
         × (ready.new ≡ after_write (length from.now) answer ready.old)) }
     ensures rests { result ≡ Io.NotYet → ready.new.write ≡ false }
+    ensures stays { ready.new.read ≡ ready.old.read }
 {
     match stream.write(from) {
         Ok(0) => Io::Failed,

@@ -1,0 +1,7 @@
+use Rattle.std.proofs.Common.{rules}
+use Rattle.std.proofs.lemmas.List.Sorted.{answers_always}
+use Rattle.net_world.specs.declared.sockets.Place.{Place}
+use Rattle.net_world.proofs.sockets.find.Goals as goal
+
+pub returns-clause-position : goal.returns-clause-position
+returns-clause-position c = c.binary_search_by_key.ensures.position (λ (p : Place). p.number) (answers_always _ _ _ (λ f a r g called. search rules))
