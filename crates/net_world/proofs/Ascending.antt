@@ -164,7 +164,7 @@ module _ {K X : Type 0} (cmp : K → K → Ordering) (o : IsTotalOrder cmp) (key
       → IsPartitionPoint (λ y. cmp (key y) x ≡ Less) (λ y. cmp (key y) x ≡ Greater) xs at
   parted xs x at rise found = found (searchable_from_sorted o key xs x (sorted xs rise))
 
-  apart : (xs : List X) (i j : ℕ) (d : X) → i < j → j < length xs → Rise cmp key xs → cmp (key (get_or xs i d)) (key (get_or xs j d)) ≡ Less
+  pub apart : (xs : List X) (i j : ℕ) (d : X) → i < j → j < length xs → Rise cmp key xs → cmp (key (get_or xs i d)) (key (get_or xs j d)) ≡ Less
   apart [] i j d before below rise = absurd (omega arith)
   apart (x ∷ xs) zero zero d before below rise = absurd (omega arith)
   apart (x ∷ xs) zero (suc j) d before below rise = above_each (key x) xs (get_or xs j d) rise.0 (has_at xs j d (omega arith))

@@ -5,13 +5,13 @@ use Rattle.std.specs.Io.KnownBytes.{Appends, Consumes}
 use Rattle.net_world.specs.Keeping.{HandsOn, SendsOn}
 use Rattle.net_world.specs.Orders.{joined, SendAll, HandAll}
 
-appends_both : (a b c : Option (List ℕ)) (one two : List ℕ) → Appends a b one → Appends b c two → Appends a c (one ++ two)
+pub appends_both : (a b c : Option (List ℕ)) (one two : List ℕ) → Appends a b one → Appends b c two → Appends a c (one ++ two)
 appends_both None b c one two first second = tt
 appends_both (Some xs) None c one two first second = elim first [ ]
 appends_both (Some xs) (Some ys) None one two first second = elim second [ ]
 appends_both (Some xs) (Some ys) (Some zs) one two first second = second ∙ ap (λ (l : List ℕ). l ++ two) first ∙ append_assoc xs one two
 
-consumes_both : (a b c : Option (List ℕ)) (one two : List ℕ) → Consumes a b one → Consumes b c two → Consumes a c (one ++ two)
+pub consumes_both : (a b c : Option (List ℕ)) (one two : List ℕ) → Consumes a b one → Consumes b c two → Consumes a c (one ++ two)
 consumes_both None b c one two first second = tt
 consumes_both (Some xs) None c one two first second = elim first [ ]
 consumes_both (Some xs) (Some ys) None one two first second = elim second [ ]

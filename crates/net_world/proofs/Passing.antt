@@ -1,5 +1,5 @@
 -- What the calls of a record keep together.
-use Rattle.std.proofs.Common.{◌≡◌, ℕ, Bool, true, false, cond, List, [], ◌∷◌, ◌++◌, Option, None, Some, refl, ap, sym, subst, ◌∙◌, append_assoc}
+use Rattle.std.proofs.Common.{◌≡◌, ℕ, Bool, true, false, cond, List, [], ◌∷◌, ◌++◌, Option, None, Some, ◌⊎◌, inl, inr, refl, ap, sym, subst, ◌∙◌, append_assoc}
 use Rattle.std.proofs.lemmas.List.{append-nil}
 use Rattle.std.specs.Io.KnownBytes.{Keeps}
 use Rattle.world_face.specs.Journal.{Entry}
@@ -7,9 +7,11 @@ use Rattle.net_world.specs.declared.link.Link.{Link}
 use Rattle.net_world.specs.declared.link.Outlet.{Outlet}
 use Rattle.octet_buffer.specs.Buffered.{Buffered}
 use Rattle.net_world.specs.Places.{of_guest}
+use Rattle.net_world.specs.declared.place.Place.{Place}
+use Rattle.net_world.specs.declared.place.Place.TheVariants.{Closed, ListensUnix, ListensTcp, Guest}
 use Rattle.net_world.specs.Linking.{is_open}
 use Rattle.net_world.specs.Keeping.{HandsOn, SendsOn}
-use Rattle.net_world.specs.Recording.{written, written_by, handed, handed_by, Passing, Passes, AllPass, passing}
+use Rattle.net_world.specs.Recording.{written, written_by, handed, handed_by, Passing, Passes, AllPass, passing, passing_untold, told_nothing}
 use Rattle.net_world.proofs.Keeping.{sends_kept}
 use Rattle.net_world.proofs.Joining.{sends_both, hands_both, sends_nothing, hands_nothing}
 
@@ -122,3 +124,49 @@ module _ {S : Type 0} (remaining contents : S → Option (List ℕ)) (old new : 
       → Passes [] [] (passing remaining contents old) (passing remaining contents new)
   flush_passes sends kept same shut =
       write_passes [] (nothing_put (is_open old.outlet) (of_guest contents old.place) (of_guest contents new.place) old.outbox.octets new.outbox.octets sends) kept same shut
+
+-- Where the stream tells nothing: what waited and what is ahead pass by themselves.
+pub none_known : {S : Type 0} (place : Place S) → of_guest told_nothing place ≡ None
+none_known Closed = refl
+none_known (ListensUnix listener) = refl
+none_known (ListensTcp listener) = refl
+none_known (Guest stream) = refl
+
+module _ {S : Type 0} (old new : Link S) where
+  pub still_passes : (sent : List ℕ) → sent ++ new.outbox.octets ≡ old.outbox.octets ++ [] → new.inbox ≡ old.inbox → (is_open new.outlet ≡ true → is_open old.outlet ≡ true)
+      → Passes [] [] (passing_untold old) (passing_untold new)
+  still_passes sent goes same shut = record {
+    sends = nothing_put (is_open old.outlet) (of_guest told_nothing old.place) (of_guest told_nothing new.place) old.outbox.octets new.outbox.octets
+        (rw (none_known old.place) (sent, tt, goes));
+    hands = rw (none_known old.place) ([], tt, ap (λ (b : Buffered). b.octets) same ∙ sym (append-nil old.inbox.octets));
+    shut = shut;
+  }
+
+-- A call after one that put nothing and handed out nothing: what is written goes out as before, or nothing is put.
+pub passes_after : (put out : List ℕ) (first next last : Passing) → Passes [] [] first next → Passes put out next last → (next.goes_out ≡ first.goes_out) ⊎ (put ≡ []) → Passes put out first last
+passes_after put out first next last one two goes = record {
+  sends = subst (λ (l : List ℕ). SendsOn first.taken last.taken first.waits last.waits l) (same goes)
+      (sends_both first.taken next.taken last.taken first.waits next.waits last.waits (cond first.goes_out [] []) (cond next.goes_out put []) one.sends two.sends);
+  hands = hands_both first.left next.left last.left first.ahead next.ahead last.ahead [] out one.hands two.hands;
+  shut = λ goes-out. one.shut (two.shut goes-out);
+}
+  where
+    none : (b : Bool) → cond {A = List ℕ} b [] [] ≡ []
+    none true = refl
+    none false = refl
+
+    same : (next.goes_out ≡ first.goes_out) ⊎ (put ≡ []) → cond first.goes_out [] [] ++ cond next.goes_out put [] ≡ cond first.goes_out put []
+    same (inl is) = ap (λ (l : List ℕ). l ++ cond next.goes_out put []) (none first.goes_out) ∙ ap (λ (b : Bool). cond b put []) is
+    same (inr is) = ap (λ (l : List ℕ). l ++ cond next.goes_out put []) (none first.goes_out) ∙ ap (λ (p : List ℕ). cond next.goes_out p []) is ∙ none next.goes_out
+        ∙ sym (ap (λ (p : List ℕ). cond first.goes_out p []) is ∙ none first.goes_out)
+
+-- the same where a call put nothing
+pub passes_on : (first next last : Passing) → Passes [] [] first next → Passes [] [] next last → Passes [] [] first last
+passes_on first next last one two = passes_after [] [] first next last one two (inr refl)
+
+pub passes_still : (first last : Passing) → last ≡ first → Passes [] [] first last
+passes_still first last same = rw same (record {
+  sends = nothing_put first.goes_out first.taken first.taken first.waits first.waits (sends_nothing first.taken first.waits);
+  hands = hands_nothing first.left first.ahead;
+  shut = λ goes-out. goes-out;
+})

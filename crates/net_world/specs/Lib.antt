@@ -1,3 +1,5 @@
+pub mod Accepting
+pub mod Datagramming
 pub mod Faults
 pub mod Places
 pub mod Linking
@@ -8,3 +10,4 @@ pub mod Recording
 pub mod Slots
 pub mod Streaming
 pub mod Tables
+pub mod Telling

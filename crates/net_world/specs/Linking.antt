@@ -1,5 +1,5 @@
 -- What a wait may tell of the link, and what its calls answer.
-use Rattle.std.specs.Prelude.{◌≡◌, ◌<◌, ℕ, Bool, true, false, ◌&&◌, ◌||◌, not, length, ◌==◌, nat_le, cond, min, Ok, Err}
+use Rattle.std.specs.Prelude.{◌≡◌, ◌<◌, ◌/◌, ℕ, Bool, true, false, ◌&&◌, ◌||◌, not, length, ◌==◌, nat_le, cond, min, Ok, Err}
 use Rattle.std.specs.declared.io.ErrorKind.{ErrorKind}
 use Rattle.std.specs.declared.io.ErrorKind.TheVariants.{WouldBlock, ConnectionReset, BrokenPipe}
 use Rattle.mio.specs.declared.event.event.Event.{Event}
@@ -29,6 +29,10 @@ is_told_readable link = link.readable || not (length link.inbox.octets == 0)
 abbrev pub is_told_writable : {S : Type 0} → Link S → Bool
 is_told_writable link =
     not (listens link.place) && (not (is_open link.outlet) || (nat_le most_to_link link.outbox.room && not link.pace.holds))
+
+-- how many sockets may be read: as many as what waits to go out has room for, with 18,432 octets each; no bound where what is written doesn't go out
+abbrev pub bears : {S : Type 0} → Link S → ℕ
+bears link = cond (is_open link.outlet) (link.outbox.room / 18432) 18446744073709551615
 
 -- What a read that brought nothing answers: once the peer is gone the end.
 abbrev pub read_answer : Outlet → Fault → Io

@@ -15,6 +15,8 @@ use Rattle.poll_list.specs.declared.Want.{Want}
 use Rattle.world_face.specs.declared.Io.{Io}
 use Rattle.world_face.specs.declared.Io.TheVariants.{NotYet}
 use Rattle.world_face.specs.declared.Got.{Got}
+use Rattle.world_face.specs.declared.Accepted.{Accepted}
+use Rattle.world_face.specs.declared.Accepted.TheVariants.{From, NotYet as NoneToAccept, Failed as AcceptFailed}
 use Rattle.world_face.specs.declared.Joined.{Joined}
 use Rattle.world_face.specs.declared.Joined.TheVariants.{NotYet as NotJoined}
 use Rattle.net_world.specs.declared.stream_calls.Ready.{Ready}
@@ -221,6 +223,12 @@ pub record Opens {S : Type 0} (old new : Table S) (of : Who) : Type 0 where
   pub others : OthersStay old.slots new.slots key
   pub readable : new.readable ≡ old.readable
   pub last : new.last ≡ old.last
+
+-- A connection that came stands under its number; where none did nothing changes.
+abbrev pub Joins : {S : Type 0} → Accepted → (old new : Table S) → ℕ → Type 0
+Joins (From peer) old new number = Opens old new (Tcp number)
+Joins NoneToAccept old new number = new ≡ old
+Joins AcceptFailed old new number = new ≡ old
 
 abbrev pub fed_at : {S : Type 0} → Option (Slot S) → Option (Slot S)
 fed_at None = None

@@ -1,10 +1,19 @@
 // The sockets of a World, the clock, and what the system tells of them.
-ghost use Rattle.std.specs.Prelude.{◌≡◌, ◌≤◌, ◌<◌, ◌++◌, ℕ, false, [], length, take, min};
+ghost use Rattle.std.specs.Prelude.{◌≡◌, ◌≤◌, ◌<◌, ◌++◌, ℕ, true, false, [], Some, length, take, min, is_some, IfOk};
 ghost use Rattle.std.specs.Bool.{OnFalse};
+ghost use Rattle.std.specs.List.{Contains};
 ghost use Rattle.poll_list.specs.Listing.{AreWants};
-ghost use Rattle.poll_list.specs.Picks.{IsPickedFrom};
-ghost use Rattle.world_face.specs.Journal.{MayRead, MayWrite, MayWait};
-ghost use Rattle.world_face.specs.Limits.{most_ready, most_wants};
+ghost use Rattle.poll_list.specs.declared.Want.{Want};
+ghost use Rattle.poll_list.specs.Picks.{BeginsWithLink, IsPickedFrom};
+ghost use Rattle.world_face.specs.Journal.{MayRead, MayWrite, MayWait, filled};
+ghost use Rattle.world_face.specs.Limits.{most_ready, most_wants, most_to_link};
+ghost use Rattle.net_world.specs.Linking.{is_told_readable, is_told_writable, bears};
+ghost use Rattle.net_world.specs.Places.{listens};
+ghost use Rattle.net_world.specs.Recording.{Passes, passing_untold};
+ghost use Rattle.net_world.specs.Tables.{IsTaken, Joins, Opens, Table, number_of, slot_at};
+ghost use Rattle.net_world.specs.declared.sockets.Slot.{Slot};
+ghost use Rattle.net_world.specs.declared.place.Place.{Place};
+ghost use Rattle.net_world.specs.Telling.{AreInOrder, AreReady, IsReadable, IsWritable, TellsOneRead, TellsRead, TellsWrite, link_known, read_sockets};
 
 use crate::clock::Moments;
 use crate::gathering::{gather, gather_link};
@@ -42,7 +51,11 @@ pub(crate) struct Edge {
 
 impl Edge {
     /// An edge with a closed link and no socket, and all the memory that it will need. Err where there isn't so much.
-    pub fn open<R: Net + Clock>(rt: &R, alloc: Global) -> Result<Edge, NoMemory> {
+    pub fn open<R: Net + Clock>(rt: &R, alloc: Global) -> Result<Edge, NoMemory>
+        ensures closed { IfOk result (λ edge. edge.link.place ≡ Place.Closed) }
+        ensures empty { IfOk result (λ edge. (edge.link.inbox.octets ≡ []) × (edge.link.outbox.octets ≡ []) × (edge.sockets.slots ≡ [])) }
+        ensures begins { IfOk result (λ edge. edge.clock.moment ≡ 0) }
+    {
         let Ok(events) = Events::with_capacity(alloc, MOST) else {
             return Err(NoMemory);
         };
@@ -66,7 +79,9 @@ impl Edge {
     }
 
     /// Listens for the link at a place. False where that isn't done, or the system gave no poll.
-    pub fn link_open<R: Net + Files>(&mut self, rt: &R, at: &LinkAt) -> bool {
+    pub fn link_open<R: Net + Files>(&mut self, rt: &R, at: &LinkAt) -> bool
+        ensures { result ≡ true → (self.old.link.place ≡ Place.Closed) × (listens self.new.link.place ≡ true) }
+    {
         match &self.poll {
             Some(poll) => self.link.listen(rt, poll.registry(), at),
             None => false,
@@ -80,6 +95,8 @@ impl Edge {
         // What was read ahead comes first, in its order.
         ensures ahead { 0 < length self.old.link.inbox.octets → result ≡ Io.Done (min (length into.old) (length self.old.link.inbox.octets)) }
         ensures order { 0 < length self.old.link.inbox.octets → (count : ℕ) → result ≡ Io.Done count → self.old.link.inbox.octets ≡ take count into.new ++ self.new.link.inbox.octets }
+        // Of the octets that pass the link these are handed out, and none is put.
+        ensures passes { Passes [] (filled result into.new) (passing_untold self.old.link) (passing_untold self.new.link) }
     {
         if let Some(poll) = &self.poll {
             self.link.take_peer(rt, poll.registry());
@@ -93,6 +110,10 @@ impl Edge {
         requires { 0 < length from.now }
         ensures may { MayWrite (length from.now) result }
         ensures whole { (count : ℕ) → result ≡ Io.Done count → count ≡ length from.now }
+        // What is told as taken is put, where what is written goes out; where it is told that none was, none is.
+        ensures passes { Passes (filled result from.now) [] (passing_untold self.old.link) (passing_untold self.new.link) }
+        // Where a wait may tell the link ready for writing, a frame that is no short one is answered.
+        ensures served { is_told_writable self.old.link ≡ true → length from.now ≤ most_to_link → result ≡ Io.NotYet → self.new.link.pace.holds ≡ true }
     {
         let Some(poll) = &self.poll else {
             return Io::Failed;
@@ -103,7 +124,10 @@ impl Edge {
 
     /// Opens a socket: a connection to an endpoint, or a listener or a socket for datagrams that is bound there. False where that isn't done, or
     /// the system gave no poll.
-    pub fn open_socket<R: Net>(&mut self, rt: &R, of: Who, at: Endpoint) -> bool {
+    pub fn open_socket<R: Net>(&mut self, rt: &R, of: Who, at: Endpoint) -> bool
+        ensures opened { result ≡ true → Opens self.old.sockets self.new.sockets of }
+        ensures refused { result ≡ false → self.new.sockets ≡ self.old.sockets }
+    {
         match &self.poll {
             Some(poll) => self.sockets.open_socket(rt, poll.registry(), of, at),
             None => false,
@@ -111,7 +135,11 @@ impl Edge {
     }
 
     /// Takes a connection from a listener, and puts it under `number`. Failed where that isn't done, or the system gave no poll.
-    pub fn accept(&mut self, listener: u64, number: u64) -> Accepted {
+    pub fn accept(&mut self, listener: u64, number: u64) -> Accepted
+        // What came stands under its number, and of the listener it is known whether more may have come; nothing else changes.
+        ensures { is_some self.old.poll ≡ true → (key : ℕ) (slot : Slot TcpStream) → slot_at self.old.sockets.slots key ≡ Some slot → number_of slot.of ≡ listener → (new : Slot TcpStream)
+            × (between : Table TcpStream) × IsTaken self.old.sockets between key slot new × Joins result between self.new.sockets number }
+    {
         match &self.poll {
             Some(poll) => self.sockets.accept(poll.registry(), listener, number),
             None => Accepted::Failed,
@@ -134,6 +162,10 @@ impl Edge {
         ensures moment { self.old.clock.moment ≤ self.new.clock.moment }
         ensures picked { IsPickedFrom wants.now.items ready.new.items }
         ensures capacity { ready.new.capacity ≡ ready.old.capacity }
+        // Of the octets that pass the link none is put or handed out.
+        ensures passes { Passes [] [] (passing_untold self.old.link) (passing_untold self.new.link) }
+        // What is told is ready.
+        ensures ready { AreReady (link_known self.new.link) self.new.sockets.slots ready.new.items }
     {
         self.link.turn(is_link_read(wants.items()));
         let is_answered = self.answer(rt, wants, timeout, ready);
@@ -159,6 +191,8 @@ impl Edge {
         ensures moment { self.old.clock.moment ≤ self.new.clock.moment }
         ensures few { length ready.new.items ≤ length wants.now.items }
         ensures capacity { ready.new.capacity ≡ ready.old.capacity }
+        ensures passes { Passes [] [] (passing_untold self.old.link) (passing_untold self.new.link) }
+        ensures ready { AreReady (link_known self.new.link) self.new.sockets.slots ready.new.items }
     {
         if self.offer_first(wants, ready) {
             return true;
@@ -177,6 +211,8 @@ impl Edge {
         ensures out { OnFalse result (self.new.link.pace.holds ≡ false) }
         ensures moment { self.new.clock ≡ self.old.clock }
         ensures capacity { ready.new.capacity ≡ ready.old.capacity }
+        ensures still { passing_untold self.new.link ≡ passing_untold self.old.link }
+        ensures ready { AreReady (link_known self.new.link) self.new.sockets.slots ready.new.items }
     {
         self.offer_known(wants, ready);
         if !ready.items().is_empty() && self.answered < MOST_KNOWN {
@@ -199,6 +235,8 @@ impl Edge {
         ensures picked { IsPickedFrom wants.now.items ready.new.items }
         ensures few { length ready.new.items ≤ length wants.now.items }
         ensures capacity { ready.new.capacity ≡ ready.old.capacity }
+        // What is told is ready.
+        ensures ready { AreReady (link_known self.now.link) self.now.sockets.slots ready.new.items }
     {
         if self.link.is_ahead() {
             gather_link(wants, self.link.is_writable(), ready);
@@ -229,6 +267,8 @@ impl Edge {
         ensures moment { self.old.clock.moment ≤ self.new.clock.moment }
         ensures few { length ready.new.items ≤ length wants.now.items }
         ensures capacity { ready.new.capacity ≡ ready.old.capacity }
+        ensures passes { Passes [] [] (passing_untold self.old.link) (passing_untold self.new.link) }
+        ensures ready { AreReady (link_known self.new.link) self.new.sockets.slots ready.new.items }
     {
         let until = end_of(self.clock.last(), timeout);
         self.flush();
@@ -254,6 +294,16 @@ impl Edge {
         ensures picked { IsPickedFrom wants.now.items ready.new.items }
         ensures few { length ready.new.items ≤ length wants.now.items }
         ensures capacity { ready.new.capacity ≡ ready.old.capacity }
+        // What is told is ready.
+        ensures ready { AreReady (link_known self.now.link) self.now.sockets.slots ready.new.items }
+        // Each socket that is wanted and ready is told, for writing always, for reading where no more are ready than the link bears.
+        ensures writes { (want : Want) → Contains wants.now.items want → (want.of ≡ Who.Link → ⊥) → want.write ≡ true → IsWritable self.now.sockets.slots want.of → TellsWrite ready.new.items want.of }
+        ensures reads { AreInOrder wants.now.items → length self.now.sockets.readable ≤ bears self.now.link → (want : Want) → Contains wants.now.items want → (want.of ≡ Who.Link → ⊥) → want.read ≡ true
+            → IsReadable self.now.sockets.slots want.of → TellsRead ready.new.items want.of }
+        ensures most { read_sockets ready.new.items ≤ bears self.now.link }
+        ensures some { AreInOrder wants.now.items → 0 < bears self.now.link → (want : Want) → Contains wants.now.items want → (want.of ≡ Who.Link → ⊥) → want.read ≡ true
+            → IsReadable self.now.sockets.slots want.of → TellsOneRead self.now.sockets.slots ready.new.items }
+        ensures link { BeginsWithLink (is_told_readable self.now.link) (is_told_writable self.now.link) wants.now.items ready.new.items }
     {
         let link = Known {
             read: self.link.is_readable(),
@@ -265,6 +315,7 @@ impl Edge {
     // Writes what was gathered, as much as is taken at once.
     fn flush(&mut self)
         ensures moment { self.new.clock ≡ self.old.clock }
+        ensures passes { Passes [] [] (passing_untold self.old.link) (passing_untold self.new.link) }
     {
         if let Some(poll) = &self.poll {
             self.link.flush(poll.registry());
@@ -274,6 +325,7 @@ impl Edge {
     // Asks the system what is ready, for at most so long.
     fn ask<R: Net + Files + Clock>(&mut self, rt: &R, limit: Option<Duration>) -> bool
         ensures moment { self.old.clock.moment ≤ self.new.clock.moment }
+        ensures passes { Passes [] [] (passing_untold self.old.link) (passing_untold self.new.link) }
     {
         let Some(poll) = &mut self.poll else {
             return false;
@@ -320,7 +372,9 @@ fn is_link_read(wants: &[Want]) -> bool {
 }
 
 // Notes what the system told.
-fn note_events(events: &Events, link: &mut Link<Peer>, sockets: &mut Sockets<TcpStream>) {
+fn note_events(events: &Events, link: &mut Link<Peer>, sockets: &mut Sockets<TcpStream>)
+    ensures still { passing_untold link.new ≡ passing_untold link.old }
+{
     for event in events {
         if event.token() == LINK {
             link.note(event);

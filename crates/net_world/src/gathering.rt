@@ -1,9 +1,14 @@
 // What of the wants is ready.
-ghost use Rattle.std.specs.Prelude.{◌≡◌, ℕ, ◌+◌, ◌<◌, ◌≤◌, true, [], ◌++◌, List, length, drop, IfSome};
+ghost use Rattle.std.specs.Prelude.{◌≡◌, ◌⊎◌, ℕ, ◌+◌, ◌<◌, ◌≤◌, true, [], ◌++◌, List, None, length, drop, slice_index_or, IfSome};
+ghost use Rattle.std.specs.List.{Contains};
+ghost use Rattle.std.specs.List.Sorted.{IsSearchInRange, IsBinarySearchResult};
+ghost use Rattle.std.specs.declared.cmp.Ordering.TheVariants.{Less};
 ghost use Rattle.poll_list.specs.declared.Want.{Want};
 ghost use Rattle.poll_list.specs.Listing.{same_who};
 ghost use Rattle.poll_list.specs.declared.Who.TheVariants.{Link};
 ghost use Rattle.poll_list.specs.Picks.{IsPart, IsPickedFrom, GoesOn, Adds, Begins, BeginsWithLink, part_in, as_list};
+ghost use Rattle.net_world.specs.Telling.{AreInOrder, AreReady, IsEndWanted, IsLinkAtMost, IsReadable, IsWritable, TellsOneRead, TellsRead, TellsWrite, WantsRead, link_told, read_sockets};
+ghost use Rattle.net_world.specs.Tables.{by_rank, rank_of, one};
 
 use crate::sockets::{Known, Listed, Sockets, rank};
 use mio::net::TcpStream;
@@ -27,6 +32,17 @@ pub(crate) fn gather(
     ensures link { BeginsWithLink link.read link.write wants.now.items ready.new.items }
     ensures few { length ready.new.items ≤ length wants.now.items }
     ensures capacity { ready.new.capacity ≡ ready.old.capacity }
+    // What is told is ready.
+    ensures ready { AreReady link sockets.now.slots ready.new.items }
+    // Each socket that is wanted for writing and ready for it is told.
+    ensures writes { (want : Want) → Contains wants.now.items want → (want.of ≡ Link → ⊥) → want.write ≡ true → IsWritable sockets.now.slots want.of → TellsWrite ready.new.items want.of }
+    // So is each for reading, where no more are ready than are told at most, and the wants stand in their order.
+    ensures reads { AreInOrder wants.now.items → length sockets.now.readable ≤ most → (want : Want) → Contains wants.now.items want → (want.of ≡ Link → ⊥) → want.read ≡ true
+        → IsReadable sockets.now.slots want.of → TellsRead ready.new.items want.of }
+    ensures most { read_sockets ready.new.items ≤ most }
+    // Where more are ready one is told at least.
+    ensures some { AreInOrder wants.now.items → 0 < most → (want : Want) → Contains wants.now.items want → (want.of ≡ Link → ⊥) → want.read ≡ true → IsReadable sockets.now.slots want.of
+        → TellsOneRead sockets.now.slots ready.new.items }
 {
     ready.clear();
     let mut left = gather_first(wants.items(), link, ready);
@@ -35,8 +51,9 @@ pub(crate) fn gather(
         if room == 0 {
             break;
         }
-        left = gather_up_to(left, listed, sockets, ready);
-        if is_read_last(ready.items(), listed.of) {
+        let (rest, is_read) = gather_up_to(left, listed, sockets, ready);
+        left = rest;
+        if is_read {
             room -= 1;
         }
     }
@@ -48,6 +65,7 @@ pub(crate) fn gather_link(wants: &Wants, write: bool, ready: &mut ReadyList)
     requires { length wants.now.items ≤ ready.old.capacity }
     ensures picked { IsPickedFrom wants.now.items ready.new.items }
     ensures link { BeginsWithLink true write wants.now.items ready.new.items }
+    ensures told { IsLinkAtMost (link_told write) ready.new.items }
     ensures few { length ready.new.items ≤ length wants.now.items }
     ensures capacity { ready.new.capacity ≡ ready.old.capacity }
 {
@@ -64,6 +82,11 @@ fn gather_first<'a>(wants: &'a [Want], known: Known, ready: &mut ReadyList) -> &
     ensures link { ready.old.items ≡ [] → BeginsWithLink known.read known.write wants.now ready.new.items }
     ensures few { length ready.new.items + length result.now ≤ length ready.old.items + length wants.now }
     ensures capacity { ready.new.capacity ≡ ready.old.capacity }
+    ensures told { ready.old.items ≡ [] → IsLinkAtMost known ready.new.items }
+    ensures rest { (want : Want) → Contains wants.now want → (want.of ≡ Link → ⊥) → Contains result.now want }
+    ensures order { AreInOrder wants.now → AreInOrder result.now }
+    ensures only { (want : Want) → Contains result.now want → Contains wants.now want }
+    ensures others { AreInOrder wants.now → (want : Want) → Contains result.now want → want.of ≡ Link → ⊥ }
 {
     let [want, rest @ ..] = wants else {
         return wants;
@@ -82,40 +105,35 @@ fn is_link(of: Who) -> bool
     matches!(of, Who::Link)
 }
 
-// Adds the part of a want that is ready, where there is one, and answers the wants that come after it; all of them, where something isn't wanted.
-fn gather_one<'a>(wants: &'a [Want], of: Who, known: Known, ready: &mut ReadyList) -> &'a [Want]
-    requires { length ready.old.items + length wants.now ≤ ready.old.capacity }
-    ensures goes_on { (all : List Want) → GoesOn all wants.now ready.old.items → GoesOn all result.now ready.new.items }
-    ensures begins { (first : List Want) → Begins first ready.old.items → Begins first ready.new.items }
-    ensures few { length ready.new.items + length result.now ≤ length ready.old.items + length wants.now }
-    ensures capacity { ready.new.capacity ≡ ready.old.capacity }
-{
-    let Some(at) = place_among(wants, of) else {
-        return wants;
-    };
-    add_part(wants[at], known, ready);
-    &wants[at + 1..]
-}
-
 // Adds the part of the want for a socket that is ready for reading, after the parts of the wants for writing that stand before it, and answers the wants that
-// come after it; all of them, where it isn't wanted.
+// come after it, and whether it was told for reading; all of them, and false, where it isn't wanted.
 fn gather_up_to<'a>(
     wants: &'a [Want],
     listed: &Listed,
     sockets: &Sockets<TcpStream>,
     ready: &mut ReadyList,
-) -> &'a [Want]
-    requires { length ready.old.items + length wants.now ≤ ready.old.capacity }
-    ensures goes_on { (all : List Want) → GoesOn all wants.now ready.old.items → GoesOn all result.now ready.new.items }
+) -> (&'a [Want], bool)
+    requires room { length ready.old.items + length wants.now ≤ ready.old.capacity }
+    requires listed { Contains sockets.now.readable listed.now }
+    ensures goes_on { (all : List Want) → GoesOn all wants.now ready.old.items → GoesOn all result.0.now ready.new.items }
     ensures begins { (first : List Want) → Begins first ready.old.items → Begins first ready.new.items }
-    ensures few { length ready.new.items + length result.now ≤ length ready.old.items + length wants.now }
+    ensures few { length ready.new.items + length result.0.now ≤ length ready.old.items + length wants.now }
     ensures capacity { ready.new.capacity ≡ ready.old.capacity }
+    ensures ready { (link : Known) → AreReady link sockets.now.slots ready.old.items → AreReady link sockets.now.slots ready.new.items }
+    ensures writes { (want : Want) → Contains wants.now want → Contains result.0.now want
+        ⊎ (want.write ≡ true → IsWritable sockets.now.slots want.of → TellsWrite ready.new.items want.of) }
+    ensures reads { AreInOrder wants.now → (want : Want) → Contains wants.now want → want.of ≡ listed.now.of → want.read ≡ true → TellsRead ready.new.items want.of }
+    ensures rest { AreInOrder wants.now → (want : Want) → Contains wants.now want → by_rank (rank_of listed.now.of) (rank_of want.of) ≡ Less → Contains result.0.now want }
+    ensures order { AreInOrder wants.now → AreInOrder result.0.now }
+    ensures count { read_sockets ready.new.items ≤ read_sockets ready.old.items + one result.1 }
+    ensures some { result.1 ≡ true → TellsOneRead sockets.now.slots ready.new.items }
 {
     let Some(at) = place_among(wants, listed.of) else {
-        return wants;
+        return (wants, false);
     };
     gather_written(&wants[..at], sockets, ready);
-    gather_one(&wants[at..], listed.of, sockets.known(listed), ready)
+    add_part(wants[at], sockets.known(listed), ready);
+    (&wants[at + 1..], wants[at].read)
 }
 
 // Adds the parts of wants for writing that are ready, for writing alone: which sockets are told for reading is settled before.
@@ -125,6 +143,9 @@ fn gather_written(wants: &[Want], sockets: &Sockets<TcpStream>, ready: &mut Read
     ensures begins { (first : List Want) → Begins first ready.old.items → Begins first ready.new.items }
     ensures few { length ready.new.items ≤ length ready.old.items + length wants.now }
     ensures capacity { ready.new.capacity ≡ ready.old.capacity }
+    ensures ready { (link : Known) → AreReady link sockets.now.slots ready.old.items → AreReady link sockets.now.slots ready.new.items }
+    ensures writes { (want : Want) → Contains wants.now want → want.write ≡ true → IsWritable sockets.now.slots want.of → TellsWrite ready.new.items want.of }
+    ensures count { read_sockets ready.new.items ≡ read_sockets ready.old.items }
 {
     for want in wants {
         if want.write {
@@ -137,14 +158,6 @@ fn gather_written(wants: &[Want], sockets: &Sockets<TcpStream>, ready: &mut Read
     }
 }
 
-// Whether the last that was told is this, for reading.
-fn is_read_last(told: &[Want], of: Who) -> bool {
-    match told.last() {
-        Some(part) => part.of == of && part.read,
-        None => false,
-    }
-}
-
 // The sockets of a list that are to be told: all of it, where they are at most so many; else those past the one that was told last.
 fn in_turn<'a>(
     wants: &[Want],
@@ -152,7 +165,7 @@ fn in_turn<'a>(
     sockets: &Sockets<TcpStream>,
     most: usize,
 ) -> &'a [Listed]
-    ensures end { (passed : ℕ) × (result.now ≡ drop passed listed.now) }
+    ensures end { IsEndWanted wants.now listed.now result.now }
     ensures whole { length listed.now ≤ most → result.now ≡ listed.now }
 {
     if listed.len() <= most {
@@ -164,7 +177,7 @@ fn in_turn<'a>(
 
 // The sockets of a list from the first on that stands at the place or behind it and is wanted for reading; all of them, where none does.
 fn from_wanted<'a>(wants: &[Want], listed: &'a [Listed], place: usize) -> &'a [Listed]
-    ensures { (passed : ℕ) × (result.now ≡ drop passed listed.now) }
+    ensures { IsEndWanted wants.now listed.now result.now }
 {
     let start = place.min(listed.len());
     for at in start..listed.len() {
@@ -176,23 +189,36 @@ fn from_wanted<'a>(wants: &[Want], listed: &'a [Listed], place: usize) -> &'a [L
 }
 
 // Whether something is wanted for reading.
-fn is_read(wants: &[Want], of: Who) -> bool {
+fn is_read(wants: &[Want], of: Who) -> bool
+    ensures { result ≡ true → WantsRead wants.now of }
+{
     match place_among(wants, of) {
         Some(at) => wants[at].read,
         None => false,
     }
 }
 
-// Where something stands among wants, which are sorted.
+// Where something stands among wants, which stand in their order.
 fn place_among(wants: &[Want], of: Who) -> Option<usize>
-    ensures { IfSome result (λ at. at < length wants.now) }
+    ensures place { IfSome result (λ at. at < length wants.now) }
+    ensures of { IfSome result (λ at. (other : Want) → (slice_index_or wants.now at other).of ≡ of) }
+    ensures none { AreInOrder wants.now → result ≡ None → (want : Want) → Contains wants.now want → want.of ≡ of → ⊥ }
 {
     match wants.first() {
         Some(want) if want.of == of => Some(0),
-        _ => wants
-            .binary_search_by_key(&rank(of), |want| rank(want.of))
-            .ok(),
+        _ => match find_want(wants, of) {
+            Ok(at) => Some(at),
+            Err(_) => None,
+        },
     }
+}
+
+// The place of something among wants, or where it would stand.
+fn find_want(wants: &[Want], of: Who) -> Result<usize, usize>
+    ensures range { IsSearchInRange result (length wants.now) }
+    ensures position { IsBinarySearchResult (λ want. by_rank (rank_of want.of) (rank_of of)) wants.now result }
+{
+    wants.binary_search_by_key(&rank(of), |want| rank(want.of))
 }
 
 // Adds the part of a want that is ready, where there is one.

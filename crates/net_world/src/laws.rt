@@ -3,7 +3,7 @@ ghost use Rattle.std.specs.Prelude.{◌≡◌, ℕ, List, [], ◌++◌, Some, tr
 ghost use Rattle.std.specs.declared.option.Option.{Option};
 ghost use Rattle.world_face.specs.Journal.{Entry};
 ghost use Rattle.net_world.specs.Orders.{joined, SendAll, HandAll};
-ghost use Rattle.net_world.specs.Recording.{written, handed, Passing, AllPass};
+ghost use Rattle.net_world.specs.Recording.{AllCarry, Carrying, read_from, written_to, written, handed, Passing, AllPass};
 
 /// What a stream got, and behind it what waits to go out, is what the calls put, in their order: of each the octets that it told as taken, as
 /// the clause `sends` of the link's calls says.
@@ -30,4 +30,17 @@ pub fn what_a_record_wrote_went_out_in_order()
 pub fn what_came_a_record_read_in_order()
     ensures { (entries : List Entry) (first last : Passing) (gives : List ℕ) → first.left ≡ Some gives → first.ahead ≡ [] → AllPass first entries last
         → (rest : List ℕ) × (last.left ≡ Some rest) × (handed entries ++ (last.ahead ++ rest) ≡ gives) }
+{}
+
+/// A whole record of calls on a connection whose stream took nothing yet: it got what the record's writes to it told as taken, in the order of the calls, as the clause
+/// `carries` of a connection's calls says.
+pub fn what_a_record_wrote_to_a_connection_it_got()
+    ensures { (connection : ℕ) (entries : List Entry) (first last : Carrying) → first.taken ≡ Some [] → AllCarry connection first entries last
+        → last.taken ≡ Some (written_to connection entries) }
+{}
+
+/// What the record's reads of it brought, and behind it what the stream has still to give, is what the stream had to give, in its order.
+pub fn what_a_connection_gave_its_reads_brought()
+    ensures { (connection : ℕ) (entries : List Entry) (first last : Carrying) (gives : List ℕ) → first.left ≡ Some gives → AllCarry connection first entries last
+        → (rest : List ℕ) × (last.left ≡ Some rest) × (read_from connection entries ++ rest ≡ gives) }
 {}

@@ -4,6 +4,7 @@
 
 mod clock;
 mod counting;
+mod datagram_calls;
 mod edge;
 mod files;
 mod gathering;
@@ -16,6 +17,7 @@ mod sockets;
 mod stream_calls;
 
 pub use laws::{
+    what_a_connection_gave_its_reads_brought, what_a_record_wrote_to_a_connection_it_got,
     what_a_record_wrote_went_out_in_order, what_came_a_record_read_in_order,
     what_comes_is_handed_out_in_order, what_is_put_goes_out_in_order,
 };

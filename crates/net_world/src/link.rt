@@ -7,10 +7,11 @@ ghost use Rattle.octet_buffer.specs.Streams.{Calls};
 ghost use Rattle.world_face.specs.Journal.{MayRead, MayWrite, filled};
 ghost use Rattle.world_face.specs.Limits.{most_to_link};
 ghost use Rattle.ack_pace.specs.Paces.{let_out, turned};
-ghost use Rattle.net_world.specs.Places.{IsNoted, has_guest, of_guest};
-ghost use Rattle.net_world.specs.Linking.{is_open, is_told_readable, is_told_writable, after_read, after_write, after_event, at_end};
+ghost use Rattle.net_world.specs.Places.{IsNoted, listens, has_guest, of_guest};
+ghost use Rattle.net_world.specs.Linking.{bears, is_open, is_told_readable, is_told_writable, after_read, after_write, after_event, at_end};
 ghost use Rattle.net_world.specs.Linking.{read_answer, fault_by, ahead_by, read_by, outlet_by, moved, MayRest, IsWaitWatched};
 ghost use Rattle.net_world.specs.Keeping.{HandsOn, SendsOn, TellsBy, put_of};
+ghost use Rattle.net_world.specs.Recording.{Passes, passing, passing_untold};
 
 use crate::place::{Peer, Place, Watched, bind, first_guest, register};
 use crate::socket_file;
@@ -80,7 +81,9 @@ pub(crate) struct Link<S> {
 
 impl Link<Peer> {
     /// Listens at a place, where it is closed.
-    pub fn listen<R: Net + Files>(&mut self, rt: &R, registry: &Registry, at: &LinkAt) -> bool {
+    pub fn listen<R: Net + Files>(&mut self, rt: &R, registry: &Registry, at: &LinkAt) -> bool
+        ensures { result ≡ true → (self.old.place ≡ Place.Closed) × (listens self.new.place ≡ true) }
+    {
         if !matches!(self.place, Place::Closed) {
             return false;
         }
@@ -98,6 +101,9 @@ impl Link<Peer> {
     pub fn take_peer<R: Net + Files>(&mut self, rt: &R, registry: &Registry)
         ensures ahead { self.new.inbox ≡ self.old.inbox }
         ensures watched { IsWaitWatched self.old → IsWaitWatched self.new }
+        ensures stays { listens self.old.place ≡ false → self.new ≡ self.old }
+        ensures outlet { has_guest self.new.place ≡ true → self.new.outlet ≡ self.old.outlet }
+        ensures passes { Passes [] [] (passing_untold self.old) (passing_untold self.new) }
     {
         let Some(peer) = first_guest(&self.place) else {
             return;
@@ -120,6 +126,9 @@ impl Link<Peer> {
     fn stay_registered<R: Net + Files>(&mut self, rt: &R, registry: &Registry) -> bool
         ensures ahead { self.new.inbox ≡ self.old.inbox }
         ensures takes { has_guest self.new.place ≡ true → self.new.takes ≡ self.old.takes }
+        ensures outlet { has_guest self.new.place ≡ true → self.new.outlet ≡ self.old.outlet }
+        ensures listens { result ≡ true → listens self.new.place ≡ listens self.old.place }
+        ensures passes { Passes [] [] (passing_untold self.old) (passing_untold self.new) }
     {
         let registered = register(&mut self.place, registry);
         if !registered {
@@ -132,6 +141,7 @@ impl Link<Peer> {
     pub fn shut<R: Net + Files>(&mut self, rt: &R)
         ensures ahead { self.new.inbox ≡ self.old.inbox }
         ensures closed { self.new.place ≡ Place.Closed }
+        ensures passes { Passes [] [] (passing_untold self.old) (passing_untold self.new) }
     {
         drop(self.part());
         self.remove_file(rt);
@@ -142,6 +152,8 @@ impl Link<Peer> {
         ensures place { self.new.place ≡ self.old.place }
         ensures ahead { self.new.inbox ≡ self.old.inbox }
         ensures takes { self.new.takes ≡ self.old.takes }
+        ensures waits { self.new.outbox ≡ self.old.outbox }
+        ensures outlet { self.new.outlet ≡ self.old.outlet }
     {
         if !self.path.is_empty() {
             socket_file::remove(rt, self.path.as_str());
@@ -219,7 +231,7 @@ impl<S: Watched> Link<S> {
     /// How many sockets may be read before what was gathered is written, so that the frames of what comes from a connection find room. A link whose peer is
     /// gone, or that is broken, holds none back: what comes then finds that.
     pub fn bears(&self) -> usize
-        ensures { result ≡ cond (is_open self.now.outlet) (self.now.outbox.room / 18432) 18446744073709551615 }
+        ensures { result ≡ bears self.now }
     {
         if self.is_open() {
             self.outbox.room() / FRAMED
@@ -253,6 +265,8 @@ impl<S: Watched> Link<S> {
     pub fn read(&mut self, into: &mut [u8]) -> Io
         requires { 0 < length into.old }
         ensures may { MayRead (length into.old) result }
+        // Of the octets that pass the link: these are handed out, and none is put.
+        ensures passes { Passes [] (filled result into.new) (passing S.remaining S.contents self.old) (passing S.remaining S.contents self.new) }
         // What was read ahead comes first, in its order.
         ensures ahead { 0 < length self.old.inbox.octets → result ≡ Io.Done (min (length into.old) (length self.old.inbox.octets)) }
         ensures order { 0 < length self.old.inbox.octets → (count : ℕ) → result ≡ Io.Done count → self.old.inbox.octets ≡ take count into.new ++ self.new.inbox.octets }
@@ -273,6 +287,7 @@ impl<S: Watched> Link<S> {
         // What the system told of writing stays, and an end that it told.
         ensures takes { self.new.takes ≡ self.old.takes }
         ensures ended { self.old.ended ≡ true → self.new.ended ≡ true }
+        ensures outlet { self.new.outlet ≡ self.old.outlet }
     {
         if self.inbox.is_empty() {
             match self.read_ahead() {
@@ -300,6 +315,7 @@ impl<S: Watched> Link<S> {
         ensures rests { result ≡ Io.NotYet → is_told_readable self.new ≡ false }
         ensures takes { self.new.takes ≡ self.old.takes }
         ensures ended { self.old.ended ≡ true → self.new.ended ≡ true }
+        ensures outlet { self.new.outlet ≡ self.old.outlet }
     {
         self.inbox.settle();
         let room = self.inbox.room();
@@ -345,8 +361,11 @@ impl<S: Watched> Link<S> {
         requires { 0 < length from.now }
         ensures may { MayWrite (length from.now) result }
         ensures whole { (count : ℕ) → result ≡ Io.Done count → count ≡ length from.now }
+        // Of the octets that pass the link: what is told as taken is put, where what is written goes out, and none is handed out.
+        ensures passes { Passes (filled result from.now) [] (passing S.remaining S.contents self.old) (passing S.remaining S.contents self.new) }
         // It fails where the link is closed, or an earlier write failed.
         ensures failed { result ≡ Io.Failed ↔ (self.old.place ≡ Place.Closed) ⊎ ((has_guest self.old.place ≡ true) × (self.old.outlet ≡ Outlet.Broken)) }
+        ensures guest { (count : ℕ) → result ≡ Io.Done count → has_guest self.old.place ≡ true }
         ensures lost { has_guest self.old.place ≡ true → self.old.outlet ≡ Outlet.Gone → result ≡ Io.Done (length from.now) }
         // Where a wait may tell it ready for writing a frame that is no short one is answered.
         ensures served { is_told_writable self.old ≡ true → length from.now ≤ most_to_link → result ≡ Io.NotYet → self.new.pace.holds ≡ true }
@@ -359,6 +378,8 @@ impl<S: Watched> Link<S> {
         // What the system told of reading stays.
         ensures told { self.old.readable ≡ true → self.new.readable ≡ true }
         ensures ended { self.new.ended ≡ self.old.ended }
+        // What doesn't go out goes out no more.
+        ensures shut { is_open self.new.outlet ≡ true → is_open self.old.outlet ≡ true }
     {
         match &self.place {
             Place::Guest(_) => {}
@@ -385,6 +406,7 @@ impl<S: Watched> Link<S> {
         ensures watched { IsWaitWatched self.old → IsWaitWatched self.new }
         ensures told { self.old.readable ≡ true → self.new.readable ≡ true }
         ensures ended { self.new.ended ≡ self.old.ended }
+        ensures shut { is_open self.new.outlet ≡ true → is_open self.old.outlet ≡ true }
     {
         let ahead = self.is_ahead();
         if self.pace.keeps(from.len(), ahead) {
@@ -402,6 +424,8 @@ impl<S: Watched> Link<S> {
 
     /// Writes what was gathered by one call, where the system may take it. Where it doesn't take all of it, it is to tell when it takes more.
     pub fn flush(&mut self, registry: &Registry)
+        // Of the octets that pass the link none is put or handed out.
+        ensures passes { Passes [] [] (passing S.remaining S.contents self.old) (passing S.remaining S.contents self.new) }
         // The call is made, and its answer says how much has gone out.
         ensures tries { self.old.takes ≡ true → 0 < length self.old.outbox.octets → is_open self.old.outlet ≡ true →
             Calls (of_guest S.answers self.old.place) (of_guest S.answers self.new.place) (λ answer. self.new.outbox.octets ≡ drop (moved answer) self.old.outbox.octets) }
@@ -411,6 +435,7 @@ impl<S: Watched> Link<S> {
         ensures watched { IsWaitWatched self.old → IsWaitWatched self.new }
         ensures told { self.old.readable ≡ true → self.new.readable ≡ true }
         ensures ended { self.new.ended ≡ self.old.ended }
+        ensures shut { is_open self.new.outlet ≡ true → is_open self.old.outlet ≡ true }
     {
         if self.takes && !self.outbox.is_empty() && self.is_open() {
             self.write_out();
@@ -430,6 +455,7 @@ impl<S: Watched> Link<S> {
         ensures told { self.old.readable ≡ true → self.new.readable ≡ true }
         ensures ended { self.new.ended ≡ self.old.ended }
         ensures takes { 0 < length self.old.outbox.octets → is_open self.old.outlet ≡ true → self.new.takes ≡ (length self.new.outbox.octets == 0) }
+        ensures shut { is_open self.new.outlet ≡ true → is_open self.old.outlet ≡ true }
     {
         if self.outbox.is_empty() || !self.is_open() {
             return;
@@ -451,6 +477,7 @@ impl<S: Watched> Link<S> {
             Calls (of_guest S.answers self.old.place) (of_guest S.answers result) (λ answer. self.new.outbox.octets ≡ drop (moved answer) self.old.outbox.octets) }
         ensures ahead { self.new.inbox ≡ self.old.inbox }
         ensures closed { self.new.place ≡ Place.Closed }
+        ensures shut { is_open self.new.outlet ≡ true → is_open self.old.outlet ≡ true }
     {
         self.write_out();
         mem::replace(&mut self.place, Place::Closed)
@@ -485,6 +512,7 @@ impl<S: Watched> Link<S> {
         ensures told { self.new.readable ≡ self.old.readable }
         ensures ended { self.new.ended ≡ self.old.ended }
         ensures watched { has_guest self.old.place ≡ true → is_open self.new.outlet ≡ true → self.new.watched ≡ not (length self.new.outbox.octets == 0) }
+        ensures shut { is_open self.new.outlet ≡ true → is_open self.old.outlet ≡ true }
         // What was noted is what the system is to tell.
         ensures noted { is_open self.new.outlet ≡ true → IsNoted (of_guest S.asked self.old.place) self.old.watched → IsNoted (of_guest S.asked self.new.place) self.new.watched }
     {

@@ -1,5 +1,6 @@
 // Where the link stands: its listener, and the guest that came.
-ghost use Rattle.std.specs.Prelude.{◌≡◌, true};
+ghost use Rattle.std.specs.Prelude.{◌≡◌, true, IfSome};
+ghost use Rattle.net_world.specs.Places.{listens, has_guest};
 ghost use Rattle.mio.specs.Interest.{is_readable, is_writable};
 
 use crate::socket_file;
@@ -156,7 +157,9 @@ fn interest(writes: bool) -> Interest
 }
 
 /// A listener at a place.
-pub(crate) fn bind<R: Net + Files>(rt: &R, at: &LinkAt) -> Option<Place<Peer>> {
+pub(crate) fn bind<R: Net + Files>(rt: &R, at: &LinkAt) -> Option<Place<Peer>>
+    ensures { IfSome result (λ place. listens place ≡ true) }
+{
     match at {
         LinkAt::Unix(path) => {
             let listener = socket_file::listen(rt, path.as_str()).ok()?;
@@ -170,7 +173,9 @@ pub(crate) fn bind<R: Net + Files>(rt: &R, at: &LinkAt) -> Option<Place<Peer>> {
 }
 
 /// The first guest that came to a listener.
-pub(crate) fn first_guest(place: &Place<Peer>) -> Option<Place<Peer>> {
+pub(crate) fn first_guest(place: &Place<Peer>) -> Option<Place<Peer>>
+    ensures { IfSome result (λ guest. (listens place.now ≡ true) × (has_guest guest ≡ true)) }
+{
     match place {
         Place::ListensUnix(listener) => {
             let (stream, _) = listener.accept().ok()?;
@@ -186,7 +191,9 @@ pub(crate) fn first_guest(place: &Place<Peer>) -> Option<Place<Peer>> {
 }
 
 /// Has the system tell when something came, from a guest or to a listener.
-pub(crate) fn register(place: &mut Place<Peer>, registry: &Registry) -> bool {
+pub(crate) fn register(place: &mut Place<Peer>, registry: &Registry) -> bool
+    ensures { listens place.new ≡ listens place.old }
+{
     let registered = match place {
         Place::Closed => return false,
         Place::ListensUnix(listener) => registry.register(listener, LINK, Interest::READABLE),

@@ -1,5 +1,5 @@
 // The sockets of the host, each under its number.
-ghost use Rattle.std.specs.Prelude.{◌≡◌, ℕ, List, ◌<◌, ◌≤◌, true, false, Some, None, [], Ok, Err, IfOk, IfSome, length, count_by, is_some, vec_capacity};
+ghost use Rattle.std.specs.Prelude.{◌≡◌, ◌⊎◌, ℕ, List, ◌<◌, ◌≤◌, true, false, Some, None, [], Ok, Err, IfOk, IfSome, length, count_by, is_some, vec_capacity};
 ghost use Rattle.std.specs.List.{Contains};
 ghost use Rattle.std.specs.List.Sorted.{IsSearchInRange, IsBinarySearchResult, IsPartitionPoint};
 ghost use Rattle.std.specs.Bool.{OnFalse};
@@ -12,22 +12,24 @@ ghost use Rattle.world_face.specs.Journal.{MayRead, MayWrite, MayGet, filled};
 ghost use Rattle.net_world.specs.Slots.{of_stream, is_connection, are_datagrams};
 ghost use Rattle.net_world.specs.Streaming.{read_tells, write_tells, after_read, after_write, after_event};
 ghost use Rattle.net_world.specs.Tables.{rank_of, number_of, by_rank, InOrder, listed_at, slot_at, AreListed, ArePlaced, IsKnownStarved, Lists, Finds, OthersStay, Becomes, known_of, nothing_known, told_or, last_read};
-ghost use Rattle.net_world.specs.Tables.{IsRead, IsWritten, IsReceived, IsTaken, IsAsked, Opens, fed, fed_at};
+ghost use Rattle.net_world.specs.Accepting.{IsCameBy, after_accept, none_by, ready_by, starved_by, starves_by};
+ghost use Rattle.net_world.specs.Telling.{IsKnown};
+ghost use Rattle.net_world.specs.Tables.{IsRead, IsWritten, IsReceived, IsTaken, IsAsked, Joins, Opens, Table, fed, fed_at};
 ghost use Rattle.net_world.specs.declared.sockets.TheConstants.{MOST};
 
-use crate::stream_calls;
-use crate::stream_calls::{Ready, is_not_yet};
+use crate::stream_calls::Ready;
+use crate::{datagram_calls, stream_calls};
 use mio::event::Event;
 use mio::net::{TcpListener, TcpStream, UdpSocket};
 use mio::{Interest, Registry, Token};
 use net_octets::NoMemory;
-use octet_buffer::{Stream, again};
+use octet_buffer::{Accepts, Stream};
 use poll_list::{Want, Who};
 use slab::Slab;
 use std::alloc::Global;
 use std::io::ErrorKind;
 use std::marker::Model;
-use std::net::{Ipv4Addr, Net, Shutdown, SocketAddr};
+use std::net::{Ipv4Addr, Net, SocketAddr};
 use world_face::{Accepted, Endpoint, Got, Io, Ip4, Joined, Sent};
 
 /// How many sockets are open at once at most, without the link.
@@ -150,9 +152,13 @@ impl<S: Drop> Sockets<S> {
 
     /// In which directions a socket of that list is ready.
     pub fn known(&self, listed: &Listed) -> Known
+        ensures listed { Contains self.now.readable listed.now → (key : ℕ) (slot : Slot S) → slot_at self.now.slots key ≡ Some slot → slot.of ≡ listed.now.of → result ≡ known_of slot }
+        ensures reads { Contains self.now.readable listed.now → result.read ≡ true }
+        ensures is { IsKnown self.now.slots listed.now.of result }
         ensures found { (slot : Slot S) → slot_at self.now.slots listed.now.key ≡ Some slot → slot.of ≡ listed.now.of → result ≡ known_of slot }
         ensures none { ((slot : Slot S) → slot_at self.now.slots listed.now.key ≡ Some slot → slot.of ≡ listed.now.of → ⊥) → result ≡ nothing_known }
     {
+        let _ = &self.slots;
         self.known_at(listed.key, listed.of)
     }
 
@@ -160,6 +166,7 @@ impl<S: Drop> Sockets<S> {
     pub fn look_up(&self, of: Who) -> Known
         ensures found { (key : ℕ) (slot : Slot S) → slot_at self.now.slots key ≡ Some slot → slot.of ≡ of → result ≡ known_of slot }
         ensures none { ((key : ℕ) (slot : Slot S) → slot_at self.now.slots key ≡ Some slot → slot.of ≡ of → ⊥) → result ≡ nothing_known }
+        ensures is { IsKnown self.now.slots of result }
     {
         let (_, number) = rank(of);
         match self.key_of(number) {
@@ -172,6 +179,7 @@ impl<S: Drop> Sockets<S> {
     fn known_at(&self, key: usize, of: Who) -> Known
         ensures found { (slot : Slot S) → slot_at self.now.slots key ≡ Some slot → slot.of ≡ of → result ≡ known_of slot }
         ensures none { ((slot : Slot S) → slot_at self.now.slots key ≡ Some slot → slot.of ≡ of → ⊥) → result ≡ nothing_known }
+        ensures is { IsKnown self.now.slots of result }
     {
         match self.slots.get(key) {
             Some(slot) => known_if(slot, of),
@@ -432,7 +440,10 @@ impl Sockets<TcpStream> {
     /// Takes a connection from a listener, and puts it under its number. Where the system or this list has no room for it, it waits until another socket was
     /// closed, and the listener isn't ready before.
     pub fn accept(&mut self, registry: &Registry, listener: u64, number: u64) -> Accepted
-        ensures { Finds self.old.slots listener None → (result ≡ Accepted.Failed) × (self.new ≡ self.old) }
+        ensures none { Finds self.old.slots listener None → (result ≡ Accepted.Failed) × (self.new ≡ self.old) }
+        // What came stands under its number, and of the listener it is known whether more may have come; nothing else changes.
+        ensures accepts { (key : ℕ) (slot : Slot TcpStream) → slot_at self.old.slots key ≡ Some slot → number_of slot.of ≡ listener → (new : Slot TcpStream) × (between : Table TcpStream)
+            × IsTaken self.old between key slot new × Joins result between self.new number × (new.ready.read ≡ false → slot.ready.read ≡ true → new.starved ≡ false → result ≡ Accepted.NotYet) }
     {
         match self.take(listener) {
             Came::From(stream, peer) => {
@@ -572,6 +583,7 @@ fn feed_one<S: Stream>(slots: &mut Slab<Slot<S>>, readable: &mut Vec<Listed>, ke
 fn known_if<S>(slot: &Slot<S>, of: Who) -> Known
     ensures found { slot.now.of ≡ of → result ≡ known_of slot.now }
     ensures none { (slot.now.of ≡ of → ⊥) → result ≡ nothing_known }
+    ensures is { (result ≡ nothing_known) ⊎ ((slot.now.of ≡ of) × (result ≡ known_of slot.now)) }
 {
     if slot.of == of {
         Known {
@@ -711,17 +723,50 @@ fn accept<S>(slot: &mut Slot<S>) -> Came
     let Socket::Listener(listener) = &slot.socket else {
         return Came::Failed;
     };
+    let mut calls = listener;
+    accept_by(&mut calls, &mut slot.ready, &mut slot.starved)
+}
+
+// Takes a connection by one call, which says what is told, and what the listener is known to be ready for.
+fn accept_by<L: Accepts>(listener: &mut L, ready: &mut Ready, starved: &mut bool) -> Came
+    ensures tells { Calls (L.answers listener.old) (L.answers listener.new) (λ answer. IsCameBy result answer
+        × (ready.new ≡ after_accept answer ready.old) × (starved.new ≡ starves_by answer starved.old)) }
+    ensures kept { ready.new.read ≡ false → ready.old.read ≡ true → starved.new ≡ false → result ≡ Came.NotYet }
+    ensures stays { ready.new.write ≡ ready.old.write }
+{
     match listener.accept() {
-        Ok((stream, peer)) => match endpoint(peer) {
-            Some(peer) => Came::From(stream, peer),
-            None => Came::Failed,
-        },
-        Err(fault) if is_not_yet(fault.kind()) => {
-            slot.ready.read = false;
+        Ok((stream, peer)) => came_from(stream, peer),
+        Err(fault) => none_came(fault.kind(), ready, starved),
+    }
+}
+
+// The connection, with its peer's endpoint. Failed where that has no address of version 4.
+fn came_from(stream: TcpStream, peer: SocketAddr) -> Came
+    ensures { result ≡ Came.NotYet → ⊥ }
+{
+    match endpoint(peer) {
+        Some(peer) => Came::From(stream, peer),
+        None => Came::Failed,
+    }
+}
+
+// What a call gives that failed so. Where the system had no descriptor for a connection it stays where it is.
+fn none_came(kind: ErrorKind, ready: &mut Ready, starved: &mut bool) -> Came
+    ensures came { result ≡ none_by kind }
+    ensures ready { ready.new ≡ ready_by kind ready.old }
+    ensures starved { starved.new ≡ starved_by kind starved.old }
+{
+    match kind {
+        ErrorKind::WouldBlock => {
+            ready.read = false;
             Came::NotYet
         }
-        Err(fault) if fault.kind() == ErrorKind::ConnectionAborted => Came::NotYet,
-        Err(_) => starve(slot),
+        ErrorKind::ConnectionAborted => Came::NotYet,
+        _ => {
+            ready.read = false;
+            *starved = true;
+            Came::Failed
+        }
     }
 }
 
@@ -796,7 +841,10 @@ fn end(slot: &Slot<TcpStream>) -> bool
     ensures { is_connection slot.now.socket ≡ false → result ≡ false }
 {
     match &slot.socket {
-        Socket::Stream(stream) => stream.shutdown(Shutdown::Write).is_ok(),
+        Socket::Stream(stream) => {
+            let mut calls = stream;
+            stream_calls::end(&mut calls)
+        }
         _ => false,
     }
 }
@@ -807,11 +855,8 @@ fn send<S>(slot: &Slot<S>, to: Endpoint, octets: &[u8]) -> Sent
     let Socket::Datagrams(socket) = &slot.socket else {
         return Sent::Failed;
     };
-    match again::send_to(socket, octets, address(to)) {
-        Ok(_) => Sent::Done,
-        Err(fault) if is_not_yet(fault.kind()) => Sent::NotYet,
-        Err(_) => Sent::Failed,
-    }
+    let mut calls = socket;
+    datagram_calls::send(&mut calls, to, octets)
 }
 
 fn receive<S>(slot: &mut Slot<S>, into: &mut [u8]) -> Got
@@ -826,17 +871,8 @@ fn receive<S>(slot: &mut Slot<S>, into: &mut [u8]) -> Got
     let Socket::Datagrams(socket) = &slot.socket else {
         return Got::Failed;
     };
-    match again::recv_from(socket, into) {
-        Ok((count, peer)) => match endpoint(peer) {
-            Some(peer) => Got::From(peer, count),
-            None => Got::Failed,
-        },
-        Err(fault) if is_not_yet(fault.kind()) => {
-            slot.ready.read = false;
-            Got::NotYet
-        }
-        Err(_) => Got::Failed,
-    }
+    let mut calls = socket;
+    datagram_calls::receive(&mut calls, &mut slot.ready, into)
 }
 
 /// Has the system send what is written at once, where it can, in place of waiting for more (RFC 1122, 4.2.3.4).
@@ -849,7 +885,8 @@ pub(crate) fn address(of: Endpoint) -> SocketAddr {
     SocketAddr::from((Ipv4Addr::from_bits(of.addr.0), of.port))
 }
 
-fn endpoint(of: SocketAddr) -> Option<Endpoint> {
+/// An endpoint of version 4 that the system told.
+pub(crate) fn endpoint(of: SocketAddr) -> Option<Endpoint> {
     match of {
         SocketAddr::V4(of) => Some(Endpoint {
             addr: Ip4(of.ip().to_bits()),

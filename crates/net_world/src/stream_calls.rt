@@ -1,14 +1,18 @@
 // A connection of the host: the octets of its calls, and what it is known to be ready for.
-ghost use Rattle.std.specs.Prelude.{◌≡◌, ℕ, ◌<◌, true, false, Ok, length};
+ghost use Rattle.std.specs.Prelude.{◌≡◌, ℕ, ◌<◌, [], true, false, Ok, length};
 ghost use Rattle.std.specs.Io.KnownBytes.{Appends, Consumes, IsAtEnd, Keeps};
 ghost use Rattle.std.specs.IoError.{error_kind};
 ghost use Rattle.octet_buffer.specs.Streams.{Calls};
+ghost use Rattle.octet_buffer.specs.Ends.{IsShut};
+ghost use Rattle.std.specs.declared.net.handle.Shutdown.{Shutdown};
 ghost use Rattle.world_face.specs.Journal.{MayRead, MayWrite, filled};
+ghost use Rattle.net_world.specs.Recording.{Carries, carrying};
 ghost use Rattle.net_world.specs.Streaming.{would_wait, read_tells, write_tells, after_read, after_write, after_event};
 
 use mio::event::Event;
-use octet_buffer::Stream;
+use octet_buffer::{Shuts, Stream};
 use std::io::ErrorKind;
+use std::net::Shutdown;
 use world_face::Io;
 
 /// What a socket was found ready for since the last call that found otherwise.
@@ -40,12 +44,14 @@ pub(crate) fn note(ready: &mut Ready, event: &Event)
 }
 
 /// Reads octets that came. Where less came than was asked for there is no more for now, unless it is read until nothing comes.
+#[tactic(auto, using(crate::proofs::Carrying::kept_appends))]
 pub(crate) fn read<S: Stream>(stream: &mut S, ready: &mut Ready, into: &mut [u8]) -> Io
     requires { 0 < length into.old }
     ensures may { MayRead (length into.old) result }
     // What is told as read is what the stream gave.
     ensures came { Consumes (S.remaining stream.old) (S.remaining stream.new) (filled result into.new) }
     ensures written { Keeps (S.contents stream.old) (S.contents stream.new) }
+    ensures carries { Carries [] (filled result into.new) (carrying (S.contents stream.old) (S.remaining stream.old)) (carrying (S.contents stream.new) (S.remaining stream.new)) }
     // One call says what is told, the end where it gives none and only there, and what the stream is ready for.
     ensures tells { Calls (S.answers stream.old) (S.answers stream.new) (λ answer. (result ≡ read_tells answer) × (answer ≡ Ok 0 → IsAtEnd (S.remaining stream.new))
         × (ready.new ≡ after_read (length into.old) answer ready.old)) }
@@ -70,12 +76,14 @@ pub(crate) fn read<S: Stream>(stream: &mut S, ready: &mut Ready, into: &mut [u8]
 }
 
 /// Writes octets, as many as are taken. Where less was taken than was offered the system takes no more for now.
+#[tactic(auto, using(crate::proofs::Carrying::kept_consumes))]
 pub(crate) fn write<S: Stream>(stream: &mut S, ready: &mut Ready, from: &[u8]) -> Io
     requires { 0 < length from.now }
     ensures may { MayWrite (length from.now) result }
     // What is told as taken is what the stream took.
     ensures went { Appends (S.contents stream.old) (S.contents stream.new) (filled result from.now) }
     ensures unread { Keeps (S.remaining stream.old) (S.remaining stream.new) }
+    ensures carries { Carries (filled result from.now) [] (carrying (S.contents stream.old) (S.remaining stream.old)) (carrying (S.contents stream.new) (S.remaining stream.new)) }
     // One call says what is told, and what the stream is ready for.
     ensures tells { Calls (S.answers stream.old) (S.answers stream.new) (λ answer. (result ≡ write_tells answer)
         × (ready.new ≡ after_write (length from.now) answer ready.old)) }
@@ -94,6 +102,13 @@ pub(crate) fn write<S: Stream>(stream: &mut S, ready: &mut Ready, from: &[u8]) -
         }
         Err(_) => Io::Failed,
     }
+}
+
+/// Ends the writing direction, and no other. False where the system refuses.
+pub(crate) fn end<S: Shuts>(stream: &mut S) -> bool
+    ensures { IsShut (S.shut stream.old) (S.shut stream.new) Shutdown.Write }
+{
+    stream.shutdown(Shutdown::Write).is_ok()
 }
 
 /// Whether a call that failed so would have waited.

@@ -1,2 +1,4 @@
 pub mod Buffered
+pub mod Datagrams
+pub mod Ends
 pub mod Streams

@@ -5,9 +5,13 @@
 
 pub mod again;
 mod buffer;
+mod datagrams;
+mod ends;
 mod stream;
 #[cfg(test)]
 mod tests;
 
 pub use buffer::Buffer;
+pub use datagrams::Datagrams;
+pub use ends::{Accepts, Shuts};
 pub use stream::Stream;
