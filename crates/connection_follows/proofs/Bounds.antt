@@ -12,9 +12,9 @@ use Rattle.tcp_guest.specs.Connection.{Connection, has_gone, is_opening, is_sync
 use Rattle.flow_laws.specs.Settings.{Settings}
 use Rattle.flow_laws.specs.Event.{IsStory, Story, newest_moment}
 use Rattle.flow_laws.specs.Host.{acked, answered, owned, sent}
-use Rattle.flow_laws.specs.Flow.{acknowledged_at, host, is_accepted, is_closed, is_under_way, oldest_sendings, opened_at, sendings, syn_is_out, syn_sendings}
+use Rattle.flow_laws.specs.Flow.{acknowledged_at, host, is_accepted, is_closed, is_under_way, oldest_sendings, opened_at, sendings, syn_is_out, syn_sendings, newest_of}
 use Rattle.flow_laws.specs.Close.{asked_at, times_asked}
-use Rattle.flow_laws.specs.Dutiful.{back_off, connect_deadline, moment_if, newest_of, oldest_unheard, resend_deadline, seeks_guest, waits_for_window, waits_since, wakes}
+use Rattle.flow_laws.specs.Dutiful.{back_off, closing_moments, moment_if, oldest_unheard, resend_deadline, seeks_guest, waits_for_window, waits_since, wakes}
 use Rattle.halves_follow.specs.Bounds.{IsBy, IsFrom}
 use Rattle.halves_follow.specs.Resends.{Resends}
 use Rattle.halves_follow.proofs.Edges.{owned_is}
@@ -103,7 +103,7 @@ not_in_a_second past now k w tm story out open_yet r called idle = by_timer tm r
     by_timer (timer.Expired at) is = tt
     by_timer (timer.Since base) is =
         let two = since base is (is_under_way past) refl in
-        from_second (base + w) (connect_deadline past ++ moment_if (is_accepted past && not (syn_is_out past) && not (is_closed past)) (opened_at past + 1000)) _
+        from_second (base + w) (closing_moments past ++ moment_if (is_accepted past && not (syn_is_out past) && not (is_closed past)) (opened_at past + 1000)) _
         (from_if (base + w) (max (opened_at past) (waits_since past) + back_off (oldest_unheard past)) (syn_is_out past && not (is_closed past) && (is_under_way past || nat_lt (sent (host past)) (owned (host past))))
         (way (syn_is_out past) (is_closed past) (is_under_way past) (nat_lt (sent (host past)) (owned (host past))) out open_yet two.0) two.1)
 

@@ -1,5 +1,5 @@
 -- The causes of a close, one by one.
-use Rattle.std.proofs.Common.{refl, ◌≡◌, ℕ, ◌+◌, ◌^◌, ◌%◌, ◌≤◌, [], ◌∷◌, length, Bool, true, false, not, ◌&&◌, ◌||◌, None, Some, if◌then◌else◌, IsTrue, min, nat_eq, take, arith, ap, subst}
+use Rattle.std.proofs.Common.{refl, ◌≡◌, ℕ, ◌+◌, ◌^◌, ◌%◌, ◌≤◌, [], ◌∷◌, length, Bool, true, false, not, ◌&&◌, ◌||◌, None, Some, if◌then◌else◌, IsTrue, min, nat_eq, nat_le, take, arith, ap, subst}
 use Rattle.std.proofs.Common.{sym, ◌∙◌, inl, inr}
 use Rattle.std.proofs.lemmas.Bool.Decides.{nat_tests}
 use Rattle.seq_space.specs.Places.{number_of}
@@ -20,11 +20,11 @@ use Rattle.flow_laws.proofs.GuestLaws.{honest_before}
 use Rattle.flow_laws.specs.Event.{Arrives, Closes, ConnectFails, WriteFails, ReadFails, EndFails, At, Event, Opens, Segment, Story}
 use Rattle.flow_laws.specs.Host.{answered, got_end}
 use Rattle.flow_laws.specs.Flow.{guest, host, is_accepted, is_closed, next_number as number_after, our_number, syn_is_out, their_number}
-use Rattle.flow_laws.specs.Close.{connects_too_long, finds_no_guest, follows_reset, gives_up, host_failed, host_was_ended, is_done, newest_rst, our_fin_is_acked, owes_reset}
-use Rattle.flow_laws.specs.Lawful.{Act, AskConnected, EndHost, HasCause, May, Read, Write, act_of}
+use Rattle.flow_laws.specs.Close.{fin_was_acknowledged, finds_no_guest, follows_reset, gives_up, host_failed, host_was_ended, is_done, last_at, may_give_way, newest_rst, our_fin_is_acked, quiet_time, waits_too_long}
+use Rattle.flow_laws.specs.Lawful.{Act, AskConnected, EndHost, HasCause, HasOwnCause, May, Read, Write, act_of}
 use Rattle.flow_laws.specs.Dutiful.{Must, OffersEnough}
 use Rattle.halves_follow.proofs.Acts.{may_ask, may_end, may_read, may_write, must_ask, must_end, must_read, must_write}
-use Rattle.halves_follow.proofs.Owed.{done_owes_none, failed_owes, late_owes, reset_owes_none, run_owes_none}
+use Rattle.halves_follow.proofs.Owed.{done_owes_none, failed_owes, late_owes, reset_owes_none, way_owes}
 use Rattle.halves_follow.proofs.Owing.{given_up_not_done, no_reset, unacked_not_done, unanswered_not_done, unended_not_done}
 use Rattle.halves_follow.proofs.Resets.{reset_closes, reset_is_fatal, reset_turns_away, turning_away_is_fatal}
 use Rattle.halves_follow.proofs.Rests.{closes_to_rest, done_is, our_fin, quiet_ends}
@@ -33,7 +33,7 @@ use Rattle.halves_follow.proofs.Wanting.{offers}
 use Rattle.connection_follows.specs.Holding.{Holds, is_calls, is_connects, is_live}
 use Rattle.connection_follows.specs.Over.{IsOver, IsResting, Runs, is_resets}
 use Rattle.connection_follows.specs.Seen.{outward_of, part_of}
-use Rattle.connection_follows.proofs.Closing.{closes, resets_over, runs_of, runs_on}
+use Rattle.connection_follows.proofs.Closing.{closes, closes_for, resets_over, runs_of, runs_on}
 use Rattle.connection_follows.proofs.Going.{longer}
 use Rattle.connection_follows.proofs.Leaving.{granted}
 use Rattle.connection_follows.proofs.Telling.{shift_is}
@@ -62,25 +62,46 @@ module _ (s : Settings) (c : Connection) (up : Upward) (down : Downward) (past :
   module _ (directly : Bool) where
     -- The close doesn't come directly after a reset that was fatal.
     module _ (calm : follows_reset directly past ≡ false) where
-      pub late_cause : IsTrue (gives_up m past || connects_too_long m past) → HasCause directly false known m past
-      late_cause late = inr (inl (not_and (follows_reset directly past) (gives_up m past || connects_too_long m past) calm late))
+      pub late_cause : IsTrue (gives_up m past || waits_too_long m past) → HasOwnCause directly false known m past
+      late_cause late = inr (inl (not_and (follows_reset directly past) (gives_up m past || waits_too_long m past) calm late))
+
+      -- time spoke against it
+      stays_over : is_done past ≡ false → HasCause directly false known m past → IsTrue (gives_up m past || waits_too_long m past) → IsOver s (reset c) (At m (Closes directly false known) ∷ past) m
+      stays_over unfinished cause late =
+          resets_over s c up down past now m h past refl refl refl h.gives.keeps (λ n come. come) directly false known
+          (closes_for s past now m directly false known runs on h.goes.open_yet cause) (late_owes past m directly false known late calm refl unfinished)
 
       -- nothing of what went out nine times was acknowledged
       pub gives_up_closes : IsTrue (gives_up m past) → IsOver s (reset c) (At m (Closes directly false known) ∷ past) m
       gives_up_closes is =
-          resets_over s c up down past now m h past refl refl refl h.gives.keeps (λ n come. come) directly false known
-          (closes s past now m directly false known runs on h.goes.open_yet (late_cause (or_first (gives_up m past) (connects_too_long m past) is)))
-          (late_owes past m directly false known (or_first (gives_up m past) (connects_too_long m past) is) calm refl (given_up_not_done s past m h.goes.lawful is))
+          stays_over (given_up_not_done s past m h.goes.lawful is) (inl (late_cause (or_first (gives_up m past) (waits_too_long m past) is)))
+          (or_first (gives_up m past) (waits_too_long m past) is)
 
-      -- the host didn't connect in time
-      pub late_closes : is_opening c.stage ≡ true → IsTrue (connects_too_long m past) → IsOver s (reset c) (At m (Closes directly false known) ∷ past) m
+      -- the host didn't connect in time, or the guest of a peer that is gone didn't answer
+      pub late_closes : is_opening c.stage ≡ true → IsTrue (waits_too_long m past) → IsOver s (reset c) (At m (Closes directly false known) ∷ past) m
       late_closes opening is =
-          resets_over s c up down past now m h past refl refl refl h.gives.keeps (λ n come. come) directly false known
-          (closes s past now m directly false known runs on h.goes.open_yet (late_cause (or_second (gives_up m past) (connects_too_long m past) is)))
-          (late_owes past m directly false known (or_second (gives_up m past) (connects_too_long m past) is) calm refl (unanswered_not_done past (unanswered opening)))
+          stays_over (unanswered_not_done past (unanswered opening)) (inl (late_cause (or_second (gives_up m past) (waits_too_long m past) is)))
+          (or_second (gives_up m past) (waits_too_long m past) is)
+
+      -- it gives way, in the last turn too
+      pub way_closes : (ended : Bool) → IsTrue (may_give_way m past) → IsOver s (reset c) (At m (Closes directly ended known) ∷ past) m
+      way_closes ended is =
+          resets_over s c up down past now m h past refl refl refl h.gives.keeps (λ n come. come) directly ended known
+          (closes_for s past now m directly ended known runs on h.goes.open_yet (inr is))
+          (way_owes past m directly ended known is calm
+          (not_both (is_closed past) (host_was_ended past) (our_fin_is_acked past) (fin_was_acknowledged past) (nat_le (last_at past + quiet_time past) m) is))
+        where
+          not_both : (a b d e n : Bool) → IsTrue (not a && not (b && d) && n) → (b && d && e) ≡ false
+          not_both a true true e n is = absurd (never a is)
+            where
+              never : (a : Bool) → IsTrue (not a && not (true && true) && n) → ⊥
+              never true is = cc
+              never false is = cc
+          not_both a true false e n is = refl
+          not_both a false d e n is = refl
 
     -- the guest wasn't found, whatever came before the close
-    pub unfound_cause : IsTrue (finds_no_guest known m past) → HasCause directly false known m past
+    pub unfound_cause : IsTrue (finds_no_guest known m past) → HasOwnCause directly false known m past
     unfound_cause is = inl (or_second (is_done past || false || host_failed past) (finds_no_guest known m past) is)
 
     pub unfound_closes : IsTrue (finds_no_guest known m past) → (is_accepted past && not (syn_is_out past)) ≡ true → IsOver s (reset c) (At m (Closes directly false known) ∷ past) m
@@ -91,7 +112,7 @@ module _ (s : Settings) (c : Connection) (up : Upward) (down : Downward) (past :
 
   -- ---- a call on the socket failed
 
-  pub failed_cause : (at_end : Bool) (last : Story) → host_failed last ≡ true → HasCause false at_end known m last
+  pub failed_cause : (at_end : Bool) (last : Story) → host_failed last ≡ true → HasOwnCause false at_end known m last
   failed_cause at_end last is = inl (or_first (is_done last || at_end || host_failed last) (finds_no_guest known m last) (or_second (is_done last || at_end) (host_failed last) is))
 
   fails : (at_end : Bool) (e : Event) (act : Act) → (Opens e → ⊥) → act_of e ≡ Some act → May s past m act → Must s past m act → is_closed (At m e ∷ past) ≡ false → host_failed (At m e ∷ past) ≡ true
@@ -168,7 +189,7 @@ module _ (s : Settings) (c : Connection) (up : Upward) (down : Downward) (past :
     is_done_now : IsTrue (is_done past)
     is_done_now = done_is past (part_of c up) c.end_acknowledged c.ours_first c.acknowledged (h.receives reached).ends ((h.receives reached).host_ended ∙ four.1) fin_now four.3
 
-    pub done_cause : HasCause directly ended known m past
+    pub done_cause : HasOwnCause directly ended known m past
     done_cause = inl (or_first (is_done past || ended || host_failed past) (finds_no_guest known m past) (or_first (is_done past || ended) (host_failed past)
         (or_first (is_done past) ended is_done_now)))
 
@@ -246,7 +267,7 @@ module _ (s : Settings) (c : Connection) (up : Upward) (down : Downward) (past :
     dutiful = (h.goes.free, h.goes.dutiful);
   }
 
-  reset_over : (at_end : Bool) (seg : Segment) → HasCause true at_end known m (At m (Arrives seg) ∷ past) → follows_reset true (At m (Arrives seg) ∷ past) ≡ true
+  reset_over : (at_end : Bool) (seg : Segment) → HasOwnCause true at_end known m (At m (Arrives seg) ∷ past) → follows_reset true (At m (Arrives seg) ∷ past) ≡ true
       → IsOver s (record c { stage = stage.Gone }) (At m (Closes true at_end known) ∷ At m (Arrives seg) ∷ past) m
   reset_over at_end seg cause fatal = record {
     runs = closes s (At m (Arrives seg) ∷ past) m m true at_end known (came seg) (omega arith) h.goes.open_yet cause;
@@ -259,7 +280,7 @@ module _ (s : Settings) (c : Connection) (up : Upward) (down : Downward) (past :
   }
 
   -- at the number that is expected next
-  pub next_reset_cause : (at_end : Bool) (seg : Segment) → is_calls c.stage ≡ false → seg.rst ≡ true → seg.number ≡ next_number c.received → HasCause true at_end known m (At m (Arrives seg) ∷ past)
+  pub next_reset_cause : (at_end : Bool) (seg : Segment) → is_calls c.stage ≡ false → seg.rst ≡ true → seg.number ≡ next_number c.received → HasOwnCause true at_end known m (At m (Arrives seg) ∷ past)
   next_reset_cause at_end seg reached rst number =
       reset_closes s m past seg rst (part_of c up) at_end known m (h.opened.theirs ∙ ap (λ (b : Bool). if b then None else Some c.received.first) reached) (h.receives reached).follows number
 
@@ -279,19 +300,10 @@ module _ (s : Settings) (c : Connection) (up : Upward) (down : Downward) (past :
   after_ours seg number = number ∙ ap (λ (n : ℕ). n % 2 ^ 32) (let more : c.ours + 1 + 0 ≡ c.ours + 1 = omega arith in more) ∙ ap (λ (f : ℕ). number_after f) (sym h.opened.ours)
 
   pub called_reset_cause : (at_end : Bool) (seg : Segment) → is_calls c.stage ≡ true → seg.rst ≡ true → seg.ack ≡ true → seg.acknowledgement ≡ number_of c.ours 0 →
-      HasCause true at_end known m (At m (Arrives seg) ∷ past)
+      HasOwnCause true at_end known m (At m (Arrives seg) ∷ past)
   called_reset_cause at_end seg calls rst ack number = reset_turns_away s m past seg rst at_end known m (unknown_yet calls) ack (after_ours seg number)
 
   pub called_reset_closes : (at_end : Bool) (seg : Segment) → is_calls c.stage ≡ true → seg.rst ≡ true → seg.ack ≡ true → seg.acknowledgement ≡ number_of c.ours 0
       → IsOver s (record c { stage = stage.Gone }) (At m (Closes true at_end known) ∷ At m (Arrives seg) ∷ past) m
   called_reset_closes at_end seg calls rst ack number =
       reset_over at_end seg (called_reset_cause at_end seg calls rst ack number) (turning_away_is_fatal s m past seg rst (unknown_yet calls) ack (after_ours seg number))
-
-  -- ---- the run is over
-
-  pub run_closes : Runs s (At m (Closes false true known) ∷ past) m × (owes_reset (At m (Closes false true known) ∷ past) ≡ false)
-  run_closes = (
-    closes s past now m false true known runs on h.goes.open_yet (inl (or_first (is_done past || true || host_failed past) (finds_no_guest known m past)
-        (or_first (is_done past || true) (host_failed past) (or_second (is_done past) true refl)))),
-    run_owes_none past m false true known refl h.goes.well,
-  )

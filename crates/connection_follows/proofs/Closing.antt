@@ -1,5 +1,5 @@
 -- The socket is closed: by which cause, and what is owed then.
-use Rattle.std.proofs.Common.{refl, ◌≡◌, ℕ, ◌+◌, ◌^◌, ◌%◌, ◌≤◌, ◌∷◌, Bool, true, false, not, ◌&&◌, ◌||◌, Option, None, Some, if◌then◌else◌, MatchOption, arith, ap, subst, sym, ◌∙◌}
+use Rattle.std.proofs.Common.{refl, ◌≡◌, ℕ, ◌+◌, ◌^◌, ◌%◌, ◌≤◌, ◌∷◌, Bool, true, false, not, ◌&&◌, ◌||◌, Option, None, Some, if◌then◌else◌, MatchOption, arith, ap, subst, sym, ◌∙◌, inl}
 use Rattle.seq_space.specs.declared.Seq.{Seq}
 use Rattle.sock_buffers.specs.Downward.{Downward}
 use Rattle.sock_buffers.specs.Upward.{Upward}
@@ -14,7 +14,7 @@ use Rattle.flow_laws.specs.Guest.{Acked, HasCome, Honest, ackd}
 use Rattle.flow_laws.specs.Event.{Closes, At, Event, Story, Opens}
 use Rattle.flow_laws.specs.Flow.{host, is_accepted, is_closed, next_number as number_after, syn_is_out, their_number, guest}
 use Rattle.flow_laws.specs.Close.{host_failed, owes_reset}
-use Rattle.flow_laws.specs.Lawful.{Act, Close, HasCause, May, act_of, HasNumberThatCame}
+use Rattle.flow_laws.specs.Lawful.{Act, Close, HasCause, HasOwnCause, May, act_of, HasNumberThatCame}
 use Rattle.flow_laws.specs.Dutiful.{Must, MustClose}
 use Rattle.halves_follow.specs.Sends.{Keeps}
 use Rattle.halves_follow.proofs.Acts.{may_close, must_close}
@@ -40,11 +40,16 @@ runs_on s past now m e act r on opens_none is may must = record {
 }
 
 -- the close
-pub closes : (s : Settings) (past : Story) (now m : ℕ) (directly ended known : Bool) → Runs s past now → now ≤ m → is_closed past ≡ false → HasCause directly ended known m past
+pub closes_for : (s : Settings) (past : Story) (now m : ℕ) (directly ended known : Bool) → Runs s past now → now ≤ m → is_closed past ≡ false → HasCause directly ended known m past
     → Runs s (At m (Closes directly ended known) ∷ past) m
-closes s past now m directly ended known r on open_yet cause =
+closes_for s past now m directly ended known r on open_yet cause =
     runs_on s past now m (Closes directly ended known) (Close directly ended known) r on (λ none. none) refl (may_close s past m directly ended known cause open_yet)
     (must_close s past m directly ended known)
+
+-- for a cause of its own
+pub closes : (s : Settings) (past : Story) (now m : ℕ) (directly ended known : Bool) → Runs s past now → now ≤ m → is_closed past ≡ false → HasOwnCause directly ended known m past
+    → Runs s (At m (Closes directly ended known) ∷ past) m
+closes s past now m directly ended known r on open_yet cause = closes_for s past now m directly ended known r on open_yet (inl cause)
 
 -- ---- the reset that is owed has the numbers of the definition
 

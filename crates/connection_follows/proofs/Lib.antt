@@ -6,6 +6,7 @@ pub mod Coming
 pub mod Confirming
 pub mod Counting
 pub mod Departing
+pub mod Deserting
 pub mod Going
 pub mod Acking
 pub mod Arriving

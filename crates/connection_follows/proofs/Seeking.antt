@@ -1,5 +1,5 @@
 -- A flow that calls a guest whose hardware address isn't known: it asks for the address in place of its SYN.
-use Rattle.std.proofs.Common.{refl, ◌≡◌, ℕ, ◌+◌, ◌<◌, ◌≤◌, List, [], ◌∷◌, Bool, true, false, not, ◌&&◌, ◌||◌, IsTrue, nat_lt, arith, subst, sym, ◌∙◌, ◌++◌}
+use Rattle.std.proofs.Common.{refl, ◌≡◌, ℕ, ◌+◌, ◌<◌, ◌≤◌, [], ◌∷◌, Bool, true, false, not, ◌&&◌, ◌||◌, IsTrue, nat_lt, arith, subst, sym, ◌∙◌, ◌++◌}
 use Rattle.std.proofs.lemmas.Bool.Decides.{nat_tests}
 use Rattle.sock_buffers.specs.Downward.{Downward}
 use Rattle.sock_buffers.specs.Upward.{Upward}
@@ -11,7 +11,7 @@ use Rattle.flow_laws.specs.Event.{Accepts, AsksAddress, At, Connects, Event, IsS
 use Rattle.flow_laws.specs.Close.{asked_at, times_asked}
 use Rattle.flow_laws.specs.Flow.{has_connected, host, is_closed, is_under_way, syn_is_out}
 use Rattle.flow_laws.specs.Host.{answered}
-use Rattle.flow_laws.specs.Dutiful.{AreAhead, moment_if, seeks_guest, waits_for_window, waits_since}
+use Rattle.flow_laws.specs.Dutiful.{AreAhead, moment_if, seeks_guest, waits_since}
 use Rattle.halves_follow.specs.Resends.{Seeks}
 use Rattle.halves_follow.specs.Settled.{IsSettledIf}
 use Rattle.halves_follow.proofs.Moments.{both_ahead}

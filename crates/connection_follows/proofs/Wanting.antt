@@ -1,5 +1,5 @@
 -- What is waited for, and how long, by what a connection keeps.
-use Rattle.std.proofs.Common.{refl, ◌≡◌, ℕ, ◌+◌, ◌-◌, ◌<◌, length, Bool, true, false, not, ◌&&◌, ◌||◌, min, nat_lt, ap, sym, ◌∙◌, inl, inr, ◌⊎◌}
+use Rattle.std.proofs.Common.{refl, ◌≡◌, ℕ, ◌+◌, ◌-◌, ◌<◌, length, Bool, true, false, not, ◌&&◌, ◌||◌, max, min, nat_lt, ap, sym, ◌∙◌, inl, inr, ◌⊎◌}
 use Rattle.sock_buffers.specs.Downward.{Downward}
 use Rattle.sock_buffers.specs.Upward.{Upward}
 use Rattle.tcp_guest.specs.Connection.{Connection, is_opening, is_synchronized}
@@ -9,8 +9,11 @@ use Rattle.flow_laws.specs.Settings.{Settings}
 use Rattle.flow_laws.specs.Event.{Story}
 use Rattle.flow_laws.specs.Host.{acked, got, got_end}
 use Rattle.flow_laws.specs.Flow.{has_connected, host, is_accepted, is_closed, is_connecting, opened_at}
+use Rattle.flow_laws.specs.Close.{is_deserted, last_at, patience_end}
+use Rattle.flow_laws.specs.Lawful.{is_prompted}
 use Rattle.flow_laws.specs.Dutiful.{AreAhead, MayWait, MayWaitToWrite, moment_if, must_wait_to_write, read_size, waits_to_read}
 use Rattle.flow_laws.proofs.HostLaws.{InOrder, in_order}
+use Rattle.halves_follow.proofs.Moments.{both_ahead}
 use Rattle.halves_follow.proofs.Rests.{our_fin}
 use Rattle.halves_follow.proofs.Waiting.{closes_when_done}
 use Rattle.halves_follow.proofs.Wanting.{asks_for_room, has_room, may_want, must_want}
@@ -19,6 +22,16 @@ use Rattle.connection_follows.specs.Seen.{outward_of, part_of}
 use Rattle.connection_follows.proofs.Leaving.{granted}
 use Rattle.connection_follows.proofs.Watching.{synchronized_is}
 use Rattle.connection_follows.proofs.Unanswered.{few_calls}
+
+-- a guest has time to answer
+pub patient_ahead : (past : Story) (now : ℕ) → (is_deserted past ≡ true → is_prompted past ≡ false → now < max (patience_end past) (last_at past + 1))
+    → AreAhead now (moment_if (is_deserted past && not (is_prompted past)) (max (patience_end past) (last_at past + 1)))
+patient_ahead past now patient = by (is_deserted past) (is_prompted past) refl refl
+  where
+    by : (b d : Bool) → is_deserted past ≡ b → is_prompted past ≡ d → AreAhead now (moment_if (b && not d) (max (patience_end past) (last_at past + 1)))
+    by true true is quiet = tt
+    by true false is quiet = (patient is quiet, tt)
+    by false d is quiet = tt
 
 module _ (s : Settings) (c : Connection) (up : Upward) (down : Downward) (past : Story) (now : ℕ) (h : Holds s c up down past now) where
   order : InOrder (host past)
@@ -89,12 +102,14 @@ module _ (s : Settings) (c : Connection) (up : Upward) (down : Downward) (past :
 
   -- ---- whether it may be waited at all
 
-  pub may_wait : is_calls c.stage ≡ false → takes_for_done c ≡ false → (is_connects c.stage ≡ true → now < opened_at past + 75000) → MayWait past now
-  may_wait reached not_done early = record {
+  pub may_wait : is_calls c.stage ≡ false → takes_for_done c ≡ false → (is_connects c.stage ≡ true → now < opened_at past + 75000)
+      → (is_deserted past ≡ true → is_prompted past ≡ false → now < max (patience_end past) (last_at past + 1)) → MayWait past now
+  may_wait reached not_done early patient = record {
     closes = closes_when_done past (part_of c up) c.end_acknowledged c.ours_first c.acknowledged (h.receives reached).ends
         (λ told acked_fin sure. absurd (all_three (sym (h.receives reached).host_ended ∙ told)
         (h.gives.fin_acked ∙ sym (our_fin (outward_of c.transmission down) past h.gives.keeps) ∙ acked_fin) sure));
-    connects = by (is_connecting past) refl;
+    connects = both_ahead now (moment_if (is_connecting past) (opened_at past + 75000)) (moment_if (is_deserted past && not (is_prompted past)) (max (patience_end past) (last_at past + 1)))
+        (by (is_connecting past) refl) (patient_ahead past now patient);
     calls = few_calls s c up down past now h;
   }
     where

@@ -8,15 +8,15 @@ use Rattle.flow_laws.specs.Event.{Segment, Story}
 use Rattle.flow_laws.specs.Guest.{Up, Acked, is_empty, Honest, HasCome, front, written, has_ended, ackd}
 use Rattle.flow_laws.specs.Host.{answered, got, got_end, our_place, sent}
 use Rattle.flow_laws.specs.Flow.{guest, host, their_number, our_number, next_number, is_closed, is_accepted, is_connecting, has_connected, syn_is_out}
-use Rattle.flow_laws.specs.Close.{is_done, IsReset, newest_rst, before, follows_reset, host_failed, gives_up, connects_too_long, finds_no_guest, owes_reset, is_owed_reset, rests_since}
+use Rattle.flow_laws.specs.Close.{is_done, IsReset, newest_rst, before, follows_reset, host_failed, gives_up, may_give_way, waits_too_long, finds_no_guest, owes_reset, is_owed_reset, rests_since}
 use Rattle.flow_laws.specs.Lawful.{our_mss, our_scale, Act, AskConnected, Write, EndHost, Read, Send, Close, May, WritesWhatTheGuestSent, WritesWhatCame, SendsWhatTheHostSent}
 use Rattle.flow_laws.specs.Lawful.{EndsAfterAll, SendsEndAfterAll, ReadsToTheEnd, AcknowledgesWhatCame, ClosesWithCause, ClosesAfterFailure, CallsOpenSocket, ResetsWhereOwed}
-use Rattle.flow_laws.specs.Lawful.{SendsNothingAfterClose, OpensAfterHost, OpensWithSyn, AsksUntilConnected, HasHeaderOf, SendsItsHeader, is_ack_alone, SendsItsOptions}
-use Rattle.flow_laws.specs.Lawful.{SendsAgainWithReason, SendsWithinMss, ResetsAtWhatCame}
+use Rattle.flow_laws.specs.Lawful.{SendsNothingAfterClose, OpensAfterHost, OpensWithSyn, AsksUntilConnected, SendsItsHeader, is_ack_alone, SendsItsOptions}
+use Rattle.flow_laws.specs.Lawful.{HasOwnCause, SendsAgainWithReason, SendsWithinMss, ResetsAtWhatCame}
 use Rattle.flow_laws.specs.Computed.{are_sized, ends_at, has_come, is_at, is_number, same_bool}
 use Rattle.flow_laws.specs.Check.{writes_what_the_guest_sent, writes_what_came, sends_what_the_host_sent, sends_again_with_reason, ends_after_all, sends_end_after_all, reads_to_the_end}
 use Rattle.flow_laws.specs.Check.{acknowledges_what_came, closes_with_cause, closes_after_failure, calls_open_socket, resets_where_owed, sends_nothing_after_close, opens_after_host}
-use Rattle.flow_laws.specs.Check.{opens_with_syn, asks_until_connected, has_header_of, sends_its_header, sends_its_options, acks_syn, is_reset, is_reset_at, may_stream, may_end, may_close}
+use Rattle.flow_laws.specs.Check.{opens_with_syn, asks_until_connected, sends_its_header, sends_its_options, acks_syn, has_own_cause, is_reset, is_reset_at, may_stream, may_end, may_close}
 use Rattle.flow_laws.specs.Check.{may_open, may, sends_within_mss, has_number_that_came, resets_at_what_came, may_be_sent}
 use Rattle.flow_laws.proofs.Streams.{carried_length, front_carried, near_top}
 use Rattle.flow_laws.proofs.Acks.{acked_exact}
@@ -107,22 +107,26 @@ honest_was [] honest = honest
 honest_was (b ∷ past) honest = honest_before b past honest
 
 cause_holds : (past : Story) → Honest (guest past) → (now : ℕ) (act : Act) → ClosesWithCause past now act → IsTrue (closes_with_cause past now act)
-cause_holds past honest now (Close directly ended known) (inl one) =
-    or_left (is_done past || ended || host_failed past || finds_no_guest known now past)
-    ((not (follows_reset directly past) && (gives_up now past || connects_too_long now past)) || (directly && is_reset (before past) (newest_rst past))) one
-cause_holds past honest now (Close directly ended known) (inr (inl two)) =
-    or_right (is_done past || ended || host_failed past || finds_no_guest known now past)
-    ((not (follows_reset directly past) && (gives_up now past || connects_too_long now past)) || (directly && is_reset (before past) (newest_rst past)))
-    (or_left (not (follows_reset directly past) && (gives_up now past || connects_too_long now past)) (directly && is_reset (before past) (newest_rst past)) two)
-cause_holds past honest now (Close directly ended known) (inr (inr (after, reset))) =
-    or_right (is_done past || ended || host_failed past || finds_no_guest known now past)
-    ((not (follows_reset directly past) && (gives_up now past || connects_too_long now past)) || (directly && is_reset (before past) (newest_rst past)))
-    (or_right (not (follows_reset directly past) && (gives_up now past || connects_too_long now past)) (directly && is_reset (before past) (newest_rst past))
-    (and_true directly (is_reset (before past) (newest_rst past)) after (by (newest_rst past) reset)))
+cause_holds past honest now (Close directly ended known) (inr way) = or_right (has_own_cause directly ended known now past) (may_give_way now past) way
+cause_holds past honest now (Close directly ended known) (inl own) = or_left (has_own_cause directly ended known now past) (may_give_way now past) (own_holds own)
   where
     by : (o : Option Segment) → MatchOption o ⊥ (λ seg. IsReset (before past) seg) → IsTrue (is_reset (before past) o)
     by None is = absurd is
     by (Some seg) is = reset_at_holds (before past) seg (their_number (before past)) (honest_was past honest) is
+
+    own_holds : HasOwnCause directly ended known now past → IsTrue (has_own_cause directly ended known now past)
+    own_holds (inl one) =
+        or_left (is_done past || ended || host_failed past || finds_no_guest known now past)
+        ((not (follows_reset directly past) && (gives_up now past || waits_too_long now past)) || (directly && is_reset (before past) (newest_rst past))) one
+    own_holds (inr (inl two)) =
+        or_right (is_done past || ended || host_failed past || finds_no_guest known now past)
+        ((not (follows_reset directly past) && (gives_up now past || waits_too_long now past)) || (directly && is_reset (before past) (newest_rst past)))
+        (or_left (not (follows_reset directly past) && (gives_up now past || waits_too_long now past)) (directly && is_reset (before past) (newest_rst past)) two)
+    own_holds (inr (inr (after, reset))) =
+        or_right (is_done past || ended || host_failed past || finds_no_guest known now past)
+        ((not (follows_reset directly past) && (gives_up now past || waits_too_long now past)) || (directly && is_reset (before past) (newest_rst past)))
+        (or_right (not (follows_reset directly past) && (gives_up now past || waits_too_long now past)) (directly && is_reset (before past) (newest_rst past))
+        (and_true directly (is_reset (before past) (newest_rst past)) after (by (newest_rst past) reset)))
 cause_holds past honest now AskConnected is = refl
 cause_holds past honest now (Write xs) is = refl
 cause_holds past honest now EndHost is = refl

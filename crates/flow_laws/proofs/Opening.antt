@@ -3,7 +3,7 @@ use Rattle.std.proofs.Common.{refl, ◌≡◌, [], ◌∷◌, Bool, true, false,
 use Rattle.flow_laws.specs.Settings.{Settings}
 use Rattle.flow_laws.specs.Event.{Accepts, Departs, Connected, Closes, At, Story}
 use Rattle.flow_laws.specs.Flow.{is_accepted, is_closed, has_connected, syn_is_out}
-use Rattle.flow_laws.specs.Close.{is_done, follows_reset, host_failed, gives_up, connects_too_long, owes_reset, is_owed_reset}
+use Rattle.flow_laws.specs.Close.{is_done, follows_reset, gives_up, must_part, waits_too_long, owes_reset, is_owed_reset}
 use Rattle.flow_laws.specs.Lawful.{IsLawful}
 use Rattle.flow_laws.specs.Said.{something_is_out, reset_is_out, has_failed, closed_as_failed}
 use Rattle.flow_laws.proofs.Computing.{both, either}
@@ -58,7 +58,7 @@ owes_failed : (story : Story) → IsTrue (owes_reset story) → IsTrue (closed_a
 owes_failed [] is = absurd cc
 owes_failed (At m (Closes directly ended known) ∷ past) is =
     or_left (has_failed m past) (closed_as_failed past)
-    (fails_by (is_done past) (follows_reset directly past) (host_failed past) ended (gives_up m past) (connects_too_long m past) (not (is_accepted past && not (syn_is_out past))) is)
+    (fails_by (is_done past) (follows_reset directly past) (must_part m past) ended (gives_up m past) (waits_too_long m past) (not (is_accepted past && not (syn_is_out past))) is)
   where
     or_left : (a b : Bool) → IsTrue a → IsTrue (a || b)
     or_left true b x = refl

@@ -8,15 +8,15 @@ use Rattle.flow_laws.specs.Event.{Segment, At, Story}
 use Rattle.flow_laws.specs.Guest.{is_empty, Acked, Honest, HasCome, front, written, has_ended, ackd}
 use Rattle.flow_laws.specs.Host.{answered, got, got_end, our_place, sent}
 use Rattle.flow_laws.specs.Flow.{guest, host, their_number, our_number, next_number, is_closed, is_accepted, is_connecting, has_connected, syn_is_out}
-use Rattle.flow_laws.specs.Close.{is_done, IsReset, newest_rst, before, follows_reset, host_failed, gives_up, connects_too_long, finds_no_guest, owes_reset, is_owed_reset, rests_since}
-use Rattle.flow_laws.specs.Lawful.{our_mss, our_scale, Act, AskConnected, Write, EndHost, Read, Send, Close, act_of, HasCause, May, IsLawful, WritesWhatTheGuestSent, WritesWhatCame}
+use Rattle.flow_laws.specs.Close.{is_done, IsReset, newest_rst, before, follows_reset, host_failed, gives_up, may_give_way, waits_too_long, finds_no_guest, owes_reset, is_owed_reset, rests_since}
+use Rattle.flow_laws.specs.Lawful.{our_mss, our_scale, Act, AskConnected, Write, EndHost, Read, Send, Close, act_of, HasCause, HasOwnCause, May, IsLawful, WritesWhatTheGuestSent, WritesWhatCame}
 use Rattle.flow_laws.specs.Lawful.{SendsWhatTheHostSent, SendsAgainWithReason, EndsAfterAll, SendsEndAfterAll, ReadsToTheEnd, AcknowledgesWhatCame, ClosesWithCause, ClosesAfterFailure}
 use Rattle.flow_laws.specs.Lawful.{CallsOpenSocket, ResetsWhereOwed, SendsNothingAfterClose, OpensAfterHost, OpensWithSyn, AsksUntilConnected, HasHeaderOf, SendsItsHeader, is_ack_alone}
 use Rattle.flow_laws.specs.Lawful.{SendsItsOptions, SendsWithinMss, ResetsAtWhatCame}
 use Rattle.flow_laws.specs.Computed.{ends_at, has_come, is_at, is_number, same_bool}
 use Rattle.flow_laws.specs.Check.{writes_what_the_guest_sent, writes_what_came, sends_what_the_host_sent, sends_again_with_reason, ends_after_all, sends_end_after_all, reads_to_the_end}
 use Rattle.flow_laws.specs.Check.{acknowledges_what_came, closes_with_cause, closes_after_failure, calls_open_socket, resets_where_owed, sends_nothing_after_close, opens_after_host}
-use Rattle.flow_laws.specs.Check.{opens_with_syn, asks_until_connected, has_header_of, sends_its_header, sends_its_options, acks_syn, has_cause, is_reset, is_reset_at, may_stream, may_end}
+use Rattle.flow_laws.specs.Check.{opens_with_syn, asks_until_connected, has_header_of, sends_its_header, sends_its_options, acks_syn, has_cause, has_own_cause, is_reset, is_reset_at, may_stream, may_end}
 use Rattle.flow_laws.specs.Check.{may_close, may_open, may, may_happen, is_lawful, sends_within_mss, has_number_that_came, resets_at_what_came, may_be_sent}
 use Rattle.flow_laws.proofs.Computing.{all_brought, at_is, begins_prefix, both, either, empty_is, imply, is_false, nat_same, number_is, same_bool_is, sends_read_is, four_parts}
 use Rattle.flow_laws.proofs.Ends.{ends_at_is, has_come_is}
@@ -99,15 +99,21 @@ reset_of : (past : Story) (o : Option Segment) → IsTrue (is_reset past o) → 
 reset_of past None is = absurd cc
 reset_of past (Some seg) is = reset_at past seg (their_number past) is
 
-cause_is : (directly ended known : Bool) (now : ℕ) (past : Story) → IsTrue (has_cause directly ended known now past) → HasCause directly ended known now past
-cause_is directly ended known now past is =
+own_cause_is : (directly ended known : Bool) (now : ℕ) (past : Story) → IsTrue (has_own_cause directly ended known now past) → HasOwnCause directly ended known now past
+own_cause_is directly ended known now past is =
     elim (either (is_done past || ended || host_failed past || finds_no_guest known now past) _ is) [
       | inl one ↦ inl one
-      | inr rest ↦ elim (either (not (follows_reset directly past) && (gives_up now past || connects_too_long now past)) (directly && is_reset (before past) (newest_rst past)) rest) [
+      | inr rest ↦ elim (either (not (follows_reset directly past) && (gives_up now past || waits_too_long now past)) (directly && is_reset (before past) (newest_rst past)) rest) [
         | inl two ↦ inr (inl two)
         | inr three ↦ let p = both directly (is_reset (before past) (newest_rst past)) three in inr (inr (p.0, reset_of (before past) (newest_rst past) p.1))
       ]
     ]
+
+cause_is : (directly ended known : Bool) (now : ℕ) (past : Story) → IsTrue (has_cause directly ended known now past) → HasCause directly ended known now past
+cause_is directly ended known now past is = elim (either (has_own_cause directly ended known now past) (may_give_way now past) is) [
+  | inl own ↦ inl (own_cause_is directly ended known now past own)
+  | inr way ↦ inr way
+]
 
 closes_is : (past : Story) (now : ℕ) (act : Act) → IsTrue (closes_with_cause past now act) → ClosesWithCause past now act
 closes_is past now (Close directly ended known) is = cause_is directly ended known now past is

@@ -1,10 +1,11 @@
 -- What a wrong program would do next with the host's stream, or with the flow, and the sentence that refutes it.
-use Rattle.std.proofs.Common.{refl, ◌≡◌, ℕ, ◌+◌, ◌<◌, ◌≤◌, [], ◌∷◌, Some, slice_get, inl, inr, arith, subst, true, false, not, pos, nat_lt, Bool, length, ◌&&◌, ◌||◌}
+use Rattle.std.proofs.Common.{refl, ◌≡◌, ℕ, ◌+◌, ◌<◌, ◌≤◌, [], ◌∷◌, Some, slice_get, inl, inr, arith, subst, true, false, not, pos, nat_lt, Bool, IsTrue, length, ◌&&◌, ◌||◌}
 use Rattle.std.proofs.lemmas.Bool.Decides.{nat_tests}
 use Rattle.std.proofs.lemmas.Int.{ints}
 use Rattle.flow_laws.specs.Settings.{Settings}
 use Rattle.flow_laws.specs.Event.{Departs, Reads, ReadsEnd, At, Story}
 use Rattle.flow_laws.specs.Host.{acked, got, got_end}
+use Rattle.flow_laws.specs.Close.{may_give_way}
 use Rattle.flow_laws.specs.Flow.{host, has_connected, is_accepted, is_closed}
 use Rattle.flow_laws.specs.Lawful.{May, Read, Send, Close}
 use Rattle.flow_laws.specs.Dutiful.{IsSettled, wakes, resend_deadline, waits_to_read}
@@ -55,9 +56,15 @@ sends_the_next = refl
 
 -- ---- our SYN-ACK went out once, and wasn't acknowledged
 
-resets_at_first_expiry : (directly known : Bool) (now : ℕ) → May usual opened now (Close directly false known) → ⊥
-resets_at_first_expiry true known now m = elim m.closes_with_cause [ inl one ↦ never one | inr rest ↦ elim rest [ inl two ↦ never two | inr three ↦ three.1 ] ]
-resets_at_first_expiry false known now m = elim m.closes_with_cause [ inl one ↦ never one | inr rest ↦ elim rest [ inl two ↦ never two | inr three ↦ never three.0 ] ]
+resets_at_first_expiry : (directly known : Bool) (now : ℕ) → may_give_way now opened ≡ false → May usual opened now (Close directly false known) → ⊥
+resets_at_first_expiry true known now heard m = elim m.closes_with_cause [
+  | inl own ↦ elim own [ inl one ↦ never one | inr rest ↦ elim rest [ inl two ↦ never two | inr three ↦ three.1 ] ]
+  | inr way ↦ never (subst IsTrue heard way)
+]
+resets_at_first_expiry false known now heard m = elim m.closes_with_cause [
+  | inl own ↦ elim own [ inl one ↦ never one | inr rest ↦ elim rest [ inl two ↦ never two | inr three ↦ never three.0 ] ]
+  | inr way ↦ never (subst IsTrue heard way)
+]
 
 -- nor does a reset go out of a flow that isn't closed
 resets_an_open_flow : May usual opened 2500 (Send (reset_ack 250001 1001)) → ⊥
@@ -65,7 +72,10 @@ resets_an_open_flow m = never (m.resets_where_owed refl)
 
 -- nor a moment before the last wait is over
 resets_a_moment_early : May usual nine 244499 (Close false false true) → ⊥
-resets_a_moment_early m = elim m.closes_with_cause [ inl one ↦ never one | inr rest ↦ elim rest [ inl two ↦ never two | inr three ↦ never three.0 ] ]
+resets_a_moment_early m = elim m.closes_with_cause [
+  | inl own ↦ elim own [ inl one ↦ never one | inr rest ↦ elim rest [ inl two ↦ never two | inr three ↦ never three.0 ] ]
+  | inr way ↦ never way
+]
 
 resets_in_time : may usual nine 244500 (Close false false true) ≡ true
 resets_in_time = refl

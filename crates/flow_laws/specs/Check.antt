@@ -7,7 +7,7 @@ use Rattle.flow_laws.specs.Event.{Segment, At, Story}
 use Rattle.flow_laws.specs.Guest.{Up, is_empty, Acked, front, written, has_ended, ackd}
 use Rattle.flow_laws.specs.Host.{answered, got, got_end, our_place, sent}
 use Rattle.flow_laws.specs.Flow.{guest, host, their_number, our_number, next_number, is_closed, is_accepted, is_connecting, has_connected, syn_is_out}
-use Rattle.flow_laws.specs.Close.{is_done, newest_rst, before, follows_reset, host_failed, gives_up, connects_too_long, finds_no_guest, owes_reset, is_owed_reset, rests_since}
+use Rattle.flow_laws.specs.Close.{is_done, newest_rst, before, follows_reset, host_failed, gives_up, waits_too_long, may_give_way, finds_no_guest, owes_reset, is_owed_reset, rests_since}
 use Rattle.flow_laws.specs.Lawful.{our_mss, our_scale, Act, AskConnected, Write, EndHost, Read, Send, Close, act_of, is_ack_alone, is_prompted, is_overdue, repeats}
 use Rattle.flow_laws.specs.Windows.{mss}
 use Rattle.flow_laws.specs.Computed.{begins_with, brings_all, ends_at, has_come, is_at, is_number, same_bool, sends_read}
@@ -73,11 +73,14 @@ abbrev pub is_reset : Story → Option Segment → Bool
 is_reset past None = false
 is_reset past (Some seg) = is_reset_at (guest past) (their_number past) past seg
 
-abbrev pub has_cause : Bool → Bool → Bool → ℕ → Story → Bool
-has_cause directly ended known now past =
+abbrev pub has_own_cause : Bool → Bool → Bool → ℕ → Story → Bool
+has_own_cause directly ended known now past =
     (is_done past || ended || host_failed past || finds_no_guest known now past)
-    || ((not (follows_reset directly past) && (gives_up now past || connects_too_long now past))
+    || ((not (follows_reset directly past) && (gives_up now past || waits_too_long now past))
     || (directly && is_reset (before past) (newest_rst past)))
+
+abbrev pub has_cause : Bool → Bool → Bool → ℕ → Story → Bool
+has_cause directly ended known now past = has_own_cause directly ended known now past || may_give_way now past
 
 abbrev pub closes_with_cause : Story → ℕ → Act → Bool
 closes_with_cause past now (Close directly ended known) = has_cause directly ended known now past

@@ -10,7 +10,7 @@ use Rattle.flow_laws.specs.Flow.{guest, host, their_number, is_accepted, is_clos
 use Rattle.flow_laws.specs.Windows.{our_shift, field, right_edge, next_edge, edge}
 use Rattle.flow_laws.specs.Close.{is_done, owes_reset, times_asked, newest_rst, before}
 use Rattle.flow_laws.specs.Lawful.{Act, Write, Send, Close, act_of}
-use Rattle.flow_laws.specs.Dutiful.{fin_is_answered, resend_deadline, connect_deadline, is_called_enough}
+use Rattle.flow_laws.specs.Dutiful.{fin_is_answered, resend_deadline, close_deadline, is_called_enough}
 use Rattle.flow_laws.specs.Computed.{acknowledged, ends_at, is_before, is_under}
 
 -- ---- what is waited for
@@ -82,7 +82,7 @@ abbrev pub is_settled : Settings → Story → Bool → Bool → ℕ → Bool
 is_settled s past known rests now = (has_sent s past known && has_acknowledged s past rests) && (told_room s past && all_ahead now (resend_deadline past))
 
 abbrev pub may_wait : Story → ℕ → Bool
-may_wait past now = (not (is_done past) || is_closed past) && all_ahead now (connect_deadline past) && is_called_enough past
+may_wait past now = (not (is_done past) || is_closed past) && all_ahead now (close_deadline past) && is_called_enough past
 
 -- ---- what is done
 

@@ -1,7 +1,7 @@
 -- Words in which laws of a flow are said, on its story alone.
 use Rattle.std.specs.Prelude.{◌≡◌, ℕ, ◌+◌, ◌^◌, ◌%◌, [], ◌∷◌, Bool, false, not, ◌&&◌, ◌||◌, Some, is_some, slice_get, ◌⊎◌}
 use Rattle.flow_laws.specs.Event.{Arrives, Departs, Closes, At, Story}
-use Rattle.flow_laws.specs.Close.{host_failed, gives_up, connects_too_long}
+use Rattle.flow_laws.specs.Close.{gives_up, must_part, waits_too_long}
 
 -- a segment came from the guest with the octet x at this number
 abbrev pub CameAt : Story → ℕ → ℕ → Type 0
@@ -27,9 +27,9 @@ we_scale [] = false
 we_scale (At m (Departs seg) ∷ past) = (seg.syn && not seg.rst && is_some seg.scale) || we_scale past
 we_scale (_ ∷ past) = we_scale past
 
--- a call on the host's socket failed, the guest answered nothing for 243,000 ms, or the host didn't connect in 75,000
+-- a call on the host's socket failed, it gave way, the guest answered nothing for 243,000 ms, or the host or the guest was waited for too long
 abbrev pub has_failed : ℕ → Story → Bool
-has_failed now past = host_failed past || (gives_up now past || connects_too_long now past)
+has_failed now past = must_part now past || (gives_up now past || waits_too_long now past)
 
 -- the flow was closed where it had failed
 abbrev pub closed_as_failed : Story → Bool

@@ -1,5 +1,5 @@
 -- The guest's hardware address: it is told, or asked for.
-use Rattle.std.proofs.Common.{refl, ◌≡◌, ℕ, zero, suc, ◌+◌, ◌<◌, ◌≤◌, ◌^◌, ◌%◌, [], ◌∷◌, List, Bool, true, false, ◌&&◌, ◌||◌, Option, None, Some, nat_eq, nat_le, nat_lt, if◌then◌else◌}
+use Rattle.std.proofs.Common.{refl, ◌≡◌, ℕ, zero, suc, ◌+◌, ◌<◌, ◌≤◌, ◌^◌, ◌%◌, [], ◌∷◌, List, Bool, true, false, ◌&&◌, Option, None, Some, nat_lt, if◌then◌else◌}
 use Rattle.std.proofs.Common.{arith, ap, subst, sym, ◌∙◌, inl, inr}
 use Rattle.std.proofs.lemmas.Bool.Decides.{nat_tests}
 use Rattle.net_octets.specs.declared.Mac.{Mac}
@@ -44,6 +44,9 @@ learn_follows s f mac past now h = by f.place f.shut h
       holds = q.holds;
       mru = q.mru;
       since = q.since;
+      accepted = q.accepted;
+      last = q.last;
+      called = q.called;
       told = q.told;
       unfinished = q.unfinished;
       unsent = λ none. q.unsent (or_none mac f.mac none);
@@ -142,6 +145,9 @@ module _ (f : Splice) (now : ℕ) (unknown : f.mac ≡ None) (asks : asks_now f 
               holds = asks_address s f.conn f.up f.down past before now on o.holds;
               mru = o.mru;
               since = o.since;
+              accepted = o.accepted;
+              last = o.last;
+              called = o.called;
               told = o.told;
               unfinished = o.unfinished;
               unsent = o.unsent;

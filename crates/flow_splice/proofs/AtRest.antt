@@ -1,5 +1,5 @@
 -- A flow at rest: its connection stays in TIME-WAIT, and it only acknowledges.
-use Rattle.std.proofs.Common.{refl, ◌≡◌, ℕ, List, Bool, true, false, not, ◌&&◌, ◌||◌, nat_eq, nat_le, nat_lt, Option, None, Some, unwrap_or, if◌then◌else◌, ap, subst, sym, ◌∙◌, inl, inr}
+use Rattle.std.proofs.Common.{refl, ◌≡◌, ℕ, List, Bool, true, false, not, ◌&&◌, ◌||◌, nat_eq, nat_lt, Option, None, Some, unwrap_or, if◌then◌else◌, ap, subst, sym, ◌∙◌, inl, inr}
 use Rattle.sock_buffers.specs.Downward.{Downward}
 use Rattle.sock_buffers.specs.Upward.{Upward}
 use Rattle.tcp_segment.specs.Tcp.{Tcp}

@@ -1,5 +1,5 @@
 -- How long it may be waited for a flow, and how long it is waited at least: the moment at which it is to be looked at, against those of its story.
-use Rattle.std.proofs.Common.{refl, ◌≡◌, ℕ, ◌+◌, ◌<◌, ◌≤◌, ◌++◌, Bool, true, false, not, ◌&&◌, ◌||◌, Option, None, Some, is_some, nat_lt, if◌then◌else◌, arith, ap, subst, sym, ◌∙◌}
+use Rattle.std.proofs.Common.{refl, ◌≡◌, ℕ, ◌+◌, ◌<◌, ◌≤◌, ◌++◌, Bool, true, false, not, ◌&&◌, ◌||◌, Option, None, Some, is_some, nat_lt, max, [], ◌∷◌, ◌⊎◌, inl, inr, if◌then◌else◌, arith, ap, subst, sym, ◌∙◌}
 use Rattle.std.proofs.lemmas.Bool.Decides.{nat_tests}
 use Rattle.net_octets.specs.declared.Mac.{Mac}
 use Rattle.retransmit.specs.Resending.{due_by as due_by_timer, due_of as resend_due}
@@ -13,8 +13,9 @@ use Rattle.tcp_guest.specs.declared.Stage.TheVariants as stage
 use Rattle.flow_laws.specs.Settings.{Settings}
 use Rattle.flow_laws.specs.Event.{Story, newest_moment}
 use Rattle.flow_laws.specs.Flow.{has_connected, is_accepted, is_closed, is_connecting, is_under_way, opened_at, syn_is_out}
-use Rattle.flow_laws.specs.Close.{asked_at, times_asked}
-use Rattle.flow_laws.specs.Dutiful.{connect_deadline, moment_if, resend_deadline, seeks_guest, waits_for_window, waits_since, wakes}
+use Rattle.flow_laws.specs.Close.{asked_at, is_deserted as is_deserted_by, last_at, patience_end as patience_by, times_asked}
+use Rattle.flow_laws.specs.Dutiful.{close_deadline, closing_moments, moment_if, resend_deadline, seeks_guest, waits_for_window, waits_since, wakes}
+use Rattle.flow_laws.specs.Lawful.{is_prompted}
 use Rattle.halves_follow.specs.Bounds.{IsBy, IsFrom}
 use Rattle.halves_follow.proofs.InTime.{not_before, seeks_none}
 use Rattle.halves_follow.proofs.Moments.{by_both}
@@ -25,23 +26,27 @@ use Rattle.connection_follows.proofs.Watching.{opening_is, syn_under_way}
 use Rattle.flow_splice.specs.Follows.{Follows, FollowsAt, IsAsking, IsOpen}
 use Rattle.flow_splice.specs.Sends.{IsClear, IsClearBy, asks_now}
 use Rattle.flow_splice.specs.Splice.{Splice, is_in_use, is_open}
-use Rattle.flow_splice.specs.Wants.{ask_due, connect_end, due_of, seeks}
+use Rattle.flow_splice.specs.Wants.{ask_due, connect_end, due_else, due_of, is_deserted, left_at, seeks, sooner}
+use Rattle.flow_splice.proofs.Deserted.{by_sooner, closed_deserts, connects_alone, deserted_parts, from_sooner, left_deadline, left_from}
+use Rattle.flow_splice.proofs.Opened.{open_follows}
 use Rattle.flow_splice.proofs.Stages.{calls_opens, if_none, in_use, no_connecting, resends_none, takes}
 use Rattle.flow_splice.specs.declared.Place.{Place}
 use Rattle.flow_splice.specs.declared.Place.TheVariants.{Empty, InUse, Resting}
 
 -- ---- once its socket was closed
 
-shut_by : (f : Splice) (past : Story) → is_closed past ≡ true → IsBy (due_of f) (connect_deadline past) × IsBy (due_of f) (resend_deadline past)
+shut_by : (f : Splice) (past : Story) → is_closed past ≡ true → IsBy (due_of f) (close_deadline past) × IsBy (due_of f) (resend_deadline past)
 shut_by f past shut = (
-  subst (λ (b : Bool). IsBy (due_of f) (moment_if b (opened_at past + 75000))) (sym (no_connecting (is_accepted past || has_connected past) (is_closed past) shut)) tt,
+  by_both (due_of f) (moment_if (is_connecting past) (opened_at past + 75000)) (moment_if (is_deserted_by past && not (is_prompted past)) (max (patience_by past) (last_at past + 1)))
+      (subst (λ (b : Bool). IsBy (due_of f) (moment_if b (opened_at past + 75000))) (sym (no_connecting (is_accepted past || has_connected past) (is_closed past) shut)) tt)
+      (subst (λ (b : Bool). IsBy (due_of f) (moment_if (b && not (is_prompted past)) (max (patience_by past) (last_at past + 1)))) (sym (closed_deserts past shut)) tt),
   subst (λ ms. IsBy (due_of f) ms) (sym (resends_none past shut)) tt,
 )
 
 shut_from : (f : Splice) (past : Story) → is_open f ≡ false → IsFrom (due_of f) (wakes past)
 shut_from f past shut =
     subst (λ (o : Option ℕ). IsFrom o (wakes past))
-    (sym (ap (λ (b : Bool). if b then (if is_connects f.conn.stage then Some (connect_end f) else (if seeks f then ask_due f else conn_due f.conn)) else None) shut)) tt
+    (sym (ap (λ (b : Bool). if b then (if is_deserted f then Some (sooner (left_at f) (due_else f)) else due_else f) else None) shut)) tt
 
 -- ---- while it is open
 
@@ -62,27 +67,59 @@ waits_yet s f past now o open_yet unknown none =
     by false is asked missed = (is, asked)
 
 module _ (s : Settings) (f : Splice) (past : Story) (now : ℕ) (o : IsOpen s f past now) (open_yet : is_open f ≡ true) where
-  due_open : due_of f ≡ (if is_connects f.conn.stage then Some (connect_end f) else (if seeks f then ask_due f else conn_due f.conn))
-  due_open = ap (λ (b : Bool). if b then (if is_connects f.conn.stage then Some (connect_end f) else (if seeks f then ask_due f else conn_due f.conn)) else None) open_yet
+  due_connects : is_connects f.conn.stage ≡ true → due_else f ≡ Some (connect_end f)
+  due_connects is = ap (λ (b : Bool). if b then Some (connect_end f) else (if seeks f then ask_due f else conn_due f.conn)) is
 
-  due_connects : is_connects f.conn.stage ≡ true → due_of f ≡ Some (connect_end f)
-  due_connects is = due_open ∙ ap (λ (b : Bool). if b then Some (connect_end f) else (if seeks f then ask_due f else conn_due f.conn)) is
+  due_apart : is_connects f.conn.stage ≡ false → due_else f ≡ (if seeks f then ask_due f else conn_due f.conn)
+  due_apart is = ap (λ (b : Bool). if b then Some (connect_end f) else (if seeks f then ask_due f else conn_due f.conn)) is
 
-  due_apart : is_connects f.conn.stage ≡ false → due_of f ≡ (if seeks f then ask_due f else conn_due f.conn)
-  due_apart is = due_open ∙ ap (λ (b : Bool). if b then Some (connect_end f) else (if seeks f then ask_due f else conn_due f.conn)) is
-
-  due_known : is_connects f.conn.stage ≡ false → seeks f ≡ false → due_of f ≡ conn_due f.conn
+  due_known : is_connects f.conn.stage ≡ false → seeks f ≡ false → due_else f ≡ conn_due f.conn
   due_known apart none = due_apart apart ∙ ap (λ (b : Bool). if b then ask_due f else conn_due f.conn) none
 
-  pub open_by_connect : IsBy (due_of f) (connect_deadline past)
+  -- by whether its peer is gone
+  due_deserted : is_deserted f ≡ true → due_of f ≡ Some (sooner (left_at f) (due_else f))
+  due_deserted is = rw (open_yet, is) refl
+
+  due_rests : is_deserted f ≡ false → due_of f ≡ due_else f
+  due_rests none = rw (open_yet, none) refl
+
+  follows_now : Follows s f past now
+  follows_now = open_follows s f past now open_yet o
+
+  -- one that connects isn't deserted
+  connects_stays : (b : Bool) → is_deserted f ≡ b → is_connects f.conn.stage ≡ true → is_deserted f ≡ false
+  connects_stays false is connects = is
+  connects_stays true is connects = let not_it = sym connects ∙ (deserted_parts f is).connected in absurd cc
+
+  no_later : (at : ℕ) (other : Option ℕ) → sooner at other ≤ at
+  no_later at None = omega arith
+  no_later at (Some moment) = omega arith
+
+  by_kind : (P : Option ℕ → Type 0) → (is_deserted f ≡ true → P (Some (sooner (left_at f) (due_else f)))) → (is_deserted f ≡ false → P (due_else f)) → P (due_of f)
+  by_kind P deserted other = by (is_deserted f) refl
+    where
+      by : (b : Bool) → is_deserted f ≡ b → P (due_of f)
+      by true is = subst P (sym (due_deserted is)) (deserted is)
+      by false is = subst P (sym (due_rests is)) (other is)
+
+  pub open_by_connect : IsBy (due_of f) (close_deadline past)
   open_by_connect = by (is_connects f.conn.stage) refl
     where
-      by : (b : Bool) → is_connects f.conn.stage ≡ b → IsBy (due_of f) (connect_deadline past)
+      law : (d : Option ℕ) → d ≡ due_of f → IsBy d (close_deadline past) → IsBy (due_of f) (close_deadline past)
+      law d is within = subst (λ (x : Option ℕ). IsBy x (close_deadline past)) is within
+
+      other : (close_deadline past ≡ []) ⊎ ((is_deserted f ≡ true) × (close_deadline past ≡ left_at f ∷ [])) → IsBy (due_of f) (close_deadline past)
+      other (inl none) = subst (λ ms. IsBy (due_of f) ms) (sym none) tt
+      other (inr (deserted, is)) =
+          law (Some (sooner (left_at f) (due_else f))) (sym (due_deserted deserted))
+          (subst (λ ms. IsBy (Some (sooner (left_at f) (due_else f))) ms) (sym is) (no_later (left_at f) (due_else f), tt))
+
+      by : (b : Bool) → is_connects f.conn.stage ≡ b → IsBy (due_of f) (close_deadline past)
       by true is =
-          let since = o.since in
-          subst (λ (d : Option ℕ). IsBy d (connect_deadline past)) (sym (due_connects is))
-          (subst (λ (b : Bool). IsBy (Some (connect_end f)) (moment_if b (opened_at past + 75000))) (sym (o.holds.opened.connects ∙ is)) (omega (arith, since), tt))
-      by false is = subst (λ (b : Bool). IsBy (due_of f) (moment_if b (opened_at past + 75000))) (sym (o.holds.opened.connects ∙ is)) tt
+          law (due_else f) (sym (due_rests (connects_stays (is_deserted f) refl is)))
+          (subst (λ (d : Option ℕ). IsBy d (close_deadline past)) (sym (due_connects is))
+          (subst (λ ms. IsBy (Some (connect_end f)) ms) (sym (connects_alone s f past now follows_now open_yet is)) (omega arith, tt)))
+      by false is = other (left_deadline s f past now follows_now open_yet is)
 
   -- nothing is under way before its SYN went out
   none_by : is_opening f.conn.stage ≡ true → has_gone f.conn.sendings ≡ false → (due : Option ℕ) → IsBy due (moment_if (is_under_way past && not (is_closed past)) (waits_since past + 60000))
@@ -118,14 +155,14 @@ module _ (s : Settings) (f : Splice) (past : Story) (now : ℕ) (o : IsOpen s f 
   known_seeks mac is = ap (λ (m : Option Mac). not (is_some m) && nat_lt 0 f.asked) is
 
   -- where nothing is owed
-  known_by : seeks f ≡ false → owed_of f.conn f.up f.down ≡ None → IsBy (due_of f) (resend_deadline past)
+  known_by : seeks f ≡ false → owed_of f.conn f.up f.down ≡ None → IsBy (due_else f) (resend_deadline past)
   known_by known nothing = by f.conn.stage refl o.holds.opened.live
     where
-      of_conn : (d : Option ℕ) → is_connects f.conn.stage ≡ false → conn_due f.conn ≡ d → IsBy d (resend_deadline past) → IsBy (due_of f) (resend_deadline past)
+      of_conn : (d : Option ℕ) → is_connects f.conn.stage ≡ false → conn_due f.conn ≡ d → IsBy d (resend_deadline past) → IsBy (due_else f) (resend_deadline past)
       of_conn d apart is within = subst (λ (x : Option ℕ). IsBy x (resend_deadline past)) (sym (due_known apart known ∙ is)) within
 
       of_opening : f.conn.syn_owed ≡ false → is_connects f.conn.stage ≡ false → is_opening f.conn.stage ≡ true → conn_due f.conn ≡ resend_due f.conn.syn
-          → IsBy (due_of f) (resend_deadline past)
+          → IsBy (due_else f) (resend_deadline past)
       of_opening no_syn apart opening is = of_conn (resend_due f.conn.syn) apart is
           (opening_by s f.conn f.up f.down past now o.holds opening (λ gone. no_syn) (called_by (went (has_gone f.conn.sendings) refl apart opening no_syn)))
 
@@ -134,14 +171,14 @@ module _ (s : Settings) (f : Splice) (past : Story) (now : ℕ) (o : IsOpen s f 
       both false true is = absurd cc
       both false false is = refl
 
-      by : (st : Stage) → f.conn.stage ≡ st → is_live st ≡ true → IsBy (due_of f) (resend_deadline past)
+      by : (st : Stage) → f.conn.stage ≡ st → is_live st ≡ true → IsBy (due_else f) (resend_deadline past)
       by stage.Connects at live =
-          by_both (due_of f) (moment_if (is_under_way past && not (is_closed past)) (waits_since past + 60000)
+          by_both (due_else f) (moment_if (is_under_way past && not (is_closed past)) (waits_since past + 60000)
           ++ moment_if (seeks_guest past && nat_lt 0 (times_asked past)) (asked_at past + 60000)) _
-          (by_both (due_of f) (moment_if (is_under_way past && not (is_closed past)) (waits_since past + 60000)) _
-          (none_by (ap (λ (q : Stage). is_opening q) at) (o.holds.opened.unsent (ap (λ (q : Stage). is_connects q) at)) (due_of f))
+          (by_both (due_else f) (moment_if (is_under_way past && not (is_closed past)) (waits_since past + 60000)) _
+          (none_by (ap (λ (q : Stage). is_opening q) at) (o.holds.opened.unsent (ap (λ (q : Stage). is_connects q) at)) (due_else f))
           (rw (connects_by (ap (λ (q : Stage). is_connects q) at)) tt))
-          (none_watched (ap (λ (q : Stage). is_opening q) at) (due_of f))
+          (none_watched (ap (λ (q : Stage). is_opening q) at) (due_else f))
       by stage.Calls at live =
           let no_syn = if_none f.conn.syn_owed Syn (sym (ap (λ (q : Stage). owed_by q f.conn f.up f.down) at) ∙ nothing) in
           of_opening no_syn (ap (λ (q : Stage). is_connects q) at) (ap (λ (q : Stage). is_opening q) at) (ap (λ (q : Stage). conn_due_by q f.conn) at)
@@ -163,22 +200,22 @@ module _ (s : Settings) (f : Splice) (past : Story) (now : ℕ) (o : IsOpen s f 
       by (stage.Resets seq ack) at live = absurd cc
       by stage.Gone at live = absurd cc
 
-  pub open_by_resend : IsClear f → IsBy (due_of f) (resend_deadline past)
-  open_by_resend clear = by f.mac refl clear
+  else_by_resend : IsClear f → IsBy (due_else f) (resend_deadline past)
+  else_by_resend clear = by f.mac refl clear
     where
-      by : (m : Option Mac) → f.mac ≡ m → IsClearBy m f → IsBy (due_of f) (resend_deadline past)
+      by : (m : Option Mac) → f.mac ≡ m → IsClearBy m f → IsBy (due_else f) (resend_deadline past)
       by None is none =
           let two = o.unsent is in
           let waits = waits_yet s f past now o open_yet is none in
           let soon = (o.seeks is waits.1).soon in
-          let due : due_of f ≡ Some f.ask_at = due_apart (calls_apart f.conn.stage two.0) ∙ ap (λ (b : Bool). if b then ask_due f else conn_due f.conn) (seeking is waits.1)
+          let due : due_else f ≡ Some f.ask_at = due_apart (calls_apart f.conn.stage two.0) ∙ ap (λ (b : Bool). if b then ask_due f else conn_due f.conn) (seeking is waits.1)
           ∙ ap (λ (b : Bool). if not b then Some f.ask_at else None) waits.0 in
-          by_both (due_of f) (moment_if (is_under_way past && not (is_closed past)) (waits_since past + 60000)
+          by_both (due_else f) (moment_if (is_under_way past && not (is_closed past)) (waits_since past + 60000)
           ++ moment_if (seeks_guest past && nat_lt 0 (times_asked past)) (asked_at past + 60000)) _
-          (by_both (due_of f) (moment_if (is_under_way past && not (is_closed past)) (waits_since past + 60000)) _ (none_by (calls_opens f.conn.stage two.0).0 two.1 (due_of f))
+          (by_both (due_else f) (moment_if (is_under_way past && not (is_closed past)) (waits_since past + 60000)) _ (none_by (calls_opens f.conn.stage two.0).0 two.1 (due_else f))
           (subst (λ (d : Option ℕ). IsBy d (moment_if (seeks_guest past && nat_lt 0 (times_asked past)) (asked_at past + 60000))) (sym due)
           (by_if (seeks_guest past && nat_lt 0 (times_asked past)) f.ask_at (asked_at past + 60000) soon)))
-          (none_watched (calls_opens f.conn.stage two.0).0 (due_of f))
+          (none_watched (calls_opens f.conn.stage two.0).0 (due_else f))
         where
           by_if : (b : Bool) (at m : ℕ) → at ≤ m → IsBy (Some at) (moment_if b m)
           by_if true at m low = (low, tt)
@@ -217,8 +254,8 @@ module _ (s : Settings) (f : Splice) (past : Story) (now : ℕ) (o : IsOpen s f 
       by None is asks =
           let two = o.unsent is in
           let asked = some f.asked asks in
-          from_first f.ask_at (connect_deadline past ++ moment_if (is_accepted past && not (syn_is_out past) && not (is_closed past)) (opened_at past + 1000)) _
-          (from_second f.ask_at (connect_deadline past) _
+          from_first f.ask_at (closing_moments past ++ moment_if (is_accepted past && not (syn_is_out past) && not (is_closed past)) (opened_at past + 1000)) _
+          (from_second f.ask_at (closing_moments past) _
           (from_if f.ask_at (opened_at past + 1000) (is_accepted past && not (syn_is_out past) && not (is_closed past))
           (three (is_accepted past) (syn_is_out past) (is_closed past) (o.holds.opened.calls two.0) (o.holds.opened.out ∙ two.1) o.holds.goes.open_yet)
           (not_before past f.asked f.ask_at asked (o.seeks is asked))))
@@ -241,18 +278,30 @@ module _ (s : Settings) (f : Splice) (past : Story) (now : ℕ) (o : IsOpen s f 
   conn_from (stage.Resets seq ack) at apart live = absurd cc
   conn_from stage.Gone at apart live = absurd cc
 
-  pub open_from : IsFrom (due_of f) (wakes past)
-  open_from = by (is_connects f.conn.stage) (seeks f) refl refl
+  else_from : IsFrom (due_else f) (wakes past)
+  else_from = by (is_connects f.conn.stage) (seeks f) refl refl
     where
-      by : (a b : Bool) → is_connects f.conn.stage ≡ a → seeks f ≡ b → IsFrom (due_of f) (wakes past)
+      by : (a b : Bool) → is_connects f.conn.stage ≡ a → seeks f ≡ b → IsFrom (due_else f) (wakes past)
       by true b is seeking =
           let since = o.since in
           subst (λ (d : Option ℕ). IsFrom d (wakes past)) (sym (due_connects is))
-          (from_first (connect_end f) (connect_deadline past ++ moment_if (is_accepted past && not (syn_is_out past) && not (is_closed past)) (opened_at past + 1000)) _
-          (from_first (connect_end f) (connect_deadline past) _ (from_if (connect_end f) (opened_at past + 75000) (is_connecting past) (o.holds.opened.connects ∙ is) (omega (arith, since)))))
+          (from_first (connect_end f) (closing_moments past ++ moment_if (is_accepted past && not (syn_is_out past) && not (is_closed past)) (opened_at past + 1000)) _
+          (from_first (connect_end f) (closing_moments past) _ (from_first (connect_end f) (moment_if (is_connecting past) (opened_at past + 75000)) _
+          (from_if (connect_end f) (opened_at past + 75000) (is_connecting past) (o.holds.opened.connects ∙ is) (omega (arith, since))))))
       by false true apart seeking =
           subst (λ (d : Option ℕ). IsFrom d (wakes past)) (sym (due_apart apart ∙ ap (λ (b : Bool). if b then ask_due f else conn_due f.conn) seeking)) (seeking_from seeking)
       by false false apart known = subst (λ (d : Option ℕ). IsFrom d (wakes past)) (sym (due_known apart known)) (conn_from f.conn.stage refl apart o.holds.opened.live)
+
+  pub open_by_resend : IsClear f → IsBy (due_of f) (resend_deadline past)
+  open_by_resend clear =
+      by_kind (λ (d : Option ℕ). IsBy d (resend_deadline past))
+      (λ deserted. by_sooner (left_at f) (due_else f) (resend_deadline past) (else_by_resend clear)) (λ none. else_by_resend clear)
+
+  pub open_from : IsFrom (due_of f) (wakes past)
+  open_from =
+      by_kind (λ (d : Option ℕ). IsFrom d (wakes past))
+      (λ deserted. from_sooner (left_at f) (due_else f) (wakes past) (left_from s f past now follows_now open_yet deserted) else_from)
+      (λ none. else_from)
 
 -- ---- by where it stands
 
@@ -263,10 +312,10 @@ module _ (s : Settings) (f : Splice) (past : Story) (now : ℕ) (h : Follows s f
   open_place : f.place ≡ InUse → f.shut ≡ false → is_open f ≡ true
   open_place at shut = ap (λ (p : Place). is_in_use p && not f.shut) at ∙ ap not shut
 
-  pub due_by_connect : IsBy (due_of f) (connect_deadline past)
+  pub due_by_connect : IsBy (due_of f) (close_deadline past)
   due_by_connect = by f.place f.shut refl refl h
     where
-      by : (p : Place) (b : Bool) → f.place ≡ p → f.shut ≡ b → FollowsAt p b s f past now → IsBy (due_of f) (connect_deadline past)
+      by : (p : Place) (b : Bool) → f.place ≡ p → f.shut ≡ b → FollowsAt p b s f past now → IsBy (due_of f) (close_deadline past)
       by Empty b at shut q = (shut_by f past q.over.closed).0
       by InUse true at shut q = (shut_by f past q.over.closed).0
       by InUse false at shut q = open_by_connect s f past now q (open_place at shut)

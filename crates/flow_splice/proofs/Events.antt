@@ -6,7 +6,7 @@ use Rattle.world_face.specs.declared.Io.{Io}
 use Rattle.flow_laws.specs.Settings.{Settings}
 use Rattle.flow_laws.specs.Event.{Segment, Event, Departs, AsksAddress, At, Story}
 use Rattle.flow_laws.specs.Dutiful.{read_size}
-use Rattle.flow_laws.specs.Lawful.{HasCause}
+use Rattle.flow_laws.specs.Lawful.{HasOwnCause}
 use Rattle.flow_splice.specs.Entries.{Adds, AreEvents, OffersRequest, OffersSegment, datagrams, ident_after, went}
 use Rattle.flow_splice.specs.Follows.{Follows}
 use Rattle.flow_splice.specs.Serves.{GoesOn, GoesOnYet, TicksOn}
@@ -56,7 +56,7 @@ module _ (s : Settings) (face : Face) (mac : Option Mac) (directly ended known :
   adds_after (TcpRead socket asked answer octets) rest beats a = (a.0, a.1 ∙ ap (λ (q : Story). read_size s q) (sym (append_assoc rest first past)), ap (λ (bs : Story). bs ++ first) a.2)
   adds_after (TcpWrite socket octets answer) rest beats a = (a.0, ap (λ (bs : Story). bs ++ first) a.1)
   adds_after (TcpEnd socket answer) rest beats a = (a.0, ap (λ (bs : Story). bs ++ first) a.1)
-  adds_after (Close socket) rest beats a = (a.0, ap (λ (bs : Story). bs ++ first) a.1, subst (λ (q : Story). HasCause directly false known now q) (sym (append_assoc rest first past)) a.2)
+  adds_after (Close socket) rest beats a = (a.0, ap (λ (bs : Story). bs ++ first) a.1, subst (λ (q : Story). HasOwnCause directly false known now q) (sym (append_assoc rest first past)) a.2)
   adds_after _ rest beats a = absurd a
 
   pub events_then : (before made : List Entry) (beats : Story) → AreEvents s face mac directly ended known ident now past before first

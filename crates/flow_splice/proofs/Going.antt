@@ -26,11 +26,11 @@ use Rattle.tcp_guest.specs.declared.Stage.{Stage}
 use Rattle.tcp_guest.specs.declared.Stage.TheVariants as stage
 use Rattle.flow_laws.specs.Settings.{Settings}
 use Rattle.flow_laws.specs.Event.{At, Closes, Departs, Segment, Story}
-use Rattle.flow_laws.specs.Lawful.{HasCause, IsLawful}
+use Rattle.flow_laws.specs.Lawful.{HasOwnCause, IsLawful}
 use Rattle.flow_laws.specs.Dutiful.{IsDutiful}
 use Rattle.connection_follows.specs.Holding.{Holds, is_live}
 use Rattle.connection_follows.specs.Over.{IsOver, IsResting, is_resets}
-use Rattle.connection_follows.specs.Sending.{is_rst, segment_out}
+use Rattle.connection_follows.specs.Sending.{is_rst, is_syn, segment_out}
 use Rattle.connection_follows.proofs.Departing.{departs}
 use Rattle.connection_follows.proofs.Owing.{reset_goes}
 use Rattle.connection_follows.proofs.Resting.{ack_goes}
@@ -122,7 +122,7 @@ module _ (f : Splice) (now first : ℕ) (what : Owed) (mac : Mac) (known_mac : f
 
       -- it was, and the socket was closed then
       taken_last : IsLawful s out → IsDutiful s out → (x new : Splice) (made : List Entry) → x.face ≡ f.face → x.mac ≡ f.mac → made ≡ Close f.face.number ∷ [] → new ≡ x →
-          HasCause false false known now out → Follows s x (At now (Closes false ended known) ∷ out) now
+          HasOwnCause false false known now out → Follows s x (At now (Closes false ended known) ∷ out) now
           → (serves : Serves s new false ended known first now past (made ++ (LinkWrite octets answer ∷ []))) × ((first + 1) % 2 ^ 16 ≡ ident_after first serves.beats)
       taken_last lawful dutiful x new made face_is mac_is made_is new_is cause q = (
         record {
@@ -173,6 +173,14 @@ resets_stage stage.Gone is = absurd cc
 ack_is : (b : Bool) (what : Owed) → ack_if b ≡ Some what → (b ≡ true) × (Ack ≡ what)
 ack_is true what is = (refl, cc)
 ack_is false what is = absurd cc
+
+-- our SYN is no reset
+syn_only : (what : Owed) → (is_syn what && not (is_rst what)) ≡ is_syn what
+syn_only Syn = refl
+syn_only SynAck = refl
+syn_only (Data p) = refl
+syn_only Ack = refl
+syn_only (Reset seq ack) = refl
 
 taken_some : (n : ℕ) → 0 < n → nat_lt 0 n ≡ true
 taken_some n some = grind (arith, nat_tests)
@@ -238,15 +246,16 @@ module _ (f : Splice) (now first : ℕ) (what : Owed) (mac : Mac) (known_mac : f
             taken_last f now first what mac known_mac late small buffers owed used sized answer allowed s past before ended known on h some x_holds.goes.lawful x_holds.goes.dutiful
             (closed (went_out f what now) now) new made refl refl shut.0 shut.1
             (finished_cause s f (gone what c f.up now) gone_out now false known x_holds done refl)
-            (done_follows s f (gone what c f.up now) gone_out now false ended known x_holds done refl o.mru (λ none. absurd (no_mac none)))
+            (done_follows s (record f { last = now; called = if is_syn what then now else f.called }) (gone what c f.up now) gone_out now false ended known x_holds done refl o.mru (λ none. absurd (no_mac none)))
         by_done some false unfinished sees =
             let stays = subst (λ (b : Bool). Sees (ends (if b then Finished else Nothing)) (went_out f what now) new now made) unfinished sees in
             taken f now first what mac known_mac late small buffers owed used sized answer allowed s past before ended known on h some x_holds.goes.lawful x_holds.goes.dutiful
             (went_out f what now) new made refl refl stays.0 stays.1
-            (subst (λ (y : Connection). Follows s (record f { conn = y }) gone_out now) (sym (settled_same (gone what c f.up now) unfinished))
-            (open_follows s (record f { conn = gone what c f.up now }) gone_out now open_yet
+            (subst (λ (y : Connection). Follows s (record f { conn = y; last = now; called = if is_syn what then now else f.called }) gone_out now) (sym (settled_same (gone what c f.up now) unfinished))
+            (open_follows s (record f { conn = gone what c f.up now; last = now; called = if is_syn what then now else f.called }) gone_out now open_yet
+            (subst (λ (b : Bool). IsOpen s (record f { conn = gone what c f.up now; last = now; called = if b then now else f.called }) gone_out now) (syn_only what)
             (goes_on s f (gone what c f.up now) f.up f.down f.told_end past before now (Departs (segment_out f.mru c f.up f.down what)) on (λ none. none) o x_holds o.told unfinished
-            (λ none. absurd (no_mac none)) (λ unowed. refl))))
+            (λ none. absurd (no_mac none)) (λ unowed. refl)))))
 
     -- it owes a reset
     sends_reset : IsOwing s f past before → Result (ident_if result first)
@@ -254,7 +263,7 @@ module _ (f : Splice) (now first : ℕ) (what : Owed) (mac : Mac) (known_mac : f
         by_answer lawful dutiful (λ some goes.
         let sent = subst (λ (w : Owed). GoesOut (is_rst w) w f new now made) (sym what_is) goes in
         taken f now first what mac known_mac late small buffers owed used sized answer allowed s past before ended known on h some lawful dutiful
-        (record f { conn = record c { stage = stage.Gone }; place = Empty }) new made refl refl sent.0 sent.1
+        (record f { conn = record c { stage = stage.Gone }; place = Empty; last = now }) new made refl refl sent.0 sent.1
         (record { over = over_now; owes_none = refl; rests_none = owing_none past (q.over.owes ∙ q.owes) }))
       where
         at : (seq : Seq) × (ack : Seq) × (c.stage ≡ stage.Resets seq ack)

@@ -23,7 +23,7 @@ use Rattle.tcp_guest.specs.declared.Verdict.{Verdict}
 use Rattle.tcp_guest.specs.declared.Verdict.TheVariants.{Resets, Greets, Heeded}
 use Rattle.world_face.specs.Journal.{Close, Entry}
 use Rattle.flow_laws.specs.Settings.{Settings}
-use Rattle.flow_laws.specs.Lawful.{HasCause}
+use Rattle.flow_laws.specs.Lawful.{HasOwnCause}
 use Rattle.flow_laws.specs.Event.{Arrives, At, Closes, Segment, Story}
 use Rattle.flow_laws.specs.Close.{follows_reset}
 use Rattle.flow_laws.specs.Flow.{greets, host}
@@ -82,7 +82,7 @@ module _ (f : Splice) (now : ℕ) (tcp : Tcp) (open_yet : is_open f ≡ true) (l
           follows = subst (λ (g : Splice). Follows s g after now) (sym saw.1) (open_follows s (heard f tcp now) after now open_yet h);
         }
 
-    shuts : ends (change_at f.conn f.up f.down tcp now) ≡ true → HasCause true false known now after → Follows s (closed (heard f tcp now) now) (At now (Closes true ended known) ∷ after) now → Result
+    shuts : ends (change_at f.conn f.up f.down tcp now) ≡ true → HasOwnCause true false known now after → Follows s (closed (heard f tcp now) now) (At now (Closes true ended known) ∷ after) now → Result
     shuts over cause h = by b ends_is sees
       where
         by : (e : Bool) → ends (change_at f.conn f.up f.down tcp now) ≡ e → Sees e (heard f tcp now) new now made → Result
@@ -103,10 +103,10 @@ module _ (f : Splice) (now : ℕ) (tcp : Tcp) (open_yet : is_open f ≡ true) (l
       has = subst (λ (y : Connection). HasBuffers y u d) c_is (subst (λ (v : Upward). HasBuffers (after_segment c f.up f.down tcp now) v d) u_is
           (subst (λ (w : Downward). HasBuffers (after_segment c f.up f.down tcp now) (up_after_segment c f.up f.down tcp) w) d_is buffers))
 
-      as_heard : (P : Splice → Type 0) → P (record f { conn = x; up = u; down = d }) → P (heard f tcp now)
-      as_heard P p = subst (λ (y : Connection). P (record f { conn = y; up = up_after_segment c f.up f.down tcp; down = down_after_segment c f.up f.down tcp })) (sym c_is)
-          (subst (λ (v : Upward). P (record f { conn = x; up = v; down = down_after_segment c f.up f.down tcp })) (sym u_is)
-          (subst (λ (w : Downward). P (record f { conn = x; up = u; down = w })) (sym d_is) p))
+      as_heard : (P : Splice → Type 0) → P (record f { conn = x; up = u; down = d; last = now }) → P (heard f tcp now)
+      as_heard P p = subst (λ (y : Connection). P (record f { conn = y; up = up_after_segment c f.up f.down tcp; down = down_after_segment c f.up f.down tcp; last = now })) (sym c_is)
+          (subst (λ (v : Upward). P (record f { conn = x; up = v; down = down_after_segment c f.up f.down tcp; last = now })) (sym u_is)
+          (subst (λ (w : Downward). P (record f { conn = x; up = u; down = w; last = now })) (sym d_is) p))
 
       holds_on : Holds s x u d after now → is_done x ≡ false → (f.mac ≡ None → (is_calls x.stage ≡ true) × (has_gone x.sendings ≡ false)) →
           (x.ack_owed ≡ false → follows_reset true after ≡ false) → Result
@@ -114,7 +114,7 @@ module _ (f : Splice) (now : ℕ) (tcp : Tcp) (open_yet : is_open f ≡ true) (l
           stays (as_heard (λ (g : Splice). IsOpen s g after now) (goes_on s f x u d f.told_end past before now (Arrives seg) on (λ none. none) o h o.told unfinished unsent calm))
 
     -- the connection is gone
-    gone : verdict_of c f.up tcp ≡ Resets → HasCause true false known now after → Follows s (closed (record f { conn = record c { stage = stage.Gone } }) now)
+    gone : verdict_of c f.up tcp ≡ Resets → HasOwnCause true false known now after → Follows s (closed (record f { conn = record c { stage = stage.Gone }; last = now }) now)
         (At now (Closes true ended known) ∷ after) now → Result
     gone is cause h =
         shuts (ap (λ (v : Verdict). ends (change_by v c f.up f.down tcp now)) is) cause
@@ -135,7 +135,7 @@ module _ (f : Splice) (now : ℕ) (tcp : Tcp) (open_yet : is_open f ≡ true) (l
               shuts (ap ends change_is ∙ ap (λ (e : Bool). ends (if e then Finished else Nothing)) done)
               (finished_cause s (record f { up = u; down = d }) x after now true known h done (ap (λ (e : Bool). if e then Some seg else None) rst))
               (as_heard (settled x) u d c_is u_is d_is (λ (g : Splice). Follows s (closed g now) (At now (Closes true ended known) ∷ after) now)
-              (done_follows s (record f { up = u; down = d }) x after now true ended known h done (ap (λ (e : Bool). if e then Some seg else None) rst) o.mru (λ none. (unsent none).0)))
+              (done_follows s (record f { up = u; down = d; last = now }) x after now true ended known h done (ap (λ (e : Bool). if e then Some seg else None) rst) o.mru (λ none. (unsent none).0)))
           by false unfinished = holds_on x u d (c_is ∙ settled_same x unfinished) u_is d_is h unfinished unsent (λ unowed. plain_calm past now seg rst)
 
     -- ---- the acknowledgement of our SYN isn't of what was never sent
@@ -320,12 +320,12 @@ module _ (f : Splice) (now : ℕ) (tcp : Tcp) (open_yet : is_open f ≡ true) (l
         (λ unowed. called_calm s c f.up f.down past before now o.holds seg (ap (λ (st : Stage). is_calls st) at) (λ rst. waits_unturned c f.up f.down tcp now at c_is rst))
     by_means (resets is no_call rst number) =
         gone is (next_reset_cause s c f.up f.down past before now on o.holds known false seg no_call rst number)
-        (over_follows s (record f { conn = record c { stage = stage.Gone } }) (At now (Closes true ended known) ∷ after) now
+        (over_follows s (record f { conn = record c { stage = stage.Gone }; last = now }) (At now (Closes true ended known) ∷ after) now
         (next_reset_closes s c f.up f.down past before now on o.holds known ended seg no_call rst number) (λ at. cc) o.mru (λ owes. absurd cc)
         (λ none. next_reset_none s c f.up f.down past before now known o.holds seg rst no_call number))
     by_means (turns_away is calls rst ack number) =
         gone is (called_reset_cause s c f.up f.down past before now on o.holds known false seg calls rst ack number)
-        (over_follows s (record f { conn = record c { stage = stage.Gone } }) (At now (Closes true ended known) ∷ after) now
+        (over_follows s (record f { conn = record c { stage = stage.Gone }; last = now }) (At now (Closes true ended known) ∷ after) now
         (called_reset_closes s c f.up f.down past before now on o.holds known ended seg calls rst ack number) (λ at. cc) o.mru (λ owes. absurd cc)
         (λ none. called_reset_none s c f.up f.down past before now known o.holds seg rst calls ack number))
     by_means (is_greeted is at out greets_it rst syn number) = greeting is at out greets_it rst syn number

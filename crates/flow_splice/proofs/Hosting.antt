@@ -1,5 +1,5 @@
 -- The calls on the host's socket, one by one.
-use Rattle.std.proofs.Common.{refl, ◌≡◌, ℕ, ◌-◌, ◌<◌, ◌≤◌, List, [], ◌∷◌, ◌++◌, length, take, min, Bool, true, false, not, ◌&&◌, ◌||◌, nat_lt, if◌then◌else◌, length-append, arith, ap, subst, sym, ◌∙◌}
+use Rattle.std.proofs.Common.{refl, ◌≡◌, ℕ, zero, suc, ◌-◌, ◌<◌, ◌≤◌, List, [], ◌∷◌, ◌++◌, length, take, min, Bool, true, false, not, ◌&&◌, ◌||◌, nat_lt, if◌then◌else◌, length-append, arith, ap, subst, sym, ◌∙◌}
 use Rattle.std.proofs.lemmas.Bool.Decides.{nat_tests}
 use Rattle.world_face.specs.Journal.{Entry, Connected, TcpRead, TcpWrite, TcpEnd, Close, count_of}
 use Rattle.world_face.specs.declared.Io.{Io}
@@ -17,6 +17,7 @@ use Rattle.tcp_transmit.specs.Timing.{watched}
 use Rattle.flow_laws.specs.Settings.{Settings}
 use Rattle.flow_laws.specs.Event.{At, Closes, Connected as HostConnected, ConnectsYet, ConnectFails, Writes, WriteFails, Reads, ReadsEnd, ReadFails, EndsHost, EndFails, Story}
 use Rattle.flow_laws.specs.Dutiful.{read_size}
+use Rattle.flow_laws.specs.Guest.{is_empty}
 use Rattle.connection_follows.specs.Holding.{Holds, is_calls, is_connects, without}
 use Rattle.connection_follows.proofs.Asking.{connects_now, connects_yet}
 use Rattle.connection_follows.proofs.Causes.{end_fails_closes, failed_cause, read_fails_closes, refused_closes, write_fails_closes}
@@ -60,11 +61,15 @@ is_unfinished x is = by (is_done x) is
     by true is = absurd cc
     by false is = refl
 
+-- after the host took so many octets
+abbrev pub taken_by : Splice → (n now : ℕ) → Splice
+taken_by f n now = record f { up = without f.up n; last = if nat_lt 0 n then now else f.last }
+
 module _ (f : Splice) (now : ℕ) (open_yet : is_open f ≡ true) where
   -- ---- it is asked whether it connected
 
   module _ (connects : is_connects f.conn.stage ≡ true) where
-    pub host_connected : HasBuffers (connected_by f.conn.stage f.conn) f.up f.down → GoesOn f (record f { conn = connected_by f.conn.stage f.conn }) false now (Connected f.face.number Yes ∷ [])
+    pub host_connected : HasBuffers (connected_by f.conn.stage f.conn) f.up f.down → GoesOn f (record f { conn = connected_by f.conn.stage f.conn; last = now }) false now (Connected f.face.number Yes ∷ [])
     host_connected buffers s past before ident ended known on h =
         let o = open_is s f past before open_yet h in
         let at = (connects_opens f.conn.stage connects).0 in
@@ -73,8 +78,8 @@ module _ (f : Splice) (now : ℕ) (open_yet : is_open f ≡ true) where
         record {
           beats = At now HostConnected ∷ [];
           are = ([], refl, (refl, refl));
-          follows = open_follows s (record f { conn = connected_by f.conn.stage f.conn }) (At now HostConnected ∷ past) now open_yet
-              (subst (λ (c : Connection). IsOpen s (record f { conn = c }) (At now HostConnected ∷ past) now) (sym is)
+          follows = open_follows s (record f { conn = connected_by f.conn.stage f.conn; last = now }) (At now HostConnected ∷ past) now open_yet
+              (subst (λ (c : Connection). IsOpen s (record f { conn = c; last = now }) (At now HostConnected ∷ past) now) (sym is)
               (goes_on s f next f.up f.down f.told_end past before now HostConnected on (λ none. none) o
               (connects_now s f.conn f.up f.down past before now on at (subst (λ (c : Connection). HasBuffers c f.up f.down) is buffers) o.holds) o.told (opening_not_done next refl)
               (λ unknown. let two = o.unsent unknown in let not_it = sym two.0 ∙ (connects_opens f.conn.stage connects).2 in absurd cc) (λ unowed. refl)));
@@ -125,15 +130,28 @@ module _ (f : Splice) (now : ℕ) (open_yet : is_open f ≡ true) where
     abbrev front : List ℕ
     front = take (min 16384 (length f.up.held)) f.up.held
 
+    front_some : (k : ℕ) (xs : List ℕ) → 0 < k → 0 < length xs → is_empty (take k xs) ≡ false
+    front_some zero xs more some = absurd (omega (arith, more))
+    front_some (suc k) [] more some = absurd (omega (arith, some))
+    front_some (suc k) (x ∷ xs) more some = refl
+
+    alive_is : (n : ℕ) → (nat_lt 0 n && not (is_empty front)) ≡ nat_lt 0 n
+    alive_is n = ap (λ (b : Bool). nat_lt 0 n && not b) (front_some (min 16384 (length f.up.held)) f.up.held (let some = two.0 in omega (arith, some)) two.0) ∙ and_true (nat_lt 0 n)
+      where
+        and_true : (b : Bool) → (b && true) ≡ b
+        and_true true = refl
+        and_true false = refl
+
     takes : (n : ℕ) → n ≤ min 16384 (length f.up.held) → HasBuffers f.conn (without f.up n) f.down
-        → (s : Settings) (past : Story) (before : ℕ) → before ≤ now → IsOpen s f past before → Follows s (record f { up = without f.up n }) (At now (Writes front n) ∷ past) now
+        → (s : Settings) (past : Story) (before : ℕ) → before ≤ now → IsOpen s f past before → Follows s (taken_by f n now) (At now (Writes front n) ∷ past) now
     takes n few buffers s past before on o =
-        open_follows s (record f { up = without f.up n }) (At now (Writes front n) ∷ past) now open_yet
+        open_follows s (taken_by f n now) (At now (Writes front n) ∷ past) now open_yet
+        (subst (λ (b : Bool). IsOpen s (record f { up = without f.up n; last = if b then now else f.last }) (At now (Writes front n) ∷ past) now) (alive_is n)
         (goes_on s f f.conn (without f.up n) f.down f.told_end past before now (Writes front n) on (λ none. none) o
-        (writes s f.conn f.up f.down past before now on (reached s past before o) joined (min 16384 (length f.up.held)) n few refl buffers o.holds) o.told o.unfinished o.unsent (λ unowed. refl))
+        (writes s f.conn f.up f.down past before now on (reached s past before o) joined (min 16384 (length f.up.held)) n few refl buffers o.holds) o.told o.unfinished o.unsent (λ unowed. refl)))
 
     pub host_takes : (answer : Io) → count_of answer ≤ min 16384 (length f.up.held) → HasBuffers f.conn (without f.up (count_of answer)) f.down → (answer ≡ Failed → ⊥)
-        → GoesOn f (record f { up = without f.up (count_of answer) }) false now (TcpWrite f.face.number front answer ∷ [])
+        → GoesOn f (taken_by f (count_of answer) now) false now (TcpWrite f.face.number front answer ∷ [])
     host_takes (Done n) few buffers well s past before ident ended known on h =
         record { beats = At now (Writes front n) ∷ []; are = ([], refl, (refl, refl)); follows = takes n few buffers s past before on (open_is s f past before open_yet h) }
     host_takes End few buffers well s past before ident ended known on h =
@@ -214,10 +232,10 @@ module _ (f : Splice) (now : ℕ) (open_yet : is_open f ≡ true) where
         ends_host s f.conn f.up f.down past before now on (got_here s past before o) joined none_held taken (unended s past before o) (unsettled told f.up f.down buffers) o.holds
 
     pub host_ends : HasBuffers (settled told) f.up f.down → (b : Bool) → ends_by (settling told) ≡ b → (new : Splice) (made : List Entry)
-        → Sees b (record f { conn = settled told; told_end = true }) new now made → GoesOn f new false now (made ++ (TcpEnd f.face.number MadeDone ∷ []))
+        → Sees b (record f { conn = settled told; told_end = true; last = now }) new now made → GoesOn f new false now (made ++ (TcpEnd f.face.number MadeDone ∷ []))
     host_ends buffers true finished new made sees =
         subst (λ (g : Splice). GoesOn f g false now (made ++ (TcpEnd f.face.number MadeDone ∷ []))) (sym sees.1)
-        (subst (λ (es : List Entry). GoesOn f (closed (record f { conn = settled told; told_end = true }) now) false now (es ++ (TcpEnd f.face.number MadeDone ∷ []))) (sym sees.0)
+        (subst (λ (es : List Entry). GoesOn f (closed (record f { conn = settled told; told_end = true; last = now }) now) false now (es ++ (TcpEnd f.face.number MadeDone ∷ []))) (sym sees.0)
         (λ s past before ident over known on h.
         let o = open_is s f past before open_yet h in
         record {
@@ -232,19 +250,19 @@ module _ (f : Splice) (now : ℕ) (open_yet : is_open f ≡ true) where
                   (ends_holds buffers s past before on o) (is_finished told finished) refl,
             ),
           );
-          follows = done_follows s (record f { told_end = true }) told (At now EndsHost ∷ past) now false over known (ends_holds buffers s past before on o)
+          follows = done_follows s (record f { told_end = true; last = now }) told (At now EndsHost ∷ past) now false over known (ends_holds buffers s past before on o)
               (is_finished told finished) refl o.mru (λ unknown. (o.unsent unknown).0);
         }))
     host_ends buffers false unfinished new made sees =
         subst (λ (g : Splice). GoesOn f g false now (made ++ (TcpEnd f.face.number MadeDone ∷ []))) (sym sees.1)
-        (subst (λ (es : List Entry). GoesOn f (record f { conn = settled told; told_end = true }) false now (es ++ (TcpEnd f.face.number MadeDone ∷ []))) (sym sees.0)
-        (subst (λ (c : Connection). GoesOn f (record f { conn = c; told_end = true }) false now (TcpEnd f.face.number MadeDone ∷ [])) (sym (settled_same told (is_unfinished told unfinished)))
+        (subst (λ (es : List Entry). GoesOn f (record f { conn = settled told; told_end = true; last = now }) false now (es ++ (TcpEnd f.face.number MadeDone ∷ []))) (sym sees.0)
+        (subst (λ (c : Connection). GoesOn f (record f { conn = c; told_end = true; last = now }) false now (TcpEnd f.face.number MadeDone ∷ [])) (sym (settled_same told (is_unfinished told unfinished)))
         (λ s past before ident over known on h.
         let o = open_is s f past before open_yet h in
         record {
           beats = At now EndsHost ∷ [];
           are = ([], refl, (refl, refl));
-          follows = open_follows s (record f { conn = told; told_end = true }) (At now EndsHost ∷ past) now open_yet
+          follows = open_follows s (record f { conn = told; told_end = true; last = now }) (At now EndsHost ∷ past) now open_yet
               (goes_on s f told f.up f.down true past before now EndsHost on (λ none. none) o (ends_holds buffers s past before on o) refl (is_unfinished told unfinished) o.unsent (λ unowed. refl));
         })))
 
@@ -296,7 +314,7 @@ module _ (f : Splice) (now : ℕ) (open_yet : is_open f ≡ true) where
 
     -- the host ended its stream
     pub host_gives_end : (octets : List ℕ) → f.down.size ≡ f.up.size → HasBuffers (host_ended f.conn now) f.up f.down → GoesOn f
-        (record f { conn = host_ended f.conn now }) false now (TcpRead f.face.number asked End octets ∷ [])
+        (record f { conn = host_ended f.conn now; last = now }) false now (TcpRead f.face.number asked End octets ∷ [])
     host_gives_end octets size buffers s past before ident ended known on h =
         let o = open_is s f past before open_yet h in
         let next : Connection = record f.conn { transmission = watched (unsent_end s f.conn f.up f.down past before now on o.holds yet joined_yet) true now } in
@@ -304,8 +322,8 @@ module _ (f : Splice) (now : ℕ) (open_yet : is_open f ≡ true) where
         record {
           beats = At now ReadsEnd ∷ [];
           are = ([], refl, (refl, asks s past before o size, refl));
-          follows = subst (λ (c : Connection). Follows s (record f { conn = c }) (At now ReadsEnd ∷ past) now) (sym is)
-              (open_follows s (record f { conn = next }) (At now ReadsEnd ∷ past) now open_yet
+          follows = subst (λ (c : Connection). Follows s (record f { conn = c; last = now }) (At now ReadsEnd ∷ past) now) (sym is)
+              (open_follows s (record f { conn = next; last = now }) (At now ReadsEnd ∷ past) now open_yet
               (goes_on s f next f.up f.down f.told_end past before now ReadsEnd on (λ none. none) o
               (reads_end s f.conn f.up f.down past before now on o.holds yet joined_yet (subst (λ (c : Connection). HasBuffers c f.up f.down) is buffers)) o.told o.unfinished
               o.unsent (λ unowed. refl)));
@@ -333,13 +351,13 @@ module _ (f : Splice) (now : ℕ) (open_yet : is_open f ≡ true) where
         }
 
 -- the host was told the guest's end: its socket is closed, or reading goes on
-pub told_reads : (b : Bool) (f x new : Splice) (now : ℕ) (made : List Entry) (socket : ℕ) (answer : Made) → x ≡ record f { conn = settled (write_ended f.conn); told_end = true }
+pub told_reads : (b : Bool) (f x new : Splice) (now : ℕ) (made : List Entry) (socket : ℕ) (answer : Made) → x ≡ record f { conn = settled (write_ended f.conn); told_end = true; last = now }
     → b ≡ ends_by (settling (write_ended f.conn)) → Sees b x new now made → reads_by f ≡ true → (reads_by new || some_is reads_or_shuts (made ++ (TcpEnd socket answer ∷ []))) ≡ true
 told_reads true f x new now made socket answer is b sees reading =
     or_last (reads_by new) (some_is reads_or_shuts (made ++ (TcpEnd socket answer ∷ []))) (ap (λ (es : List Entry). some_is reads_or_shuts (es ++ (TcpEnd socket answer ∷ []))) sees.0)
 told_reads false f x new now made socket answer is b sees reading =
     let same : settled (write_ended f.conn) ≡ write_ended f.conn = settled_same (write_ended f.conn) (is_unfinished (write_ended f.conn) (sym b)) in
-    let stays : new ≡ record f { conn = write_ended f.conn; told_end = true } = sees.1 ∙ is ∙ ap (λ (c : Connection). record f { conn = c; told_end = true }) same in
+    let stays : new ≡ record f { conn = write_ended f.conn; told_end = true; last = now } = sees.1 ∙ is ∙ ap (λ (c : Connection). record f { conn = c; told_end = true; last = now }) same in
     ap (λ (now_is : Bool). now_is || some_is reads_or_shuts (made ++ (TcpEnd socket answer ∷ []))) (ap reads_by stays ∙ reading)
 
 -- what connects isn't read

@@ -1,13 +1,13 @@
 -- A flow whose socket is open goes on to follow its story.
-use Rattle.std.proofs.Common.{refl, ◌≡◌, ℕ, ◌≤◌, ◌∷◌, Bool, true, false, not, ◌&&◌, None, arith, ◌∙◌}
+use Rattle.std.proofs.Common.{refl, ◌≡◌, ℕ, ◌≤◌, ◌∷◌, Bool, true, false, not, ◌&&◌, None, List, if◌then◌else◌, arith, ap, ◌∙◌}
 use Rattle.sock_buffers.specs.Downward.{Downward}
 use Rattle.sock_buffers.specs.Upward.{Upward}
 use Rattle.tcp_guest.specs.Connection.{Connection, has_gone}
 use Rattle.tcp_guest.specs.Segments.{is_done}
 use Rattle.flow_laws.specs.Settings.{Settings}
-use Rattle.flow_laws.specs.Event.{Accepts, At, Connects, Event, Opens, Story}
-use Rattle.flow_laws.specs.Flow.{opened_at}
-use Rattle.flow_laws.specs.Close.{follows_reset, host_was_ended}
+use Rattle.flow_laws.specs.Event.{Accepts, At, Connects, Departs, Event, Opens, Story}
+use Rattle.flow_laws.specs.Flow.{add_if, is_accepted, newest_of, opened_at, syn_sendings}
+use Rattle.flow_laws.specs.Close.{follows_reset, host_was_ended, is_alive}
 use Rattle.connection_follows.specs.Holding.{Holds, is_calls}
 use Rattle.connection_follows.specs.Over.{IsOver, IsResting, Runs}
 use Rattle.connection_follows.proofs.Quiet.{holds_later}
@@ -76,6 +76,9 @@ open_later s f past now m on h = record {
   holds = holds_later s f.conn f.up f.down past now m on h.holds;
   mru = h.mru;
   since = h.since;
+  accepted = h.accepted;
+  last = h.last;
+  called = h.called;
   told = h.told;
   unfinished = h.unfinished;
   unsent = h.unsent;
@@ -100,16 +103,44 @@ opened_still past m (Connects ours syn) none = absurd (none tt)
 opened_still past m (Accepts ours) none = absurd (none tt)
 opened_still past m _ none = refl
 
+accepted_still : (past : Story) (m : ℕ) (e : Event) → (Opens e → ⊥) → is_accepted (At m e ∷ past) ≡ is_accepted past
+accepted_still past m (Connects ours syn) none = absurd (none tt)
+accepted_still past m (Accepts ours) none = absurd (none tt)
+accepted_still past m _ none = refl
+
+-- when our SYN went out last
+abbrev pub called_after : Event → (now called : ℕ) → ℕ
+called_after (Departs seg) now called = if seg.syn && not seg.rst then now else called
+called_after _ now called = called
+
+called_is : (past : Story) (m : ℕ) (e : Event) → newest_of (syn_sendings (At m e ∷ past)) ≡ called_after e m (newest_of (syn_sendings past))
+called_is past m (Departs seg) = by (seg.syn && not seg.rst) (syn_sendings past)
+  where
+    by : (b : Bool) (ms : List ℕ) → newest_of (add_if b m ms) ≡ (if b then m else newest_of ms)
+    by true ms = refl
+    by false ms = refl
+called_is past m _ = refl
+
 -- one after which the connection holds, and whether our SYN is to go out is as before
 pub goes_on : (s : Settings) (f : Splice) (c : Connection) (up : Upward) (down : Downward) (told : Bool) (past : Story)
     (before now : ℕ) (e : Event) → before ≤ now → (Opens e → ⊥) → IsOpen s f past before
     → Holds s c up down (At now e ∷ past) now → host_was_ended (At now e ∷ past) ≡ told → is_done c ≡ false
     → (f.mac ≡ None → (is_calls c.stage ≡ true) × (has_gone c.sendings ≡ false)) → (c.ack_owed ≡ false → follows_reset true (At now e ∷ past) ≡ false)
-    → IsOpen s (record f { conn = c; up = up; down = down; told_end = told }) (At now e ∷ past) now
+    → IsOpen s (record f {
+      conn = c;
+      up = up;
+      down = down;
+      told_end = told;
+      last = if is_alive e then now else f.last;
+      called = called_after e now f.called;
+    }) (At now e ∷ past) now
 goes_on s f c up down told past before now e on none h holds told_is unfinished unsent calm = record {
   holds = holds;
   mru = h.mru;
   since = opened_still past now e none ∙ h.since;
+  accepted = accepted_still past now e none ∙ h.accepted;
+  last = ap (λ (n : ℕ). if is_alive e then now else n) h.last;
+  called = called_is past now e ∙ ap (λ (n : ℕ). called_after e now n) h.called;
   told = told_is;
   unfinished = unfinished;
   unsent = unsent;

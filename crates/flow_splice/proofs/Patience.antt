@@ -1,5 +1,5 @@
 -- A flow that asks for its guest's hardware address: whether the wait for an answer is over.
-use Rattle.std.proofs.Common.{refl, ◌≡◌, ℕ, ◌+◌, ◌<◌, ◌≤◌, Bool, true, false, not, ◌&&◌, ◌||◌, Option, None, Some, is_some, nat_le, nat_lt, arith, ap, subst, sym, ◌∙◌}
+use Rattle.std.proofs.Common.{refl, ◌≡◌, ℕ, ◌<◌, Bool, true, false, not, ◌&&◌, ◌||◌, Option, None, Some, is_some, nat_le, nat_lt, arith, ap, sym, ◌∙◌}
 use Rattle.std.proofs.lemmas.Bool.Decides.{nat_tests}
 use Rattle.net_octets.specs.declared.Mac.{Mac}
 use Rattle.stream_netdev.specs.declared.Offered.{Offered}
@@ -8,13 +8,12 @@ use Rattle.tcp_guest.specs.declared.Stage.{Stage}
 use Rattle.tcp_guest.specs.declared.Stage.TheVariants as stage
 use Rattle.flow_laws.specs.Settings.{Settings}
 use Rattle.flow_laws.specs.Event.{Story}
-use Rattle.halves_follow.specs.Resends.{least_wait}
 use Rattle.halves_follow.proofs.Timers.{wait_low}
 use Rattle.connection_follows.specs.Holding.{is_calls, is_connects}
 use Rattle.flow_splice.specs.Ahead.{HasPatience}
 use Rattle.flow_splice.specs.Follows.{IsOpen}
 use Rattle.flow_splice.specs.Hosts.{IsAsOld}
-use Rattle.flow_splice.specs.Sends.{asked, learnt, or_known}
+use Rattle.flow_splice.specs.Sends.{asked, learnt}
 use Rattle.flow_splice.specs.Splice.{Splice}
 use Rattle.flow_splice.specs.Wants.{asks_after, seeks}
 

@@ -1,5 +1,5 @@
 -- What follows where a flow follows its story.
-use Rattle.std.proofs.Common.{refl, ◌≡◌, ℕ, ◌+◌, ◌-◌, ◌<◌, ◌≤◌, [], ◌++◌, List, length, Bool, true, false, not, ◌&&◌, ◌||◌, Option, None, Some, is_some, nat_lt, IsTrue, if◌then◌else◌, arith, ap, nat_le}
+use Rattle.std.proofs.Common.{refl, ◌≡◌, ℕ, ◌+◌, ◌-◌, ◌<◌, ◌≤◌, [], ◌++◌, List, length, Bool, true, false, not, ◌&&◌, ◌||◌, Option, None, Some, is_some, nat_lt, IsTrue, if◌then◌else◌, max, arith, ap, nat_le}
 use Rattle.std.proofs.Common.{subst, sym, ◌∙◌, inl, inr, ◌⊎◌}
 use Rattle.std.proofs.lemmas.Bool.Decides.{nat_tests}
 use Rattle.net_octets.specs.declared.Mac.{Mac}
@@ -17,26 +17,28 @@ use Rattle.flow_laws.specs.Settings.{Settings}
 use Rattle.flow_laws.specs.Event.{Story}
 use Rattle.flow_laws.specs.Guest.{Honest, IsAcknowledged, Up, ackd, front, has_ended, written}
 use Rattle.flow_laws.specs.Host.{answered, got, got_end, acked}
-use Rattle.flow_laws.specs.Flow.{guest, has_connected, host, is_accepted, is_closed, is_connecting, is_under_way, opened_at}
-use Rattle.flow_laws.specs.Close.{host_was_ended, is_in_use as is_in_use_by_law, our_fin_is_acked, fin_was_acknowledged, owes_reset, rests_since}
-use Rattle.flow_laws.specs.Lawful.{IsLawful, IsPrefixOf}
-use Rattle.flow_laws.specs.Dutiful.{AreAhead, IsDutiful, MayWait, MayWaitToWrite, fin_is_answered, moment_if, must_wait_to_write, oldest_unheard, waits_since, waits_to_read}
+use Rattle.flow_laws.specs.Flow.{guest, has_connected, host, is_accepted, is_closed, is_connecting, opened_at}
+use Rattle.flow_laws.specs.Close.{host_was_ended, is_deserted as is_deserted_by, last_at, patience_end as patience_by, is_in_use as is_in_use_by_law, our_fin_is_acked, fin_was_acknowledged, owes_reset, rests_since}
+use Rattle.flow_laws.specs.Lawful.{IsLawful, IsPrefixOf, is_prompted}
+use Rattle.flow_laws.specs.Dutiful.{AreAhead, IsDutiful, MayWait, MayWaitToWrite, fin_is_answered, moment_if, must_wait_to_write, oldest_unheard, waits_to_read}
 use Rattle.halves_follow.specs.Settled.{IsSettledIf}
 use Rattle.halves_follow.proofs.Waiting.{settled_if}
+use Rattle.halves_follow.proofs.Moments.{both_ahead}
 use Rattle.halves_follow.proofs.Wanting.{acknowledged_few, begins_front}
 use Rattle.connection_follows.specs.Holding.{Holds, is_calls, is_connects, is_live}
 use Rattle.connection_follows.specs.Over.{is_resets}
 use Rattle.connection_follows.specs.Seen.{part_of}
 use Rattle.connection_follows.proofs.Seeking.{seeking_settled}
 use Rattle.connection_follows.proofs.Settling.{opening_settled, synchronized_settled}
-use Rattle.connection_follows.proofs.Wanting.{may_wait, may_write as may_write_by, must_write, reads_where_room}
+use Rattle.connection_follows.proofs.Wanting.{may_wait, may_write as may_write_by, must_write, patient_ahead, reads_where_room}
 use Rattle.flow_splice.specs.Ahead.{IsAhead, IsTimely}
 use Rattle.flow_splice.specs.Follows.{Follows, FollowsAt, IsOpen}
 use Rattle.flow_splice.specs.Sends.{IsClear, IsClearBy, takes_part_at}
 use Rattle.flow_splice.specs.Splice.{Splice, is_at_rest, is_in_use, is_open}
-use Rattle.flow_splice.specs.Wants.{connect_end, may_read, may_write, reads, seeks, writes}
+use Rattle.flow_splice.specs.Wants.{HasTime, may_read, may_write, reads, seeks, writes}
 use Rattle.flow_splice.proofs.Bounds.{waits_yet}
 use Rattle.flow_splice.proofs.Restless.{open_none, owing_none}
+use Rattle.flow_splice.proofs.Deserted.{closed_deserts, has_time}
 use Rattle.flow_splice.proofs.Stages.{calls_opens, if_none, in_use, no_connecting, resends_none, takes}
 use Rattle.flow_splice.specs.declared.Place.{Place}
 use Rattle.flow_splice.specs.declared.Place.TheVariants.{Empty, InUse, Resting}
@@ -241,15 +243,17 @@ settled_is s f past now known h clear unknown = by f.place f.shut refl refl h
 closed_waits : (past : Story) (now : ℕ) → is_closed past ≡ true → MayWait past now
 closed_waits past now shut = record {
   closes = λ honest done. shut;
-  connects = subst (λ (b : Bool). AreAhead now (moment_if b (opened_at past + 75000))) (sym (no_connecting (is_accepted past || has_connected past) (is_closed past) shut)) tt;
+  connects = both_ahead now (moment_if (is_connecting past) (opened_at past + 75000)) (moment_if (is_deserted_by past && not (is_prompted past)) (max (patience_by past) (last_at past + 1)))
+      (subst (λ (b : Bool). AreAhead now (moment_if b (opened_at past + 75000))) (sym (no_connecting (is_accepted past || has_connected past) (is_closed past) shut)) tt)
+      (patient_ahead past now (λ is quiet. let not_it = sym is ∙ closed_deserts past shut in absurd cc));
   calls = first_true (is_closed past) (nat_le (oldest_unheard past) 9) shut;
 }
   where
     first_true : (a b : Bool) → a ≡ true → IsTrue (a || b)
     first_true a b is = rw is refl
 
-pub waited_is : (s : Settings) (f : Splice) (past : Story) (now : ℕ) → Follows s f past now → (is_open f ≡ true → is_connects f.conn.stage ≡ true → now < connect_end f) → MayWait past now
-waited_is s f past now h early = by f.place f.shut refl refl h
+pub waited_is : (s : Settings) (f : Splice) (past : Story) (now : ℕ) → Follows s f past now → HasTime f now → MayWait past now
+waited_is s f past now h time = by f.place f.shut refl refl h
   where
     open_waits : is_open f ≡ true → IsOpen s f past now → MayWait past now
     open_waits open_yet o = by_calls (is_calls f.conn.stage) refl
@@ -261,11 +265,13 @@ waited_is s f past now h early = by f.place f.shut refl refl h
         by_calls : (b : Bool) → is_calls f.conn.stage ≡ b → MayWait past now
         by_calls true calls = record {
           closes = λ honest done. absurd (not_done (host_was_ended past) (our_fin_is_acked past) (fin_was_acknowledged past) (o.holds.awaits calls).untold done);
-          connects = subst (λ (e : Bool). AreAhead now (moment_if e (opened_at past + 75000))) (sym (o.holds.opened.connects ∙ (calls_opens f.conn.stage calls).1)) tt;
+          connects = both_ahead now (moment_if (is_connecting past) (opened_at past + 75000)) (moment_if (is_deserted_by past && not (is_prompted past)) (max (patience_by past) (last_at past + 1)))
+              (subst (λ (e : Bool). AreAhead now (moment_if e (opened_at past + 75000))) (sym (o.holds.opened.connects ∙ (calls_opens f.conn.stage calls).1)) tt)
+              (patient_ahead past now (has_time s f past now o open_yet time));
           calls = few_calls s f.conn f.up f.down past now o.holds;
         }
-        by_calls false reached = may_wait s f.conn f.up f.down past now o.holds reached o.unfinished (λ connects. let soon = early open_yet connects in let since = o.since in omega
-            (arith, soon, since))
+        by_calls false reached = may_wait s f.conn f.up f.down past now o.holds reached o.unfinished (λ connects. let soon = time.connects open_yet connects in let since = o.since in omega
+            (arith, soon, since)) (has_time s f past now o open_yet time)
 
     by : (p : Place) (b : Bool) → f.place ≡ p → f.shut ≡ b → FollowsAt p b s f past now → MayWait past now
     by Empty b at shut q = closed_waits past now q.over.closed

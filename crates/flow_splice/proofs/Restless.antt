@@ -8,7 +8,7 @@ use Rattle.tcp_guest.specs.Connection.{Connection}
 use Rattle.flow_laws.specs.Settings.{Settings}
 use Rattle.flow_laws.specs.Event.{Arrives, At, Closes, Departs, Segment, Story}
 use Rattle.flow_laws.specs.Flow.{is_accepted, is_closed, next_number as number_after, our_number, syn_is_out}
-use Rattle.flow_laws.specs.Close.{connects_too_long, ends_rest, follows_reset, gives_up, host_failed, is_done, is_owed_reset, owes_reset, renewed, renews, rests_since}
+use Rattle.flow_laws.specs.Close.{ends_rest, follows_reset, gives_up, must_part, waits_too_long, is_done, is_owed_reset, owes_reset, renewed, renews, rests_since}
 use Rattle.halves_follow.proofs.Resets.{reset_is_fatal, turning_away_is_fatal}
 use Rattle.halves_follow.proofs.Rests.{closes_for_good}
 use Rattle.connection_follows.specs.Holding.{Holds, is_calls}
@@ -45,7 +45,7 @@ pub owing_none : (past : Story) → owes_reset past ≡ true → rests_since pas
 owing_none [] is = refl
 owing_none (At m (Closes directly ended known) ∷ past) is =
     closes_for_good past m directly ended known
-    (by (is_done past) (follows_reset directly past) (host_failed past || (not ended && (gives_up m past || connects_too_long m past))) (not (is_accepted past && not (syn_is_out past))) is)
+    (by (is_done past) (follows_reset directly past) (must_part m past || (not ended && (gives_up m past || waits_too_long m past))) (not (is_accepted past && not (syn_is_out past))) is)
   where
     by : (a b d e : Bool) → (not a && not b && d && e) ≡ true → (a && not b) ≡ false
     by true b d e is = absurd cc

@@ -13,7 +13,7 @@ use Rattle.flow_laws.specs.Settings.{Settings}
 use Rattle.flow_laws.specs.Event.{At, Closes, Story}
 use Rattle.flow_laws.specs.Host.{answered}
 use Rattle.flow_laws.specs.Flow.{host}
-use Rattle.flow_laws.specs.Lawful.{HasCause}
+use Rattle.flow_laws.specs.Lawful.{HasOwnCause}
 use Rattle.flow_laws.specs.Close.{is_done as is_done_by, newest_rst, rests_since}
 use Rattle.halves_follow.proofs.Owing.{no_reset, unanswered_not_done}
 use Rattle.halves_follow.proofs.Rests.{closes_to_rest}
@@ -147,7 +147,7 @@ done_follows s f x past now directly ended known h done no_rst mru unknown =
 
 -- and then both ends passed, which is a cause whether the run is over or not
 pub finished_cause : (s : Settings) (f : Splice) (x : Connection) (past : Story) (now : ℕ) (directly known : Bool) → Holds s x f.up f.down past now → is_done x ≡ true →
-    newest_rst past ≡ None → HasCause directly false known now past
+    newest_rst past ≡ None → HasOwnCause directly false known now past
 finished_cause s f x past now directly known h done no_rst =
     done_cause s x f.up f.down past now now (omega arith) h known done
     (synchronized_reached x.stage (first_of_four (is_synchronized x.stage) x.host_ended x.fin_acked x.end_acknowledged done)) no_rst directly false

@@ -15,10 +15,10 @@ use Rattle.tcp_guest.specs.declared.Stage.{Stage}
 use Rattle.tcp_guest.specs.declared.Stage.TheVariants as stage
 use Rattle.world_face.specs.Journal.{Close, Entry}
 use Rattle.flow_laws.specs.Settings.{Settings}
-use Rattle.flow_laws.specs.Lawful.{HasCause}
+use Rattle.flow_laws.specs.Lawful.{HasOwnCause}
 use Rattle.flow_laws.specs.Event.{At, Closes, Story}
 use Rattle.flow_laws.specs.Flow.{is_accepted, is_connecting, opened_at, syn_is_out}
-use Rattle.flow_laws.specs.Close.{connects_too_long, finds_no_guest, follows_reset, gives_up}
+use Rattle.flow_laws.specs.Close.{connects_too_long, finds_no_guest, follows_reset, gives_up, is_deserted as is_deserted_by, patience_end as patience_by, waits_too_long}
 use Rattle.halves_follow.proofs.InTime.{not_found}
 use Rattle.connection_follows.specs.Holding.{Holds, is_calls, is_connects, is_live}
 use Rattle.connection_follows.proofs.Causes.{gives_up_closes, late_cause, late_closes, unfound_cause, unfound_closes}
@@ -28,8 +28,10 @@ use Rattle.flow_splice.specs.Follows.{Follows, IsAsking, IsOpen}
 use Rattle.flow_splice.specs.Hosts.{Sees, ends}
 use Rattle.flow_splice.specs.Serves.{GoesOnYet, Serves, TicksOn}
 use Rattle.flow_splice.specs.Splice.{Splice, closed, is_open}
-use Rattle.flow_splice.specs.Wants.{asks_after, connect_end, seeks}
+use Rattle.flow_splice.specs.Wants.{asks_after, connect_end, is_deserted, patience_end, seeks}
+use Rattle.connection_follows.proofs.Deserting.{deserted_is}
 use Rattle.flow_splice.proofs.Calm.{calm_either}
+use Rattle.flow_splice.proofs.Deserted.{deserted_parts}
 use Rattle.flow_splice.proofs.Opened.{open_follows, open_is, open_later}
 use Rattle.flow_splice.proofs.Shutting.{reset_dead, reset_follows, shut_is}
 
@@ -54,8 +56,15 @@ module _ (f : Splice) (now : ℕ) (open_yet : is_open f ≡ true) where
   or_left true b is = refl
   or_left false b is = cc
 
+  or_right : (a b : Bool) → b ≡ true → (a || b) ≡ true
+  or_right true b is = refl
+  or_right false b is = is
+
+  both : (a b : Bool) → a ≡ true → b ≡ true → (a && b) ≡ true
+  both a b a_is b_is = rw (a_is, b_is) refl
+
   -- what is closed with a reset
-  shut_by : (s : Settings) (past : Story) (before ident : ℕ) (directly known : Bool) → IsOpen s f past before → HasCause directly false known now past
+  shut_by : (s : Settings) (past : Story) (before ident : ℕ) (directly known : Bool) → IsOpen s f past before → HasOwnCause directly false known now past
       → Follows s (closed (record f { conn = reset f.conn }) now) (At now (Closes directly false known) ∷ past) now → Serves s
       (closed (record f { conn = reset f.conn }) now) directly false known ident now past (Close f.face.number ∷ [])
   shut_by s past before ident directly known o cause h = record { beats = At now (Closes directly false known) ∷ []; are = ([], refl, (refl, refl, cause)); follows = h }
@@ -64,15 +73,37 @@ module _ (f : Splice) (now : ℕ) (open_yet : is_open f ≡ true) where
   pub host_late : is_connects f.conn.stage ≡ true → connect_end f ≤ now → GoesOnYet f (closed (record f { conn = reset f.conn }) now) now (Close f.face.number ∷ [])
   host_late connects over s past before ident directly known on h =
       let o = open_is s f past before open_yet h in
-      let late : connects_too_long now past ≡ true = both (is_connecting past) (nat_le (opened_at past + 75000) now) (o.holds.opened.connects ∙ connects)
-      (late_test (opened_at past + 75000) now (let since = o.since in omega (arith, since, over))) in
+      let late : waits_too_long now past ≡ true = or_left (connects_too_long now past) (is_deserted_by past && nat_le (patience_by past) now)
+      (both (is_connecting past) (nat_le (opened_at past + 75000) now) (o.holds.opened.connects ∙ connects)
+      (late_test (opened_at past + 75000) now (let since = o.since in omega (arith, since, over)))) in
       let calm = calm_either past directly (o.calm (o.holds.opened.quiet connects)) in
       shut_by s past before ident directly known o (late_cause s f.conn f.up f.down past before now on o.holds known directly calm (rw late (or_true (gives_up now past))))
       (reset_follows s f past past before now directly false known o refl (late_closes s f.conn f.up f.down past before now on o.holds known directly calm
       (connects_opening f.conn.stage connects) late))
+
+  -- its peer is gone, and its guest had time to answer
+  pub guest_late : is_deserted f ≡ true → patience_end f ≤ now → GoesOnYet f (closed (record f { conn = reset f.conn }) now) now (Close f.face.number ∷ [])
+  guest_late deserted over s past before ident directly known on h =
+      let o = open_is s f past before open_yet h in
+      let parts = deserted_parts f deserted in
+      let is : is_deserted_by past ≡ true = deserted_is s f.conn f.up f.down past before o.holds (o.accepted ∙ parts.accepted) parts.opening parts.ended parts.unread parts.unowed in
+      let late : waits_too_long now past ≡ true = or_right (connects_too_long now past) (is_deserted_by past && nat_le (patience_by past) now)
+      (both (is_deserted_by past) (nat_le (patience_by past) now) is
+      (late_test (patience_by past) now (let since = o.since in let called = o.called in omega (arith, since, called, over)))) in
+      let calm = calm_either past directly (o.calm parts.unowed) in
+      shut_by s past before ident directly known o (late_cause s f.conn f.up f.down past before now on o.holds known directly calm (rw late (or_true (gives_up now past))))
+      (reset_follows s f past past before now directly false known o refl (late_closes s f.conn f.up f.down past before now on o.holds known directly calm parts.opening late))
+
+  pub left_late : (is_deserted f && nat_le (patience_end f) now) ≡ true → GoesOnYet f (closed (record f { conn = reset f.conn }) now) now (Close f.face.number ∷ [])
+  left_late left = by (is_deserted f) (nat_le (patience_end f) now) refl refl left
     where
-      both : (a b : Bool) → a ≡ true → b ≡ true → (a && b) ≡ true
-      both a b a_is b_is = rw (a_is, b_is) refl
+      over : (n : ℕ) → nat_le n now ≡ true → n ≤ now
+      over n is = grind (arith, nat_tests)
+
+      by : (a b : Bool) → is_deserted f ≡ a → nat_le (patience_end f) now ≡ b → (a && b) ≡ true → GoesOnYet f (closed (record f { conn = reset f.conn }) now) now (Close f.face.number ∷ [])
+      by true true is late so = guest_late is (over (patience_end f) late)
+      by true false is late so = absurd cc
+      by false b is late so = absurd cc
 
   -- the guest wasn't found
   pub guest_missing : seeks f ≡ true → (nat_eq f.asked 9 && nat_le f.ask_at now) ≡ true → TicksOn f (closed (record f { conn = reset f.conn }) now) now (Close f.face.number ∷ [])
@@ -107,6 +138,9 @@ module _ (f : Splice) (now : ℕ) (open_yet : is_open f ≡ true) where
           holds = o.holds;
           mru = o.mru;
           since = o.since;
+          accepted = o.accepted;
+          last = o.last;
+          called = o.called;
           told = o.told;
           unfinished = o.unfinished;
           unsent = o.unsent;
@@ -169,7 +203,7 @@ module _ (f : Splice) (now : ℕ) (open_yet : is_open f ≡ true) where
             follows = subst (λ (g : Splice). Follows s g past now) (sym saw.1)
                 (subst (λ (c : Connection). Follows s (record f { conn = c }) past now) (sym is)
                 (open_follows s (record f { conn = x }) past now open_yet
-                (record { holds = h; mru = o.mru; since = o.since; told = o.told; unfinished = unfinished; unsent = unsent; seeks = later.seeks; asks = later.asks; calm = calm })));
+                (record { holds = h; mru = o.mru; since = o.since; accepted = o.accepted; last = o.last; called = o.called; told = o.told; unfinished = unfinished; unsent = unsent; seeks = later.seeks; asks = later.asks; calm = calm })));
           }
 
       -- it is given up, while no acknowledgement is owed
@@ -191,7 +225,7 @@ module _ (f : Splice) (now : ℕ) (open_yet : is_open f ≡ true) where
                     refl,
                     refl,
                     late_cause s f.conn f.up f.down past before now on o.holds known directly calm
-                        (or_left (gives_up now past) (connects_too_long now past) cause),
+                        (or_left (gives_up now past) (waits_too_long now past) cause),
                   ),
                 ));
             follows = subst (λ (g : Splice). Follows s g (At now (Closes directly false known) ∷ past) now) (sym saw.1)

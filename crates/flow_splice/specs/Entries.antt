@@ -13,7 +13,7 @@ use Rattle.flow_laws.specs.Settings.{Settings}
 use Rattle.flow_laws.specs.Event.{Segment, Event, Departs, Connected as HostConnected, ConnectsYet, ConnectFails, Writes, WriteFails, Reads, ReadsEnd, ReadFails, EndsHost, EndFails}
 use Rattle.flow_laws.specs.Event.{AsksAddress, Closes, At, Story}
 use Rattle.flow_laws.specs.Flow.{is_accepted, is_closed, syn_is_out}
-use Rattle.flow_laws.specs.Lawful.{HasCause, May, Send}
+use Rattle.flow_laws.specs.Lawful.{HasOwnCause, May, Send}
 use Rattle.flow_laws.specs.Dutiful.{Must, read_size}
 use Rattle.flow_splice.specs.Frames.{IsSized, request_frame, segment_frame}
 use Rattle.flow_splice.specs.Splice.{Face}
@@ -78,7 +78,7 @@ pub record OffersRequest (face : Face) (mac : Option Mac) (past : Story) (octets
 
 -- The entry makes of the events so far these, in a flow with this face and hardware address, after a story. `directly`: a close comes directly
 -- after a segment of the flow arrived; `ended`: the run is over, and of the open sockets this is the first; `known`: the guest's hardware address is.
--- A close has its cause, whether the run is over or not.
+-- A close has a cause of its own, whether the run is over or not.
 abbrev pub Adds : Settings → Face → Option Mac → (directly ended known : Bool) → (ident now : ℕ) → Story → Entry → (rest beats : Story) → Type 0
 Adds s face mac directly ended known ident now past (LinkWrite octets answer) rest beats =
     ((seg : Segment) × OffersSegment s face mac (ident_after ident rest) now (rest ++ past) octets seg × (beats ≡ went answer now (Departs seg) rest))
@@ -89,7 +89,7 @@ Adds s face mac directly ended known ident now past (TcpRead socket asked answer
 Adds s face mac directly ended known ident now past (TcpWrite socket octets answer) rest beats = (socket ≡ face.number) × (beats ≡ At now (was_written octets answer) ∷ rest)
 Adds s face mac directly ended known ident now past (TcpEnd socket answer) rest beats = (socket ≡ face.number) × (beats ≡ At now (was_ended answer) ∷ rest)
 Adds s face mac directly ended known ident now past (Close socket) rest beats =
-    (socket ≡ face.number) × (beats ≡ At now (Closes directly ended known) ∷ rest) × HasCause directly false known now (rest ++ past)
+    (socket ≡ face.number) × (beats ≡ At now (Closes directly ended known) ∷ rest) × HasOwnCause directly false known now (rest ++ past)
 Adds s face mac directly ended known ident now past _ rest beats = ⊥
 
 -- The entries that were made are these events of the flow, both newest first: each entry is one, but a write of which the link took nothing.

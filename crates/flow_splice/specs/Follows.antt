@@ -4,8 +4,8 @@ use Rattle.tcp_guest.specs.Connection.{has_gone}
 use Rattle.tcp_guest.specs.Segments.{is_done}
 use Rattle.flow_laws.specs.Settings.{Settings}
 use Rattle.flow_laws.specs.Event.{Story}
-use Rattle.flow_laws.specs.Flow.{opened_at}
-use Rattle.flow_laws.specs.Close.{follows_reset, host_was_ended, rests_since}
+use Rattle.flow_laws.specs.Flow.{is_accepted, newest_of, opened_at, syn_sendings}
+use Rattle.flow_laws.specs.Close.{follows_reset, host_was_ended, last_at, rests_since}
 use Rattle.halves_follow.specs.Resends.{Seeks}
 use Rattle.connection_follows.specs.Holding.{Holds, is_calls}
 use Rattle.connection_follows.specs.Over.{IsOver, IsResting, is_resets}
@@ -25,6 +25,9 @@ pub record IsOpen (s : Settings) (f : Splice) (past : Story) (now : ℕ) : Type 
   pub holds : Holds s f.conn f.up f.down past now
   pub mru : f.mru ≡ s.mru
   pub since : opened_at past ≡ f.since
+  pub accepted : is_accepted past ≡ f.accepted
+  pub last : last_at past ≡ f.last
+  pub called : newest_of (syn_sendings past) ≡ f.called
   pub told : host_was_ended past ≡ f.told_end
   pub unfinished : is_done f.conn ≡ false
   pub unsent : f.mac ≡ None → (is_calls f.conn.stage ≡ true) × (has_gone f.conn.sendings ≡ false)

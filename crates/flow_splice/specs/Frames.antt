@@ -1,7 +1,7 @@
 -- The frames of a flow.
 use Rattle.std.specs.Prelude.{◌≡◌, ℕ, ◌+◌, ◌^◌, ◌<◌, ◌≤◌, length, List, [], ◌∷◌, Bool, false, not, IfSome, if◌then◌else◌}
 use Rattle.net_octets.specs.Kinds.{arp_kind, ipv4_kind, tcp_proto}
-use Rattle.net_octets.specs.Octets.{four, our_mac}
+use Rattle.net_octets.specs.Octets.{our_mac}
 use Rattle.net_octets.specs.declared.Mac.{Mac}
 use Rattle.arp_table.specs.Arp.{Arp, arp_octets}
 use Rattle.ether_frame.specs.Ether.{ether_octets}

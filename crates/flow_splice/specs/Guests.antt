@@ -23,6 +23,7 @@ heard f tcp now = record f {
   conn = after_segment f.conn f.up f.down tcp now;
   up = up_after_segment f.conn f.up f.down tcp;
   down = down_after_segment f.conn f.up f.down tcp;
+  last = now;
 }
 
 abbrev pub is_unfit : Change → Bool

@@ -1,5 +1,5 @@
 -- What calls on the host's socket change of a flow.
-use Rattle.std.specs.Prelude.{◌≡◌, ℕ, List, [], ◌∷◌, ◌++◌, Bool, true, false, ◌||◌}
+use Rattle.std.specs.Prelude.{◌≡◌, ℕ, List, [], ◌∷◌, ◌++◌, Bool, true, false, ◌||◌, not, if◌then◌else◌}
 use Rattle.sock_buffers.specs.Downward.{Downward}
 use Rattle.tcp_guest.specs.Connection.{Connection}
 use Rattle.tcp_guest.specs.declared.Change.{Change}
@@ -8,6 +8,7 @@ use Rattle.tcp_transmit.specs.Timing.{watched_over}
 use Rattle.world_face.specs.Journal.{Entry, Close, Connected, TcpRead, TcpWrite, TcpEnd}
 use Rattle.world_face.specs.declared.Io.{Io}
 use Rattle.world_face.specs.declared.Io.TheVariants.{Done, End, NotYet, Failed}
+use Rattle.flow_laws.specs.Guest.{is_empty}
 use Rattle.connection_follows.specs.Holding.{is_connects}
 use Rattle.flow_splice.specs.Splice.{Splice, closed, is_open}
 use Rattle.flow_splice.specs.Wants.{reads, writes}
@@ -32,7 +33,11 @@ abbrev pub conn_given : Connection → Downward → ℕ → Connection
 conn_given c down now = record c { transmission = watched_over c.transmission down now }
 
 abbrev pub given : Splice → List ℕ → ℕ → Splice
-given f octets now = record f { conn = conn_given f.conn (down_given f.down octets) now; down = down_given f.down octets }
+given f octets now = record f {
+  conn = conn_given f.conn (down_given f.down octets) now;
+  down = down_given f.down octets;
+  last = if not (is_empty octets) then now else f.last;
+}
 
 -- octets came, or none yet
 abbrev pub gives_octets : Io → Bool

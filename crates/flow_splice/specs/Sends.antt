@@ -1,5 +1,5 @@
 -- What a pump makes.
-use Rattle.std.specs.Prelude.{◌≡◌, ℕ, ◌+◌, ◌%◌, ◌^◌, ◌<◌, ◌≤◌, List, [], ◌++◌, Bool, true, false, ◌&&◌, ◌||◌, ◌⊎◌, nat_eq, nat_le, nat_lt, Option, None, Some, if◌then◌else◌}
+use Rattle.std.specs.Prelude.{◌≡◌, ℕ, ◌+◌, ◌%◌, ◌^◌, ◌≤◌, List, [], ◌++◌, Bool, true, false, ◌&&◌, ◌⊎◌, nat_lt, Option, None, Some, if◌then◌else◌}
 use Rattle.net_octets.specs.declared.Mac.{Mac}
 use Rattle.world_face.specs.Journal.{Entry}
 use Rattle.stream_netdev.specs.Keeps.{Keeps}
@@ -11,7 +11,7 @@ use Rattle.tcp_guest.specs.declared.Owed.{Owed}
 use Rattle.tcp_guest.specs.declared.Owed.TheVariants.{Ack}
 use Rattle.flow_laws.specs.Settings.{Settings}
 use Rattle.flow_laws.specs.Event.{Story}
-use Rattle.connection_follows.specs.Sending.{is_rst}
+use Rattle.connection_follows.specs.Sending.{is_rst, is_syn}
 use Rattle.flow_splice.specs.Hosts.{Sees, ends}
 use Rattle.flow_splice.specs.declared.Place.{Place}
 use Rattle.flow_splice.specs.declared.Place.TheVariants.{Empty, InUse, Resting}
@@ -20,8 +20,6 @@ use Rattle.flow_splice.specs.Entries.{ident_after}
 use Rattle.flow_splice.specs.Follows.{Follows}
 use Rattle.flow_splice.specs.Serves.{Serves}
 use Rattle.flow_splice.specs.Splice.{Splice, is_open}
-use Rattle.stream_netdev.specs.declared.Pumped.{Pumped}
-use Rattle.stream_netdev.specs.declared.Pumped.TheVariants.{Clear, Blocked as PumpBlocked, Failed as PumpFailed}
 
 -- the flow keeps a hardware address that it is told
 abbrev pub or_known : Option Mac → Option Mac → Option Mac
@@ -44,9 +42,9 @@ ident_if Taken ident = (ident + 1) % 2 ^ 16
 ident_if Blocked ident = ident
 ident_if Failed ident = ident
 
--- the connection after what it owed went out
+-- the flow after what it owed went out
 abbrev pub went_out : Splice → Owed → ℕ → Splice
-went_out f what now = record f { conn = after_gone what f.conn f.up now }
+went_out f what now = record f { conn = after_gone what f.conn f.up now; last = now; called = if is_syn what then now else f.called }
 
 -- one at rest acknowledges, or goes on as it was: it stays where it rests
 abbrev pub Acknowledges : (old new : Splice) → ℕ → Type 0

@@ -22,7 +22,8 @@ pub record Face : Type 0 where
 -- Where it stands, and whether its socket was closed; its guest's hardware address, where it is known; since when it is open; whether it was accepted, for a
 -- peer of the host; whether the host was told the guest's end; how often the guest's hardware address was asked for, until when that waits for an answer, and whether it
 -- is to be asked for again. Further: the
--- connection and its two buffers, and the most octets of a datagram that comes from the guest.
+-- connection and its two buffers, and the most octets of a datagram that comes from the guest. And the moment of its last sign of life, and that at
+-- which our SYN went out last, 0 where it didn't.
 pub record Splice : Type 0 where
   pub place : Place
   pub shut : Bool
@@ -38,6 +39,14 @@ pub record Splice : Type 0 where
   pub up : Upward
   pub down : Downward
   pub mru : ℕ
+  pub last : ℕ
+  pub called : ℕ
+
+-- its moments are at most 2^62
+pub record AreMoments (opened heard sent : ℕ) : Type 0 where
+  pub since : opened ≤ 2 ^ 62
+  pub last : heard ≤ 2 ^ 62
+  pub called : sent ≤ 2 ^ 62
 
 -- what holds of every flow: the buffers are those of its connection, both have one size, up to a mebibyte, and the guest's address is asked for nine times at most; and what
 -- comes may have the two headers
@@ -110,4 +119,6 @@ begun now guest other number vhost mac c f = record f {
   conn = c;
   up = empty f.up.size;
   down = downward [] 0 f.down.size;
+  last = now;
+  called = 0;
 }

@@ -1,5 +1,7 @@
 -- What a flow waits for.
-use Rattle.std.specs.Prelude.{ℕ, ◌+◌, ◌-◌, Bool, ◌&&◌, ◌||◌, not, nat_le, nat_lt, length, Option, None, Some, is_some, if◌then◌else◌}
+use Rattle.std.specs.Prelude.{◌≡◌, ℕ, ◌+◌, ◌-◌, ◌^◌, ◌<◌, Bool, true, ◌&&◌, ◌||◌, not, nat_eq, nat_le, nat_lt, length, max, min, Option, None, Some, is_some, if◌then◌else◌}
+use Rattle.sock_buffers.specs.Downward.{Downward}
+use Rattle.tcp_guest.specs.Connection.{is_opening}
 use Rattle.tcp_guest.specs.Hosts.{is_open as host_is_open}
 use Rattle.tcp_guest.specs.Timing.{due_of as conn_due}
 use Rattle.connection_follows.specs.Holding.{is_connects}
@@ -43,8 +45,49 @@ ask_due f = if not f.asks then Some f.ask_at else None
 abbrev pub asks_after : Splice → ℕ → Splice
 asks_after f now = record f { asks = f.asks || nat_le f.ask_at now }
 
+-- no octet of the host was read, of how many the guest acknowledged
+abbrev pub reads_none : Downward → Bool
+reads_none down = nat_eq down.first 0 && nat_eq (length down.octets) 0
+
+-- its peer ended without an octet before its guest answered, and no acknowledgement is owed
+abbrev pub is_deserted : Splice → Bool
+is_deserted f =
+    f.accepted && not (is_connects f.conn.stage) && is_opening f.conn.stage && not (host_is_open f.conn.transmission.end) && reads_none f.down
+    && not f.conn.ack_owed
+
+-- until then its guest may answer
+abbrev pub patience_end : Splice → ℕ
+patience_end f = max f.since f.called + 1000
+
+-- the host's end was read, or it was told the guest's, or no octet passed
+abbrev pub is_short : Splice → Bool
+is_short f = not (host_is_open f.conn.transmission.end) || f.told_end || (reads_none f.down && nat_eq f.up.written 0)
+
+-- how long it keeps its place without a sign of life
+abbrev pub quiet_time : Splice → ℕ
+quiet_time f = if is_connects f.conn.stage then 10000 else (if is_short f then 240000 else 7440000)
+
+-- From this moment on it may give way to a guest's SYN; one of which both ends passed doesn't.
+abbrev pub gives_way_at : Splice → ℕ
+gives_way_at f = if f.told_end && f.conn.fin_acked then 2 ^ 64 - 1 else f.last + quiet_time f
+
+-- the moment at which an open flow is to be looked at, but for the end of patience
+abbrev pub due_else : Splice → Option ℕ
+due_else f = if is_connects f.conn.stage then Some (connect_end f) else (if seeks f then ask_due f else conn_due f.conn)
+
+-- the moment by which a deserted flow is closed: its patience is over, and its last sign of life past
+abbrev pub left_at : Splice → ℕ
+left_at f = max (patience_end f) (f.last + 1)
+
+abbrev pub sooner : ℕ → Option ℕ → ℕ
+sooner at None = at
+sooner at (Some moment) = min at moment
+
 -- the moment at which it is to be looked at
 abbrev pub due_of : Splice → Option ℕ
-due_of f = if is_open f
-    then (if is_connects f.conn.stage then Some (connect_end f) else (if seeks f then ask_due f else conn_due f.conn))
-    else None
+due_of f = if is_open f then (if is_deserted f then Some (sooner (left_at f) (due_else f)) else due_else f) else None
+
+-- Time doesn't close it at this moment: the socket may connect yet, and a guest whose peer is gone answer, or the last sign of life is of this moment.
+pub record HasTime (f : Splice) (now : ℕ) : Type 0 where
+  pub connects : is_open f ≡ true → is_connects f.conn.stage ≡ true → now < connect_end f
+  pub deserted : is_open f ≡ true → is_deserted f ≡ true → now < left_at f

@@ -82,6 +82,7 @@ impl Spliced {
         // for the prover: a ring holds 2^20 octets at most.
         prove!(held <= 1 << 20);
         let change = self.conn.on_segment(&mut self.up, &mut self.down, now, seg);
+        self.last = now;
         let held = self.up.held();
         // for the prover: a ring holds 2^20 octets at most.
         prove!(held <= 1 << 20);
@@ -134,7 +135,7 @@ impl Spliced {
 }
 
 // The later moment, or the earlier.
-fn later_if(anew: bool, now: u64, since: u64) -> u64
+pub(crate) fn later_if(anew: bool, now: u64, since: u64) -> u64
     ensures { result ≡ (if anew then now else since) }
 {
     if anew { now } else { since }

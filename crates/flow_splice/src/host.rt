@@ -1,5 +1,5 @@
 // The calls on the host's socket: whether it connected, what it takes, and what it gives.
-ghost use Rattle.std.specs.Prelude.{◌≡◌, ℕ, ◌+◌, ◌-◌, ◌^◌, ◌<◌, ◌≤◌, List, ◌∷◌, [], length, take, min, nat_lt, true, false};
+ghost use Rattle.std.specs.Prelude.{◌≡◌, ℕ, ◌+◌, ◌-◌, ◌^◌, ◌<◌, ◌≤◌, List, ◌∷◌, [], length, take, min, nat_lt, true, false, if◌then◌else◌};
 ghost use Rattle.sock_buffers.specs.Upward.{Upward};
 ghost use Rattle.tcp_guest.specs.Connection.{HasBuffers};
 ghost use Rattle.tcp_guest.specs.Hosts.{connected_by, host_ended, is_open as is_host_open, reset, write_ended};
@@ -12,6 +12,7 @@ ghost use Rattle.connection_follows.specs.Holding.{is_connects, without};
 ghost use Rattle.flow_splice.specs.Hosts.{IsRead, gives_octets};
 
 use crate::Spliced;
+use crate::guest::later_if;
 use sock_buffers::Down;
 use tcp_guest::{Change, Conn, HostNews};
 use world_face::{Io, Joined, MOST_TO_FLOW, Made, World};
@@ -102,9 +103,10 @@ impl Spliced {
     // It has connected.
     fn join(&mut self, now: u64)
         requires now { now ≤ 2 ^ 62 }
-        ensures change { self.new ≡ record self.old { conn = connected_by self.old.conn.stage self.old.conn } }
+        ensures change { self.new ≡ record self.old { conn = connected_by self.old.conn.stage self.old.conn; last = now } }
         ensures buffers { HasBuffers self.new.conn self.new.up self.new.down }
     {
+        self.last = now;
         self.conn.on_host(HostNews::Connected, now);
     }
 
@@ -142,23 +144,28 @@ impl Spliced {
         ensures stays { StaysButWritten self.old self.new }
         ensures passes_end { PassesEnd self.new }
     {
-        match self.offer(world) {
+        match self.offer(world, now) {
             Io::Failed => self.fail(world, now),
             Io::Done(_) | Io::End | Io::NotYet => self.end_after_octets(world, now),
         }
     }
 
-    fn offer<W: World>(&mut self, world: &mut W) -> Io
+    fn offer<W: World>(&mut self, world: &mut W, now: u64) -> Io
+        requires now { now ≤ 2 ^ 62 }
         requires some { 0 < length self.old.up.held }
         ensures offers { Answers (W.tells world.old) (W.tells world.new)
             (TcpWrite self.old.face.number (take (min 16384 (length self.old.up.held)) self.old.up.held) result) }
-        ensures change { self.new ≡ record self.old { up = without self.old.up (count_of result) } }
+        ensures change { self.new ≡ record self.old {
+          up = without self.old.up (count_of result);
+          last = if nat_lt 0 (count_of result) then now else self.old.last;
+        } }
         ensures few { count_of result ≤ min 16384 (length self.old.up.held) }
         ensures buffers { HasBuffers self.new.conn self.new.up self.new.down }
     {
         let count = self.up.front_piece(&mut self.buffer);
         let answer = world.tcp_write(self.number, &self.buffer[..count]);
         self.up.written(answer.count());
+        self.last = later_if(answer.count() > 0, now, self.last);
         answer
     }
 
@@ -206,10 +213,12 @@ impl Spliced {
         ensures ended { self.new ≡ record self.old {
           conn = settled (write_ended self.old.conn);
           told_end = true;
+          last = now;
         } }
         ensures buffers { HasBuffers self.new.conn self.new.up self.new.down }
     {
         self.told_end = true;
+        self.last = now;
         self.conn.on_host(HostNews::WriteEnded, now)
     }
 }
@@ -253,22 +262,26 @@ impl Spliced {
         ensures buffers { HasBuffers self.new.conn self.new.up self.new.down }
         ensures size { self.old.down.size ≡ self.old.up.size }
     {
-        read_into(
+        let held = self.down.held();
+        let answer = read_into(
             world,
             self.number,
             &mut self.conn,
             &mut self.down,
             &mut self.buffer,
             now,
-        )
+        );
+        self.last = later_if(held < self.down.held(), now, self.last);
+        answer
     }
 
     // The host ended its stream.
     fn end_reading(&mut self, now: u64)
         requires now { now ≤ 2 ^ 62 }
-        ensures change { self.new ≡ record self.old { conn = host_ended self.old.conn now } }
+        ensures change { self.new ≡ record self.old { conn = host_ended self.old.conn now; last = now } }
         ensures buffers { HasBuffers self.new.conn self.new.up self.new.down }
     {
+        self.last = now;
         self.conn.on_host(HostNews::Ended, now);
     }
 }

@@ -8,12 +8,11 @@ ghost use Rattle.flow_laws.specs.Close.{is_in_use as is_in_use_by_law, rests_sin
 ghost use Rattle.flow_laws.specs.Lawful.{IsLawful, IsPrefixOf};
 ghost use Rattle.flow_laws.specs.Dutiful.{IsDutiful, MayWait};
 ghost use Rattle.halves_follow.specs.Settled.{IsSettledIf};
-ghost use Rattle.connection_follows.specs.Holding.{is_connects};
 ghost use Rattle.flow_splice.specs.Ahead.{IsTimely};
 ghost use Rattle.flow_splice.specs.Follows.{Follows};
 ghost use Rattle.flow_splice.specs.Sends.{IsClear};
 ghost use Rattle.flow_splice.specs.Splice.{Splice, is_at_rest, is_in_use, is_open};
-ghost use Rattle.flow_splice.specs.Wants.{connect_end};
+ghost use Rattle.flow_splice.specs.Wants.{HasTime};
 ghost use Rattle.flow_splice.specs.declared.Place.TheVariants.{Resting};
 
 /// All that was done for a flow that follows its story was allowed, and done as it must be.
@@ -31,10 +30,10 @@ pub fn a_flow_that_is_clear_is_settled()
         → IsSettledIf (IsTimely f now) s past known (is_at_rest f.place) now }
 {}
 
-/// It may be waited at all, where the socket's time to connect isn't over: a flow of which both ends passed is closed.
+/// It may be waited at all, where time doesn't close it: a flow of which both ends passed is closed.
 pub fn a_flow_may_be_waited_for()
     ensures { (s : Settings) (f : Splice) (past : Story) (now : ℕ) → Follows s f past now
-        → (is_open f ≡ true → is_connects f.conn.stage ≡ true → now < connect_end f) → MayWait past now }
+        → HasTime f now → MayWait past now }
 {}
 
 /// The octets that are held go on with what the host took: together they begin what an honest guest sent, and all that was acknowledged is among them.

@@ -15,7 +15,7 @@ pub mod laws;
 mod pump;
 mod time;
 
-ghost use Rattle.std.specs.Prelude.{◌≡◌, ℕ, ◌+◌, ◌-◌, ◌*◌, ◌^◌, ◌<◌, ◌≤◌, List, [], ◌∷◌, ◌++◌, length, take, drop, min, true, false, None, Some, IfOk, IsSome, Bool, ◌&&◌, not};
+ghost use Rattle.std.specs.Prelude.{◌≡◌, ℕ, ◌+◌, ◌-◌, ◌*◌, ◌^◌, ◌<◌, ◌≤◌, List, [], ◌∷◌, ◌++◌, length, take, drop, min, if◌then◌else◌, nat_le, true, false, None, Some, IfOk, IsSome, Bool, ◌&&◌, not};
 ghost use Rattle.world_face.specs.Journal.{Close};
 ghost use Rattle.world_face.specs.Tells.{Answers, Makes};
 ghost use Rattle.sock_buffers.specs.Downward.{downward};
@@ -27,6 +27,7 @@ ghost use Rattle.flow_laws.specs.Event.{Story, Connects, Accepts, At};
 ghost use Rattle.flow_laws.specs.Windows.{mss};
 ghost use Rattle.connection_follows.specs.Holding.{is_connects, is_live};
 ghost use Rattle.connection_follows.specs.Seen.{segment_of};
+ghost use Rattle.flow_splice.specs.Wants.{sooner};
 
 use net_octets::{Endpoint, Ip4, Mac, NoMemory};
 use poll_list::{Want, Who};
@@ -39,6 +40,17 @@ use world_face::{MOST_TO_FLOW, World};
 
 /// How long a socket may take to connect, in milliseconds.
 const CONNECTS_FOR: u64 = 75_000;
+
+/// How long a guest may take to answer where its peer is gone.
+const PATIENCE: u64 = 1_000;
+
+/// How long a flow keeps its place without a sign of life, in milliseconds (RFC 5382, REQ-5): while its socket is to connect, where one direction ended or
+/// no octet passed, and else.
+const QUIET_CONNECTING: u64 = 10_000;
+
+const QUIET_SHORT: u64 = 240_000;
+
+const QUIET: u64 = 7_440_000;
 
 /// The endpoint of a place that no flow has.
 const NOWHERE: Endpoint = Endpoint {
@@ -79,12 +91,16 @@ pub struct Spliced {
     pub(crate) up: Up,
     pub(crate) down: Down,
     pub(crate) mru: u16,
+    // the moment of the last sign of life
+    pub(crate) last: u64,
+    // that at which our SYN went out last
+    pub(crate) called: u64,
     pub(crate) buffer: Vec<u8>,
 }
 
 impl Model for Spliced {
     ghost use Rattle.std.specs.Prelude.{◌≡◌, ◌≤◌, ◌^◌, length, true};
-    ghost use Rattle.flow_splice.specs.Splice.{Splice, IsSound, rests_by};
+    ghost use Rattle.flow_splice.specs.Splice.{AreMoments, Splice, IsSound, rests_by};
 
     ghost Value = { Splice };
 
@@ -103,18 +119,21 @@ impl Model for Spliced {
       up = s.up;
       down = s.down;
       mru = s.mru;
+      last = s.last;
+      called = s.called;
     } };
 
-    ghost invariant = { λ s. IsSound s.conn s.up s.down s.asked s.mru × (s.since ≤ 2 ^ 62) × (length s.buffer.items ≡ 16384) × (rests_by s.place s.conn.stage ≡ true) };
+    ghost invariant = { λ s. IsSound s.conn s.up s.down s.asked s.mru × AreMoments s.since s.last s.called × (length s.buffer.items ≡ 16384) × (rests_by s.place s.conn.stage ≡ true) };
 }
 
 impl Spliced {
     ghost use Rattle.flow_splice.specs.Follows.{Follows};
     ghost use Rattle.flow_splice.specs.Splice.{begun, is_open as is_open_by};
-    ghost use Rattle.flow_splice.specs.Wants.{due_of, reads, writes};
+    ghost use Rattle.flow_splice.specs.Wants.{due_of, gives_way_at as gives_way_at_by, is_deserted as is_deserted_by, left_at as left_at_by, reads, writes};
+    ghost use Rattle.flow_laws.specs.Close.{last_at, may_give_way};
     ghost use Rattle.flow_splice.specs.declared.Place.TheVariants.{Empty};
     ghost use Rattle.poll_list.specs.declared.Who.TheVariants.{Tcp as OnTcp};
-    ghost use Rattle.flow_laws.specs.Dutiful.{MayWaitToWrite, connect_deadline, must_wait_to_write, resend_deadline, waits_to_read, wakes};
+    ghost use Rattle.flow_laws.specs.Dutiful.{MayWaitToWrite, close_deadline, must_wait_to_write, resend_deadline, waits_to_read, wakes};
     ghost use Rattle.halves_follow.specs.Bounds.{IsBy, IsFrom};
     ghost use Rattle.flow_splice.specs.Sends.{IsClear};
     ghost use Rattle.flow_splice.specs.Held.{IsFront};
@@ -159,6 +178,8 @@ impl Spliced {
             up,
             down,
             mru,
+            last: 0,
+            called: 0,
             buffer,
         })
     }
@@ -203,6 +224,8 @@ impl Spliced {
         self.asked = 0;
         self.ask_at = 0;
         self.asks = true;
+        self.last = now;
+        self.called = 0;
         self.shut = false;
         self.place = Place::InUse;
     }
@@ -242,12 +265,13 @@ impl Spliced {
         self.guest
     }
 
-    /// The moment at which the flow is to be looked at: the end of the time to connect, that of a wait for the guest's hardware address, or that of the
-    /// connection's timer. `None` exactly where there is none, as where a request for that address is owed, which goes out when the link takes it.
+    /// The moment at which the flow is to be looked at: the end of the time to connect, or of the patience with a guest whose peer is gone, that of a wait
+    /// for the guest's hardware address, or that of the connection's timer. `None` exactly where there is none, as where a request for that address is owed,
+    /// which goes out when the link takes it.
     pub fn due(&self) -> Option<u64>
         ensures due { result ≡ due_of self.now }
-        // No later than 75,000 ms after the flow was opened, while it connects.
-        ensures by_connect { (s : Settings) (past : Story) (now : ℕ) → Follows s self.now past now → IsBy result (connect_deadline past) }
+        // No later than 75,000 ms after the flow was opened, while it connects; where its peer is gone, than 1,000 ms after that and after our SYN went out.
+        ensures by_connect { (s : Settings) (past : Story) (now : ℕ) → Follows s self.now past now → IsBy result (close_deadline past) }
         // Where a pump cleared the flow, no later than a minute after what is under way went out, or after the last acknowledgement that moved, or after the
         // guest's hardware address was asked for.
         ensures by_resend { (s : Settings) (past : Story) (now : ℕ) → Follows s self.now past now → IsClear self.now → IsBy result (resend_deadline past) }
@@ -255,6 +279,33 @@ impl Spliced {
         ensures from { (s : Settings) (past : Story) (now : ℕ) → Follows s self.now past now → IsFrom result (wakes past) }
     {
         self.next_moment()
+    }
+
+    /// The moment of its last sign of life: it was opened, or connected, octets or an end passed on the socket, or a segment came or went out.
+    pub fn last(&self) -> u64
+        ensures exact { result ≡ self.now.last }
+        ensures last { (s : Settings) (past : Story) (now : ℕ) → Follows s self.now past now → is_open_by self.now ≡ true → result ≡ last_at past }
+    {
+        self.last
+    }
+
+    /// The moment from which on an open flow may give way to a SYN of a guest: 10,000 ms after its last sign of life while its socket is to connect, 240,000
+    /// where the host's end was read, or was told the guest's, or no octet passed, and else 7,440,000. `u64::MAX` where both ends passed, and the last
+    /// acknowledgement alone is left to be sent.
+    pub fn gives_way_at(&self) -> u64
+        ensures exact { result ≡ gives_way_at_by self.now }
+        ensures may { (s : Settings) (past : Story) (now : ℕ) → Follows s self.now past now → is_open_by self.now ≡ true
+            → (m : ℕ) → m ≤ 2 ^ 62 → may_give_way m past ≡ nat_le result m }
+    {
+        self.way_moment()
+    }
+
+    /// The moment by which the flow is closed because its peer ended without an octet before its guest answered, where that is so, it is open and no
+    /// acknowledgement is owed.
+    pub fn left_at(&self) -> Option<u64>
+        ensures { result ≡ (if is_open_by self.now && is_deserted_by self.now then Some (left_at_by self.now) else None) }
+    {
+        (self.is_open() && self.is_deserted()).then_some(self.left_moment())
     }
 
     /// What is waited for: that the socket has octets, where there is room for them; that it connects or takes octets or the guest's end.
@@ -289,7 +340,8 @@ impl Spliced {
     ghost use Rattle.flow_splice.specs.Hosts.{Sees, ends};
     ghost use Rattle.flow_splice.specs.Splice.{closed, place_after as place_after_by};
     ghost use Rattle.flow_splice.specs.Wants.{connect_end as connect_end_by, due_of, may_end, may_read as may_read_by, may_write as may_write_by, owes_octets as owes_octets_by};
-    ghost use Rattle.flow_splice.specs.Wants.{reads as reads_by, seeks as seeks_by, writes as writes_by};
+    ghost use Rattle.flow_splice.specs.Wants.{reads as reads_by, seeks as seeks_by, writes as writes_by, due_else, is_deserted as is_deserted_by, is_short as is_short_by};
+    ghost use Rattle.flow_splice.specs.Wants.{patience_end as patience_end_by, quiet_time as quiet_time_by, reads_none as reads_none_by, left_at as left_at_by, gives_way_at as gives_way_at_by};
 
     // Whether the socket is to connect.
     pub(crate) fn connects(&self) -> bool
@@ -311,12 +363,88 @@ impl Spliced {
     {
         if !self.is_open() {
             None
-        } else if self.connects() {
+        } else if self.is_deserted() {
+            Some(sooner(self.left_moment(), self.next_else()))
+        } else {
+            self.next_else()
+        }
+    }
+
+    // That of an open flow, but for the end of patience.
+    fn next_else(&self) -> Option<u64>
+        ensures { result ≡ due_else self.now }
+    {
+        if self.connects() {
             Some(self.connect_end())
         } else if self.seeks() {
             (!self.asks).then_some(self.ask_at)
         } else {
             self.conn.due()
+        }
+    }
+
+    // Whether no octet of the host was read.
+    fn reads_none(&self) -> bool
+        ensures { result ≡ reads_none_by self.now.down }
+    {
+        self.down.first() == 0 && self.down.held() == 0
+    }
+
+    // Whether its peer ended without an octet before its guest answered, and no acknowledgement is owed.
+    pub(crate) fn is_deserted(&self) -> bool
+        ensures { result ≡ is_deserted_by self.now }
+    {
+        self.accepted
+            && !self.connects()
+            && self.conn.opening()
+            && !self.conn.host_is_open()
+            && self.reads_none()
+            && !self.conn.owes_ack()
+    }
+
+    // The moment until which its guest may answer then.
+    pub(crate) fn patience_end(&self) -> u64
+        ensures { result ≡ patience_end_by self.now }
+    {
+        self.since.max(self.called) + PATIENCE
+    }
+
+    // The moment by which it is closed then.
+    fn left_moment(&self) -> u64
+        ensures { result ≡ left_at_by self.now }
+    {
+        self.patience_end().max(self.last + 1)
+    }
+
+    // The moment from which on it may give way, if it is open.
+    fn way_moment(&self) -> u64
+        ensures { result ≡ gives_way_at_by self.now }
+    {
+        if self.told_end && self.conn.end_acked() {
+            u64::MAX
+        } else {
+            self.last + self.quiet_time()
+        }
+    }
+
+    // Whether the host's end was read, or it was told the guest's, or no octet passed.
+    fn is_short(&self) -> bool
+        ensures { result ≡ is_short_by self.now }
+    {
+        !self.conn.host_is_open() || self.told_end || (self.reads_none() && self.up.count() == 0)
+    }
+
+    // How long it keeps its place without a sign of life.
+    fn quiet_time(&self) -> u64
+        ensures exact { result ≡ quiet_time_by self.now }
+        ensures few { result ≤ 7440000 }
+    {
+        if self.connects() {
+            QUIET_CONNECTING
+        } else if self.is_short() {
+            QUIET_SHORT
+        } else {
+            QUIET
         }
     }
 
@@ -409,6 +537,16 @@ impl Spliced {
             Change::GuestReset | Change::Finished => self.close(world, now),
             Change::Nothing | Change::Unfit => {}
         }
+    }
+}
+
+// The earlier of two moments, of which one may be none.
+fn sooner(at: u64, other: Option<u64>) -> u64
+    ensures { result ≡ sooner at other }
+{
+    match other {
+        Some(moment) => at.min(moment),
+        None => at,
     }
 }
 

@@ -7,7 +7,7 @@ ghost use Rattle.stream_netdev.specs.Keeps.{Keeps, Settles, Writes};
 ghost use Rattle.stream_netdev.specs.State.{under_way};
 ghost use Rattle.tcp_guest.specs.Connection.{HasBuffers};
 ghost use Rattle.tcp_guest.specs.Owing.{change_gone, owed_of};
-ghost use Rattle.connection_follows.specs.Sending.{is_rst, segment_out, with_head};
+ghost use Rattle.connection_follows.specs.Sending.{is_rst, is_syn, segment_out, with_head};
 ghost use Rattle.flow_splice.specs.Frames.{IsHeld, IsSized, frame_length, request_frame, segment_frame};
 ghost use Rattle.flow_laws.specs.Settings.{Settings};
 ghost use Rattle.flow_laws.specs.Event.{Story};
@@ -16,6 +16,7 @@ ghost use Rattle.net_octets.specs.declared.Endpoint.{Endpoint};
 ghost use Rattle.net_octets.specs.Sizes.{most_frame};
 
 use crate::frames::{Route, write_frame, write_request};
+use crate::guest::later_if;
 use crate::time::REQUESTS;
 use crate::{Place, Spliced};
 use net_octets::{Ip4, Mac};
@@ -149,6 +150,8 @@ impl Spliced {
         ensures change { result ≡ change_gone what.now self.old.conn self.old.up now }
         ensures sent { self.new ≡ went_out self.old what.now now }
     {
+        self.last = now;
+        self.called = later_if(is_syn(what), now, self.called);
         self.conn.sent(&self.up, what, now)
     }
 }
@@ -162,6 +165,7 @@ impl Spliced {
     ghost use Rattle.flow_splice.specs.Left.{left};
     ghost use Rattle.flow_splice.specs.Shapes.{IsPumpWork};
     ghost use Rattle.flow_splice.specs.Splice.{is_at_rest, is_open as is_open_by, rests_by};
+    ghost use Rattle.flow_splice.specs.Wants.{HasTime};
     ghost use Rattle.flow_splice.specs.Sends.{Acknowledges, IsClear, IsPumped, SendsOn, asked, asks_now, learnt, or_known, takes_part};
     ghost use Rattle.flow_splice.specs.declared.Place.TheVariants.{Empty};
     ghost use Rattle.stream_netdev.specs.declared.Pumped.TheVariants.{Clear, Blocked, Failed};
@@ -191,6 +195,8 @@ impl Spliced {
         ensures stays { IsPumped mac self.old self.new }
         ensures closed { is_open_by self.old ≡ false → is_open_by self.new ≡ false }
         ensures rests { is_at_rest self.old.place ≡ true → Acknowledges (learnt self.old mac) self.new now }
+        // Where time didn't close it, it doesn't then.
+        ensures in_time { HasTime self.old now → HasTime self.new now }
         // Where no timer of it was due, none is due then.
         ensures ahead { (s : Settings) (past : Story) (before : ℕ) → Follows s self.old past before → IsTimely self.old now → IsTimely self.new now }
     {
@@ -254,6 +260,7 @@ impl Spliced {
         ensures closed { is_open_by self.old ≡ false → is_open_by self.new ≡ false }
         ensures rests { is_at_rest self.old.place ≡ true → self.new ≡ self.old }
         ensures conn { self.new.conn ≡ self.old.conn }
+        ensures in_time { HasTime self.old now → HasTime self.new now }
     {
         if !self.asks_now() {
             return Pumped::Clear;
@@ -322,6 +329,7 @@ impl Spliced {
         ensures rests { is_at_rest self.old.place ≡ true → Acknowledges self.old self.new now }
         ensures closed { is_open_by self.old ≡ false → is_open_by self.new ≡ false }
         ensures early { IsEarly now self.old.conn → IsEarly now self.new.conn }
+        ensures in_time { HasTime self.old now → HasTime self.new now }
     {
         // for the prover: a read gives the range of the number.
         let _first = *ident;
@@ -362,6 +370,7 @@ impl Spliced {
         ensures rests { is_at_rest self.old.place ≡ true → Acknowledges self.old self.new now }
         ensures closed { is_open_by self.old ≡ false → is_open_by self.new ≡ false }
         ensures early { IsEarly now self.old.conn → IsEarly now self.new.conn }
+        ensures in_time { HasTime self.old now → HasTime self.new now }
     {
         let offered = self.offer_owed(world, link, what, mac, *ident);
         self.mark(world, ident, what, offered, now);
@@ -399,6 +408,16 @@ fn offer_arp<W: World>(
 {
     let length = write_request(vhost, guest, buffer);
     link.offer(world, &buffer[..length])
+}
+
+// Whether it is our SYN or SYN-ACK.
+fn is_syn(what: &Owed) -> bool
+    ensures { result ≡ is_syn what.now }
+{
+    match what {
+        Owed::Syn | Owed::SynAck => true,
+        Owed::Data(_) | Owed::Ack | Owed::Reset { .. } => false,
+    }
 }
 
 // Whether it is a reset.

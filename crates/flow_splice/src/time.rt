@@ -1,11 +1,13 @@
 // What time does to a flow.
-ghost use Rattle.std.specs.Prelude.{◌≡◌, ◌^◌, ◌<◌, ◌≤◌, ◌&&◌, ◌⊎◌, ℕ, nat_eq, nat_le, true, false};
+ghost use Rattle.std.specs.Prelude.{◌≡◌, ◌^◌, ◌<◌, ◌≤◌, ◌&&◌, ◌⊎◌, ◌∷◌, [], Bool, ℕ, nat_eq, nat_le, true, false};
 ghost use Rattle.tcp_guest.specs.Connection.{HasBuffers};
 ghost use Rattle.tcp_guest.specs.Hosts.{reset};
 ghost use Rattle.tcp_guest.specs.Timing.{after_tick, change_at_tick};
+ghost use Rattle.world_face.specs.Journal.{Close};
 ghost use Rattle.world_face.specs.Tells.{Makes};
 ghost use Rattle.flow_laws.specs.Settings.{Settings};
-ghost use Rattle.flow_laws.specs.Event.{Story};
+ghost use Rattle.flow_laws.specs.Close.{follows_reset, may_give_way};
+ghost use Rattle.flow_laws.specs.Event.{At, Closes, Story};
 ghost use Rattle.connection_follows.specs.Holding.{is_connects};
 
 use crate::Spliced;
@@ -22,10 +24,11 @@ impl Spliced {
     ghost use Rattle.flow_splice.specs.Serves.{GoesOnYet, TicksOn};
     ghost use Rattle.flow_splice.specs.Shapes.{is_at_most_a_close};
     ghost use Rattle.flow_splice.specs.Splice.{is_open as is_open_by};
-    ghost use Rattle.flow_splice.specs.Wants.{asks_after, connect_end as connect_end_by, seeks as seeks_by};
+    ghost use Rattle.flow_splice.specs.Wants.{HasTime, asks_after, connect_end as connect_end_by, is_deserted as is_deserted_by, patience_end as patience_end_by, seeks as seeks_by};
 
-    /// The moment came. A socket that didn't connect in 75,000 ms is closed; so is that of a flow whose guest wasn't found by nine requests and the waits
-    /// after them, and that of one that is given up. Else what the connection's timer makes owed again is owed from now on.
+    /// The moment came. A socket that didn't connect in 75,000 ms is closed; so is that of a flow whose peer ended without an octet before its guest answered,
+    /// 1,000 ms after it was accepted and after our SYN went out last, unless an acknowledgement is owed; that of a flow whose guest wasn't found by nine
+    /// requests and the waits after them; and that of one that is given up. Else what the connection's timer makes owed again is owed from now on.
     /// The guest's hardware address isn't known then unless the flow has it: once it is learnt, `pump` is called with it first, also while the link is blocked.
     /// No call is made but a close. The moment may come directly after a segment of this flow, where that was the last of the turn before and nothing was owed
     /// for it.
@@ -33,7 +36,8 @@ impl Spliced {
         requires now { now ≤ 2 ^ 62 }
         ensures makes { Makes (W.tells world.old) (W.tells world.new) (λ made. TicksOn self.old self.new now made × (is_at_most_a_close made ≡ true)) }
         ensures stays { Stays self.old self.new }
-        ensures in_time { is_open_by self.new ≡ true → is_connects self.new.conn.stage ≡ true → now < connect_end_by self.new }
+        // Time doesn't close it then: it would have.
+        ensures in_time { HasTime self.new now }
         // A flow that calls a guest owes its request again once the wait for an answer is over.
         ensures waits { is_open_by self.old ≡ true → is_connects self.old.conn.stage ≡ false → seeks_by self.old ≡ true → is_open_by self.new ≡ true
             → self.new ≡ asks_after self.old now }
@@ -50,11 +54,20 @@ impl Spliced {
         }
         if self.connects() {
             self.await_host(world, now);
+        } else if self.is_left(now) {
+            self.fail(world, now);
         } else if self.seeks() {
             self.await_guest(world, now);
         } else {
             self.expire(world, now);
         }
+    }
+
+    // Whether its peer is gone, and the patience with its guest over.
+    fn is_left(&self, now: u64) -> bool
+        ensures { result ≡ (is_deserted_by self.now && nat_le (patience_end_by self.now) now) }
+    {
+        self.is_deserted() && self.patience_end() <= now
     }
 
     // The socket is to connect.
@@ -126,5 +139,27 @@ impl Spliced {
         ensures buffers { HasBuffers self.new.conn self.new.up self.new.down }
     {
         self.conn.tick(now)
+    }
+}
+
+// It gives way.
+impl Spliced {
+    ghost use Rattle.flow_splice.specs.Follows.{Follows};
+    ghost use Rattle.flow_splice.specs.Splice.{closed, is_open as is_open_by};
+    ghost use Rattle.flow_splice.specs.Stays.{Stays};
+
+    /// An open flow gives its place to a SYN of a guest: its socket is closed, and a reset is owed, unless the guest knows of no connection. No other call is
+    /// made. It is to have had no sign of life for long enough (`gives_way_at`), and no reset of its guest that was fatal came directly before.
+    pub fn give_way<W: World>(&mut self, world: &mut W, now: u64)
+        requires now { now ≤ 2 ^ 62 }
+        requires open_yet { is_open_by self.old ≡ true }
+        ensures makes { Makes (W.tells world.old) (W.tells world.new) (λ made. made ≡ Close self.old.face.number ∷ []) }
+        ensures change { self.new ≡ closed (record self.old { conn = reset self.old.conn }) now }
+        ensures follows { (s : Settings) (past : Story) (before : ℕ) (directly ended known : Bool) → before ≤ now → may_give_way now past ≡ true
+            → follows_reset directly past ≡ false → Follows s self.old past before → Follows s self.new (At now (Closes directly ended known) ∷ past) now }
+        ensures stays { Stays self.old self.new }
+        ensures closed { is_open_by self.new ≡ false }
+    {
+        self.fail(world, now);
     }
 }

@@ -1,5 +1,5 @@
 -- Calls on the socket of a flow: each may come, and is the flow's event.
-use Rattle.std.proofs.Common.{◌≡◌, ℕ, ◌&&◌, ◌||◌, not, Bool, true, false, List, [], ◌∷◌, ◌++◌, is_some, MatchOption, Option, Some, None, if◌then◌else◌, IsTrue, inl, inr, refl, sym, ◌∙◌, ap, subst}
+use Rattle.std.proofs.Common.{◌≡◌, ℕ, ◌&&◌, ◌||◌, not, Bool, true, false, List, [], ◌∷◌, ◌++◌, is_some, MatchOption, Option, Some, None, if◌then◌else◌, IsTrue, ◌⊎◌, inl, inr, refl, sym, ◌∙◌, ap, subst}
 use Rattle.std.specs.Option.{option_or}
 use Rattle.poll_list.specs.Listing.{reads, writes}
 use Rattle.poll_list.specs.declared.Who.TheVariants.{Tcp}
@@ -7,15 +7,15 @@ use Rattle.world_face.specs.Journal.{Entry, Call, Close, CallConnected, CallTcpR
 use Rattle.host_policy.specs.Addresses.{Config}
 use Rattle.run_laws.specs.Moments.{moment}
 use Rattle.run_laws.specs.Shape.{Phase, due_in, is_ended, is_over, is_working, phase}
-use Rattle.run_laws.specs.Sockets.{Kind, Association, DnsSocket, Forward, Listener, Flow as AFlow, is_among, is_flow, kind_of, next_number, open_sockets}
+use Rattle.run_laws.specs.Sockets.{Kind, Association, DnsSocket, Forward, Listener, Flow as AFlow, is_among, is_flow, kind_of, next_number, open_sockets, first}
 use Rattle.flow_laws.specs.Event.{Segment, Event, Closes, At, Story}
-use Rattle.flow_laws.specs.Close.{connects_too_long, ended_first, finds_no_guest, follows_reset, gives_up, host_failed, is_done, newest_rst, rests_since}
+use Rattle.flow_laws.specs.Close.{ended_first, finds_no_guest, follows_reset, gives_up, host_failed, is_done, newest_rst, rests_since, waits_too_long}
 use Rattle.flow_laws.specs.Flow.{is_closed}
-use Rattle.flow_laws.specs.Lawful.{Act, AskConnected, Write, EndHost, Read, HasCause, May as MayOfOne}
+use Rattle.flow_laws.specs.Lawful.{Act, AskConnected, Write, EndHost, Read, HasOwnCause, May as MayOfOne}
 use Rattle.flow_laws.specs.Dutiful.{Must as MustOfOne, MustClose, read_size}
 use Rattle.record_flows.specs.Book.{after_close as rests_after, book, rest, scene, turned}
 use Rattle.record_flows.specs.Doings.{Calls, Shuts, doing}
-use Rattle.record_flows.specs.Flows.{Flow, closing, comes_directly, fails, flow_of, guest_is_known, shuts, with_event}
+use Rattle.record_flows.specs.Flows.{Flow, closing, comes_directly, fails, flow_of, guest_is_known, is_it, shuts, with_event}
 use Rattle.record_flows.specs.Laws.{AsksForRoom, ClosesAtOnce, MayAct, MayFlow, MayShut, MayTouch, MustAct, MustTouch, NoneMustClose, flow_settings}
 use Rattle.record_flows.specs.Lots.{due_by, due_for_flows}
 use Rattle.record_flows.specs.Said.{Differ}
@@ -26,13 +26,13 @@ use Rattle.flows_follow.proofs.Seats.{owner_id, same_or_not}
 use Rattle.slirp_laws.specs.Agenda.{agenda}
 use Rattle.slirp_laws.specs.Asking.{step, step_of}
 use Rattle.slirp_laws.specs.Datagrams.{due_for}
-use Rattle.slirp_laws.specs.Laws.{May, MayDue, due, due_for_services, has_just_written, is_closing, is_least, joins, may_leave, may_part, parts}
+use Rattle.slirp_laws.specs.Laws.{May, MayDue, due, due_for_services, has_just_written, is_closing, joins, may_leave, may_part, parts}
 use Rattle.slirp_laws.specs.Names.{kind_for}
 use Rattle.slirp_laws.proofs.Sorts.{same_flow}
 use Rattle.slirp_laws.proofs.Bools.{and_both, first_of, second_of}
 use Rattle.slirp_laws.proofs.Deeds.{any_one, closes, gathered, this_one}
 use Rattle.flow_splice.specs.Splice.{Face}
-use Rattle.flows_follow.specs.Stands.{HasFlow, InWork, close_if, with_rest}
+use Rattle.flows_follow.specs.Stands.{HasFlow, HasFlowOf, InWork, close_if, with_rest}
 use Rattle.flows_follow.proofs.Options.{some_same}
 
 -- ---- what is due
@@ -45,6 +45,91 @@ due_is config past work =
     ap (λ (p : Phase). option_or (due_in p past) (option_or (due_for config (step config past) (next_number past)) (option_or services flows))) work.working
     ∙ ap (λ e. option_or (due_for config (step_of config past e) (next_number past)) (option_or services flows)) work.errand
     ∙ ap (λ o. option_or o flows) work.services
+
+-- ---- a close, whatever flows ask for
+
+module _ (config : Config) (face : Face) (f : Flow) (past : List Entry) (work : InWork config past) (asks : Option Call) (has : HasFlowOf asks config face f past) where
+  kind_is : (o : Option Kind) → is_flow o ≡ true → o ≡ Some AFlow
+  kind_is None is = cc
+  kind_is (Some Association) is = cc
+  kind_is (Some DnsSocket) is = cc
+  kind_is (Some Forward) is = cc
+  kind_is (Some Listener) is = cc
+  kind_is (Some AFlow) is = refl
+
+  -- where it has a cause the socket is one that may part, so this close isn't the first of the closing
+  pub parts_then : may_leave (scene config past) (book config past) face.number (Some f) ≡ true → is_closed f.story ≡ false → parts config past face.number ≡ true
+  parts_then leaves open_yet =
+      ap (may_part config past face.number)
+      (kind_is (kind_for config face.number past) (same_flow config face.number past ∙ second_of (is_among face.number (open_sockets past)) (is_flow (kind_of face.number past))
+      (has.socket open_yet)))
+      ∙ ap (may_leave (scene config past) (book config past) face.number) has.found
+      ∙ leaves
+
+  closes_it : (closing part ended least : Bool) → closing ≡ false → part ≡ true → (if closing then least else part || (ended && least)) ≡ true
+  closes_it true part ended least none is = cc
+  closes_it false true ended least none is = refl
+  closes_it false false ended least none is = cc
+
+  -- flows ask for this close, or for nothing
+  abbrev AsksThis : Type 0
+  AsksThis = (asks ≡ None) ⊎ (asks ≡ Some (CallClose face.number))
+
+  close_is_due : AsksThis → MayDue config past (CallClose face.number)
+  close_is_due (inl none) = any_one config past (CallClose face.number) (due_is config past work ∙ has.due ∙ none)
+  close_is_due (inr this) = this_one config past (CallClose face.number) (due_is config past work ∙ has.due ∙ this)
+
+  flows_close : AsksThis → MatchOption (due_for_flows config (book config past) (next_number past)) (Unit {0}) (λ d. CallClose face.number ≡ d)
+  flows_close (inl none) = subst (λ o. MatchOption o (Unit {0}) (λ d. CallClose face.number ≡ d)) (sym (has.due ∙ none)) tt
+  flows_close (inr this) = subst (λ o. MatchOption o (Unit {0}) (λ d. CallClose face.number ≡ d)) (sym (has.due ∙ this)) refl
+
+  -- it alone may be the one that must be closed
+  closes_only : ClosesAtOnce config past (CallClose face.number)
+  closes_only number g found must = elim (same_or_not number face.number) [
+    | inl same ↦ ap CallClose (sym same)
+    | inr other ↦ absurd (has.others number g other found must)
+  ]
+
+  pub shuts_then : AsksThis → may_leave (scene config past) (book config past) face.number (Some f) ≡ true → is_closed f.story ≡ false
+      → MayOfOne (flow_settings config) f.story (moment past) (closing (scene config past) (book config past).came f) → May config past (CallClose face.number)
+  shuts_then this leaves open_yet may =
+      closes config past face.number (close_is_due this) (ap (λ p. is_working p || is_over p) work.working)
+      (and_both (is_among face.number (open_sockets past)) _ (first_of (is_among face.number (open_sockets past)) (is_flow (kind_of face.number past)) (has.socket open_yet))
+      (closes_it (is_closing config past) (parts config past face.number) (is_ended config past) (is_it face.number (first (open_sockets past))) work.open_yet (parts_then leaves open_yet)))
+      (record {
+        due = flows_close this;
+        touches = subst (MayShut (flow_settings config) (scene config past) (book config past).came) (sym has.found) may;
+        must = tt;
+        at_once = closes_only;
+      })
+
+  -- the record has it closed then, and it asks for nothing
+  pub closed_then : Differ (book config past).flows → HasFlow config face (shuts (scene config past) (book config past).came f) (Close face.number ∷ past)
+  closed_then differ =
+      let only = only_happens config (scene config past) face.number (book config past) differ (Shuts face.number) refl in
+      record {
+        found = own_close config (scene config past) (book config past) face.number f has.found;
+        guest = has.guest;
+        other = has.other;
+        owned = owner_id f.tuple (book config (Close face.number ∷ past)).flows (book config past).flows only.same ∙ has.owned;
+        socket = λ open_yet. cc;
+        due = refl;
+        others = λ number g other found. has.others number g other (sym (only.apart number other) ∙ found);
+      }
+
+  -- and it is the last of those that rest, where its story says that it rests
+  by_rest : (b : Bool) (now : ℕ) → f.number ≡ face.number → (if is_some (if b then Some now else None) then (book config past).rests ++ rest f.number now ∷ [] else (book config past).rests)
+      ≡ with_rest (if b then Some now else None) face.number (book config past).rests
+  by_rest true now number = ap (λ n. (book config past).rests ++ rest n now ∷ []) number
+  by_rest false now number = refl
+
+  pub rests_then : Differ (book config past).flows → (now : ℕ) (directly ended known : Bool) → moment past ≡ now → shuts (scene config past)
+      (book config past).came f ≡ with_event now (Closes directly ended known) f
+      → (book config (Close face.number ∷ past)).rests ≡ with_rest (rests_since (At now (Closes directly ended known) ∷ f.story)) face.number (book config past).rests
+  rests_then differ now directly ended known at shuts_is =
+      ap (λ m. rests_after m (flow_of face.number (book config (Close face.number ∷ past)).flows) (book config past).rests) at
+      ∙ ap (λ o. rests_after now o (book config past).rests) ((closed_then differ).found ∙ ap Some shuts_is)
+      ∙ by_rest (is_done f.story && not (follows_reset directly f.story) && ended_first f.story) now (number_of_found face.number (book config past).flows f has.found)
 
 module _ (config : Config) (face : Face) (f : Flow) (past : List Entry) (work : InWork config past) (has : HasFlow config face f past) where
   -- after a call that failed the close is due, and else nothing
@@ -142,43 +227,41 @@ module _ (config : Config) (face : Face) (f : Flow) (past : List Entry) (work : 
 
   -- ---- a close
 
-  kind_is : (o : Option Kind) → is_flow o ≡ true → o ≡ Some AFlow
-  kind_is None is = cc
-  kind_is (Some Association) is = cc
-  kind_is (Some DnsSocket) is = cc
-  kind_is (Some Forward) is = cc
-  kind_is (Some Listener) is = cc
-  kind_is (Some AFlow) is = refl
-
   some_rst : (o : Option Segment) (P : Segment → Type 0) → MatchOption o ⊥ P → is_some o ≡ true
   some_rst None P is = absurd is
   some_rst (Some seg) P is = refl
 
   -- the cause of a close, as a test
-  by_first : (a h g r d : Bool) → IsTrue (a || false || h || g) → (a || h || g || r || d) ≡ true
-  by_first true h g r d is = refl
-  by_first false true g r d is = refl
-  by_first false false true r d is = refl
-  by_first false false false r d is = cc
+  by_first : (x a h g r d : Bool) → IsTrue (a || false || h || g) → (x || a || h || g || r || d) ≡ true
+  by_first true a h g r d is = refl
+  by_first false true h g r d is = refl
+  by_first false false true g r d is = refl
+  by_first false false false true r d is = refl
+  by_first false false false false r d is = cc
 
-  by_second : (a h g r d : Bool) → IsTrue r → (a || h || g || r || d) ≡ true
-  by_second true h g r d is = refl
-  by_second false true g r d is = refl
-  by_second false false true r d is = refl
-  by_second false false false true d is = refl
-  by_second false false false false d is = cc
+  by_second : (x a h g r d : Bool) → IsTrue r → (x || a || h || g || r || d) ≡ true
+  by_second true a h g r d is = refl
+  by_second false true h g r d is = refl
+  by_second false false true g r d is = refl
+  by_second false false false true r d is = refl
+  by_second false false false false true d is = refl
+  by_second false false false false false d is = cc
 
-  by_third : (a h g r d : Bool) → d ≡ true → (a || h || g || r || d) ≡ true
-  by_third true h g r d is = refl
-  by_third false true g r d is = refl
-  by_third false false true r d is = refl
-  by_third false false false true d is = refl
-  by_third false false false false d is = is
+  by_third : (x a h g r d : Bool) → d ≡ true → (x || a || h || g || r || d) ≡ true
+  by_third true a h g r d is = refl
+  by_third false true h g r d is = refl
+  by_third false false true g r d is = refl
+  by_third false false false true r d is = refl
+  by_third false false false false true d is = refl
+  by_third false false false false false d is = is
 
-  pub may_leave_then : HasCause (comes_directly (book config past).came f) false (guest_is_known (scene config past) f) (moment past) f.story
+  pub may_leave_then : HasOwnCause (comes_directly (book config past).came f) false (guest_is_known (scene config past) f) (moment past) f.story
       → may_leave (scene config past) (book config past) face.number (Some f) ≡ true
   may_leave_then cause = by cause
     where
+      x : Bool
+      x = is_it face.number (book config past).doomed
+
       a : Bool
       a = is_done f.story
 
@@ -189,85 +272,37 @@ module _ (config : Config) (face : Face) (f : Flow) (past : List Entry) (work : 
       g = finds_no_guest (guest_is_known (scene config past) f) (moment past) f.story
 
       r : Bool
-      r = not (follows_reset (comes_directly (book config past).came f) f.story) && (gives_up (moment past) f.story || connects_too_long (moment past) f.story)
+      r = not (follows_reset (comes_directly (book config past).came f) f.story) && (gives_up (moment past) f.story || waits_too_long (moment past) f.story)
 
       d : Bool
       d = comes_directly (book config past).came f && is_some (newest_rst f.story)
 
-      by : HasCause (comes_directly (book config past).came f) false (guest_is_known (scene config past) f) (moment past) f.story → (a || h || g || r || d) ≡ true
-      by (inl first) = by_first a h g r d first
-      by (inr (inl second)) = by_second a h g r d second
-      by (inr (inr third)) = by_third a h g r d (and_both (comes_directly (book config past).came f) (is_some (newest_rst f.story)) third.0 (some_rst (newest_rst f.story) _ third.1))
+      by : HasOwnCause (comes_directly (book config past).came f) false (guest_is_known (scene config past) f) (moment past) f.story → (x || a || h || g || r || d) ≡ true
+      by (inl first) = by_first x a h g r d first
+      by (inr (inl second)) = by_second x a h g r d second
+      by (inr (inr third)) = by_third x a h g r d (and_both (comes_directly (book config past).came f) (is_some (newest_rst f.story)) third.0 (some_rst (newest_rst f.story) _ third.1))
 
-  module _ (cause : HasCause (comes_directly (book config past).came f) false (guest_is_known (scene config past) f) (moment past) f.story) (open_yet : is_closed f.story ≡ false) where
-    -- the socket is one that may part, so this close isn't the first of the closing
+  asks_this : (b : Bool) → (close_if b face.number ≡ None) ⊎ (close_if b face.number ≡ Some (CallClose face.number))
+  asks_this true = inr refl
+  asks_this false = inl refl
+
+  module _ (cause : HasOwnCause (comes_directly (book config past).came f) false (guest_is_known (scene config past) f) (moment past) f.story) (open_yet : is_closed f.story ≡ false) where
     pub may_part_then : parts config past face.number ≡ true
-    may_part_then =
-        ap (may_part config past face.number)
-        (kind_is (kind_for config face.number past) (same_flow config face.number past ∙ second_of (is_among face.number (open_sockets past)) (is_flow (kind_of face.number past))
-        (has.socket open_yet)))
-        ∙ ap (may_leave (scene config past) (book config past) face.number) has.found
-        ∙ may_leave_then cause
-
-    closes_it : (closing part ended least : Bool) → closing ≡ false → part ≡ true → (if closing then least else part || (ended && least)) ≡ true
-    closes_it true part ended least none is = cc
-    closes_it false true ended least none is = refl
-    closes_it false false ended least none is = cc
-
-    close_is_due : (b : Bool) → host_failed f.story ≡ b → MayDue config past (CallClose face.number)
-    close_is_due true is = this_one config past (CallClose face.number) (close_due ∙ ap (λ t. close_if t face.number) is)
-    close_is_due false is = any_one config past (CallClose face.number) (none_due is)
-
-    flows_close : (b : Bool) → host_failed f.story ≡ b → MatchOption (due_for_flows config (book config past) (next_number past)) (Unit {0}) (λ d. CallClose face.number ≡ d)
-    flows_close true is = subst (λ o. MatchOption o (Unit {0}) (λ d. CallClose face.number ≡ d)) (sym (has.due ∙ ap (λ t. close_if t face.number) is)) refl
-    flows_close false is = subst (λ o. MatchOption o (Unit {0}) (λ d. CallClose face.number ≡ d)) (sym (flows_due is)) tt
-
-    -- it alone may be the one that must be closed
-    closes_only : ClosesAtOnce config past (CallClose face.number)
-    closes_only number g found must = elim (same_or_not number face.number) [
-      | inl same ↦ ap CallClose (sym same)
-      | inr other ↦ absurd (has.others number g other found must)
-    ]
+    may_part_then = parts_then config face f past work (close_if (host_failed f.story) face.number) has (may_leave_then cause) open_yet
 
     pub may_shut : MayOfOne (flow_settings config) f.story (moment past) (closing (scene config past) (book config past).came f) → May config past (CallClose face.number)
-    may_shut may =
-        closes config past face.number (close_is_due (host_failed f.story) refl) (ap (λ p. is_working p || is_over p) work.working)
-        (and_both (is_among face.number (open_sockets past)) _ (first_of (is_among face.number (open_sockets past)) (is_flow (kind_of face.number past)) (has.socket open_yet))
-        (closes_it (is_closing config past) (parts config past face.number) (is_ended config past) (is_least face.number (open_sockets past)) work.open_yet may_part_then))
-        (record {
-          due = flows_close (host_failed f.story) refl;
-          touches = subst (MayShut (flow_settings config) (scene config past) (book config past).came) (sym has.found) may;
-          must = tt;
-          at_once = closes_only;
-        })
+    may_shut may = shuts_then config face f past work (close_if (host_failed f.story) face.number) has (asks_this (host_failed f.story)) (may_leave_then cause) open_yet may
 
   -- the record has it closed then, and it asks for nothing
   pub after_close : Differ (book config past).flows → HasFlow config face (shuts (scene config past) (book config past).came f) (Close face.number ∷ past)
-  after_close differ =
-      let only = only_happens config (scene config past) face.number (book config past) differ (Shuts face.number) refl in
-      record {
-        found = own_close config (scene config past) (book config past) face.number f has.found;
-        guest = has.guest;
-        other = has.other;
-        owned = owner_id f.tuple (book config (Close face.number ∷ past)).flows (book config past).flows only.same ∙ has.owned;
-        socket = λ open_yet. cc;
-        due = refl;
-        others = λ number g other found. has.others number g other (sym (only.apart number other) ∙ found);
-      }
+  after_close differ = closed_then config face f past work (close_if (host_failed f.story) face.number) has differ
 
   -- and it is the last of those that rest, where its story says that it rests
-  by_rest : (b : Bool) (now : ℕ) → f.number ≡ face.number → (if is_some (if b then Some now else None) then (book config past).rests ++ rest f.number now ∷ [] else (book config past).rests)
-      ≡ with_rest (if b then Some now else None) face.number (book config past).rests
-  by_rest true now number = ap (λ n. (book config past).rests ++ rest n now ∷ []) number
-  by_rest false now number = refl
-
   pub rests_closed : Differ (book config past).flows → (now : ℕ) (directly ended known : Bool) → moment past ≡ now → shuts (scene config past)
       (book config past).came f ≡ with_event now (Closes directly ended known) f
       → (book config (Close face.number ∷ past)).rests ≡ with_rest (rests_since (At now (Closes directly ended known) ∷ f.story)) face.number (book config past).rests
   rests_closed differ now directly ended known at shuts_is =
-      ap (λ m. rests_after m (flow_of face.number (book config (Close face.number ∷ past)).flows) (book config past).rests) at
-      ∙ ap (λ o. rests_after now o (book config past).rests) ((after_close differ).found ∙ ap Some shuts_is)
-      ∙ by_rest (is_done f.story && not (follows_reset directly f.story) && ended_first f.story) now (number_of_found face.number (book config past).flows f has.found)
+      rests_then config face f past work (close_if (host_failed f.story) face.number) has differ now directly ended known at shuts_is
 
   -- and if so, since now
   pub since_now : (b : Bool) (now m : ℕ) → (if b then Some now else None) ≡ Some m → m ≡ now

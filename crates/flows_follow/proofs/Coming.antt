@@ -1,5 +1,5 @@
 -- A segment of a flow comes: it is the flow's event, and after it the flow is closed or nothing is called; and so at a tick.
-use Rattle.std.proofs.Common.{◌≡◌, ℕ, ◌==◌, ◌||◌, Bool, true, false, cond, List, [], ◌∷◌, ◌++◌, Option, Some, None, option_map, if◌then◌else◌, ◌⊎◌, inl, inr, refl, sym, ◌∙◌, ap, subst}
+use Rattle.std.proofs.Common.{◌≡◌, ℕ, ◌==◌, ◌&&◌, ◌||◌, not, Bool, true, false, cond, List, [], ◌∷◌, ◌++◌, Option, Some, None, option_map, if◌then◌else◌, ◌⊎◌, inl, inr, refl, sym, ◌∙◌, ap, subst}
 use Rattle.net_octets.specs.declared.Mac.{Mac}
 use Rattle.world_face.specs.Journal.{Entry, Close, CallConnect}
 use Rattle.host_policy.specs.Addresses.{Config}
@@ -9,13 +9,14 @@ use Rattle.run_laws.specs.Happenings.{Arrival, happens}
 use Rattle.run_laws.specs.Moments.{moment}
 use Rattle.run_laws.specs.Sockets.{next_number}
 use Rattle.flow_laws.specs.Event.{Event, Arrives, Closes, At, Story}
-use Rattle.flow_laws.specs.Close.{is_in_use}
-use Rattle.flow_laws.specs.Lawful.{HasCause}
-use Rattle.record_flows.specs.Book.{book, scene, turned}
+use Rattle.std.specs.List.{list_any}
+use Rattle.flow_laws.specs.Close.{is_in_use, owes_reset}
+use Rattle.flow_laws.specs.Lawful.{HasOwnCause}
+use Rattle.record_flows.specs.Book.{book, heard, scene, turned}
 use Rattle.record_flows.specs.Doings.{Comes, comes, doing, doing_by}
 use Rattle.record_flows.specs.Flows.{Flow, Book, came_on, comes_directly, flow_of, is_on, is_resting, is_used, owner, tell, uses, with_event}
 use Rattle.record_flows.specs.Laws.{flow_settings}
-use Rattle.record_flows.specs.Lots.{Lot, OfFlow, asked_for, due_for_flows, lot}
+use Rattle.record_flows.specs.Lots.{Lot, OfFlow, asked_for, due_by, due_for_flows, giving_way, lot, needs_room, quietest}
 use Rattle.record_flows.specs.Said.{Differ}
 use Rattle.record_flows.specs.Segments.{OnTuple, same_tuple, segment_came}
 use Rattle.record_flows.specs.Touching.{has_number}
@@ -58,6 +59,11 @@ owner_told now ev t f (g ∷ flows) is = by (is_on t g) refl is (owner_told now 
 same_ends : (t : Tuple) → same_tuple t t ≡ true
 same_ends t = and_both (same_endpoint t.guest t.guest) (same_endpoint t.other t.other) (same_port t.guest) (same_port t.other)
 
+-- no flow gives way to a segment that is its flow's
+pub none_gives_way : (config : Config) (now : ℕ) (on : OnTuple) (b : Book) → lot config b on ≡ OfFlow → giving_way config now on b ≡ None
+none_gives_way config now on b is =
+    ap (λ l. if needs_room l && not (list_any (λ (f : Flow). owes_reset f.story) b.flows) then option_map (λ (f : Flow). f.number) (quietest now b.flows) else None) is
+
 module _ (config : Config) (face : Face) (f : Flow) (past : List Entry) (e : Entry) (on : OnTuple) (has : HasFlow config face f past) (differ : Differ (book config past).flows)
     (is : doing config past e ≡ Comes on) (ends : on.tuple ≡ ends_of face) where
   -- the flow, with the segment
@@ -93,11 +99,11 @@ module _ (config : Config) (face : Face) (f : Flow) (past : List Entry) (e : Ent
   pub came_directly : comes_directly (book config (e ∷ past)).came after ≡ true
   came_directly = ap (λ b. came_on f.tuple b.came) new ∙ ap (λ t. same_tuple t f.tuple) (ends ∙ sym (ends_are config face f past has)) ∙ same_ends f.tuple
 
-  -- a segment of a flow that is in use or rests asks for nothing
-  none_asked : (is_in_use f.story ≡ true) ⊎ (is_resting on.tuple (book config (e ∷ past)) ≡ true) → asked_for (lot config then_book on) ≡ None
+  -- a segment of a flow that is in use or rests is its flow's
+  none_asked : (is_in_use f.story ≡ true) ⊎ (is_resting on.tuple (book config (e ∷ past)) ≡ true) → lot config then_book on ≡ OfFlow
   none_asked why = by (is_used on.tuple then_book.flows || is_resting on.tuple then_book) _ (either why)
     where
-      by : (b : Bool) (other : Lot) → b ≡ true → asked_for (if b then OfFlow else other) ≡ None
+      by : (b : Bool) (other : Lot) → b ≡ true → (if b then OfFlow else other) ≡ OfFlow
       by true other is = refl
       by false other is = cc
 
@@ -115,7 +121,9 @@ module _ (config : Config) (face : Face) (f : Flow) (past : List Entry) (e : Ent
     other = has.other;
     owned = owner_id f.tuple (book config (e ∷ past)).flows (book config past).flows only.same ∙ has.owned;
     socket = λ open_yet. same_socket ∙ has.socket open_yet;
-    due = ap (λ b. due_for_flows config b (next_number (e ∷ past))) new ∙ ap (option_map (CallConnect (next_number (e ∷ past)))) (none_asked why);
+    due = ap (λ b. due_for_flows config b (next_number (e ∷ past))) new
+        ∙ ap (λ o. due_by o (asked_for (lot config then_book on)) (next_number (e ∷ past))) (none_gives_way config (moment past) on (heard (moment past) on (book config past)) (none_asked why))
+        ∙ ap (λ l. due_by None (asked_for l) (next_number (e ∷ past))) (none_asked why);
     others = λ m g other found. has.others m g other (sym (only.apart m other) ∙ found);
   }
 
@@ -136,7 +144,7 @@ module _ (config : Config) (face : Face) (mac : Option Mac) (f : Flow) (past : L
         subst (λ n. Called config face f past now ended known (Close n ∷ []) beats) (sym number)
         (subst (Called config face f past now ended known (Close face.number ∷ [])) (sym now_none)
         (shut_it config face f past now ended known [] [] (none_made config face f past now ended known ready) directly came
-        (subst (λ r. HasCause directly false known now (r ++ f.story)) none cause) now_lawful.0.0))
+        (subst (λ r. HasOwnCause directly false known now (r ++ f.story)) none cause) now_lawful.0.0))
     closes_or_not (_ ∷ made) beats is are lawful = absurd cc
 
   -- the reports are as they were

@@ -13,7 +13,7 @@ use Rattle.record_flows.specs.Flows.{Flow, closing, comes_directly, comes_last, 
 use Rattle.record_flows.specs.Laws.{MayShut, flow_settings}
 use Rattle.record_flows.specs.Lots.{due_for_flows}
 use Rattle.record_flows.proofs.Lists.{found_number, each_found}
-use Rattle.slirp_laws.specs.Laws.{Lawful, May, MayDue, is_closing, is_least, parts}
+use Rattle.slirp_laws.specs.Laws.{Lawful, May, MayDue, is_closing, parts}
 use Rattle.slirp_laws.proofs.Bools.{and_both, same}
 use Rattle.slirp_laws.proofs.Deeds.{FlowsAskNothing, closes}
 use Rattle.slirp_laws.proofs.OpenSockets.{among_first, at_the_end, least_first}
@@ -59,7 +59,7 @@ module _ (config : Config) (past : List Entry) (lawful : Lawful config past) (en
   flow_may : (f : Flow) → flow_of n (book config past).flows ≡ Some f → MayOfOne (flow_settings config) f.story (moment past) (closing (scene config past) (book config past).came f)
   flow_may f is =
       may_close (flow_settings config) f.story (moment past) (comes_directly (book config past).came f) (comes_last (scene config past) f) (guest_is_known (scene config past) f)
-      (inl (last_of_all (is_done f.story) (comes_last (scene config past) f) (host_failed f.story) (finds_no_guest (guest_is_known (scene config past) f) (moment past) f.story) (is_last f is)))
+      (inl (inl (last_of_all (is_done f.story) (comes_last (scene config past) f) (host_failed f.story) (finds_no_guest (guest_is_known (scene config past) f) (moment past) f.story) (is_last f is))))
       (still_open f is)
 
   may_shut : (o : Option Flow) → flow_of n (book config past).flows ≡ o → MayShut (flow_settings config) (scene config past) (book config past).came o
@@ -70,7 +70,7 @@ module _ (config : Config) (past : List Entry) (lawful : Lawful config past) (en
   pub may_close_least : MayDue config past (CallClose n) → (is_working (phase config past) || is_over (phase config past)) ≡ true → FlowsAskNothing config past → May config past (CallClose n)
   may_close_least due place nothing =
       closes config past n due place
-      (and_both (is_among n (open_sockets past)) _ open_yet (at_the_end (is_closing config past) (parts config past n) (is_ended config past) (is_least n (open_sockets past)) ended
+      (and_both (is_among n (open_sockets past)) _ open_yet (at_the_end (is_closing config past) (parts config past n) (is_ended config past) (is_it n (first (open_sockets past))) ended
       (least_first (open_sockets past) n least)))
       (record {
         due = subst (λ o. MatchOption o (Unit {0}) (λ d. CallClose n ≡ d)) (sym nothing.due) tt;

@@ -18,7 +18,7 @@ use Rattle.run_laws.specs.Sockets.{next_number}
 use Rattle.flow_laws.specs.Event.{Event, Closes, At, Story}
 use Rattle.flow_laws.specs.Close.{ended_first, follows_reset, host_failed, is_done, rests_since}
 use Rattle.flow_laws.specs.Flow.{is_closed}
-use Rattle.flow_laws.specs.Lawful.{Act, AskConnected, Write, EndHost, Read, HasCause, MayHappen, Close as CloseAct, May as MayOfOne, act_of}
+use Rattle.flow_laws.specs.Lawful.{Act, AskConnected, Write, EndHost, Read, HasOwnCause, MayHappen, Close as CloseAct, May as MayOfOne, act_of}
 use Rattle.flow_laws.specs.Dutiful.{Must as MustOfOne, MustClose, MustHappen, read_size}
 use Rattle.flow_laws.specs.Settings.{Settings}
 use Rattle.record_flows.specs.Book.{book, scene}
@@ -314,7 +314,7 @@ module _ (config : Config) (face : Face) (f : Flow) (past : List Entry) (now : �
     }
 
     -- it is closed, directly after a segment of the flow or not
-    module _ (directly : Bool) (came : comes_directly (book config before).came g ≡ directly) (cause : HasCause directly false known now (rest ++ f.story))
+    module _ (directly : Bool) (came : comes_directly (book config before).came g ≡ directly) (cause : HasOwnCause directly false known now (rest ++ f.story))
         (may : MayOfOne (flow_settings config) (rest ++ f.story) now (CloseAct directly ended known)) where
       open_yet : is_closed (rest ++ f.story) ≡ false
       open_yet = may.calls_open_socket
@@ -322,10 +322,10 @@ module _ (config : Config) (face : Face) (f : Flow) (past : List Entry) (now : �
       last_is : comes_last (scene config before) g ≡ ended
       last_is = called.last open_yet
 
-      cause_here : HasCause (comes_directly (book config before).came g) false (guest_is_known (scene config before) g) (moment before) g.story
-      cause_here = subst (λ d. HasCause d false (guest_is_known (scene config before) g) (moment before) g.story) (sym came)
-          (subst (λ k. HasCause directly false k (moment before) g.story) (sym called.knows)
-          (subst (λ m. HasCause directly false known m g.story) (sym called.at) cause))
+      cause_here : HasOwnCause (comes_directly (book config before).came g) false (guest_is_known (scene config before) g) (moment before) g.story
+      cause_here = subst (λ d. HasOwnCause d false (guest_is_known (scene config before) g) (moment before) g.story) (sym came)
+          (subst (λ k. HasOwnCause directly false k (moment before) g.story) (sym called.knows)
+          (subst (λ m. HasOwnCause directly false known m g.story) (sym called.at) cause))
 
       closing_is : closing (scene config before) (book config before).came g ≡ CloseAct directly ended known
       closing_is = λ i. CloseAct (came i) (last_is i) (called.knows i)

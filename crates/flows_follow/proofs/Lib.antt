@@ -19,6 +19,8 @@ pub mod Beginning
 pub mod Joining
 pub mod Leaving
 pub mod Unclosed
+pub mod Giving
+pub mod Parting
 pub mod Options
 pub mod Calling
 pub mod Hosting

@@ -1,7 +1,7 @@
 -- In a lawful record a listener is for a port of the host that is given to a guest: each was opened for the next of the forwards of the settings.
 use Rattle.std.proofs.Common.{◌≡◌, ℕ, zero, suc, ◌+◌, ◌==◌, nat_lt, Bool, true, false, List, [], ◌∷◌, drop, slice_get, is_some, MatchOption, Option, Some, None, option_and_then}
 use Rattle.std.specs.Option.{option_or}
-use Rattle.std.proofs.Common.{option_map, if◌then◌else◌, refl, sym, ◌∙◌, ap, subst, arith}
+use Rattle.std.proofs.Common.{option_map, inl, inr, if◌then◌else◌, refl, sym, ◌∙◌, ap, subst, arith}
 use Rattle.world_face.specs.Journal.{Entry, Call, Now, Wait, Connect, Listen, Accept, UdpOpen, CallNow, CallConnect, CallListen, CallAccept, CallClose, CallUdpOpen, call_of}
 use Rattle.world_face.specs.Frames.{Ending, ending, partial}
 use Rattle.world_face.specs.declared.Made.{Made}
@@ -10,10 +10,10 @@ use Rattle.net_octets.specs.declared.Endpoint.{Endpoint}
 use Rattle.host_policy.specs.declared.Forward.{Forward}
 use Rattle.host_policy.specs.declared.Proto.{Proto}
 use Rattle.host_policy.specs.declared.Proto.TheVariants.{Tcp, Udp as ByUdp}
-use Rattle.host_policy.specs.Addresses.{Config}
+use Rattle.host_policy.specs.Addresses.{Config, forward_on}
 use Rattle.run_laws.specs.Moments.{waits}
-use Rattle.run_laws.specs.Shape.{Phase, Opening, Started, Woken, Working, Over, clocked, due_in, opened, opening_of, phase, phase_after, phase_by, unless_over}
-use Rattle.run_laws.specs.Sockets.{Kind, Listener, Flow, datagram_kind, first, kind_of, next_number, open_sockets}
+use Rattle.run_laws.specs.Shape.{Phase, Opening, Started, Woken, Working, Over, clocked, due_in, opened, opening_of, phase, phase_after, phase_by, unless_over, GivesNone}
+use Rattle.run_laws.specs.Sockets.{Kind, Association, Forward as OfForward, Listener, Flow, datagram_kind, first, kind_of, next_number, open_sockets}
 use Rattle.record_flows.specs.Book.{book, port_by, port_of}
 use Rattle.record_flows.specs.Lots.{connects_to, due_by, due_for_flows}
 use Rattle.slirp_laws.specs.Asking.{step}
@@ -21,10 +21,12 @@ use Rattle.slirp_laws.specs.Names.{answered}
 use Rattle.tftp_server.specs.Asking.{call_for}
 use Rattle.tftp_server.specs.Transfers.{Quest, Settled as SeeksNothing, SeeksLength, SeeksOctets}
 use Rattle.slirp_laws.specs.Datagrams.{Step, NeedsNothing, NeedsRoom, NeedsSocket, NeedsSending, due_for}
-use Rattle.slirp_laws.specs.Laws.{Lawful, May, due, due_for_services}
+use Rattle.slirp_laws.specs.Laws.{Lawful, May, due_for_services}
 use Rattle.slirp_laws.specs.Answers.{serving}
 use Rattle.slirp_laws.proofs.Bools.{equal}
 use Rattle.flows_follow.proofs.Options.{none_some, some_same, true_false}
+use Rattle.slirp_laws.proofs.Given.{leads_nowhere, led_by_settings}
+use Rattle.slirp_laws.proofs.Phases.{given_forward, opening_call}
 
 -- ---- what asks for a listener
 
@@ -179,20 +181,16 @@ abbrev pub HasPort : Config → ℕ → Type 0
 HasPort config n = is_some (port_of config n) ≡ true
 
 -- so there are such ports
-pub port_given : (config : Config) (n : ℕ) → HasPort config n → config.forwards ≡ [] → ⊥
-port_given config n has none = true_false (sym has ∙ ap (λ all. is_some (option_and_then (λ (f : Forward). port_by f.proto f.guest) (slice_get all n))) none)
-
--- the call that is due, where one must come
-the_due : (o : Option Call) (call : Call) → is_some o ≡ true → MatchOption o (Unit {0}) (λ d. call ≡ d) → o ≡ Some call
-the_due None call some is = cc
-the_due (Some d) call some is = ap Some (sym is)
+pub port_given : (config : Config) (n : ℕ) → HasPort config n → GivesNone config → ⊥
+port_given config n has none = true_false (sym has ∙ ap (λ o. is_some (option_and_then (λ (f : Forward). port_by f.proto f.guest) o)) (leads_nowhere config n none))
 
 module _ (config : Config) (past : List Entry) (socket : ℕ) (at : Endpoint) where
   for_port : (f : Forward) (proto : Proto) → f.proto ≡ proto → slice_get config.forwards (next_number past) ≡ Some f → opening_of proto
       (next_number past) f ≡ CallListen socket at → HasPort config socket
   for_port f Tcp tcp got is =
       let number : next_number past ≡ socket = cc in
-      ap (λ o. is_some (option_and_then (λ (g : Forward). port_by g.proto g.guest) o)) (ap (slice_get config.forwards) (sym number) ∙ got) ∙ ap (λ proto. is_some (port_by proto f.guest)) tcp
+      ap (λ o. is_some (option_and_then (λ (g : Forward). port_by g.proto g.guest) o)) (ap (forward_on config) (sym number) ∙ led_by_settings config (next_number past) f got)
+      ∙ ap (λ proto. is_some (port_by proto f.guest)) tcp
   for_port f ByUdp udp got is = cc
 
   listens_for : (p : Phase) (other : Option Call) → listens other ≡ false → AreLeft config.forwards (next_number past) p → option_or (due_in p past) other ≡ Some
@@ -208,22 +206,28 @@ module _ (config : Config) (past : List Entry) (socket : ℕ) (at : Endpoint) wh
       (neither_listens (option_map CallClose (first (open_sockets past))) other (close_listens (first (open_sockets past))) none) is)
 
   new_listener : Lawful config past → May config past (CallListen socket at) → HasPort config socket
-  new_listener lawful may =
-      listens_for (phase config past) (asked config past) (asked_listens config past) (are_left config past lawful) (the_due (due config past) (CallListen socket at) may.place may.due)
+  new_listener lawful may = elim (opening_call config past socket at (port_of config socket) (CallListen socket at) may.place may.due) [
+    | inl is ↦ listens_for (phase config past) (asked config past) (asked_listens config past) (are_left config past lawful) is
+    | inr given ↦ (given_forward config past socket at (port_of config socket) given.is).leads
+  ]
 
 older_kind : (t : Bool) (k before : Option Kind) → (k ≡ Some Listener → ⊥) → (if t then k else before) ≡ Some Listener → before ≡ Some Listener
 older_kind true k before other is = absurd (other is)
 older_kind false k before other is = is
 
-not_listener : (waited : Bool) → Some (datagram_kind waited) ≡ Some Listener → ⊥
-not_listener true is = cc
-not_listener false is = cc
+not_listener : (waited : Bool) (port : ℕ) → Some (datagram_kind waited port) ≡ Some Listener → ⊥
+not_listener true port is = by (port == 0) is
+  where
+    by : (z : Bool) → Some (if z then Association else OfForward) ≡ Some Listener → ⊥
+    by true is = cc
+    by false is = cc
+not_listener false port is = cc
 
 module _ (config : Config) (past : List Entry) (lawful : Lawful config past) (n : ℕ) (before : kind_of n past ≡ Some Listener → HasPort config n) where
   has_port : (e : Entry) → May config past (call_of e) → kind_of n (e ∷ past) ≡ Some Listener → HasPort config n
   has_port (Connect socket to answer) may is = before (older_kind (socket == n) (Some Flow) (kind_of n past) (λ same. cc) is)
   has_port (Accept listener socket answer) may is = before (older_kind (socket == n) (Some Flow) (kind_of n past) (λ same. cc) is)
-  has_port (UdpOpen socket at answer) may is = before (older_kind (socket == n) (Some (datagram_kind (nat_lt 0 (waits past)))) (kind_of n past) (not_listener (nat_lt 0 (waits past))) is)
+  has_port (UdpOpen socket at answer) may is = before (older_kind (socket == n) (Some (datagram_kind (nat_lt 0 (waits past)) at.port)) (kind_of n past) (not_listener (nat_lt 0 (waits past)) at.port) is)
   has_port (Listen socket at answer) may is = by (socket == n) refl is
     where
       by : (t : Bool) → (socket == n) ≡ t → (if t then Some Listener else kind_of n past) ≡ Some Listener → HasPort config n

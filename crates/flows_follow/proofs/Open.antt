@@ -39,6 +39,7 @@ use Rattle.flows_follow.proofs.Listening.{listener_has_port, port_given}
 use Rattle.flows_follow.proofs.Looking.{part_of}
 use Rattle.flows_follow.proofs.Options.{none_some, some_same, true_false}
 use Rattle.flows_follow.proofs.Sockets.{open_has_socket}
+use Rattle.run_laws.specs.Shape.{GivesNone}
 
 -- ---- flows stay
 
@@ -115,7 +116,7 @@ module _ (n : ℕ) (config : Config) (sc : Scene) (b : Book) (has : Has n b.flow
 
 -- a flow of this number was opened; or its peer was refused, who came to a port of the host that is given to a guest
 abbrev IsMet : Config → ℕ → Book → Type 0
-IsMet config n b = Has n b.flows ⊎ ((b.doomed ≡ Some n) × (config.forwards ≡ [] → ⊥))
+IsMet config n b = Has n b.flows ⊎ ((b.doomed ≡ Some n) × (GivesNone config → ⊥))
 
 module _ (config : Config) (now socket : ℕ) (b : Book) where
   -- where a socket connects a guest's segment asked for that
@@ -126,7 +127,7 @@ module _ (config : Config) (now socket : ℕ) (b : Book) where
   opened_for None (Some on) number to is = found_here (socket == socket) _ (flow_of socket b.flows) (same socket)
 
   -- a peer comes to a guest's port
-  met : (peer : Endpoint) (port : Option Endpoint) → is_some port ≡ true → (config.forwards ≡ [] → ⊥) → IsMet config socket (visits_for config now socket peer port b)
+  met : (peer : Endpoint) (port : Option Endpoint) → is_some port ≡ true → (GivesNone config → ⊥) → IsMet config socket (visits_for config now socket peer port b)
   met peer None is given = absurd (true_false (sym is))
   met peer (Some guest) is given = by (is_refused config guest peer b)
     where
@@ -155,9 +156,13 @@ not_this : (t : Bool) (k before : Option Kind) → is_flow k ≡ false → is_fl
 not_this true k before none is = absurd (true_false (sym is ∙ none))
 not_this false k before none is = refl
 
-no_datagrams : (waited : Bool) → is_flow (Some (datagram_kind waited)) ≡ false
-no_datagrams true = refl
-no_datagrams false = refl
+no_datagrams : (waited : Bool) (port : ℕ) → is_flow (Some (datagram_kind waited port)) ≡ false
+no_datagrams true port = by (port == 0)
+  where
+    by : (z : Bool) → is_flow (Some (if z then Association else Forward)) ≡ false
+    by true = refl
+    by false = refl
+no_datagrams false port = refl
 
 not_true : (b : Bool) → not b ≡ true → b ≡ false
 not_true true is = absurd (true_false (sym is))
@@ -242,7 +247,7 @@ module _ (config : Config) (past : List Entry) (lawful : Lawful config past) (n 
       none_met (Accept listener socket AcceptFailed) socket may (λ is. cc) (peer_next config past listener socket AcceptFailed may) joined
   is_met (Listen socket at answer) may joined = other_met (Listen socket at answer) socket answer (Some Listener) refl may (λ is. cc) joined
   is_met (UdpOpen socket at answer) may joined =
-      other_met (UdpOpen socket at answer) socket answer (Some (datagram_kind (nat_lt 0 (waits past)))) (no_datagrams (nat_lt 0 (waits past))) may (λ is. cc) joined
+      other_met (UdpOpen socket at answer) socket answer (Some (datagram_kind (nat_lt 0 (waits past)) at.port)) (no_datagrams (nat_lt 0 (waits past)) at.port) may (λ is. cc) joined
   is_met (Close socket) may joined = close_met socket may joined
   is_met e may joined = stays_met e may (λ is. cc) joined
 
@@ -271,7 +276,7 @@ pub open_flow : (config : Config) (past : List Entry) (n : ℕ) → Lawful confi
 open_flow config past n lawful joined = elim (each_is_met config past n lawful joined) [ inl has ↦ inl (flow_open config past n lawful joined has) | inr refused ↦ inr refused.0 ]
 
 -- where no port of the host is given to a guest no peer comes, and each has its flow
-pub open_flow_alone : (config : Config) (past : List Entry) (n : ℕ) → config.forwards ≡ [] → Lawful config past → joins past n ≡ true
+pub open_flow_alone : (config : Config) (past : List Entry) (n : ℕ) → GivesNone config → Lawful config past → joins past n ≡ true
     → (f : Flow) × (flow_of n (book config past).flows ≡ Some f) × (is_closed f.story ≡ false)
 open_flow_alone config past n none lawful joined = elim (each_is_met config past n lawful joined) [ inl has ↦ flow_open config past n lawful joined has | inr refused ↦ absurd (refused.1 none) ]
 

@@ -20,7 +20,7 @@ use Rattle.flow_laws.specs.Event.{Segment, Departs, Closes, At, Story}
 use Rattle.flow_laws.specs.Close.{ended_first, follows_reset, host_failed, is_done, rests_since}
 use Rattle.flow_laws.specs.Flow.{is_closed}
 use Rattle.flow_laws.proofs.Grows.{closed_stays}
-use Rattle.flow_laws.specs.Lawful.{HasCause, Send, Close as CloseAct, May as MayOfOne}
+use Rattle.flow_laws.specs.Lawful.{HasOwnCause, Send, Close as CloseAct, May as MayOfOne}
 use Rattle.flow_laws.specs.Dutiful.{Must as MustOfOne}
 use Rattle.record_flows.specs.Book.{book, scene, turned}
 use Rattle.record_flows.specs.Doings.{doing, doing_by, goes}
@@ -305,7 +305,7 @@ module _ (config : Config) (face : Face) (to : Mac) (f : Flow) (past : List Entr
 
     -- ---- the socket is closed
 
-    module _ (came : (book config before).came ≡ None) (cause : HasCause false false known now (rest ++ f.story)) (may : MayOfOne (flow_settings config) (rest ++ f.story) now
+    module _ (came : (book config before).came ≡ None) (cause : HasOwnCause false false known now (rest ++ f.story)) (may : MayOfOne (flow_settings config) (rest ++ f.story) now
         (CloseAct false ended known)) where
       abbrev g : Flow
       g = with_beats f rest
@@ -319,10 +319,10 @@ module _ (config : Config) (face : Face) (to : Mac) (f : Flow) (past : List Entr
       last_is : comes_last (scene config before) g ≡ ended
       last_is = sent.last open_yet
 
-      cause_here : HasCause (comes_directly (book config before).came g) false (guest_is_known (scene config before) g) (moment before) g.story
-      cause_here = subst (λ d. HasCause d false (guest_is_known (scene config before) g) (moment before) g.story) (sym directly_is)
-          (subst (λ k. HasCause false false k (moment before) g.story) (sym sent.knows)
-          (subst (λ m. HasCause false false known m g.story) (sym sent.at) cause))
+      cause_here : HasOwnCause (comes_directly (book config before).came g) false (guest_is_known (scene config before) g) (moment before) g.story
+      cause_here = subst (λ d. HasOwnCause d false (guest_is_known (scene config before) g) (moment before) g.story) (sym directly_is)
+          (subst (λ k. HasOwnCause false false k (moment before) g.story) (sym sent.knows)
+          (subst (λ m. HasOwnCause false false known m g.story) (sym sent.at) cause))
 
       closing_is : closing (scene config before) (book config before).came g ≡ CloseAct false ended known
       closing_is = λ i. CloseAct (directly_is i) (last_is i) (sent.knows i)

@@ -4,7 +4,7 @@ use Rattle.world_face.specs.Journal.{Entry}
 use Rattle.host_policy.specs.Addresses.{Config}
 use Rattle.flow_laws.specs.Event.{Segment, Connects, Accepts, Arrives, Departs, Closes, At, Story}
 use Rattle.flow_laws.specs.Flow.{is_accepted, is_closed, syn_is_out}
-use Rattle.flow_laws.specs.Close.{is_done, follows_reset, host_failed, gives_up, connects_too_long, owes_reset, is_owed_reset, is_in_use, ended_first, ends_rest, renews, renewed, rests_since}
+use Rattle.flow_laws.specs.Close.{is_done, follows_reset, host_failed, gives_up, must_part, waits_too_long, owes_reset, is_owed_reset, is_in_use, ended_first, ends_rest, renews, renewed, rests_since}
 use Rattle.record_flows.specs.Book.{after_segment, after_close, without, rest, turned, scene, book}
 use Rattle.record_flows.specs.Flows.{Flow, Rest, Book, Scene, owner, flow_of, uses, rests_among}
 use Rattle.record_flows.specs.Doings.{Doing, Nothing, Comes, Goes, Seeks, Pauses, Joins, Visits, Calls, Shuts, doing}
@@ -68,7 +68,7 @@ closing_awake false reset first cause syn m owes = refl
 owing_awake : (s : Story) → owes_reset s ≡ true → rests_since s ≡ None
 owing_awake [] owes = refl
 owing_awake (At m (Closes directly ended known) ∷ s) owes =
-    closing_awake (is_done s) (follows_reset directly s) (ended_first s) (host_failed s || (not ended && (gives_up m s || connects_too_long m s))) (not (is_accepted s && not (syn_is_out s))) m owes
+    closing_awake (is_done s) (follows_reset directly s) (ended_first s) (must_part m s || (not ended && (gives_up m s || waits_too_long m s))) (not (is_accepted s && not (syn_is_out s))) m owes
 owing_awake (At m (Arrives seg) ∷ s) owes = rests_by (ends_rest s seg) (renews seg) m (rests_since s) (owing_awake s owes)
 owing_awake (At m (Departs seg) ∷ s) owes = owing_awake s (first_is (owes_reset s) (not (is_owed_reset s seg)) owes)
   where

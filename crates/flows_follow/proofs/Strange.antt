@@ -1,12 +1,12 @@
 -- A reset that is still owed as the answer to what came last is no flow's own segment, and the frames of answers leave the flows as they are.
 use Rattle.std.proofs.Common.{nat_eq, nat_lt, ◌≡◌, ℕ, ◌≤◌, ◌&&◌, ◌||◌, not, Bool, true, false, List, [], ◌∷◌, length, drop, filter, MatchBool, Option, Some, None, if◌then◌else◌, ◌⊎◌, inl}
-use Rattle.std.proofs.Common.{inr, refl, sym, ◌∙◌, ap, subst}
+use Rattle.std.proofs.Common.{inr, refl, sym, ◌∙◌, ap, subst, cond, ◌==◌}
 use Rattle.net_octets.specs.declared.Endpoint.{Endpoint}
 use Rattle.net_octets.specs.declared.Mac.{Mac}
 use Rattle.std.specs.Option.{unwrap_or}
 use Rattle.seq_space.specs.Places.{number_of}
 use Rattle.world_face.specs.Journal.{Entry, Call, Now, Wait, LinkOpen, LinkRead, LinkWrite, Connect, Connected as CallsConnected, Listen, Accept, TcpRead, TcpWrite, TcpEnd, Close, UdpOpen}
-use Rattle.world_face.specs.Journal.{UdpSend, UdpRecv, FileLen, FileRead, CallConnect}
+use Rattle.world_face.specs.Journal.{UdpSend, UdpRecv, FileLen, FileRead, CallConnect, CallUdpOpen}
 use Rattle.world_face.specs.Frames.{goes_out, opens as opens_by, tail}
 use Rattle.world_face.specs.declared.Io.{Io}
 use Rattle.world_face.specs.declared.Io.TheVariants.{Done as IoDone, End, NotYet as IoNotYet, Failed as IoFailed}
@@ -56,7 +56,7 @@ use Rattle.slirp_laws.specs.Datagrams.{Step, NeedsNothing, NeedsRoom, NeedsSocke
 use Rattle.slirp_laws.specs.Laws.{Lawful, May}
 use Rattle.slirp_laws.proofs.Deeds.{FlowsLetWrite}
 use Rattle.slirp_laws.specs.Ports.{last_datagram}
-use Rattle.slirp_laws.specs.Said.{Occasion, Came, by_outcome, by_said, heard_on, last_occasion, occasion_after, refused_or, unsent_or}
+use Rattle.slirp_laws.specs.Said.{for_guest, Occasion, Came, by_outcome, by_said, heard_on, last_occasion, occasion_after, refused_or, unsent_or}
 use Rattle.slirp_laws.proofs.Bools.{first_of, second_of}
 use Rattle.slirp_laws.proofs.Owing.{Begins, Next, Beside, none_stays, others_stay, out_by}
 use Rattle.slirp_laws.proofs.Steps.{errand_asks, errand_is}
@@ -69,6 +69,7 @@ use Rattle.flows_follow.proofs.Resets.{Answering, HasEnds, answered, left_answer
 use Rattle.flows_follow.proofs.Sought.{holds_sought}
 use Rattle.flows_follow.proofs.Within.{AreEnds}
 use Rattle.flows_follow.proofs.Options.{none_some, some_same, true_false}
+use Rattle.slirp_laws.proofs.Joining.{settled_named}
 
 -- ---- why a reset is owed
 
@@ -363,9 +364,23 @@ after_unsent config past calm = by (last_datagram config past) refl
       | inr clear ↦ inr clear
     ]
 
-after_open : (config : Config) (past : List Entry) (socket : ℕ) (at : Endpoint) (answer : Made) → CalmIf config past → CalmIf config (UdpOpen socket at answer ∷ past)
-after_open config past socket at MadeDone calm = calm
-after_open config past socket at MadeFailed calm = after_unsent config past calm
+after_open : (config : Config) (past : List Entry) (socket : ℕ) (at : Endpoint) (answer : Made) → May config past (CallUdpOpen socket at) → Lawful config past → CalmIf config past → CalmIf config (UdpOpen socket at answer ∷ past)
+after_open config past socket at MadeDone may lawful calm = calm
+after_open config past socket at MadeFailed may lawful calm = by (at.port == 0) refl
+  where
+    Then : Option Datagram → Type 0
+    Then last = AreEnds (answered (unsent_or last (last_occasion config past)))
+        → (unsent config (identification past) (step config past) (left config past) ≡ []) ⊎ IsClear (book config past).flows (answered (unsent_or last (last_occasion config past)))
+
+    quiet : step config past ≡ NeedsNothing → Then None
+    quiet settled ends = elim (calm ends) [
+      | inl none ↦ inl (ap (λ s. unsent config (identification past) s (left config past)) settled ∙ none)
+      | inr clear ↦ inr clear
+    ]
+
+    by : (b : Bool) → (at.port == 0) ≡ b → Then (for_guest at.port (last_datagram config past))
+    by true any = subst (λ (b : Bool). Then (cond b (last_datagram config past) None)) (sym any) (after_unsent config past calm)
+    by false named = subst (λ (b : Bool). Then (cond b (last_datagram config past) None)) (sym named) (quiet (settled_named config past socket at lawful may named))
 
 after_send : (config : Config) (past : List Entry) (socket : ℕ) (to : Endpoint) (octets : List ℕ) (answer : Sent) → CalmIf config past → CalmIf config (UdpSend socket to octets answer ∷ past)
 after_send config past socket to octets SentDone calm = calm
@@ -461,7 +476,7 @@ calm_by config (TcpEnd socket answer) past fits lawful calm = λ ends. goes_on c
 calm_by config (Close socket) past fits lawful calm =
     λ ends. goes_on config (Close socket) past refl refl
     (λ f found. (subst (MayShut (flow_settings config) (scene config past) (book config past).came) found lawful.0.flows.touches).calls_open_socket) (calm ends)
-calm_by config (UdpOpen socket at answer) past fits lawful calm = after_open config past socket at answer calm
+calm_by config (UdpOpen socket at answer) past fits lawful calm = after_open config past socket at answer lawful.0 lawful.1 calm
 calm_by config (UdpSend socket to octets answer) past fits lawful calm = after_send config past socket to octets answer calm
 calm_by config (UdpRecv socket asked answer octets) past fits lawful calm = after_hearing config past socket asked answer octets calm
 calm_by config (FileLen name answer) past fits lawful calm = after_file config (FileLen name answer) past (by_answer (serving config past).now (FileLen name answer)

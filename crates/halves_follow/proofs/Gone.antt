@@ -5,8 +5,8 @@ use Rattle.std.proofs.lemmas.Bool.Decides.{nat_tests}
 use Rattle.flow_laws.specs.Event.{Segment, Departs, At, Story, newest_moment}
 use Rattle.flow_laws.specs.Guest.{from_zero}
 use Rattle.flow_laws.specs.Host.{Sent, sent, acked, answered, our_place}
-use Rattle.flow_laws.specs.Flow.{host, holds, add_if, sendings, syn_sendings, syn_is_out, oldest_sendings, oldest_sent_again, sent_again, acknowledged_at, is_under_way}
-use Rattle.flow_laws.specs.Dutiful.{waits_since, newest_of}
+use Rattle.flow_laws.specs.Flow.{host, holds, add_if, sendings, syn_sendings, syn_is_out, oldest_sendings, oldest_sent_again, sent_again, acknowledged_at, is_under_way, newest_of}
+use Rattle.flow_laws.specs.Dutiful.{waits_since}
 use Rattle.flow_laws.proofs.Sides.{host_sent}
 use Rattle.halves_follow.specs.Resends.{Timer, Until, Expired, Resends, IsRunning, least_wait}
 use Rattle.halves_follow.proofs.Timers.{starts, goes_again, goes_anyway, wait_low}

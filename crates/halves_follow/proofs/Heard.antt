@@ -6,9 +6,9 @@ use Rattle.flow_laws.specs.Settings.{Settings}
 use Rattle.flow_laws.specs.Event.{Segment, Arrives, At, Story, newest_moment}
 use Rattle.flow_laws.specs.Guest.{from_zero}
 use Rattle.flow_laws.specs.Host.{Down, Confirmed, sent, acked, answered, our_place, is_acceptable, not_past_sent}
-use Rattle.flow_laws.specs.Flow.{host, confirms, sendings, syn_sendings, syn_is_out, oldest_sendings, oldest_sent_again, sent_again, acknowledged_at, is_under_way}
+use Rattle.flow_laws.specs.Flow.{host, confirms, sendings, syn_sendings, syn_is_out, oldest_sendings, oldest_sent_again, sent_again, acknowledged_at, is_under_way, newest_of}
 use Rattle.flow_laws.specs.Lawful.{IsLawful}
-use Rattle.flow_laws.specs.Dutiful.{waits_since, newest_of}
+use Rattle.flow_laws.specs.Dutiful.{waits_since}
 use Rattle.flow_laws.proofs.Sides.{host_confirmed}
 use Rattle.halves_follow.specs.Resends.{Timer, Until, Expired, Resends}
 use Rattle.halves_follow.proofs.Timers.{passes, counts_anew, overdue_anew, overdue_first, moves, wait_low, wait_grows}

@@ -4,9 +4,9 @@ use Rattle.std.proofs.lemmas.Bool.Decides.{nat_tests}
 use Rattle.std.specs.Option.{unwrap_or}
 use Rattle.flow_laws.specs.Event.{Segment, AsksAddress, Connects, Accepts, Departs, At, Story, IsStory, newest_moment}
 use Rattle.flow_laws.specs.Host.{answered, acked}
-use Rattle.flow_laws.specs.Flow.{host, add_if, holds, sendings, syn_sendings, acknowledged_at, oldest, oldest_sendings, oldest_sent_again, is_under_way, is_closed, opened_at, is_accepted, syn_is_out}
+use Rattle.flow_laws.specs.Flow.{host, add_if, holds, sendings, syn_sendings, acknowledged_at, oldest, oldest_sendings, oldest_sent_again, is_under_way, is_closed, opened_at, is_accepted, syn_is_out, newest_of}
 use Rattle.flow_laws.specs.Close.{asked_at, gives_up, times_asked, finds_no_guest}
-use Rattle.flow_laws.specs.Dutiful.{waits_since, newest_of, moment_if, oldest_unheard, back_off, resend_deadline, seeks_guest, waits_for_window, AreAhead}
+use Rattle.flow_laws.specs.Dutiful.{waits_since, moment_if, oldest_unheard, back_off, resend_deadline, seeks_guest, waits_for_window, AreAhead}
 use Rattle.halves_follow.specs.Resends.{Seeks, least_wait, Timer, Off, Until, Expired, Resends, first_time}
 use Rattle.halves_follow.proofs.Moments.{both_ahead}
 use Rattle.halves_follow.proofs.Resent.{rests_now}
@@ -101,7 +101,7 @@ add_from : (b : Bool) (m from : ℕ) (ms : List ℕ) → from ≤ m → AllFrom 
 add_from true m from ms low all = (low, all)
 add_from false m from ms low all = all
 
-opened_first : (past : Story) → IsStory past → opened_at past ≤ newest_moment past
+pub opened_first : (past : Story) → IsStory past → opened_at past ≤ newest_moment past
 opened_first [] is = absurd is
 opened_first (At m (Connects ours syn) ∷ []) is = omega arith
 opened_first (At m (Accepts ours) ∷ []) is = omega arith

@@ -6,7 +6,7 @@ use Rattle.seq_space.specs.Places.{number_of}
 use Rattle.flow_laws.specs.Event.{Segment, Event, Departs, Closes, At, Story}
 use Rattle.flow_laws.specs.Host.{sent}
 use Rattle.flow_laws.specs.Flow.{host, their_number, our_number, next_number, is_accepted, syn_is_out}
-use Rattle.flow_laws.specs.Close.{is_done, follows_reset, host_failed, gives_up, connects_too_long, owes_reset, is_owed_reset}
+use Rattle.flow_laws.specs.Close.{is_done, follows_reset, host_failed, gives_up, may_give_way, must_part, waits_too_long, owes_reset, is_owed_reset}
 use Rattle.flow_laws.specs.Lawful.{ResetsWhereOwed, Send}
 use Rattle.flow_laws.proofs.Sides.{our_first_is}
 use Rattle.halves_follow.specs.Sends.{Outward, Keeps}
@@ -15,10 +15,10 @@ use Rattle.halves_follow.proofs.Owing.{failed_no_reset, no_reset}
 -- ---- what a close owes
 
 module _ (past : Story) (m : ℕ) (directly ended known : Bool) where
-  owes_by : (d f h g c a : Bool) → is_done past ≡ d → follows_reset directly past ≡ f → host_failed past ≡ h → gives_up m past ≡ g → connects_too_long m past ≡ c →
+  owes_by : (d f h g c a : Bool) → is_done past ≡ d → follows_reset directly past ≡ f → must_part m past ≡ h → gives_up m past ≡ g → waits_too_long m past ≡ c →
       (is_accepted past && not (syn_is_out past)) ≡ a
       → owes_reset (At m (Closes directly ended known) ∷ past) ≡ (not d && not f && (h || (not ended && (g || c))) && not a)
-  owes_by d f h g c a ds fs hs gs cs ts = by (is_done past) (follows_reset directly past) (host_failed past) (gives_up m past) (connects_too_long m past)
+  owes_by d f h g c a ds fs hs gs cs ts = by (is_done past) (follows_reset directly past) (must_part m past) (gives_up m past) (waits_too_long m past)
       (is_accepted past && not (syn_is_out past)) ds fs hs gs cs ts
     where
       by : (x y z u v w : Bool) → x ≡ d → y ≡ f → z ≡ h → u ≡ g → v ≡ c → w ≡ a → (not x && not y && (z || (not ended && (u || v))) && not w) ≡
@@ -27,48 +27,48 @@ module _ (past : Story) (m : ℕ) (directly ended known : Bool) where
 
   -- after a call that failed
   pub failed_owes : host_failed past ≡ true → is_done past ≡ false → (is_accepted past && not (syn_is_out past)) ≡ false → owes_reset (At m (Closes directly ended known) ∷ past) ≡ true
-  failed_owes failed not_done sent_any = owes_by false false true (gives_up m past) (connects_too_long m past) false not_done
-      (no_reset past directly (failed_no_reset past failed)) failed refl refl sent_any
+  failed_owes failed not_done sent_any = owes_by false false true (gives_up m past) (waits_too_long m past) false not_done
+      (no_reset past directly (failed_no_reset past failed)) (ap (λ b. b || may_give_way m past) failed) refl refl sent_any
 
-  -- after it was given up, or didn't connect in time
-  pub late_owes : (IsTrue (gives_up m past || connects_too_long m past)) → follows_reset directly past ≡ false → ended ≡ false → is_done past ≡ false →
+  -- after it gave way
+  pub way_owes : IsTrue (may_give_way m past) → follows_reset directly past ≡ false → is_done past ≡ false → (is_accepted past && not (syn_is_out past)) ≡ false
+      → owes_reset (At m (Closes directly ended known) ∷ past) ≡ true
+  way_owes gives no_reset not_done sent_any =
+      owes_by false false true (gives_up m past) (waits_too_long m past) false not_done no_reset (by (host_failed past) (may_give_way m past) gives) refl refl sent_any
+    where
+      by : (h g : Bool) → g ≡ true → (h || g) ≡ true
+      by true g gs = refl
+      by false g gs = gs
+
+  -- after it was given up, or waited for too long
+  pub late_owes : (IsTrue (gives_up m past || waits_too_long m past)) → follows_reset directly past ≡ false → ended ≡ false → is_done past ≡ false →
       (is_accepted past && not (syn_is_out past)) ≡ false
       → owes_reset (At m (Closes directly ended known) ∷ past) ≡ true
   late_owes late no_reset on not_done sent_any =
-      owes_by false false (host_failed past) (gives_up m past) (connects_too_long m past) false not_done no_reset refl refl refl sent_any ∙ by (host_failed past) ended
-      (gives_up m past || connects_too_long m past) on late
+      owes_by false false (must_part m past) (gives_up m past) (waits_too_long m past) false not_done no_reset refl refl refl sent_any ∙ by (must_part m past) ended
+      (gives_up m past || waits_too_long m past) on late
     where
       by : (h e g : Bool) → e ≡ false → g ≡ true → (not false && not false && (h || (not e && g)) && not false) ≡ true
       by true e g es gs = refl
       by false e g es gs = rw (es, gs) refl
 
-  -- none after both ends passed, after the guest's reset, at the end of the run, or where nothing of ours went out
+  -- none after both ends passed, after the guest's reset, or where nothing of ours went out
   pub done_owes_none : is_done past ≡ true → owes_reset (At m (Closes directly ended known) ∷ past) ≡ false
-  done_owes_none done = owes_by true (follows_reset directly past) (host_failed past) (gives_up m past) (connects_too_long m past)
+  done_owes_none done = owes_by true (follows_reset directly past) (must_part m past) (gives_up m past) (waits_too_long m past)
       (is_accepted past && not (syn_is_out past)) done refl refl refl refl refl
 
   pub reset_owes_none : follows_reset directly past ≡ true → owes_reset (At m (Closes directly ended known) ∷ past) ≡ false
-  reset_owes_none after = owes_by (is_done past) true (host_failed past) (gives_up m past) (connects_too_long m past) (is_accepted past && not (syn_is_out past)) refl after refl refl refl refl
-      ∙ by (not (is_done past)) (host_failed past || (not ended && (gives_up m past || connects_too_long m past))) (not (is_accepted past && not (syn_is_out past)))
+  reset_owes_none after = owes_by (is_done past) true (must_part m past) (gives_up m past) (waits_too_long m past) (is_accepted past && not (syn_is_out past)) refl after refl refl refl refl
+      ∙ by (not (is_done past)) (must_part m past || (not ended && (gives_up m past || waits_too_long m past))) (not (is_accepted past && not (syn_is_out past)))
     where
       by : (d x y : Bool) → (d && not true && x && y) ≡ false
       by true x y = refl
       by false x y = refl
 
-  pub run_owes_none : ended ≡ true → host_failed past ≡ false → owes_reset (At m (Closes directly ended known) ∷ past) ≡ false
-  run_owes_none over fine =
-      owes_by (is_done past) (follows_reset directly past) false (gives_up m past) (connects_too_long m past) (is_accepted past && not (syn_is_out past)) refl refl fine refl refl refl
-      ∙ by (not (is_done past)) (not (follows_reset directly past)) ended (gives_up m past || connects_too_long m past) (not (is_accepted past && not (syn_is_out past))) over
-    where
-      by : (d f e g a : Bool) → e ≡ true → (d && f && (false || (not e && g)) && a) ≡ false
-      by true true e g a es = rw es refl
-      by true false e g a es = refl
-      by false f e g a es = refl
-
   pub unsent_owes_none : (is_accepted past && not (syn_is_out past)) ≡ true → owes_reset (At m (Closes directly ended known) ∷ past) ≡ false
   unsent_owes_none none =
-      owes_by (is_done past) (follows_reset directly past) (host_failed past) (gives_up m past) (connects_too_long m past) true refl refl refl refl refl none
-      ∙ by (not (is_done past)) (not (follows_reset directly past)) (host_failed past || (not ended && (gives_up m past || connects_too_long m past)))
+      owes_by (is_done past) (follows_reset directly past) (must_part m past) (gives_up m past) (waits_too_long m past) true refl refl refl refl refl none
+      ∙ by (not (is_done past)) (not (follows_reset directly past)) (must_part m past || (not ended && (gives_up m past || waits_too_long m past)))
     where
       by : (d f g : Bool) → (d && f && g && false) ≡ false
       by true true true = refl

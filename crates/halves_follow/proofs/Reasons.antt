@@ -4,9 +4,9 @@ use Rattle.std.proofs.lemmas.Bool.Decides.{nat_tests}
 use Rattle.flow_laws.specs.Event.{Segment, Event, Connects, Accepts, Arrives, Departs, Writes, At, Story}
 use Rattle.flow_laws.specs.Guest.{is_empty}
 use Rattle.flow_laws.specs.Host.{acked, answered, our_place}
-use Rattle.flow_laws.specs.Flow.{host, sendings, syn_sendings, oldest_sendings, is_under_way, was_long_ago}
+use Rattle.flow_laws.specs.Flow.{host, sendings, syn_sendings, oldest_sendings, is_under_way, was_long_ago, newest_of}
 use Rattle.flow_laws.specs.Lawful.{SendsAgainWithReason, Send, repeats, is_prompted, is_overdue}
-use Rattle.flow_laws.specs.Dutiful.{waits_since, newest_of}
+use Rattle.flow_laws.specs.Dutiful.{waits_since}
 use Rattle.halves_follow.specs.Resends.{Until, Resends, HasReason}
 use Rattle.halves_follow.proofs.Timers.{not_early}
 use Rattle.halves_follow.proofs.Resent.{IsQuiet}

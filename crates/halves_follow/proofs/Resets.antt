@@ -8,7 +8,7 @@ use Rattle.flow_laws.specs.Event.{Segment, Arrives, At, Story}
 use Rattle.flow_laws.specs.Guest.{Up, Known, Came, Acked, Wrote, Ended, is_empty, ack_is_due, ackd, first_of, HasCome, Honest, written}
 use Rattle.flow_laws.specs.Flow.{guest, their_number, our_number, next_number}
 use Rattle.flow_laws.specs.Close.{IsReset, newest_rst, some_fatal, follows_reset}
-use Rattle.flow_laws.specs.Lawful.{HasCause}
+use Rattle.flow_laws.specs.Lawful.{HasOwnCause}
 use Rattle.flow_laws.proofs.Sides.{their_first}
 use Rattle.halves_follow.specs.Received.{Received, received, places_taken}
 use Rattle.halves_follow.specs.Part.{Part}
@@ -43,18 +43,18 @@ module _ (s : Settings) (m : ℕ) (past : Story) (seg : Segment) (rst : seg.rst 
   newest : newest_rst (At m (Arrives seg) ∷ past) ≡ Some seg
   newest = rw rst refl
 
-  reset_by : (ended known : Bool) (now : ℕ) → IsReset past seg → HasCause true ended known now (At m (Arrives seg) ∷ past)
+  reset_by : (ended known : Bool) (now : ℕ) → IsReset past seg → HasOwnCause true ended known now (At m (Arrives seg) ∷ past)
   reset_by ended known now is = inr (inr (refl, subst (λ (o : Option Segment). MatchOption o ⊥ (λ g. IsReset past g)) (sym newest) is))
 
   -- at the number that is expected next
   pub reset_closes : (p : Part) (ended known : Bool) (now : ℕ) → their_number past ≡ Some p.received.first → Follows s.ring p (guest past)
-      → seg.number ≡ number_of p.received.first (places_taken p.received) → HasCause true ended known now (At m (Arrives seg) ∷ past)
+      → seg.number ≡ number_of p.received.first (places_taken p.received) → HasOwnCause true ended known now (At m (Arrives seg) ∷ past)
   reset_closes p ended known now theirs f number =
       reset_by ended known now (rw theirs (λ honest. (places_taken p.received, f.acknowledged, taken_came s.ring (guest past) p f honest, number)))
 
   -- or, before the guest's SYN is known, where it acknowledges ours
   pub reset_turns_away : (ended known : Bool) (now : ℕ) → their_number past ≡ None → seg.ack ≡ true → seg.acknowledgement ≡ next_number (our_number past) →
-      HasCause true ended known now (At m (Arrives seg) ∷ past)
+      HasOwnCause true ended known now (At m (Arrives seg) ∷ past)
   reset_turns_away ended known now unknown ack is = reset_by ended known now (rw (unknown, ack) (same seg.acknowledgement (next_number (our_number past)) is))
     where
       same : (a b : ℕ) → a ≡ b → IsTrue (nat_eq a b)

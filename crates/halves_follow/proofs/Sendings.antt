@@ -7,8 +7,8 @@ use Rattle.flow_laws.specs.Settings.{Settings}
 use Rattle.flow_laws.specs.Event.{Segment, Connects, Accepts, Arrives, Departs, Reads, ReadsEnd, At, Story, IsStory, newest_moment}
 use Rattle.flow_laws.specs.Guest.{from_zero}
 use Rattle.flow_laws.specs.Host.{Down, Sent, Confirmed, sent, our_place, answered, acked}
-use Rattle.flow_laws.specs.Flow.{host, push, confirms, holds, add_if, sendings, syn_sendings, syn_is_out, acknowledged_at}
-use Rattle.flow_laws.specs.Dutiful.{waits_since, newest_of}
+use Rattle.flow_laws.specs.Flow.{host, push, confirms, holds, add_if, sendings, syn_sendings, syn_is_out, acknowledged_at, newest_of}
+use Rattle.flow_laws.specs.Dutiful.{waits_since}
 use Rattle.flow_laws.specs.Lawful.{IsPiece, IsLawful}
 use Rattle.halves_follow.specs.Resends.{first_time}
 

@@ -2,8 +2,8 @@
 use Rattle.std.proofs.Common.{refl, ◌≡◌, ℕ, ◌+◌, ◌≤◌, List, ◌∷◌, length, max, arith, Bool, true, false, not, ◌&&◌, ◌||◌, if◌then◌else◌, nat_lt, ap, sym, ◌∙◌, subst}
 use Rattle.flow_laws.specs.Event.{Segment, Departs, At, Story, newest_moment}
 use Rattle.flow_laws.specs.Host.{sent, acked, answered}
-use Rattle.flow_laws.specs.Flow.{host, add_if, sendings, syn_sendings, syn_is_out, oldest_sendings, oldest_sent_again, sent_again, acknowledged_at, is_under_way}
-use Rattle.flow_laws.specs.Dutiful.{waits_since, newest_of}
+use Rattle.flow_laws.specs.Flow.{host, add_if, sendings, syn_sendings, syn_is_out, oldest_sendings, oldest_sent_again, sent_again, acknowledged_at, is_under_way, newest_of}
+use Rattle.flow_laws.specs.Dutiful.{waits_since}
 use Rattle.flow_laws.proofs.Sides.{host_opened}
 use Rattle.halves_follow.specs.Resends.{Until, Expired, Resends, IsRunning, least_wait}
 use Rattle.halves_follow.proofs.Timers.{starts, goes_again, goes_anyway}

@@ -1,8 +1,8 @@
 -- How often the oldest number that isn't acknowledged went out since a segment of the guest came, event by event.
-use Rattle.std.proofs.Common.{refl, ◌≡◌, ℕ, ◌+◌, ◌-◌, ◌*◌, ◌^◌, ◌<◌, ◌≤◌, ◌⊎◌, inl, inr, ℤ, pos, ◌+ℤ◌, int_le, int_lt, nat_lt, List, [], ◌∷◌, length, min, arith, pow-suc, Bool, true, false, not, ◌&&◌, ◌||◌, if◌then◌else◌, IsTrue, nat_le, ap, sym, ◌∙◌, subst, suc, zero}
+use Rattle.std.proofs.Common.{refl, ◌≡◌, ℕ, ◌+◌, ◌-◌, ◌^◌, ◌<◌, ◌≤◌, ◌⊎◌, inl, inr, ℤ, pos, ◌+ℤ◌, int_le, int_lt, nat_lt, List, [], ◌∷◌, length, arith, pow-suc, Bool, true, false, not, ◌&&◌, ◌||◌, if◌then◌else◌, IsTrue, nat_le, ap, ◌∙◌, suc, zero}
 use native.Mathlib.Nat.{one-le-pow}
 use Rattle.std.proofs.lemmas.Bool.Decides.{nat_tests}
-use Rattle.flow_laws.specs.Event.{Segment, Event, Connects, Accepts, Arrives, Departs, Connected, Writes, Reads, ReadsEnd, At, Story}
+use Rattle.flow_laws.specs.Event.{Segment, Event, Connects, Accepts, Arrives, Departs, At, Story}
 use Rattle.flow_laws.specs.Host.{Sent, acked, answered, our_place, sent}
 use Rattle.flow_laws.specs.Flow.{add_if, host, holds, is_closed, sendings, syn_is_out, syn_sendings}
 use Rattle.flow_laws.specs.Dutiful.{back_off, is_called_enough, oldest_unheard, syn_unheard, unheard}

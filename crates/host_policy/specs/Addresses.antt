@@ -1,6 +1,7 @@
 -- The virtual network, and whose its addresses are.
-use Rattle.std.specs.Prelude.{ℕ, ◌+◌, ◌-◌, ◌/◌, ◌^◌, ◌==◌, ◌&&◌, ◌||◌, not, Bool, List, [], ◌∷◌, Option, map}
+use Rattle.std.specs.Prelude.{ℕ, ◌+◌, ◌-◌, ◌/◌, ◌^◌, ◌==◌, ◌&&◌, ◌||◌, not, Bool, List, [], ◌∷◌, Option, find, map, option_map, slice_get}
 use Rattle.std.specs.List.{list_any}
+use Rattle.std.specs.Option.{option_or}
 use Rattle.net_octets.specs.declared.Endpoint.{Endpoint}
 use Rattle.host_policy.specs.declared.Denial.{Denial}
 use Rattle.host_policy.specs.declared.Forward.{Forward}
@@ -36,6 +37,12 @@ pub record Config : Type 0 where
   pub control : Option Endpoint
   pub denied : List Denial
   pub congestion : Bool
+  -- ports of the host that are given to guests while the run goes on, each with the number of its socket; the settings of a command have none
+  pub added : List (ℕ × Forward)
+
+-- the forward that a socket is for: those of the settings have the first numbers, in their order
+abbrev pub forward_on : Config → ℕ → Option Forward
+forward_on config socket = option_or (slice_get config.forwards socket) (option_map (λ a. a.1) (find (λ a. a.0 == socket) config.added))
 
 abbrev pub endpoint : ℕ → ℕ → Endpoint
 endpoint addr port = record { addr = record { 0 = addr }; port = port }

@@ -34,6 +34,7 @@ settings c = record {
   control = c.control;
   denied = c.denied.items;
   congestion = c.congestion;
+  added = [];
 }
 
 -- the settings of a command without options: 10.0.2.0/24, the host at 10.0.2.2, the name server at 10.0.2.3, guests from 10.0.2.15 on; 256 flows, 2^44 turns
@@ -67,4 +68,5 @@ usual = record {
   control = None;
   denied = [];
   congestion = false;
+  added = [];
 }

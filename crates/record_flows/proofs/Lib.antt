@@ -22,4 +22,5 @@ pub mod TcpHeaders
 pub mod TcpForwards
 pub mod TcpRefused
 pub mod Lots
+pub mod Quiet
 pub mod TcpDuties

@@ -1,5 +1,5 @@
 -- What becomes of a guest's SYN.
-use Rattle.std.proofs.Common.{◌≡◌, ℕ, ◌≤◌, ◌&&◌, ◌||◌, inl, inr, not, nat_lt, nat_eq, Bool, true, false, Option, Some, None, if◌then◌else◌, refl, sym, ◌∙◌, arith}
+use Rattle.std.proofs.Common.{◌≡◌, ℕ, ◌≤◌, ◌⊎◌, ◌&&◌, ◌||◌, inl, inr, subst, not, nat_lt, nat_eq, Bool, true, false, Option, Some, None, if◌then◌else◌, refl, sym, ◌∙◌, arith}
 use Rattle.std.proofs.lemmas.Bool.Decides.{nat_tests}
 use Rattle.host_policy.specs.Addresses.{Config}
 use Rattle.host_policy.specs.Targets.{target}
@@ -10,7 +10,7 @@ use Rattle.flow_laws.specs.Event.{Segment}
 use Rattle.flow_laws.specs.Flow.{host, is_closed, next_number, our_number, syn_is_out}
 use Rattle.flow_laws.specs.Host.{answered}
 use Rattle.record_flows.specs.Flows.{Flow, Book, owner, is_used, used, is_resting}
-use Rattle.record_flows.specs.Lots.{Lot, OfFlow, Dropped, GetsReset, is_mistaken, is_opening, is_reset, is_reset_by, is_to_many, lot, lot_by}
+use Rattle.record_flows.specs.Lots.{Lot, OfFlow, Dropped, NeedsRoom, GetsReset, is_mistaken, is_opening, is_reset, is_reset_by, is_to_many, lot, lot_by}
 use Rattle.record_flows.specs.Said.{IsDenied, IsIgnored, IsNobodys}
 use Rattle.record_flows.specs.Segments.{OnTuple}
 
@@ -77,24 +77,37 @@ module _ (config : Config) (b : Book) (on : OnTuple) (opening : is_opening on.se
           by_verdict (target config OverTcp on.tuple.other) (nat_lt (used b.flows) config.flows) refl
           (reset_by (lot_by (target config OverTcp on.tuple.other) (nat_lt (used b.flows) config.flows)) (lot_is false false is_owned is_many)) is_owned is_many
 
-  pub is_ignored : lot config b on ≡ Dropped → IsIgnored config b on
+  of_flow_dropped : OfFlow ≡ Dropped → ⊥
+  of_flow_dropped is = cc
+
+  of_flow_needs : OfFlow ≡ NeedsRoom → ⊥
+  of_flow_needs is = cc
+
+  of_flow_not : (OfFlow ≡ Dropped) ⊎ (OfFlow ≡ NeedsRoom) → ⊥
+  of_flow_not (inl is) = of_flow_dropped is
+  of_flow_not (inr is) = of_flow_needs is
+
+  pub is_ignored : (lot config b on ≡ Dropped) ⊎ (lot config b on ≡ NeedsRoom) → IsIgnored config b on
   is_ignored is = by_tests (is_used on.tuple b.flows || is_resting on.tuple b) (is_to_many config on.tuple.other) refl refl
     where
-      of_flow : OfFlow ≡ Dropped → ⊥
-      of_flow is = cc
+      as_lot : (l : Lot) → lot config b on ≡ l → (l ≡ Dropped) ⊎ (l ≡ NeedsRoom)
+      as_lot l same = subst (λ (x : Lot). (x ≡ Dropped) ⊎ (x ≡ NeedsRoom)) same is
 
       at_most : (n m : ℕ) → nat_lt n m ≡ false → m ≤ n
       at_most n m is = grind (arith, nat_tests, is)
 
-      by_verdict : (v : Verdict) (room : Bool) → nat_lt (used b.flows) config.flows ≡ room → lot_by v room ≡ Dropped → config.flows ≤ used b.flows
-      by_verdict (Go to) true has dropped = absurd cc
-      by_verdict (Go to) false has dropped = at_most (used b.flows) config.flows has
-      by_verdict (Denied rule) room has dropped = absurd cc
+      by_verdict : (v : Verdict) (room : Bool) → nat_lt (used b.flows) config.flows ≡ room → (lot_by v room ≡ Dropped) ⊎ (lot_by v room ≡ NeedsRoom) → config.flows ≤ used b.flows
+      by_verdict (Go to) true has (inl dropped) = absurd cc
+      by_verdict (Go to) true has (inr needs) = absurd cc
+      by_verdict (Go to) false has which = at_most (used b.flows) config.flows has
+      by_verdict (Denied rule) room has (inl dropped) = absurd cc
+      by_verdict (Denied rule) room has (inr needs) = absurd cc
 
       by_tests : (owned many : Bool) → (is_used on.tuple b.flows || is_resting on.tuple b) ≡ owned → is_to_many config on.tuple.other ≡ many → IsIgnored config b on
-      by_tests true many is_owned is_many = absurd (of_flow (sym (lot_is true many is_owned is_many) ∙ is))
+      by_tests true many is_owned is_many = absurd (of_flow_not (as_lot OfFlow (lot_is true many is_owned is_many)))
       by_tests false true is_owned is_many = record { nobodys = nobodys is_owned; why = inl is_many }
       by_tests false false is_owned is_many = record {
         nobodys = nobodys is_owned;
-        why = inr (by_verdict (target config OverTcp on.tuple.other) (nat_lt (used b.flows) config.flows) refl (sym (lot_is false false is_owned is_many) ∙ is));
+        why = inr (by_verdict (target config OverTcp on.tuple.other) (nat_lt (used b.flows) config.flows) refl
+            (as_lot (lot_by (target config OverTcp on.tuple.other) (nat_lt (used b.flows) config.flows)) (lot_is false false is_owned is_many)));
       }

@@ -9,9 +9,10 @@ use Rattle.flow_laws.specs.Dutiful.{Must, MustClose, MustHappen}
 use Rattle.flow_laws.specs.Lawful.{MayHappen}
 use Rattle.flow_laws.specs.Settings.{Settings}
 use Rattle.flow_table.specs.declared.Tuple.{Tuple}
-use Rattle.record_flows.specs.Book.{opens, port_of, tuple_for, is_refused, joins_for, visits_for, doom, quiet, turned}
+use Rattle.record_flows.specs.Book.{opens, port_of, tuple_for, is_refused, heard, joins_for, visits_for, doom, quiet, turned}
 use Rattle.record_flows.specs.Doings.{Comes, Goes, Seeks, Joins, Visits, Calls, Shuts}
 use Rattle.record_flows.specs.Flows.{Flow, Book, Scene, closing, is_on, is_numbered, owner, flow_of, tell, with_event, sends, seeks_for, shuts, fails, comes_directly, comes_last, guest_is_known}
+use Rattle.record_flows.specs.Lots.{giving_way}
 use Rattle.record_flows.specs.Laws.{MayShut, MaySend, MustSend}
 use Rattle.record_flows.specs.Said.{Each, Differ, Kept, IsSound}
 use Rattle.record_flows.specs.Segments.{OnTuple}
@@ -60,9 +61,10 @@ module _ (config : Config) (s : Settings) (sc : Scene) (next : ℕ) (b : Book) (
   -- nothing that isn't done for a flow comes where it must be closed
   pub comes_sound : (on : OnTuple) → b.doomed ≡ None → Each (λ f. MustClose f.story → ⊥) b.flows → IsSound s sc.moment next (turned config sc (Comes on) b)
   comes_sound on none free =
-      let is = told (is_on on.tuple) (with_event sc.moment (Arrives on.segment)) None (λ f. refl) none
-      (λ f found kept. happened s sc.moment b.doomed None (Arrives on.segment) f (λ opens. opens) (well s sc.moment b.doomed f (not_doomed b.doomed f.number none) kept)
-      (each_found (λ g. MustClose g.story → ⊥) (is_on on.tuple) b.flows f free found) (none_fails f.number) kept) in
+      let doomed = giving_way config sc.moment on (heard sc.moment on b) in
+      let is = told (is_on on.tuple) (with_event sc.moment (Arrives on.segment)) doomed (λ f. refl) none
+      (λ f found kept. happened s sc.moment b.doomed doomed (Arrives on.segment) f (λ opens. opens) (well s sc.moment b.doomed f (not_doomed b.doomed f.number none) kept)
+      (each_found (λ g. MustClose g.story → ⊥) (is_on on.tuple) b.flows f free found) (λ fails. absurd (cc fails)) kept) in
       record { differ = is.0; below = is.1; each = is.2 }
 
   pub goes_sound : (on : OnTuple) → b.doomed ≡ None → MaySend s sc.moment on.segment (owner on.tuple b.flows) → MustSend s sc.moment on.segment (owner on.tuple b.flows)

@@ -1,11 +1,11 @@
 -- The flows of a run and which of them rest: one fold over the record, a history in the order of the entries, with no counter, slot or window.
-use Rattle.std.specs.Prelude.{ℕ, ◌+◌, ◌==◌, ◌||◌, not, nat_le, nat_lt, Bool, List, [], ◌∷◌, ◌++◌, length, drop, filter, map, slice_get, Option, Some, None, is_some, option_and_then, if◌then◌else◌}
+use Rattle.std.specs.Prelude.{ℕ, ◌+◌, ◌==◌, ◌||◌, not, nat_le, nat_lt, Bool, List, [], ◌∷◌, ◌++◌, length, drop, filter, map, Option, Some, None, is_some, option_and_then, if◌then◌else◌}
 use Rattle.net_octets.specs.declared.Endpoint.{Endpoint}
 use Rattle.world_face.specs.Journal.{Entry}
 use Rattle.host_policy.specs.declared.Forward.{Forward}
 use Rattle.host_policy.specs.declared.Proto.{Proto}
 use Rattle.host_policy.specs.declared.Proto.TheVariants.{Tcp, Udp}
-use Rattle.host_policy.specs.Addresses.{Config}
+use Rattle.host_policy.specs.Addresses.{Config, forward_on}
 use Rattle.host_policy.specs.Targets.{shown, is_hidden}
 use Rattle.flow_table.specs.declared.Tuple.{Tuple}
 use Rattle.flow_laws.specs.Event.{Segment, Event, Connects, Accepts, Arrives, At, Story}
@@ -17,6 +17,7 @@ use Rattle.run_laws.specs.Shape.{is_ended}
 use Rattle.run_laws.specs.Sockets.{first, open_sockets}
 use Rattle.record_flows.specs.Doings.{Doing, Nothing, Comes, Goes, Seeks, Pauses, Joins, Visits, Calls, Shuts, doing}
 use Rattle.record_flows.specs.Flows.{Flow, Rest, Book, Scene, is_on, is_numbered, owner, flow_of, is_used, used, rests_among, tell, with_event, sends, seeks_for, shuts, fails}
+use Rattle.record_flows.specs.Lots.{giving_way}
 use Rattle.record_flows.specs.Segments.{OnTuple}
 
 -- ---- rests (RFC 9293, 3.6.1)
@@ -61,13 +62,13 @@ abbrev pub opens : Config → ℕ → ℕ → Tuple → Event → Book → Book
 opens config now socket tuple event book =
     record { flows = record { number = socket; tuple = tuple; story = At now event ∷ [] } ∷ book.flows; rests = make_room config (owner tuple book.flows) book; came = None; doomed = None }
 
--- the guest's port for which the host listens on a socket: the ports of the settings are opened in their order
+-- the guest's port for which the host listens on a socket
 abbrev pub port_by : Proto → Endpoint → Option Endpoint
 port_by Tcp guest = Some guest
 port_by Udp guest = None
 
 abbrev pub port_of : Config → ℕ → Option Endpoint
-port_of config listener = option_and_then (λ (f : Forward). port_by f.proto f.guest) (slice_get config.forwards listener)
+port_of config listener = option_and_then (λ (f : Forward). port_by f.proto f.guest) (forward_on config listener)
 
 abbrev pub tuple_for : Config → Endpoint → Endpoint → Tuple
 tuple_for config guest peer = record { guest = guest; other = shown config peer }
@@ -85,6 +86,18 @@ abbrev pub joins_for : Config → ℕ → ℕ → Option OnTuple → Book → Bo
 joins_for config now socket None book = quiet book
 joins_for config now socket (Some on) book = opens config now socket on.tuple (Connects (first_number now (length book.flows)) on.segment) book
 
+-- a segment came: its flow was told, and one may give way to it
+abbrev pub heard : ℕ → OnTuple → Book → Book
+heard now on book = record {
+  flows = tell (is_on on.tuple) (with_event now (Arrives on.segment)) book.flows;
+  rests = after_segment now on.segment (owner on.tuple book.flows) book.rests;
+  came = Some on;
+  doomed = None;
+}
+
+abbrev pub with_room_for : Config → ℕ → OnTuple → Book → Book
+with_room_for config now on book = record { flows = book.flows; rests = book.rests; came = book.came; doomed = giving_way config now on book }
+
 abbrev pub doom : ℕ → Book → Book
 doom socket book = record { flows = book.flows; rests = book.rests; came = None; doomed = Some socket }
 
@@ -99,12 +112,7 @@ shut scene socket flows book = record { flows = flows; rests = after_close scene
 
 abbrev pub turned : Config → Scene → Doing → Book → Book
 turned config scene Nothing book = quiet book
-turned config scene (Comes on) book = record {
-  flows = tell (is_on on.tuple) (with_event scene.moment (Arrives on.segment)) book.flows;
-  rests = after_segment scene.moment on.segment (owner on.tuple book.flows) book.rests;
-  came = Some on;
-  doomed = None;
-}
+turned config scene (Comes on) book = with_room_for config scene.moment on (heard scene.moment on book)
 turned config scene (Goes on) book = record { flows = tell (is_on on.tuple) (sends scene.moment on.segment) book.flows; rests = book.rests; came = None; doomed = None }
 turned config scene (Seeks guest) book = record { flows = map (seeks_for scene.moment guest) book.flows; rests = book.rests; came = None; doomed = None }
 turned config scene Pauses book = record { flows = book.flows; rests = filter (is_young scene.moment) book.rests; came = None; doomed = None }

@@ -24,7 +24,7 @@ pub record Rest : Type 0 where
   pub since : ℕ
 
 -- The flows, the newest first; those that rest, the longest resting first; the segment that came by the newest entry; and the socket that
--- the next entry closes, since a call on it failed or its peer was refused.
+-- the next entry closes, since a call on it failed, its peer was refused, or its flow gives way to a SYN.
 pub record Book : Type 0 where
   pub flows : List Flow
   pub rests : List Rest

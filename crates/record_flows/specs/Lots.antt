@@ -1,5 +1,6 @@
 -- What a segment asks for that came last: a connection of the host, a reset, or nothing beside its flow.
-use Rattle.std.specs.Prelude.{ℕ, ◌+◌, ◌%◌, ◌^◌, ◌==◌, ◌&&◌, ◌||◌, not, nat_eq, nat_lt, Bool, true, false, [], length, Option, Some, None, option_and_then, option_map, if◌then◌else◌}
+use Rattle.std.specs.Prelude.{ℕ, ◌+◌, ◌%◌, ◌^◌, ◌==◌, ◌&&◌, ◌||◌, not, nat_eq, nat_lt, Bool, true, false, List, [], ◌∷◌, length, Option, Some, None, option_and_then, option_map, if◌then◌else◌}
+use Rattle.std.specs.List.{list_any}
 use Rattle.net_octets.specs.declared.Endpoint.{Endpoint}
 use Rattle.world_face.specs.Journal.{Call, CallConnect, CallClose}
 use Rattle.host_policy.specs.declared.Proto.TheVariants.{Tcp as OverTcp}
@@ -11,15 +12,17 @@ use Rattle.tcp_segment.specs.Tcp.{Tcp}
 use Rattle.flow_table.specs.declared.Tuple.{Tuple}
 use Rattle.flow_laws.specs.Event.{Segment}
 use Rattle.flow_laws.specs.Host.{answered}
+use Rattle.flow_laws.specs.Close.{last_at, may_give_way, owes_reset}
 use Rattle.flow_laws.specs.Flow.{host, our_number, next_number, is_closed, syn_is_out}
 use Rattle.record_flows.specs.Flows.{Flow, Book, owner, is_used, used, is_resting}
 use Rattle.record_flows.specs.Segments.{OnTuple}
 
--- a segment is its flow's; is ignored; asks for a connection to this endpoint; or is answered by a reset
+-- a segment is its flow's; is ignored; asks for a connection to this endpoint; asks for one where all slots are in use; or is answered by a reset
 pub data Lot : Type 0 where
   OfFlow : Lot
   Dropped : Lot
   AsksFor : (to : Endpoint) → Lot
+  NeedsRoom : Lot
   GetsReset : Lot
 
 -- SYN and none of ACK, RST and FIN
@@ -30,9 +33,8 @@ is_opening seg = seg.syn && not seg.ack && not seg.rst && not seg.fin
 abbrev pub is_to_many : Config → Endpoint → Bool
 is_to_many config to = is_group_or_reserved (address to) || (address to == last_address config)
 
--- where there is no room for a flow more, the segment is ignored
 abbrev pub lot_by : Verdict → Bool → Lot
-lot_by (Go to) has_room = if has_room then AsksFor to else Dropped
+lot_by (Go to) has_room = if has_room then AsksFor to else NeedsRoom
 lot_by (Denied rule) has_room = GetsReset
 
 abbrev pub lot : Config → Book → OnTuple → Lot
@@ -40,6 +42,30 @@ lot config book on =
     if is_used on.tuple book.flows || is_resting on.tuple book then OfFlow
     else (if on.segment.rst || is_to_many config on.tuple.other then Dropped
     else (if is_opening on.segment then lot_by (target config OverTcp on.tuple.other) (nat_lt (used book.flows) config.flows) else GetsReset))
+
+-- ---- room for a flow more
+
+-- of two flows the one whose last sign of life is the earlier, of the same moment the one with the lesser number
+abbrev pub goes_before : Flow → Flow → Bool
+goes_before f g = nat_lt (last_at f.story) (last_at g.story) || ((last_at f.story == last_at g.story) && nat_lt f.number g.number)
+
+abbrev pub the_earlier : Flow → Option Flow → Flow
+the_earlier f None = f
+the_earlier f (Some g) = if goes_before f g then f else g
+
+-- the first of those that may give way
+abbrev pub quietest : ℕ → List Flow → Option Flow
+quietest now [] = None
+quietest now (f ∷ flows) = if may_give_way now f.story then Some (the_earlier f (quietest now flows)) else quietest now flows
+
+abbrev pub needs_room : Lot → Bool
+needs_room NeedsRoom = true
+needs_room _ = false
+
+-- A SYN finds all slots in use: one flow gives way, unless a flow that was closed still owes its reset. The SYN itself is ignored.
+abbrev pub giving_way : Config → ℕ → OnTuple → Book → Option ℕ
+giving_way config now on book =
+    if needs_room (lot config book on) && not (list_any (λ f. owes_reset f.story) book.flows) then option_map (λ f. f.number) (quietest now book.flows) else None
 
 -- ---- the call that is due
 

@@ -11,7 +11,7 @@
 //! it gives one octet to each number of its stream and has one end with nothing past it.
 #![tactic(auto)]
 
-ghost use Rattle.std.specs.Prelude.{◌≡◌, ℕ, ◌+◌, ◌<◌, ◌≤◌, ◌++◌, ◌||◌, List, ◌∷◌, length, true, false, Bool, IsTrue, Some, slice_get};
+ghost use Rattle.std.specs.Prelude.{◌≡◌, ℕ, ◌+◌, ◌<◌, ◌≤◌, ◌++◌, ◌||◌, ◌⊎◌, List, ◌∷◌, length, true, false, Bool, IsTrue, Some, slice_get};
 ghost use Rattle.net_octets.specs.declared.Endpoint.{Endpoint};
 ghost use Rattle.world_face.specs.Journal.{Entry, Close, Connect, TcpRead};
 ghost use Rattle.world_face.specs.declared.Io.{Io};
@@ -31,7 +31,7 @@ ghost use Rattle.run_laws.specs.Happenings.{happens};
 ghost use Rattle.record_flows.specs.Book.{book, scene, story};
 ghost use Rattle.record_flows.specs.Flows.{Book, Flow, comes_directly, comes_last, flow_of, guest_is_known};
 ghost use Rattle.record_flows.specs.Laws.{flow_settings, KeepsFlows};
-ghost use Rattle.record_flows.specs.Lots.{Dropped, is_opening, is_reset, lot};
+ghost use Rattle.record_flows.specs.Lots.{Dropped, NeedsRoom, is_opening, is_reset, lot};
 ghost use Rattle.record_flows.specs.Said.{ConnectsAsAsked, Differ, IsDenied, IsIgnored, given_on, taken_on};
 ghost use Rattle.record_flows.specs.Segments.{OnTuple, segment_came};
 ghost use Rattle.record_flows.specs.Touching.{AreApart};
@@ -130,7 +130,8 @@ pub fn other_flows_change_nothing()
 
 /// The socket of a flow is closed only for a cause: both ends passed and each side knows it, the guest reset the flow, a call on
 /// the socket failed, the guest acknowledged nothing for 243,000 ms or its hardware address wasn't found, the host didn't connect
-/// in 75,000 ms, or the run is over and this is the first of the open sockets.
+/// in 75,000 ms, a peer was gone without an octet and the guest didn't answer in a second, the flow had no sign of life for as
+/// long as one has to that gives way to a SYN, or the run is over and this is the first of the open sockets.
 pub fn flows_are_closed_for_a_cause()
     ensures { (config : Config) (past : List Entry) (socket : ℕ) (f : Flow) → KeepsFlows config (Close socket ∷ past)
         → flow_of socket (book config past).flows ≡ Some f
@@ -152,6 +153,6 @@ pub fn flows_reset_their_guest_for_a_cause()
 pub fn syns_are_denied_or_ignored_for_a_reason()
     ensures denied { (config : Config) (b : Book) (on : OnTuple) → is_opening on.segment ≡ true → is_reset config b on ≡ true
         → IsDenied config b on }
-    ensures ignored { (config : Config) (b : Book) (on : OnTuple) → is_opening on.segment ≡ true → lot config b on ≡ Dropped
-        → IsIgnored config b on }
+    ensures ignored { (config : Config) (b : Book) (on : OnTuple) → is_opening on.segment ≡ true
+        → (lot config b on ≡ Dropped) ⊎ (lot config b on ≡ NeedsRoom) → IsIgnored config b on }
 {}

@@ -9,7 +9,7 @@ use Rattle.udp_assoc.specs.Associations.{idle_life}
 use Rattle.run_laws.specs.Fragments.{waiting}
 use Rattle.run_laws.specs.Moments.{moment}
 use Rattle.flow_laws.specs.Event.{Story}
-use Rattle.flow_laws.specs.Dutiful.{connect_deadline, resend_deadline, wakes}
+use Rattle.flow_laws.specs.Dutiful.{close_deadline, resend_deadline, wakes}
 use Rattle.record_flows.specs.Book.{book, is_young, longest_rest}
 use Rattle.record_flows.specs.Flows.{Flow, Rest}
 use Rattle.slirp_laws.specs.Answers.{is_free, ledger, serving}
@@ -53,7 +53,7 @@ file_alarms config past =
 -- way or a request for a guest's hardware address went out, or since a window was found closed, nor the moment at which a packet of a file goes again
 abbrev pub deadlines : Config → List Entry → List ℕ
 deadlines config past =
-    of_flows connect_deadline (book config past).flows ++ lives config past ++ rest_ends config past
+    of_flows close_deadline (book config past).flows ++ lives config past ++ rest_ends config past
     ++ unless_blocked (is_blocked past) (of_flows resend_deadline (book config past).flows ++ file_alarms config past)
 
 -- the moments for which a wait may be cut short

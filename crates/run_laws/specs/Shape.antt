@@ -1,5 +1,5 @@
 -- The shape of a run: the host's ports first, then the clock, then turns, each of which begins with a wait, and closing at the end.
-use Rattle.std.specs.Prelude.{ℕ, ◌+◌, ◌||◌, nat_le, Bool, true, false, List, [], ◌∷◌, Option, Some, None, option_map}
+use Rattle.std.specs.Prelude.{◌≡◌, ℕ, ◌+◌, ◌||◌, nat_le, Bool, true, false, List, [], ◌∷◌, Option, Some, None, option_map}
 use Rattle.world_face.specs.Frames.{Ending, ending, partial}
 use Rattle.world_face.specs.Journal.{Entry, Call, Now, Wait, Listen, UdpOpen, CallNow, CallListen, CallUdpOpen, CallClose}
 use Rattle.world_face.specs.declared.Made.{Made}
@@ -78,6 +78,10 @@ is_over _ = false
 -- an ending entry came, or the last wait that the run may make
 abbrev pub is_ended : Config → List Entry → Bool
 is_ended config past = is_over (phase config past) || nat_le config.turns (waits past)
+
+-- no port of the host is given to a guest, by the settings or later
+abbrev pub GivesNone : Config → Type 0
+GivesNone config = (config.forwards ≡ []) × (config.added ≡ [])
 
 -- the call that opens a forward
 abbrev pub opening_of : Proto → ℕ → Forward → Call

@@ -40,6 +40,7 @@ unbegun : (service : ServiceState) → IsNew service → IsUnbegun service.slirp
 unbegun service new = record {
   forwards = new.forwards;
   settings = refl;
+  once = new.once;
   flows = record { flows = ap (λ (k : Kept). k.flows) new.flows; settings = subst (IsFor service.slirp.config) (sym new.flows) (flows_fit service.slirp.config); unit = new.unit };
   known = new.known;
   sent = new.sent;

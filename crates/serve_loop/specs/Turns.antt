@@ -21,7 +21,7 @@ use Rattle.port_forward.specs.Opened.{Opened}
 use Rattle.slirp_core.specs.Forwards.{forward_sockets}
 use Rattle.slirp_core.specs.Holds.{Standing, after, standing, flowing, Holders, holders_of, Holds, Ended, ClosingWith}
 use Rattle.slirp_core.specs.Calm.{AreClear}
-use Rattle.slirp_core.specs.Connecting.{AreInTime}
+use Rattle.tcp_flows.specs.Settled.{HaveTime}
 use Rattle.tcp_flows.specs.Settled.{IsInTime as HasNoneDue}
 use Rattle.slirp_core.specs.Pumps.{is_settled}
 use Rattle.slirp_core.specs.State.{SlirpState}
@@ -80,9 +80,9 @@ IsCalmAfter wants items slirp link = IsCalm slirp link ⊎ IsFreed wants items
 abbrev pub StaysCalm : Turn → List Want → Want → SlirpState → LinkState → SlirpState → LinkState → Type 0
 StaysCalm result wants item slirp link new_slirp new_link = (items : List Want) → IsCalmAfter wants (item ∷ items) slirp link → result ≡ Again → IsCalmAfter wants items new_slirp new_link
 
--- before a wait: the host of no flow had its time to connect, and unless the link is blocked no flow has a timer that is due
+-- before a wait: time closes no flow, and unless the link is blocked no flow has a timer that is due
 abbrev pub IsInTime : SlirpState → LinkState → Type 0
-IsInTime slirp link = AreInTime slirp.moment slirp.flows.flows.slots × (link.blocked ≡ false → (n : ℕ) → HasNoneDue slirp.moment slirp.flows.flows.slots n)
+IsInTime slirp link = HaveTime slirp.moment slirp.flows.flows.slots × (link.blocked ≡ false → (n : ℕ) → HasNoneDue slirp.moment slirp.flows.flows.slots n)
 
 -- ---- reports that are to be served
 

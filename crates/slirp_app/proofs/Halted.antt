@@ -1,13 +1,18 @@
 -- No call may follow a finished run that an entry ended or whose port the host refused, and none that ended is followed by a wait.
-use Rattle.std.proofs.Common.{◌≡◌, ℕ, ◌&&◌, ◌||◌, Bool, true, false, cond, is_some, List, [], ◌∷◌, refl, ◌∙◌, ap, subst}
+use Rattle.std.proofs.Common.{◌≡◌, ℕ, ◌&&◌, ◌||◌, Bool, true, false, cond, is_some, List, [], ◌∷◌, Option, refl, ◌∙◌, ap, subst}
+use Rattle.net_octets.specs.declared.Endpoint.{Endpoint}
 use Rattle.host_policy.specs.Addresses.{Config}
 use Rattle.run_duties.proofs.Ended.{ended_yet}
 use Rattle.run_laws.specs.Moments.{waits}
 use Rattle.run_laws.specs.Shape.{Phase, Opening, Started, Woken, Working, Over, is_ended, is_over, is_working, may_turn, phase}
-use Rattle.run_laws.specs.Sockets.{is_among, open_sockets}
+use Rattle.run_laws.specs.Sockets.{is_among, open_sockets, first}
+use Rattle.record_flows.specs.Book.{port_of}
+use Rattle.record_flows.specs.Flows.{is_it}
 use Rattle.slirp_laws.specs.Laws.{Finished, Lawful, May}
-use Rattle.slirp_laws.specs.Laws.{due, has_place, has_socket, is_closing, is_least, parts}
+use Rattle.slirp_laws.specs.Laws.{due, has_place, has_socket, is_added, is_closing, parts}
+use Rattle.slirp_laws.specs.Ports.{given_port}
 use Rattle.slirp_laws.proofs.Bools.{first_of}
+use Rattle.slirp_laws.proofs.Phases.{given_turn}
 use Rattle.slirp_app.proofs.Copied.{later_than, onto}
 use Rattle.std.specs.Prelude.{nat_lt}
 use Rattle.world_face.proofs.Following.{follows_before}
@@ -44,15 +49,22 @@ module _ (config : Config) (past : List Entry) (finished : Finished config past)
   none_open : (socket : ℕ) (b : Bool) → (is_among socket (open_sockets past) && b) ≡ true → ⊥
   none_open socket b may = not_both (is_among socket (open_sockets past)) (ap (is_among socket) finished.closed) (first_of (is_among socket (open_sockets past)) b may)
 
+  none_opened : (socket : ℕ) (at : Endpoint) (guest : Option Endpoint) → (is_some (due config past) || is_added config past socket at guest) ≡ true → ⊥
+  none_opened socket at guest place = by (is_some (due config past)) refl place
+    where
+      by : (b : Bool) → is_some (due config past) ≡ b → (b || is_added config past socket at guest) ≡ true → ⊥
+      by true some place = none_due some
+      by false none added = no_work (given_turn config past socket at guest added)
+
   no_call : (call : Call) → has_place config past call ≡ true → has_socket config past call ≡ true → ⊥
   no_call CallNow place socket_is = none_due place
   no_call (CallWait wants timeout) place socket_is = no_turn place
   no_call (CallLinkOpen at) place socket_is = cc
   no_call (CallConnect socket to) place socket_is = none_due place
-  no_call (CallListen socket at) place socket_is = none_due place
-  no_call (CallClose socket) place socket_is = none_open socket (cond (is_closing config past) (is_least socket (open_sockets past))
-      (parts config past socket || (is_ended config past && is_least socket (open_sockets past)))) socket_is
-  no_call (CallUdpOpen socket at) place socket_is = none_due place
+  no_call (CallListen socket at) place socket_is = none_opened socket at (port_of config socket) place
+  no_call (CallClose socket) place socket_is = none_open socket (cond (is_closing config past) (is_it socket (first (open_sockets past)))
+      (parts config past socket || (is_ended config past && is_it socket (first (open_sockets past))))) socket_is
+  no_call (CallUdpOpen socket at) place socket_is = none_opened socket at (given_port config socket) place
   no_call (CallUdpSend socket to octets) place socket_is = none_due place
   no_call (CallFileLen name) place socket_is = none_due place
   no_call (CallFileRead name place_in asked) place socket_is = none_due place

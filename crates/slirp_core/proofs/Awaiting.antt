@@ -47,11 +47,11 @@ use Rattle.tcp_flows.specs.Reading.{AreAbove, AreRising, AreTold, AreWantsOf}
 use Rattle.tcp_flows.specs.Settled.{IsInTime}
 use Rattle.tcp_flows.proofs.Settling.{are_settled}
 use Rattle.tcp_flows.specs.Waits.{AreWaitedFor}
-use Rattle.flow_splice.specs.Splice.{Splice}
+use Rattle.flow_splice.specs.Splice.{Splice, is_open}
 use Rattle.flow_laws.specs.Close.{is_in_use}
-use Rattle.flow_laws.specs.Dutiful.{AreAhead, IsSettled, MayWait, moment_if, oldest_unheard}
+use Rattle.flow_laws.specs.Dutiful.{AreAhead, IsSettled, MayWait, oldest_unheard}
 use Rattle.flow_laws.specs.Event.{Story}
-use Rattle.flow_laws.specs.Flow.{has_connected, is_accepted, is_closed, opened_at}
+use Rattle.flow_laws.specs.Flow.{is_closed}
 use Rattle.record_flows.specs.Laws.{flow_settings}
 use Rattle.flow_splice.proofs.Promises.{waited_is}
 use Rattle.flows_follow.specs.FlowsHold.{rests_at}
@@ -66,7 +66,7 @@ use Rattle.run_duties.specs.Times.{lives}
 use Rattle.run_duties.specs.Waiting.{WaitsFor, is_all_sent, is_for_datagrams, takes_datagrams}
 use Rattle.waiting_flows.proofs.Listing.{AreOfFlows, AreOver, AreOverBy, DoRise, DoRiseBy, all_waited_for, of_flows}
 use Rattle.slirp_core.specs.Calm.{AreClear}
-use Rattle.slirp_core.specs.Connecting.{AreInTime}
+use Rattle.tcp_flows.specs.Settled.{HaveTime}
 use Rattle.slirp_core.specs.Forwards.{forward_sockets, is_over, sockets_over, with_numbers}
 use Rattle.slirp_core.specs.Holds.{Flowing, Holds, Standing, carriers, flowing, holders_of}
 use Rattle.slirp_core.specs.Owed.{IsOwed, OfFile, OfLeft}
@@ -81,6 +81,9 @@ use Rattle.slirp_core.proofs.Merging.{AtLeast, Climbs, climbs}
 use Rattle.slirp_core.proofs.Names.{IsKnown, among_both, known_of, two_apart}
 use Rattle.slirp_core.proofs.Open.{are_open}
 use Rattle.slirp_core.proofs.Parts.{carried_by, given_in}
+use Rattle.flow_splice.specs.Wants.{HasTime}
+use Rattle.tcp_flows.proofs.Awaiting.{closed_at_none}
+use Rattle.tcp_flows.proofs.Timely.{shut_has_time}
 
 -- ---- what is left
 
@@ -435,7 +438,7 @@ no_connecting false b is = ap not is
 closed_waits : (story : Story) (now : ℕ) → is_in_use story ≡ false → MayWait story now
 closed_waits story now unused = record {
   closes = λ honest done. not_in_use story unused;
-  connects = subst (λ (b : Bool). AreAhead now (moment_if b (opened_at story + 75000))) (sym (no_connecting (is_accepted story || has_connected story) (is_closed story) (not_in_use story unused))) tt;
+  connects = subst (λ ms. AreAhead now ms) (sym (closed_at_none story (not_in_use story unused))) tt;
   calls = first_true (is_closed story) (nat_le (oldest_unheard story) 9) (not_in_use story unused);
 }
   where
@@ -443,13 +446,17 @@ closed_waits story now unused = record {
     first_true a b is = rw is refl
 
 each_waits : (config : Config) (at : Standing) (slirp : SlirpState) (link : LinkState) (past : List Entry) → Holds config at slirp (flowing true slirp.flows) link past →
-    AreInTime slirp.moment slirp.flows.flows.slots → EachFlow config past (λ f. MayWait f.story (moment past))
+    HaveTime slirp.moment slirp.flows.flows.slots → EachFlow config past (λ f. MayWait f.story (moment past))
 each_waits config at slirp link past holds early =
     each number_of (Following config slirp.moment) slirp.flows.flows.table slirp.flows.flows.slots (next_number past) (book config past).flows (rests_at true config past) holds.flows.holds.seats
     (λ story. MayWait story (moment past))
     (λ k p story here follows. subst (λ (n : ℕ). MayWait story n) (sym holds.clock.moment)
-    (waited_is (flow_settings config) p story slirp.moment follows (λ open_yet connecting. early k p (record { here = here; open_yet = open_yet }) connecting)))
+    (waited_is (flow_settings config) p story slirp.moment follows (had k p here (is_open p) refl)))
     (λ story unused. closed_waits story (moment past) unused)
+  where
+    had : (k : ℕ) (p : Splice) → slice_get slirp.flows.flows.slots k ≡ Some (Some p) → (b : Bool) → is_open p ≡ b → HasTime p slirp.moment
+    had k p here true open_yet = early k p (record { here = here; open_yet = open_yet })
+    had k p here false shut = shut_has_time p slirp.moment shut
 
 -- each flow is settled, where none owes a frame and none has a timer that is due
 each_settled : (config : Config) (at : Standing) (slirp : SlirpState) (link : LinkState) (past : List Entry) → Holds config at slirp (flowing true slirp.flows) link past →
@@ -469,7 +476,7 @@ each_settled config at slirp link past holds are early n f found =
 pub must_wait : (config : Config) (at : Standing) (slirp : SlirpState) (link : LinkState) (past : List Entry) (wants : List Want) (timeout : Option ℕ) → Holds config at slirp
     (flowing true slirp.flows) link past → (slirp.pending ≡ [] → next_again slirp.moment slirp.transfers ≡ None)
     → (link.blocked ≡ false → is_settled slirp link ≡ true) → All (λ a. is_idle_association slirp.moment a ≡ false) slirp.associations → All
-    (λ q. is_idle_question slirp.moment q ≡ false) slirp.questions → AreFresh slirp.moment slirp.fragments → AreInTime slirp.moment slirp.flows.flows.slots →
+    (λ q. is_idle_question slirp.moment q ≡ false) slirp.questions → AreFresh slirp.moment slirp.fragments → HaveTime slirp.moment slirp.flows.flows.slots →
     (link.blocked ≡ false → AreClear slirp.known slirp.flows.flows × ((n : ℕ) → IsInTime slirp.moment slirp.flows.flows.slots n)) →
     ((held : List PartSet) → IsHeld slirp.fragments held → IsTimeout slirp link.blocked held timeout) → (of : WantsOf slirp link wants) → AreWaitedFor config past of.flows →
     AllServed config past → MustWait config past wants timeout

@@ -1,5 +1,5 @@
 -- The core waits no longer than the record allows, and is woken for nothing else than what the record asks for.
-use Rattle.std.proofs.Common.{◌≡◌, ℕ, zero, suc, ◌+◌, ◌-◌, ◌<◌, ◌≤◌, ◌&&◌, ◌||◌, not, cond, min, nat_le, nat_lt, Bool, true, false, is_some, List, [], ◌∷◌, ◌++◌, All, Any, filter, map}
+use Rattle.std.proofs.Common.{◌≡◌, ℕ, zero, suc, ◌+◌, ◌-◌, ◌<◌, ◌≤◌, ◌&&◌, not, cond, min, nat_le, nat_lt, Bool, true, false, is_some, List, [], ◌∷◌, ◌++◌, All, Any, filter, map}
 use Rattle.std.proofs.Common.{slice_get, Option, Some, None, option_map, inl, inr, refl, sym, ap, ◌∙◌, subst, arith}
 use Rattle.std.proofs.lemmas.Bool.Decides.{nat_tests}
 use Rattle.std.proofs.lemmas.List.Elements.{All-head, All-tail}
@@ -14,9 +14,8 @@ use Rattle.dns_relay.specs.declared.Question.{Question}
 use Rattle.tftp_server.specs.Transfers.{Transfer, next_again, ticked}
 use Rattle.tftp_server.proofs.Turning.{next_left, ticked_none}
 use Rattle.flow_laws.specs.Close.{is_in_use}
-use Rattle.flow_laws.specs.Dutiful.{AreAhead, connect_deadline, moment_if, resend_deadline, wakes}
+use Rattle.flow_laws.specs.Dutiful.{AreAhead, close_deadline, resend_deadline, wakes}
 use Rattle.flow_laws.specs.Event.{Story}
-use Rattle.flow_laws.specs.Flow.{has_connected, is_accepted, is_closed, opened_at}
 use Rattle.halves_follow.specs.Bounds.{IsBy, IsFrom}
 use Rattle.record_flows.specs.Book.{book, is_young as is_young_rest, longest_rest}
 use Rattle.record_flows.specs.Flows.{Flow, Rest}
@@ -37,9 +36,9 @@ use Rattle.slirp_laws.proofs.Listed.{AllQuestions}
 use Rattle.slirp_laws.proofs.Waiting.{IsUsed, are_waiting, same_waiting}
 use Rattle.stream_netdev.specs.State.{LinkState}
 use Rattle.flows_follow.specs.FlowsHold.{rests_at}
-use Rattle.flow_splice.proofs.Stages.{no_connecting, resends_none}
-use Rattle.flow_splice.specs.Splice.{Splice}
-use Rattle.flow_splice.specs.Wants.{due_of}
+use Rattle.flow_splice.proofs.Stages.{resends_none}
+use Rattle.flow_splice.specs.Splice.{Splice, is_open}
+use Rattle.flow_splice.specs.Wants.{due_of, HasTime}
 use Rattle.flow_splice.specs.declared.Place.{Place}
 use Rattle.flow_splice.specs.declared.Place.TheVariants.{Empty, InUse, Resting}
 use Rattle.flow_splice.proofs.Promises.{settled_is, waited_is}
@@ -56,8 +55,8 @@ use Rattle.tcp_flows.specs.Settled.{IsInTime}
 use Rattle.tcp_flows.specs.Waits.{IsForSome, IsInTimeAfter, IsInTimeFor, RestLater, RestOnce}
 use Rattle.tcp_flows.proofs.Apart.{are_once, once_filter}
 use Rattle.tcp_flows.proofs.Ahead.{due_later, have_stories, story_ahead}
-use Rattle.tcp_flows.proofs.Awaiting.{same_later}
-use Rattle.slirp_core.specs.Connecting.{AreInTime}
+use Rattle.tcp_flows.proofs.Awaiting.{same_later, closed_at_none}
+use Rattle.tcp_flows.specs.Settled.{HaveTime}
 use Rattle.slirp_core.specs.Fragments.{IsHeld}
 use Rattle.slirp_core.specs.Holds.{Holds, Standing, flowing}
 use Rattle.slirp_core.specs.Owed.{IsOwed}
@@ -66,6 +65,7 @@ use Rattle.slirp_core.specs.State.{SlirpState}
 use Rattle.world_face.specs.Moments.{sooner}
 use Rattle.slirp_core.specs.Timeouts.{IsFileTime, IsPartTime, IsTimeout, SuitsFlows}
 use Rattle.slirp_core.specs.Waiting.{AreFresh}
+use Rattle.tcp_flows.proofs.Timely.{shut_has_time}
 
 -- ---- two times
 
@@ -124,7 +124,7 @@ by_next now (m ∷ ms) is = ((let low = is.0 in omega (arith, low)), by_next now
 
 module _ (config : Config) (now : ℕ) (blocked : Bool) (parts : List (Option Splice)) (past : List Entry) (due time : Option ℕ) (left : time ≡ option_map (λ at. at - now) due)
     (for_some : IsForSome config past due) where
-  part_later : moment past ≡ now → RestLater (moment past) parts → AreInTime now parts → ((n : ℕ) → IsInTime now parts n) → (at : ℕ) → IsDue parts at → now < at
+  part_later : moment past ≡ now → RestLater (moment past) parts → HaveTime now parts → ((n : ℕ) → IsInTime now parts n) → (at : ℕ) → IsDue parts at → now < at
   part_later clock rests early timely at is = by is.some.1.place refl
     where
       some_at : (m : ℕ) → ◌≡◌ {A = Option ℕ} (Some m) (Some at) → m ≡ at
@@ -136,12 +136,16 @@ module _ (config : Config) (now : ℕ) (blocked : Bool) (parts : List (Option Sp
       p : Splice
       p = is.some.1
 
+      time_of_part : (b : Bool) → is_open p ≡ b → HasTime p now
+      time_of_part true open_yet = early k p (record { here = is.some.2; open_yet = open_yet })
+      time_of_part false shut = shut_has_time p now shut
+
       time_is : (x : Place) → p.place ≡ x → time_at x (due_of p) ≡ Some at
       time_is x place = sym (ap (λ (y : Place). time_at y (due_of p)) place) ∙ is.some.3
 
       by : (x : Place) → p.place ≡ x → now < at
       by Empty place = let none = time_is Empty place in absurd cc
-      by InUse place = due_later now p at (λ open_yet connects. early k p (record { here = is.some.2; open_yet = open_yet }) connects)
+      by InUse place = due_later now p at (time_of_part (is_open p) refl)
           (λ open_yet. timely (number_of p) k p (record { here = is.some.2; open_yet = open_yet }) refl) (time_is InUse place)
       by (Resting since) place =
           let same = some_at (rest_end since) (time_is (Resting since) place) in
@@ -161,7 +165,7 @@ module _ (config : Config) (now : ℕ) (blocked : Bool) (parts : List (Option Sp
     for_some = for_some;
   }
     where
-      later_by : (b : Bool) → blocked ≡ b → moment past ≡ now → AreInTime now parts → (blocked ≡ false → (n : ℕ) → IsInTime now parts n) → (at : ℕ)
+      later_by : (b : Bool) → blocked ≡ b → moment past ≡ now → HaveTime now parts → (blocked ≡ false → (n : ℕ) → IsInTime now parts n) → (at : ℕ)
           → IsDue parts at × ((blocked && nat_le at now) ≡ false) → now < at
       later_by true is clock early timely at two = after at (sym (ap (λ (b : Bool). b && nat_le at now) is) ∙ two.1)
         where
@@ -309,12 +313,15 @@ module _ (config : Config) (at : Standing) (slirp : SlirpState) (link : LinkStat
       (λ story. AreAhead now (moments story)) of_part of_closed n f found)))
 
   -- no host had its time to connect
-  connects_ahead : AreInTime now slirp.flows.flows.slots → AreAhead now (of_flows connect_deadline flows)
+  connects_ahead : HaveTime now slirp.flows.flows.slots → AreAhead now (of_flows close_deadline flows)
   connects_ahead early =
-      flows_ahead connect_deadline
-      (λ k p story here follows. (waited_is (flow_settings config) p story now follows (λ open_yet connecting. early k p (record { here = here; open_yet = open_yet }) connecting)).connects)
-      (λ story unused. subst (λ (b : Bool). AreAhead now (moment_if b (opened_at story + 75000)))
-      (sym (no_connecting (is_accepted story || has_connected story) (is_closed story) (not_in_use story unused))) tt)
+      flows_ahead close_deadline
+      (λ k p story here follows. (waited_is (flow_settings config) p story now follows (had k p here (is_open p) refl)).connects)
+      (λ story unused. subst (λ ms. AreAhead now ms) (sym (closed_at_none story (not_in_use story unused))) tt)
+    where
+      had : (k : ℕ) (p : Splice) → slice_get slirp.flows.flows.slots k ≡ Some (Some p) → (b : Bool) → is_open p ≡ b → HasTime p now
+      had k p here true open_yet = early k p (record { here = here; open_yet = open_yet })
+      had k p here false shut = shut_has_time p now shut
 
   -- and what is under way of a flow in time that owes no frame goes again within a minute
   resends_ahead : AllClear slirp.flows.flows.slots → ((n : ℕ) → IsInTime now slirp.flows.flows.slots n) → AreAhead now (of_flows resend_deadline flows)
@@ -476,14 +483,14 @@ module _ (config : Config) (at : Standing) (slirp : SlirpState) (link : LinkStat
               by true is more = (grind (arith, nat_tests, is), more)
               by false is more = more
 
-      until_all : AreInTime now slirp.flows.flows.slots → (link.blocked ≡ false → AllClear slirp.flows.flows.slots × ((n : ℕ) → IsInTime now slirp.flows.flows.slots n)) → IsBy
+      until_all : HaveTime now slirp.flows.flows.slots → (link.blocked ≡ false → AllClear slirp.flows.flows.slots × ((n : ℕ) → IsInTime now slirp.flows.flows.slots n)) → IsBy
           (wait_end now all) (deadlines config past)
       until_all early calm =
-          by_both (wait_end now all) (of_flows connect_deadline flows ++ lives config past ++ rest_ends config past)
+          by_both (wait_end now all) (of_flows close_deadline flows ++ lives config past ++ rest_ends config past)
           (unless_blocked (is_blocked past) (of_flows resend_deadline flows ++ file_alarms config past))
-          (by_both (wait_end now all) (of_flows connect_deadline flows ++ lives config past) (rest_ends config past)
-          (by_both (wait_end now all) (of_flows connect_deadline flows) (lives config past)
-          (until_flows (of_flows connect_deadline flows) (until_left now suits.due time.flows (of_flows connect_deadline flows) suits.left (connects_ahead early)
+          (by_both (wait_end now all) (of_flows close_deadline flows ++ lives config past) (rest_ends config past)
+          (by_both (wait_end now all) (of_flows close_deadline flows) (lives config past)
+          (until_flows (of_flows close_deadline flows) (until_left now suits.due time.flows (of_flows close_deadline flows) suits.left (connects_ahead early)
           (suits.connects (connects_ahead early))))
           (by_both (wait_end now all) (association_lives config past) (question_lives config past)
           (until_datagrams (association_lives config past) (by_first now (time_left now slirp.associations) (question_left now slirp.questions) (association_lives config past) associations_until))
@@ -545,7 +552,7 @@ module _ (config : Config) (at : Standing) (slirp : SlirpState) (link : LinkStat
 -- A wait lasts no longer than to what has a time: where no host had its time to connect, no socket for datagrams is idle for long, and the flows are clear and in time unless the link is blocked.
 pub until_is : (config : Config) (at : Standing) (slirp : SlirpState) (link : LinkState) (past : List Entry) → Holds config at slirp (flowing true slirp.flows) link past
     → (timeout : Option ℕ) → ((held : List PartSet) → IsHeld slirp.fragments held → IsTimeout slirp link.blocked held timeout) →
-    (slirp.pending ≡ [] → next_again slirp.moment slirp.transfers ≡ None) → AreInTime slirp.moment slirp.flows.flows.slots
+    (slirp.pending ≡ [] → next_again slirp.moment slirp.transfers ≡ None) → HaveTime slirp.moment slirp.flows.flows.slots
     → (link.blocked ≡ false → AllClear slirp.flows.flows.slots × ((n : ℕ) → IsInTime slirp.moment slirp.flows.flows.slots n))
     → All (λ a. is_idle_association slirp.moment a ≡ false) slirp.associations → All (λ q. is_idle_question slirp.moment q ≡ false) slirp.questions
     → IsBy (wait_end (moment past) timeout) (deadlines config past)
@@ -617,7 +624,7 @@ flows_last now (Some at) time left later = subst Lasts (sym left) (let soon = la
 
 -- A wait lasts some time: where no host had its time to connect, no socket for datagrams is idle for long, no fragments that wait are to be dropped, and the flows are in time unless the link is blocked.
 pub some_time_is : (config : Config) (at : Standing) (slirp : SlirpState) (link : LinkState) (past : List Entry) → Holds config at slirp (flowing true slirp.flows) link past
-    → (timeout : Option ℕ) → ((held : List PartSet) → IsHeld slirp.fragments held → IsTimeout slirp link.blocked held timeout) → AreInTime slirp.moment slirp.flows.flows.slots
+    → (timeout : Option ℕ) → ((held : List PartSet) → IsHeld slirp.fragments held → IsTimeout slirp link.blocked held timeout) → HaveTime slirp.moment slirp.flows.flows.slots
     → (link.blocked ≡ false → (n : ℕ) → IsInTime slirp.moment slirp.flows.flows.slots n) → AreFresh slirp.moment slirp.fragments
     → All (λ a. is_idle_association slirp.moment a ≡ false) slirp.associations → All (λ q. is_idle_question slirp.moment q ≡ false) slirp.questions
     → timeout ≡ Some 0 → ⊥

@@ -76,6 +76,7 @@ pub guests_left : (config : Config) (slirp : SlirpState) (past made : List Entry
     OfGuests config slirp past → OfGuests config slirp (made ++ past)
 guests_left config slirp past made same others guests = record {
   settings = guests.settings;
+  once = guests.once;
   known = others.known ∙ guests.known;
   fragments = fragments_left config slirp past made same others guests.fragments;
 }
@@ -105,7 +106,7 @@ after_flows config at later slirp f link past made aged new transfers same allow
         blocked = leaves.blocked ∙ holds.keeps.blocked;
       };
       answers = record { sent = leaves.counted ∙ holds.answers.sent; owed = owed (same_beside config past made leaves.left leaves.counted moments others) };
-      guests = record { settings = guests.settings; known = guests.known; fragments = record { held = fragments.held; is_held = fragments.is_held; wait = fragments.wait } };
+      guests = record { settings = guests.settings; once = guests.once; known = guests.known; fragments = record { held = fragments.held; is_held = fragments.is_held; wait = fragments.wait } };
       relayed = record {
         list = others.list ∙ holds.relayed.list;
         questions = others.questions ∙ holds.relayed.questions;
@@ -221,6 +222,7 @@ unticked config at slirp kept link past unrested holds = record {
   answers = record { sent = holds.answers.sent; owed = owed_aged config slirp past holds.clock.moment holds.answers.owed };
   guests = record {
     settings = holds.guests.settings;
+    once = holds.guests.once;
     known = holds.guests.known;
     fragments = record {
       held = holds.guests.fragments.held;
@@ -275,6 +277,7 @@ flows_put config at slirp k f link past holds = record {
   answers = record { sent = holds.answers.sent; owed = owed_as config f.aged slirp (record slirp { flows = k }) past refl refl holds.answers.owed };
   guests = record {
     settings = holds.guests.settings;
+    once = holds.guests.once;
     known = holds.guests.known;
     fragments = record {
       held = holds.guests.fragments.held;
@@ -401,7 +404,7 @@ module _ (config : Config) (at : Standing) (slirp : SlirpState) (f : Flowing) (l
                 ∙ sym (λ i. kept_by f.aged false ((now_is config (made ++ past) ∙ then_is.between.at ∙ sym holds.clock.moment ∙ sym (now_is config past)) i) (others.files i).transfers);
           });
         };
-        guests = record { settings = guests.settings; known = guests.known; fragments = record { held = fragments.held; is_held = fragments.is_held; wait = fragments.wait } };
+        guests = record { settings = guests.settings; once = guests.once; known = guests.known; fragments = record { held = fragments.held; is_held = fragments.is_held; wait = fragments.wait } };
         relayed = record {
           list = others.list ∙ holds.relayed.list;
           questions = others.questions ∙ holds.relayed.questions;
@@ -432,7 +435,7 @@ module _ (config : Config) (at : Standing) (slirp : SlirpState) (f : Flowing) (l
     sockets = subst (λ l. AreOpenWith (forward_sockets l) (carriers (holders_with slirp new)) new.flows.slots (made ++ past)) (sym holds.forwards)
         (open_by config slirp (flowing f.aged new) slirp.moment (made ++ past) then_is.lawful (others.list ∙ holds.relayed.list)
         (others.questions ∙ holds.relayed.questions) then_is.holds (sockets_left config past made others holds.sockets.kinds)
-        (all_given config (made ++ past) then_is.lawful (Over (By LinkFailed)) then_is.over refl) then_is.open_yet);
+        (all_given config (made ++ past) holds.guests.once then_is.lawful (Over (By LinkFailed)) then_is.over refl) then_is.open_yet);
     two = two_in config slirp (made ++ past) then_is.lawful (others.list ∙ holds.relayed.list) (others.questions ∙ holds.relayed.questions);
   }
 

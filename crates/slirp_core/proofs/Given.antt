@@ -1,6 +1,6 @@
 -- The ports of the host that are given to guests, in a lawful run: they are opened first, in order, and stay open until the closing.
 use Rattle.std.proofs.Common.{◌≡◌, ℕ, zero, suc, ◌+◌, ◌<◌, ◌≤◌, ◌==◌, ◌&&◌, ◌||◌, ◌⊎◌, not, nat_lt, Bool, true, false, List, [], ◌∷◌, ◌++◌, drop, filter, find, length, slice_get, Option}
-use Rattle.std.proofs.Common.{Some, None, MatchOption, option_map, if◌then◌else◌, inl, inr, refl, sym, ◌∙◌, ap, subst, arith}
+use Rattle.std.proofs.Common.{Some, None, MatchOption, is_some, option_map, if◌then◌else◌, inl, inr, refl, sym, ◌∙◌, ap, subst, arith}
 use Rattle.std.proofs.lemmas.Bool.Decides.{nat_tests}
 use Rattle.std.specs.Option.{option_and_then, option_or}
 use Rattle.net_octets.specs.declared.Endpoint.{Endpoint}
@@ -17,25 +17,26 @@ use Rattle.host_policy.specs.Ranges.{same_proto}
 use Rattle.host_policy.specs.Targets.{same_endpoint}
 use Rattle.port_forward.specs.Opened.{leads_to, socket_for, socket_of}
 use Rattle.host_policy.specs.Addresses.{Config}
-use Rattle.record_flows.specs.Book.{book}
+use Rattle.record_flows.specs.Book.{book, port_of}
 use Rattle.record_flows.specs.Lots.{due_for_flows}
 use Rattle.run_laws.specs.Moments.{waits}
-use Rattle.run_laws.specs.Shape.{Phase, Opening, Started, Woken, Working, Over, By, Refused, due_in, may_turn, opened, opening_of, phase, phase_after, phase_by}
+use Rattle.run_laws.specs.Shape.{Phase, Opening, Started, Woken, Working, Over, By, Refused, due_in, is_working, may_turn, opened, opening_of, phase, phase_after, phase_by}
 use Rattle.run_laws.specs.Sockets.{Kind, Association as OfAssociation, DnsSocket, Forward as OfForward, Listener, Flow as OfFlow, datagram_kind, is_among, is_forward, kind_of, next_number}
 use Rattle.run_laws.specs.Sockets.{open_sockets, with_made}
 use Rattle.slirp_laws.specs.Laws.{Lawful, May, due, due_for_services, is_closing, may_part, parts}
 use Rattle.slirp_laws.proofs.Bools.{among_last, among_without, and_both, equal, first_of, or_second, same, second_of, turned}
 use Rattle.slirp_laws.proofs.OpenSockets.{open_below, peer_next}
+use Rattle.slirp_laws.proofs.Given.{by_settings, led_by_settings}
 use Rattle.slirp_laws.proofs.Giving.{leads}
 use Rattle.slirp_laws.proofs.Joining.{waited_for}
-use Rattle.slirp_laws.proofs.Phases.{IsForOther, OpensNone, due_call, for_others, opens}
+use Rattle.slirp_laws.proofs.Phases.{IsForOther, IsGivenNow, OpensNone, for_others, given_forward, given_turn, opening_call, opens}
 use Rattle.slirp_laws.proofs.Steps.{errand_is}
 use Rattle.slirp_laws.specs.Asking.{step}
 use Rattle.slirp_laws.specs.Datagrams.{Step, NeedsNothing, NeedsRoom, NeedsSocket, NeedsSending, due_for}
 use Rattle.run_laws.specs.Sockets.{first}
 use Rattle.slirp_laws.specs.Ports.{forward_for, given_by, given_port, is_port, opened_for}
 use Rattle.slirp_core.specs.Forwards.{forward_sockets, given, guest_on, with_numbers}
-use Rattle.slirp_core.specs.Holds.{is_given}
+use Rattle.slirp_core.specs.Holds.{GivesOnce, is_given}
 use Rattle.slirp_core.specs.Sockets.{AllAbove, IsRising}
 use Rattle.flows_follow.proofs.Seats.{same_or_not}
 use Rattle.flows_follow.proofs.Options.{true_false}
@@ -76,10 +77,29 @@ none_listens (Over cause) past other socket at later never is = by (first (open_
     by None is = never is
     by (Some s) is = cc
 
-listens_first : (config : Config) (past : List Entry) (socket : ℕ) (at : Endpoint) → is_opening (phase config past) ≡ false → May config past (CallListen socket at) → ⊥
-listens_first config past socket at later may =
-    none_listens (phase config past) past (option_or (due_for config (step config past) (next_number past)) (others_due config past)) socket at later
-    (no_step_listens config (step config past) (others_due config past) (next_number past) socket at (for_others config past)) (due_call (due config past) (CallListen socket at) may.place may.due)
+-- nor is one that was asked for, where the settings alone give them: the number of its socket would be that of a place of theirs
+given_first : (config : Config) (past : List Entry) (socket : ℕ) (at : Endpoint) (guest : Option Endpoint) → GivesOnce config → (is_working (phase config past) ≡ true
+    → length config.forwards ≤ next_number past) → (socket == next_number past) ≡ true → IsGivenNow config past socket at guest → ⊥
+given_first config past socket at guest once all next given =
+    let g = given_forward config past socket at guest given.is in
+    let less = within config.forwards socket (sym (by_settings config socket once.added) ∙ g.on) in
+    let most = all (given_turn config past socket at guest given.is) in
+    let same_number = equal socket (next_number past) next in
+    absurd (omega (arith, less, most, same_number))
+  where
+    within : (fs : List Forward) (k : ℕ) {f : Forward} → slice_get fs k ≡ Some f → k < length fs
+    within [] k at = cc
+    within (x ∷ fs) zero at = omega arith
+    within (x ∷ fs) (suc k) at = let less = within fs k at in omega (arith, less)
+
+listens_first : (config : Config) (past : List Entry) (socket : ℕ) (at : Endpoint) → GivesOnce config → (is_working (phase config past) ≡ true → length config.forwards ≤ next_number past)
+    → is_opening (phase config past) ≡ false → May config past (CallListen socket at) → ⊥
+listens_first config past socket at once all later may = elim (opening_call config past socket at (port_of config socket) (CallListen socket at) may.place may.due) [
+  | inl is ↦
+      none_listens (phase config past) past (option_or (due_for config (step config past) (next_number past)) (others_due config past)) socket at later
+      (no_step_listens config (step config past) (others_due config past) (next_number past) socket at (for_others config past)) is
+  | inr given ↦ given_first config past socket at (port_of config socket) once all may.socket given
+]
 
 -- ---- what is so of them
 
@@ -127,15 +147,15 @@ module _ (config : Config) where
   still_among Failed n socket sockets is = is
 
   -- one that isn't closed while a run goes on
-  given_stays : (past : List Entry) (m : ℕ) → Lawful config past → parts config past m ≡ true → is_given (kind_of m past) ≡ true → ⊥
-  given_stays past m lawful parted kind = by (known_of config past lawful m)
+  given_stays : (past : List Entry) (m : ℕ) → GivesOnce config → Lawful config past → parts config past m ≡ true → is_given (kind_of m past) ≡ true → ⊥
+  given_stays past m once lawful parted kind = by (known_of config past lawful m)
     where
       never : (k : Option Kind) → is_given k ≡ true → may_part config past m k ≡ true → ⊥
       never None is parts = cc
       never (Some OfAssociation) is parts = cc
       never (Some DnsSocket) is parts = cc
-      never (Some OfForward) is parts = cc
-      never (Some Listener) is parts = cc
+      never (Some OfForward) is parts = true_false (sym parts ∙ ap is_some once.control)
+      never (Some Listener) is parts = true_false (sym parts ∙ ap is_some once.control)
       never (Some OfFlow) is parts = cc
 
       by : ((kind_for config m past ≡ kind_of m past) × (is_for_question (kind_of m past) ≡ false)) ⊎ ((kind_for config m past ≡ Some DnsSocket) × (kind_of m past ≡ Some OfAssociation)) → ⊥
@@ -158,8 +178,8 @@ module _ (config : Config) where
     }
 
   -- a socket is closed
-  closes : (past : List Entry) (count m : ℕ) → Lawful config past → HasGiven count past → HasGiven count (Close m ∷ past)
-  closes past count m lawful has = record {
+  closes : (past : List Entry) (count m : ℕ) → GivesOnce config → Lawful config past → HasGiven count past → HasGiven count (Close m ∷ past)
+  closes past count m once lawful has = record {
     drawn = has.drawn;
     given = has.given;
     kinds = has.kinds;
@@ -169,7 +189,7 @@ module _ (config : Config) where
     where
       apart_from : (n : ℕ) → parts config past m ≡ true → is_given (kind_of n past) ≡ true → not (n == m) ≡ true
       apart_from n parted kind = elim (same_or_not n m) [
-        | inl is ↦ absurd (given_stays past m lawful parted (ap (λ x. is_given (kind_of x past)) (sym is) ∙ kind))
+        | inl is ↦ absurd (given_stays past m once lawful parted (ap (λ x. is_given (kind_of x past)) (sym is) ∙ kind))
         | inr other ↦ ap not other
       ]
 
@@ -185,26 +205,38 @@ module _ (config : Config) where
   none_left Working is = tt
   none_left (Over cause) is = tt
 
-  goes_on : (e : Entry) (past : List Entry) (count : ℕ) → is_opening (phase config past) ≡ false → May config past (call_of e) → Lawful config past → HasGiven count past → HasGiven count (e ∷ past)
-  goes_on (Connect socket to answer) past count later may lawful has = grows (Connect socket to answer) past count socket OfFlow answer may.socket refl has (λ n. refl) refl (omega arith) refl
-  goes_on (Listen socket at answer) past count later may lawful has = absurd (listens_first config past socket at later may)
-  goes_on (UdpOpen socket at answer) past count later may lawful has =
-      grows (UdpOpen socket at answer) past count socket (datagram_kind (nat_lt 0 (waits past))) answer may.socket (ap (λ (b : Bool). is_given (Some (datagram_kind b))) waited) has
+  most : (past : List Entry) (count : ℕ) → (is_working (phase config past) ≡ true → count ≡ length config.forwards) → HasGiven count past
+      → is_working (phase config past) ≡ true → length config.forwards ≤ next_number past
+  most past count full has working = let all = full working in let drawn = has.drawn in omega (arith, all, drawn)
+
+  goes_on : (e : Entry) (past : List Entry) (count : ℕ) → GivesOnce config → (is_working (phase config past) ≡ true → count ≡ length config.forwards) → is_opening (phase config past) ≡ false
+      → May config past (call_of e) → Lawful config past → HasGiven count past → HasGiven count (e ∷ past)
+  goes_on (Connect socket to answer) past count once full later may lawful has = grows (Connect socket to answer) past count socket OfFlow answer may.socket refl has (λ n. refl) refl (omega arith) refl
+  goes_on (Listen socket at answer) past count once full later may lawful has = absurd (listens_first config past socket at once (most past count full has) later may)
+  goes_on (UdpOpen socket at answer) past count once full later may lawful has =
+      grows (UdpOpen socket at answer) past count socket (datagram_kind (nat_lt 0 (waits past)) at.port) answer may.socket
+      (ap (λ (b : Bool). is_given (Some (datagram_kind b at.port))) waited ∙ ap (λ port. is_given (Some (datagram_kind true port))) asked.1) has
       (λ n. refl) refl (omega arith) refl
     where
-      waited : nat_lt 0 (waits past) ≡ true
-      waited = elim (opens config past socket at may) [
+      asked : (nat_lt 0 (waits past) ≡ true) × (at.port ≡ 0)
+      asked = elim (opens config past socket at may) [
         | inl early ↦ absurd (early.1 (none_left (phase config past) later))
-        | inr o ↦ waited_for config past o.errand (errand_is config past (NeedsSocket o.errand) o.asked) lawful
+        | inr open_later ↦ elim open_later [
+          | inl o ↦ (waited_for config past o.errand (errand_is config past (NeedsSocket o.errand) o.asked) lawful, ap (λ (e : Endpoint). e.port) o.at_address)
+          | inr given ↦ absurd (given_first config past socket at (given_port config socket) once (most past count full has) may.socket given)
+        ]
       ]
-  goes_on (Accept listener socket (From peer)) past count later may lawful has =
+
+      waited : nat_lt 0 (waits past) ≡ true
+      waited = asked.0
+  goes_on (Accept listener socket (From peer)) past count once full later may lawful has =
       grows (Accept listener socket (From peer)) past count socket OfFlow Done (peer_next config past listener socket (From peer) may) refl has (λ n. refl) refl (omega arith) refl
-  goes_on (Accept listener socket NotYetAccepted) past count later may lawful has =
+  goes_on (Accept listener socket NotYetAccepted) past count once full later may lawful has =
       grows (Accept listener socket NotYetAccepted) past count socket OfFlow Failed (peer_next config past listener socket NotYetAccepted may) refl has (λ n. refl) refl (omega arith) refl
-  goes_on (Accept listener socket AcceptFailed) past count later may lawful has =
+  goes_on (Accept listener socket AcceptFailed) past count once full later may lawful has =
       grows (Accept listener socket AcceptFailed) past count socket OfFlow Failed (peer_next config past listener socket AcceptFailed may) refl has (λ n. refl) refl (omega arith) refl
-  goes_on (Close m) past count later may lawful has = closes past count m lawful has
-  goes_on _ past count later may lawful has = record { drawn = has.drawn; given = has.given; kinds = has.kinds; others = has.others; stay = has.stay }
+  goes_on (Close m) past count once full later may lawful has = closes past count m once lawful has
+  goes_on _ past count once full later may lawful has = record { drawn = has.drawn; given = has.given; kinds = has.kinds; others = has.others; stay = has.stay }
 
   -- ---- where a run stands
 
@@ -235,7 +267,7 @@ module _ (config : Config) where
   pub opening_kind : (p : Proto) (count : ℕ) (at : Endpoint) (answer : Made) (past : List Entry) → waits past ≡ 0 → (n : ℕ) → kind_of n (port_opening p count at answer ∷ past) ≡
       (if count == n then Some (given_kind p) else kind_of n past)
   opening_kind Tcp count at answer past unwaited n = refl
-  opening_kind Udp count at answer past unwaited n = ap (λ w. if count == n then Some (datagram_kind (nat_lt 0 w)) else kind_of n past) unwaited
+  opening_kind Udp count at answer past unwaited n = ap (λ w. if count == n then Some (datagram_kind (nat_lt 0 w) at.port) else kind_of n past) unwaited
 
   pub opening_made : (p : Proto) (count : ℕ) (at : Endpoint) (answer : Made) (past : List Entry) → open_sockets (port_opening p count at answer ∷ past) ≡ with_made answer count (open_sockets past)
   opening_made Tcp count at answer past = refl
@@ -381,15 +413,15 @@ module _ (config : Config) where
 
   -- later the phase is one in which all ports are open yet, or one was refused
   by_phase : (p : Phase) (e : Entry) (past : List Entry) → phase config past ≡ p → is_opening p ≡ false → May config past (call_of e) → Stage p past →
-      ((count : ℕ) → HasGiven count past → HasGiven count (e ∷ past)) → (o : Option Ending)
+      ((count : ℕ) → (is_working p ≡ true → count ≡ length config.forwards) → HasGiven count past → HasGiven count (e ∷ past)) → (o : Option Ending)
       → Stage (phase_after e o p) (e ∷ past)
   by_phase (Opening count forwards) e past is later may stage more o = cc
-  by_phase Started e past is later may stage more (Some why) = more (length config.forwards) stage
-  by_phase Woken e past is later may stage more (Some why) = more (length config.forwards) stage
-  by_phase Working e past is later may stage more (Some why) = more (length config.forwards) stage
-  by_phase (Over (By cause)) e past is later may stage more (Some why) = more (length config.forwards) stage
-  by_phase (Over (Refused count)) e past is later may stage more (Some why) = more count stage
-  by_phase Started e past is later may stage more None = by_entry e (more (length config.forwards) stage)
+  by_phase Started e past is later may stage more (Some why) = more (length config.forwards) (λ working. refl) stage
+  by_phase Woken e past is later may stage more (Some why) = more (length config.forwards) (λ working. refl) stage
+  by_phase Working e past is later may stage more (Some why) = more (length config.forwards) (λ working. refl) stage
+  by_phase (Over (By cause)) e past is later may stage more (Some why) = more (length config.forwards) (λ working. refl) stage
+  by_phase (Over (Refused count)) e past is later may stage more (Some why) = more count (λ working. cc) stage
+  by_phase Started e past is later may stage more None = by_entry e (more (length config.forwards) (λ working. refl) stage)
     where
       by_entry : (e : Entry) → HasGiven (length config.forwards) (e ∷ past) → Stage (phase_by e Started) (e ∷ past)
       by_entry (Now told) has = has
@@ -399,7 +431,7 @@ module _ (config : Config) where
       by_entry (UdpOpen socket at Done) has = has
       by_entry (UdpOpen socket at Failed) has = has
       by_entry _ has = has
-  by_phase Woken e past is later may stage more None = by_entry e (more (length config.forwards) stage)
+  by_phase Woken e past is later may stage more None = by_entry e (more (length config.forwards) (λ working. refl) stage)
     where
       by_entry : (e : Entry) → HasGiven (length config.forwards) (e ∷ past) → Stage (phase_by e Woken) (e ∷ past)
       by_entry (Now told) has = has
@@ -409,7 +441,7 @@ module _ (config : Config) where
       by_entry (UdpOpen socket at Done) has = has
       by_entry (UdpOpen socket at Failed) has = has
       by_entry _ has = has
-  by_phase Working e past is later may stage more None = by_entry e (more (length config.forwards) stage)
+  by_phase Working e past is later may stage more None = by_entry e (more (length config.forwards) (λ working. refl) stage)
     where
       by_entry : (e : Entry) → HasGiven (length config.forwards) (e ∷ past) → Stage (phase_by e Working) (e ∷ past)
       by_entry (Now told) has = has
@@ -419,7 +451,7 @@ module _ (config : Config) where
       by_entry (UdpOpen socket at Done) has = has
       by_entry (UdpOpen socket at Failed) has = has
       by_entry _ has = has
-  by_phase (Over (By cause)) e past is later may stage more None = by_entry e may (more (length config.forwards) stage)
+  by_phase (Over (By cause)) e past is later may stage more None = by_entry e may (more (length config.forwards) (λ working. refl) stage)
     where
       by_entry : (e : Entry) → May config past (call_of e) → HasGiven (length config.forwards) (e ∷ past) → Stage (phase_by e (Over (By cause))) (e ∷ past)
       by_entry (Now told) may has = has
@@ -429,7 +461,7 @@ module _ (config : Config) where
       by_entry (UdpOpen socket at Done) may has = has
       by_entry (UdpOpen socket at Failed) may has = has
       by_entry _ may has = has
-  by_phase (Over (Refused count)) e past is later may stage more None = by_entry e may (more count stage)
+  by_phase (Over (Refused count)) e past is later may stage more None = by_entry e may (more count (λ working. cc) stage)
     where
       no_wait : (b : Bool) → (may_turn (phase config past) && b) ≡ true → ⊥
       no_wait b place = true_false (sym (first_of (may_turn (phase config past)) b place) ∙ ap may_turn is)
@@ -443,8 +475,8 @@ module _ (config : Config) where
       by_entry (UdpOpen socket at Failed) may has = has
       by_entry _ may has = has
 
-  pub staged : (past : List Entry) → Lawful config past → Stage (phase config past) past
-  staged [] lawful = (
+  pub staged : (past : List Entry) → GivesOnce config → Lawful config past → Stage (phase config past) past
+  staged [] once lawful = (
     refl,
     refl,
     omega arith,
@@ -457,16 +489,16 @@ module _ (config : Config) where
       stay = λ open_yet n less. absurd (omega (arith, less));
     },
   )
-  staged (e ∷ past) lawful = by (phase config past) refl (staged past lawful.1)
+  staged (e ∷ past) once lawful = by (phase config past) refl (staged past once lawful.1)
     where
       by : (p : Phase) → phase config past ≡ p → Stage p past → Stage (phase_after e (ending e (partial past)) p) (e ∷ past)
       by (Opening count []) is stage = asked e past count (due_asks past count is (call_of e) lawful.0.due) stage
       by (Opening count (f ∷ fs)) is stage =
           listened e past count f fs lawful.1 (due_opens past count f fs is (call_of e) lawful.0.due) stage
-      by Started is stage = by_phase Started e past is refl lawful.0 stage (λ count has. goes_on e past count (ap is_opening is) lawful.0 lawful.1 has) (ending e (partial past))
-      by Woken is stage = by_phase Woken e past is refl lawful.0 stage (λ count has. goes_on e past count (ap is_opening is) lawful.0 lawful.1 has) (ending e (partial past))
-      by Working is stage = by_phase Working e past is refl lawful.0 stage (λ count has. goes_on e past count (ap is_opening is) lawful.0 lawful.1 has) (ending e (partial past))
-      by (Over cause) is stage = by_phase (Over cause) e past is refl lawful.0 stage (λ count has. goes_on e past count (ap is_opening is) lawful.0 lawful.1 has) (ending e (partial past))
+      by Started is stage = by_phase Started e past is refl lawful.0 stage (λ count full has. goes_on e past count once (λ working. full (sym (ap is_working is) ∙ working)) (ap is_opening is) lawful.0 lawful.1 has) (ending e (partial past))
+      by Woken is stage = by_phase Woken e past is refl lawful.0 stage (λ count full has. goes_on e past count once (λ working. full (sym (ap is_working is) ∙ working)) (ap is_opening is) lawful.0 lawful.1 has) (ending e (partial past))
+      by Working is stage = by_phase Working e past is refl lawful.0 stage (λ count full has. goes_on e past count once (λ working. full (sym (ap is_working is) ∙ working)) (ap is_opening is) lawful.0 lawful.1 has) (ending e (partial past))
+      by (Over cause) is stage = by_phase (Over cause) e past is refl lawful.0 stage (λ count full has. goes_on e past count once (λ working. full (sym (ap is_working is) ∙ working)) (ap is_opening is) lawful.0 lawful.1 has) (ending e (partial past))
 
   -- all are open from the clock's first moment on, unless one was refused
   abbrev pub has_all : Phase → Bool
@@ -474,8 +506,8 @@ module _ (config : Config) where
   has_all (Over (Refused count)) = false
   has_all _ = true
 
-  pub all_given : (past : List Entry) → Lawful config past → (p : Phase) → phase config past ≡ p → has_all p ≡ true → HasGiven (length config.forwards) past
-  all_given past lawful p is has = by p has (subst (λ q. Stage q past) is (staged past lawful))
+  pub all_given : (past : List Entry) → GivesOnce config → Lawful config past → (p : Phase) → phase config past ≡ p → has_all p ≡ true → HasGiven (length config.forwards) past
+  all_given past once lawful p is has = by p has (subst (λ q. Stage q past) is (staged past once lawful))
     where
       by : (p : Phase) → has_all p ≡ true → Stage p past → HasGiven (length config.forwards) past
       by (Opening count forwards) has stage = cc
@@ -615,7 +647,7 @@ module _ (config : Config) (past : List Entry) (lawful : Lawful config past) (ha
   pub leads_at : (n : ℕ) (f : Forward) → slice_get config.forwards n ≡ Some f → f.proto ≡ Udp → (kind_of n past ≡ Some OfForward) × (opened_for config n past ≡ Some f.guest)
   leads_at n f at udp =
       let kind = kind_at n f at ∙ ap (λ proto. Some (given_kind proto)) udp in
-      (kind, leads config n past kind ∙ ap (option_and_then (λ (g : Forward). given_by g.proto g.guest)) at ∙ ap (λ proto. given_by proto f.guest) udp)
+      (kind, leads config n past kind ∙ ap (option_and_then (λ (g : Forward). given_by g.proto g.guest)) (led_by_settings config n f at) ∙ ap (λ proto. given_by proto f.guest) udp)
 
   agrees : (guest : Endpoint) (n : ℕ) (f : Forward) → slice_get config.forwards n ≡ Some f
       → (is_forward (kind_of n past) ≡ same_proto f.proto Udp) × (f.proto ≡ Udp → is_port guest (opened_for config n past) ≡ same_endpoint f.guest guest)
@@ -666,7 +698,7 @@ module _ (config : Config) (past : List Entry) (lawful : Lawful config past) (ha
           by false is = refl
 
 -- the guest's port of the list's forward at a place is that of the settings
-pub guest_given : (config : Config) (n : ℕ) → guest_on (given config) n ≡ given_port config n
+pub guest_given : (config : Config) (n : ℕ) → guest_on (given config) n ≡ option_and_then (λ (f : Forward). given_by f.proto f.guest) (slice_get config.forwards n)
 guest_given config n = by config.forwards n 0
   where
     by : (fs : List Forward) (n k : ℕ) → guest_on (with_numbers k fs) n ≡ option_and_then (λ (f : Forward). given_by f.proto f.guest) (slice_get fs n)

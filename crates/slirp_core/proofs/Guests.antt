@@ -1,5 +1,5 @@
 -- What only a frame of the guests changes.
-use Rattle.std.proofs.Common.{◌≡◌, ℕ, List, [], ◌∷◌, Option, None, refl, sym, ◌∙◌, ap}
+use Rattle.std.proofs.Common.{◌≡◌, ℕ, List, ◌∷◌, Option, None, sym, ◌∙◌, ap}
 use Rattle.net_octets.specs.declared.Ip4.{Ip4}
 use Rattle.net_octets.specs.declared.Mac.{Mac}
 use Rattle.world_face.specs.Journal.{Entry}
@@ -7,38 +7,32 @@ use Rattle.host_policy.specs.Addresses.{Config}
 use Rattle.ipv4_reasm.specs.Areas.{Gathered}
 use Rattle.run_laws.specs.Guests.{known, with_arrival}
 use Rattle.run_laws.specs.Happenings.{happens}
-use Rattle.slirp_core.specs.Holds.{OfGuests}
+use Rattle.slirp_core.specs.Holds.{GivesOnce, OfGuests}
 use Rattle.slirp_core.specs.Packets.{with_frame}
 use Rattle.slirp_core.specs.State.{SlirpState}
 use Rattle.slirp_core.specs.Waiting.{OfFragments}
-use Rattle.slirp_core.proofs.Waitings.{fragments_begin, fragments_stay, none_arrived}
+use Rattle.slirp_core.proofs.Waitings.{fragments_stay, none_arrived}
 
 -- what of the network it is
 abbrev pub of_guests : SlirpState → Config × List (Ip4 × Mac) × List Gathered
 of_guests slirp = (slirp.config, slirp.known, slirp.fragments)
-
--- at the beginning
-pub guests_begin : (slirp : SlirpState) (told : Entry) → (happens slirp.config [] told).came ≡ None → slirp.known ≡ [] → slirp.fragments ≡ [] → OfGuests slirp.config slirp (told ∷ [])
-guests_begin slirp told nothing none no_parts = record {
-  settings = refl;
-  known = ap (λ o. with_arrival o []) nothing ∙ sym none;
-  fragments = fragments_begin slirp.config slirp told (none_arrived slirp.config [] told nothing) no_parts;
-}
 
 -- an entry by which no frame came
 pub guests_stay : (config : Config) (slirp new : SlirpState) (e : Entry) (past : List Entry) → (happens config past e).came ≡ None → of_guests new ≡ of_guests slirp →
     OfGuests config slirp past → OfGuests config new (e ∷ past)
 guests_stay config slirp new e past nothing same is = record {
   settings = ap (λ (p : Config × List (Ip4 × Mac) × List Gathered). p.0) same ∙ is.settings;
+  once = is.once;
   known = ap (λ o. with_arrival o (known config past)) nothing ∙ is.known ∙ sym (ap (λ (p : Config × List (Ip4 × Mac) × List Gathered). p.1) same);
   fragments = fragments_stay config slirp new e past (none_arrived config past e nothing) (ap (λ (p : Config × List (Ip4 × Mac) × List Gathered). p.2) same) is.fragments;
 }
 
 -- one by which one came, or none
-pub guests_learn : (config : Config) (slirp new : SlirpState) (frame : Option (List ℕ)) (past : List Entry) → slirp.config ≡ config → known config past ≡ with_frame config frame slirp.known
+pub guests_learn : (config : Config) (slirp new : SlirpState) (frame : Option (List ℕ)) (past : List Entry) → slirp.config ≡ config → GivesOnce config → known config past ≡ with_frame config frame slirp.known
     → new.config ≡ slirp.config → new.known ≡ with_frame config frame slirp.known → OfFragments config new past → OfGuests config new past
-guests_learn config slirp new frame past settings learnt same_config same_known fragments = record {
+guests_learn config slirp new frame past settings once learnt same_config same_known fragments = record {
   settings = same_config ∙ settings;
+  once = once;
   known = learnt ∙ sym same_known;
   fragments = fragments;
 }
@@ -46,4 +40,4 @@ guests_learn config slirp new frame past settings learnt same_config same_known 
 -- no entry, but that old fragments are given up
 pub guests_forget : (config : Config) (slirp new : SlirpState) (past : List Entry) → new.config ≡ slirp.config → new.known ≡ slirp.known → OfFragments config new past →
     OfGuests config slirp past → OfGuests config new past
-guests_forget config slirp new past same_config same_known fragments is = record { settings = same_config ∙ is.settings; known = is.known ∙ sym same_known; fragments = fragments }
+guests_forget config slirp new past same_config same_known fragments is = record { settings = same_config ∙ is.settings; once = is.once; known = is.known ∙ sym same_known; fragments = fragments }

@@ -1,5 +1,5 @@
 -- A segment is heard: its flow takes it, or it strays, or the host connects for it.
-use Rattle.std.proofs.Common.{◌≡◌, ℕ, ◌<◌, ◌+◌, ◌==◌, ◌||◌, nat_lt, Bool, true, false, List, [], ◌∷◌, ◌++◌, length, Some, None, inl, refl, sym, ◌∙◌, ap, subst, arith, if◌then◌else◌}
+use Rattle.std.proofs.Common.{◌≡◌, ℕ, ◌<◌, ◌+◌, ◌==◌, ◌&&◌, ◌||◌, not, option_map, nat_lt, Bool, true, false, List, [], ◌∷◌, ◌++◌, length, Some, None, inl, refl, sym, ◌∙◌, ap, subst, arith, if◌then◌else◌}
 use Rattle.std.proofs.lemmas.Bool.Decides.{nat_tests}
 use Rattle.std.specs.Prelude.{Contains}
 use Rattle.std.specs.Option.{option_and_then}
@@ -16,8 +16,8 @@ use Rattle.host_policy.specs.declared.Verdict.{Verdict}
 use Rattle.host_policy.specs.declared.Verdict.TheVariants.{Go, Denied}
 use Rattle.record_flows.specs.Book.{book, scene, turned}
 use Rattle.record_flows.specs.Doings.{Comes as ComesOn}
-use Rattle.record_flows.specs.Flows.{Book, owner}
-use Rattle.record_flows.specs.Lots.{Lot, Dropped, AsksFor, GetsReset, asked_for, due_by, due_for_flows, is_mistaken, is_opening, is_to_many, lot_by, is_reset, is_reset_by, lot}
+use Rattle.record_flows.specs.Flows.{Book, owner, Flow}
+use Rattle.record_flows.specs.Lots.{Lot, Dropped, AsksFor, GetsReset, asked_for, due_by, due_for_flows, is_mistaken, is_opening, is_to_many, lot_by, is_reset, is_reset_by, lot, NeedsRoom, giving_way, needs_room, quietest}
 use Rattle.record_flows.specs.Segments.{OnTuple}
 use Rattle.record_flows.specs.Taught.{taught}
 use Rattle.run_laws.specs.Sockets.{Flow as FlowKind, is_among, kind_of, next_number, open_sockets, with_made}
@@ -45,6 +45,10 @@ use Rattle.tcp_flows.specs.Runs.{Begins as BeginsFlow, Between, HasLot, Hears, I
 use Rattle.tcp_flows.specs.declared.guest.Heard.{Heard}
 use Rattle.tcp_flows.specs.declared.guest.Heard.TheVariants.{Taken, Strange, Alone}
 use Rattle.slirp_core.proofs.Called.{framed, guests_left, sockets_left}
+use Rattle.flow_laws.specs.Close.{owes_reset}
+use Rattle.std.specs.List.{list_any}
+use Rattle.tcp_flows.specs.Way.{GivesWay}
+use Rattle.run_laws.specs.Moments.{moment}
 
 -- the kinds of sockets, one more that is a flow's
 kinds_joined : (number : ℕ) (to : Endpoint) (answer : Made) (past : List Entry) → ((n : ℕ) → is_among n (open_sockets past) ≡ true → is_ours (kind_of n past) ≡ true)
@@ -95,14 +99,24 @@ module _ (config : Config) (at : Standing) (slirp : SlirpState) (kept : Kept) (l
   came_is : (book config past).came ≡ Some c.on
   came_is = ap (λ (b : Book). b.came) then_book
 
-  doomed_is : (book config past).doomed ≡ None
-  doomed_is = ap (λ (b : Book). b.doomed) then_book
-
   abbrev the_lot : Lot
   the_lot = lot config (book config past) c.on
 
-  due_as : due_for_flows config (book config past) (next_number past) ≡ due_by None (asked_for the_lot) (next_number past)
-  due_as = λ i. due_by (doomed_is i) (option_and_then (λ (on : OnTuple). asked_for (lot config (book config past) on)) (came_is i)) (next_number past)
+  doomed_is : (book config past).doomed ≡ giving_way config slirp.moment c.on (book config past)
+  doomed_is =
+      ap (λ (b : Book). b.doomed) then_book ∙ ap (giving_way config (moment comes.before) c.on) (sym then_book)
+      ∙ ap (λ m. giving_way config m c.on (book config past)) comes.brings.at_before
+
+  -- where it doesn't need room none gives way
+  none_doomed : (l : Lot) → the_lot ≡ l → needs_room l ≡ false → (book config past).doomed ≡ None
+  none_doomed l is room =
+      doomed_is ∙ ap (λ b. if b && not (list_any (λ (f : Flow). owes_reset f.story) (book config past).flows)
+      then option_map (λ (f : Flow). f.number) (quietest slirp.moment (book config past).flows) else None) (ap needs_room is ∙ room)
+
+  due_as : (l : Lot) → the_lot ≡ l → needs_room l ≡ false → due_for_flows config (book config past) (next_number past) ≡ due_by None (asked_for l) (next_number past)
+  due_as l is room =
+      (λ i. due_by (none_doomed l is room i) (option_and_then (λ (on : OnTuple). asked_for (lot config (book config past) on)) (came_is i)) (next_number past))
+      ∙ ap (λ l. due_by None (asked_for l) (next_number past)) is
 
   -- what is owed for it by its lot
   owed_as : (b : Bool) → is_reset config (book config past) c.on ≡ b → left config past ≡ frames_of config slirp.sent (owed_for_segment b c.on)
@@ -144,7 +158,7 @@ module _ (config : Config) (at : Standing) (slirp : SlirpState) (kept : Kept) (l
           sent = leaves.counted ∙ comes.sent;
           owed = inl (record { left = leaves.left ∙ owed; again = others.again ∙ comes.again; files = comes.files ∙ sym (ap (λ (k : Files). k.transfers) others.files) });
         };
-        guests = record { settings = guests.settings; known = guests.known; fragments = record { held = fragments.held; is_held = fragments.is_held; wait = fragments.wait } };
+        guests = record { settings = guests.settings; once = guests.once; known = guests.known; fragments = record { held = fragments.held; is_held = fragments.is_held; wait = fragments.wait } };
         relayed = record {
           list = others.list ∙ comes.relayed.list;
           questions = others.questions ∙ comes.relayed.questions;
@@ -186,8 +200,8 @@ module _ (config : Config) (at : Standing) (slirp : SlirpState) (kept : Kept) (l
       abbrev t : Told Alone past
       t = told Alone hears
 
-      then_between : (l : Lot) → its ≡ l → Between config slirp.moment false (due_by None (asked_for l) (next_number past)) new past
-      then_between l is = subst (λ d. Between config slirp.moment false d new past) (due_as ∙ ap (λ l. due_by None (asked_for l) (next_number past)) (t.1 ∙ is)) t.0.1
+      then_between : (l : Lot) → its ≡ l → needs_room l ≡ false → Between config slirp.moment false (due_by None (asked_for l) (next_number past)) new past
+      then_between l is room = subst (λ d. Between config slirp.moment false d new past) (due_as l (t.1 ∙ is) room) t.0.1
 
       -- nothing is called
       no_call : Between config slirp.moment false None new past → Between config slirp.moment false None new (made ++ past)
@@ -198,17 +212,25 @@ module _ (config : Config) (at : Standing) (slirp : SlirpState) (kept : Kept) (l
 
       -- it is ignored
       pub alone_dropped : its ≡ Dropped → Holds config at slirp (flowing false new) link (made ++ past)
-      alone_dropped is = settles made new slirp.pending allowed (no_call (then_between Dropped is)) t.2 t.3 (owed_none (reset_by Dropped (t.1 ∙ is)))
+      alone_dropped is = settles made new slirp.pending allowed (no_call (then_between Dropped is refl)) t.2 t.3 (owed_none (reset_by Dropped (t.1 ∙ is)))
 
       -- it is answered by a reset
       pub alone_reset : its ≡ GetsReset → Holds config at (record slirp { pending = reset_frames }) (flowing false new) link (made ++ past)
-      alone_reset is = settles made new reset_frames allowed (no_call (then_between GetsReset is)) t.2 t.3 (owed_reset (reset_by GetsReset (t.1 ∙ is)))
+      alone_reset is = settles made new reset_frames allowed (no_call (then_between GetsReset is refl)) t.2 t.3 (owed_reset (reset_by GetsReset (t.1 ∙ is)))
+
+      -- ---- all places are in use: one flow gives way, or none
+
+      pub alone_crowded : its ≡ NeedsRoom → (parted : Kept) (closes : List Entry) → AreAllowed closes → GivesWay slirp.moment new parted closes →
+          Holds config at slirp (flowing false parted) link (closes ++ past)
+      alone_crowded is parted closes fine gives =
+          let g = gives config past c.on (record { came = came_is; lot = t.1 ∙ is; doomed = doomed_is }) t.0.1 in
+          settles closes parted slirp.pending fine g.0 g.1 g.2 (owed_none (reset_by NeedsRoom (t.1 ∙ is)))
 
       -- ---- the host is to connect for it
 
       module _ (to : Endpoint) (asks : its ≡ AsksFor to) where
         abbrev due_is : Between config slirp.moment false (Some (CallConnect (next_number past) to)) new past
-        due_is = then_between (AsksFor to) asks
+        due_is = then_between (AsksFor to) asks refl
 
         may : May config past (CallConnect slirp.number to)
         may = subst (λ n. May config past (CallConnect n to)) comes.sockets.number (may_connect config new.flows past slirp.moment to due_is.holds due_is.work due_is.lawful)

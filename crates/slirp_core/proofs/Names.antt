@@ -1,6 +1,6 @@
 -- The sockets of questions: which are open, and that they are no others'.
 use Rattle.std.proofs.Common.{◌≡◌, ℕ, ◌==◌, ◌&&◌, ◌||◌, ◌⊎◌, not, nat_lt, Bool, true, false, cond, List, [], ◌∷◌, ◌++◌, find, is_some, Option, Some, None, option_map, if◌then◌else◌, inl}
-use Rattle.std.proofs.Common.{inr, refl, sym, ◌∙◌, ap, subst}
+use Rattle.std.proofs.Common.{inr, refl, sym, ◌∙◌, ap, subst, arith}
 use Rattle.net_octets.specs.declared.Endpoint.{Endpoint}
 use Rattle.world_face.specs.Journal.{Entry, Accept, Connect, Listen, UdpOpen}
 use Rattle.host_policy.specs.Addresses.{Config}
@@ -19,6 +19,8 @@ use Rattle.slirp_laws.specs.Questions.{is_for_question}
 use Rattle.slirp_laws.specs.Relayed.{associations}
 use Rattle.slirp_laws.proofs.Bools.{equal, or_assoc, or_false, or_second, same, second_of, turned}
 use Rattle.slirp_laws.proofs.Joining.{joined, waited_for}
+use Rattle.slirp_laws.proofs.Phases.{at_any_port}
+use Rattle.std.proofs.lemmas.Bool.Decides.{nat_tests}
 use Rattle.slirp_laws.proofs.Waiting.{are_waiting}
 
 -- ---- their numbers
@@ -115,9 +117,13 @@ by_other : (b : Bool) (k : Kind) (before now : Option Kind) → is_for_question 
 by_other true k before now none was = inl (refl, none)
 by_other false k before now none was = was
 
-known_kind : (waited : Bool) → is_for_question (Some (datagram_kind waited)) ≡ false
-known_kind true = refl
-known_kind false = refl
+known_kind : (waited : Bool) (port : ℕ) → is_for_question (Some (datagram_kind waited port)) ≡ false
+known_kind true port = by (port == 0)
+  where
+    by : (z : Bool) → is_for_question (Some (if z then OfAssociation else OfForward)) ≡ false
+    by true = refl
+    by false = refl
+known_kind false port = refl
 
 pub known_of : (config : Config) (past : List Entry) → Lawful config past → (n : ℕ) → IsKnown config n past
 known_of config [] lawful n = inl (refl, refl)
@@ -126,23 +132,25 @@ known_of config (Listen socket at answer ∷ past) lawful n = by_other (socket =
 known_of config (Accept listener socket answer ∷ past) lawful n = by_other (socket == n) OfFlow (kind_for config n past) (kind_of n past) refl (known_of config past lawful.1 n)
 known_of config (UdpOpen socket at answer ∷ past) lawful n = by (errand_left config past) refl (known_of config past lawful.1 n)
   where
-    asking : (b : Bool) (waited : nat_lt 0 (waits past) ≡ true) (hit : Bool) → IsKnown config n past
-        → (((if hit then Some (if b then DnsSocket else datagram_kind (nat_lt 0 (waits past))) else kind_for config n past) ≡
-        (if hit then Some (datagram_kind (nat_lt 0 (waits past))) else kind_of n past)) × (is_for_question (if hit then Some (datagram_kind (nat_lt 0 (waits past))) else kind_of n past) ≡ false))
-        ⊎ (((if hit then Some (if b then DnsSocket else datagram_kind (nat_lt 0 (waits past))) else kind_for config n past) ≡ Some DnsSocket) ×
-        ((if hit then Some (datagram_kind (nat_lt 0 (waits past))) else kind_of n past) ≡ Some OfAssociation))
-    asking true waited true was = inr (refl, ap (λ (v : Bool). Some (datagram_kind v)) waited)
-    asking false waited true was = inl (refl, known_kind (nat_lt 0 (waits past)))
-    asking b waited false was = was
+    asking : (b : Bool) (waited : nat_lt 0 (waits past) ≡ true) (any : at.port ≡ 0) (hit : Bool) → IsKnown config n past
+        → (((if hit then Some (if b then DnsSocket else datagram_kind (nat_lt 0 (waits past)) at.port) else kind_for config n past) ≡
+        (if hit then Some (datagram_kind (nat_lt 0 (waits past)) at.port) else kind_of n past)) × (is_for_question (if hit then Some (datagram_kind (nat_lt 0 (waits past)) at.port) else kind_of n past) ≡ false))
+        ⊎ (((if hit then Some (if b then DnsSocket else datagram_kind (nat_lt 0 (waits past)) at.port) else kind_for config n past) ≡ Some DnsSocket) ×
+        ((if hit then Some (datagram_kind (nat_lt 0 (waits past)) at.port) else kind_of n past) ≡ Some OfAssociation))
+    asking true waited any true was = inr (refl, ap (λ (v : Bool). Some (datagram_kind v at.port)) waited ∙ ap (λ port. Some (datagram_kind true port)) any)
+    asking false waited any true was = inl (refl, known_kind (nat_lt 0 (waits past)) at.port)
+    asking b waited any false was = was
 
     by : (o : Option Errand) → errand_left config past ≡ o → IsKnown config n past
-        → (((if socket == n then Some (datagram_kind_for config (nat_lt 0 (waits past)) o) else kind_for config n past) ≡
-        (if socket == n then Some (datagram_kind (nat_lt 0 (waits past))) else kind_of n past)) ×
-        (is_for_question (if socket == n then Some (datagram_kind (nat_lt 0 (waits past))) else kind_of n past) ≡ false))
-        ⊎ (((if socket == n then Some (datagram_kind_for config (nat_lt 0 (waits past)) o) else kind_for config n past) ≡ Some DnsSocket) ×
-        ((if socket == n then Some (datagram_kind (nat_lt 0 (waits past))) else kind_of n past) ≡ Some OfAssociation))
-    by None is was = by_other (socket == n) (datagram_kind (nat_lt 0 (waits past))) (kind_for config n past) (kind_of n past) (known_kind (nat_lt 0 (waits past))) was
-    by (Some errand) is was = asking (asks_a_name config errand) (waited_for config past errand is lawful.1) (socket == n) was
+        → (((if socket == n then Some (datagram_kind_for config (nat_lt 0 (waits past)) at.port o) else kind_for config n past) ≡
+        (if socket == n then Some (datagram_kind (nat_lt 0 (waits past)) at.port) else kind_of n past)) ×
+        (is_for_question (if socket == n then Some (datagram_kind (nat_lt 0 (waits past)) at.port) else kind_of n past) ≡ false))
+        ⊎ (((if socket == n then Some (datagram_kind_for config (nat_lt 0 (waits past)) at.port o) else kind_for config n past) ≡ Some DnsSocket) ×
+        ((if socket == n then Some (datagram_kind (nat_lt 0 (waits past)) at.port) else kind_of n past) ≡ Some OfAssociation))
+    by None is was = by_other (socket == n) (datagram_kind (nat_lt 0 (waits past)) at.port) (kind_for config n past) (kind_of n past) (known_kind (nat_lt 0 (waits past)) at.port) was
+    by (Some errand) is was =
+        let waited = waited_for config past errand is lawful.1 in
+        asking (asks_a_name config errand) waited (at_any_port config past socket at errand (grind (arith, nat_tests, waited)) is lawful.0) (socket == n) was
 known_of config (_ ∷ past) lawful n = known_of config past lawful.1 n
 
 -- ---- the sockets that carry datagrams

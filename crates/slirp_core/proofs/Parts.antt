@@ -115,8 +115,8 @@ pub given_in : (config : Config) (at : Standing) (step : Step) (heard : Option �
 given_in config at step heard slirp f link past holds = by holds.stands
   where
     by : Stands config step slirp f.kept link past → HasGiven config (length config.forwards) past
-    by (Turns turn) = all_given config past holds.lawful Working turn.working refl
-    by (Begins unbegun free unrested) = all_given config past holds.lawful Started unbegun.started refl
+    by (Turns turn) = all_given config past holds.guests.once holds.lawful Working turn.working refl
+    by (Begins unbegun free unrested) = all_given config past holds.guests.once holds.lawful Started unbegun.started refl
 
 -- the first of them for datagrams to a port of a guest is that of the list
 pub forward_in : (config : Config) (at : Standing) (step : Step) (heard : Option ℕ) (slirp : SlirpState) (f : Flowing) (link : LinkState) (past : List Entry) →

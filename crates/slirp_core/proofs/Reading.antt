@@ -457,7 +457,7 @@ module _ (config : Config) (count : ℕ) (wants : List Want) (item : Want) (item
             files = sym (ap (λ (k : Files). k.transfers) unsought);
           });
         };
-        guests = guests_learn config slirp then_is (hands answer new) (made ++ past) holds.guests.settings
+        guests = guests_learn config slirp then_is (hands answer new) (made ++ past) holds.guests.settings holds.guests.once
             (all.known_is ∙ ap (λ o. with_frame config o slirp.known) r.1.frame) refl refl
             (all.fragments then_is (subst (λ o. KeepsParts config slirp then_is o) (sym r.1.frame) (kept_as (hands answer new) new_slirp keeps)));
         relayed = record { list = all.list; questions = all.named; asks = ap (asked_by config slirp) (all.asks ∙ ap (errand_by_packet config) arrived_is); heard = all.heard };
@@ -521,7 +521,7 @@ module _ (config : Config) (count : ℕ) (wants : List Want) (item : Want) (item
         none = no_packet;
         again = all.idle;
         files = sym (ap (λ (k : Files). k.transfers) unsought);
-        guests = guests_learn config slirp then_is (hands answer new) (made ++ past) holds.guests.settings
+        guests = guests_learn config slirp then_is (hands answer new) (made ++ past) holds.guests.settings holds.guests.once
             (all.known_is ∙ ap (λ o. with_frame config o slirp.known) r.1.frame) refl refl
             (all.fragments then_is (subst (λ o. KeepsParts config slirp then_is o) (sym r.1.frame) (kept_as (hands answer new) new_slirp keeps)));
         relayed = record { list = all.list; questions = all.named; asks = ap (asked_by config slirp) unasked; heard = all.heard };
@@ -561,7 +561,7 @@ module _ (config : Config) (count : ℕ) (wants : List Want) (item : Want) (item
         none = ap (λ p. frames_of config slirp.sent (owed_with config (serving_of slirp) p)) its.packet ∙ ap
             (λ f. frames_of config slirp.sent (owed_at_once_by config (serving_of slirp) d f)) its.fate;
         again = all.idle;
-        guests = guests_learn config slirp then_is (hands answer new) (made ++ past) holds.guests.settings
+        guests = guests_learn config slirp then_is (hands answer new) (made ++ past) holds.guests.settings holds.guests.once
             (all.known_is ∙ ap (λ o. with_frame config o slirp.known) r.1.frame) refl refl
             (all.fragments then_is (subst (λ o. KeepsParts config slirp then_is o) (sym r.1.frame) (kept_as (hands answer new) new_slirp keeps)));
         relayed = record { list = all.list; questions = all.named; asks = ap (asked_by config slirp) unasked; heard = all.heard };
@@ -596,6 +596,6 @@ module _ (config : Config) (count : ℕ) (wants : List Want) (item : Want) (item
         stay = flows_stay_open config (flowing false kept) slirp.moment (made ++ past) flows;
         sockets = subst (λ l. AreOpenWith (forward_sockets l) (carriers (holders_with slirp kept)) kept.flows.slots (made ++ past)) (sym holds.forwards)
             (open_by config slirp (flowing false kept) slirp.moment (made ++ past) all.lawful all.list all.named flows.holds all.sockets.kinds
-            (all_given config (made ++ past) all.lawful (Over (By why)) (all.phase_is ∙ ap over_by (r.1.last ∙ is)) refl) all.open_yet);
+            (all_given config (made ++ past) holds.guests.once all.lawful (Over (By why)) (all.phase_is ∙ ap over_by (r.1.last ∙ is)) refl) all.open_yet);
         two = two_in config slirp (made ++ past) all.lawful all.list all.named;
       }

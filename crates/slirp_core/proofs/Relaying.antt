@@ -33,7 +33,7 @@ use Rattle.record_flows.specs.Book.{book}
 use Rattle.record_flows.specs.Flows.{is_it}
 use Rattle.record_flows.specs.Lots.{due_for_flows}
 use Rattle.run_laws.specs.Shape.{due_in, phase, is_ended, is_over as is_run_over, is_working}
-use Rattle.run_laws.specs.Sockets.{Association as OfAssociation, DnsSocket, Flow as OfFlow, Forward, Kind, Listener, datagram_kind, is_among, is_association, is_forward, kind_of}
+use Rattle.run_laws.specs.Sockets.{Association as OfAssociation, DnsSocket, Flow as OfFlow, Forward, Kind, Listener, datagram_kind, is_among, is_association, is_forward, kind_of, first}
 use Rattle.run_laws.specs.Sockets.{next_number, open_sockets, with_made}
 use Rattle.slirp_laws.specs.Agenda.{agenda, all_wanted, is_to_read, wanted_of}
 use Rattle.slirp_laws.specs.Answers.{frames_of, identification, is_out, left, name_answer, serving, told_about, no_network, unsent, reply_at, reply_for, reply_on}
@@ -45,8 +45,8 @@ use Rattle.slirp_laws.specs.Ports.{forwards_open, is_port, mac_for, mac_known, m
 use Rattle.slirp_laws.specs.Said.{SaysOf}
 use Rattle.slirp_laws.specs.Datagrams.{Errand, Step, NeedsNothing, NeedsRoom, NeedsSocket, NeedsSending, asks_a_name, due_for, opened_at}
 use Rattle.slirp_laws.specs.Relayed.{association, associations, with_forward, with_opened, with_sent, with_socket, without_socket}
-use Rattle.slirp_laws.specs.Laws.{May, MayDue, carries, due, due_for_services, gives_way, is_all_out, is_for_datagrams, is_least, is_unused, may_part}
-use Rattle.slirp_laws.specs.Laws.{name_gives_way, parts, relays}
+use Rattle.slirp_laws.specs.Laws.{May, MayDue, carries, due, due_for_services, gives_way, is_all_out, is_for_datagrams, is_unused, may_part}
+use Rattle.slirp_laws.specs.Laws.{parts, relays}
 use Rattle.slirp_laws.proofs.Bools.{among_last, among_without, and_both, first_of, same, second_of, turned}
 use Rattle.slirp_laws.proofs.Deeds.{any_one, closes, hears, opens, sends, this_one}
 use Rattle.slirp_laws.proofs.Finding.{idle_is, says_of}
@@ -80,9 +80,9 @@ left_sent config past socket to octets SentNotYet = refl
 left_sent config past socket to octets SentFailed = refl
 
 -- the kinds of sockets, one more
-kinds_open : (number : ℕ) (at : Endpoint) (answer : Made) (past : List Entry) → 0 < waits past → ((n : ℕ) → is_among n (open_sockets past) ≡ true → is_ours (kind_of n past) ≡ true)
+kinds_open : (number : ℕ) (at : Endpoint) (answer : Made) (past : List Entry) → 0 < waits past → at.port ≡ 0 → ((n : ℕ) → is_among n (open_sockets past) ≡ true → is_ours (kind_of n past) ≡ true)
     → (n : ℕ) → is_among n (with_made answer number (open_sockets past)) ≡ true → is_ours (kind_of n (UdpOpen number at answer ∷ past)) ≡ true
-kinds_open number at answer past waited kinds n among = by (number == n) refl
+kinds_open number at answer past waited any kinds n among = by (number == n) refl
   where
     waits_on : nat_lt 0 (waits past) ≡ true
     waits_on = grind (arith, nat_tests, waited)
@@ -98,8 +98,8 @@ kinds_open number at answer past waited kinds n among = by (number == n) refl
     before MadeDone other is = only (is_among n (open_sockets past)) (n == number) other (sym (among_last n number (open_sockets past)) ∙ is)
     before MadeFailed other is = is
 
-    by : (b : Bool) → (number == n) ≡ b → is_ours (if b then Some (datagram_kind (nat_lt 0 (waits past))) else kind_of n past) ≡ true
-    by true is = ap (λ (w : Bool). is_ours (Some (datagram_kind w))) waits_on
+    by : (b : Bool) → (number == n) ≡ b → is_ours (if b then Some (datagram_kind (nat_lt 0 (waits past)) at.port) else kind_of n past) ≡ true
+    by true is = ap (λ (w : Bool). is_ours (Some (datagram_kind w at.port))) waits_on ∙ ap (λ port. is_ours (Some (datagram_kind true port))) any
     by false is = kinds n (before answer (turned is) among)
 
 -- a datagram is sent on the socket that was opened for it
@@ -261,11 +261,11 @@ module _ (config : Config) (at : Standing) (slirp : SlirpState) (f : Flowing) (l
     no_port socket among = sym (ap (λ l. is_among socket (numbers l)) holds.relayed.list) ∙ named_apart config past holds.lawful socket (named_record socket among)
 
     -- and each may be closed for a reason of its kind
-    parted : (socket : ℕ) → is_among socket (numbers slirp.associations) ≡ true → (gives_way config socket (asked config past) || is_unused socket past) ≡ true → parts config past socket ≡ true
+    parted : (socket : ℕ) → is_among socket (numbers slirp.associations) ≡ true → (gives_way config false socket (asked config past) || is_unused socket past) ≡ true → parts config past socket ≡ true
     parted socket among why = ap (may_part config past socket) (kind_carried config past holds.lawful socket (in_record socket among)) ∙ why
 
     name_parted : (socket : ℕ) → is_among socket (question_numbers slirp.questions) ≡ true →
-        (name_gives_way config socket (asked config past) || is_it socket (answered config past) || has_waited config past socket) ≡ true
+        (gives_way config true socket (asked config past) || is_it socket (answered config past) || has_waited config past socket) ≡ true
         → parts config past socket ≡ true
     name_parted socket among why = ap (may_part config past socket) (kind_named config past holds.lawful socket (named_record socket among)) ∙ why
 
@@ -282,6 +282,9 @@ module _ (config : Config) (at : Standing) (slirp : SlirpState) (f : Flowing) (l
     asks_so = sym (ap (asked_by config slirp) is_left) ∙ holds.relayed.asks
 
     module _ (port : Endpoint) (is_port : opened_at config errand ≡ port) where
+      any : port.port ≡ 0
+      any = sym (ap (λ (e : Endpoint). e.port) is_port)
+
       open_due : due config past ≡ Some (CallUdpOpen slirp.number port)
       open_due =
           due_is config past (NeedsSocket errand) turn.working (none_due_for_services config past holds.relayed.heard holds.services.quest) holds.flows.holds.asked
@@ -307,7 +310,7 @@ module _ (config : Config) (at : Standing) (slirp : SlirpState) (f : Flowing) (l
                   (UdpOpen slirp.number port MadeDone) past refl refl refl refl refl refl holds.answers.owed;
             };
             relayed = relayed;
-            sockets = record { number = ap (λ n. n + 1) holds.sockets.number; kinds = kinds_open slirp.number port MadeDone past turn.waited holds.sockets.kinds };
+            sockets = record { number = ap (λ n. n + 1) holds.sockets.number; kinds = kinds_open slirp.number port MadeDone past turn.waited any holds.sockets.kinds };
             agenda = holds.agenda;
             open_yet = holds.open_yet;
           })
@@ -330,7 +333,7 @@ module _ (config : Config) (at : Standing) (slirp : SlirpState) (f : Flowing) (l
                   ∙ sym (ap (λ k. frames_of k slirp.sent (told_about k no_network errand.datagram)) holds.guests.settings)) holds.answers.owed);
             };
             relayed = record { list = holds.relayed.list; questions = holds.relayed.questions; asks = refl; heard = refl };
-            sockets = record { number = ap (λ n. n + 1) holds.sockets.number; kinds = kinds_open slirp.number port MadeFailed past turn.waited holds.sockets.kinds };
+            sockets = record { number = ap (λ n. n + 1) holds.sockets.number; kinds = kinds_open slirp.number port MadeFailed past turn.waited any holds.sockets.kinds };
             agenda = holds.agenda;
             open_yet = holds.open_yet;
           })
@@ -477,8 +480,8 @@ module _ (config : Config) (at : Standing) (slirp : SlirpState) (f : Flowing) (l
         (Close socket) past tt refl refl refl refl refl turn holds (record {
           may = closes config past socket may_due (or_first (is_working (phase config past)) (is_run_over (phase config past)) (ap is_working turn.working))
               (and_both (is_among socket (open_sockets past)) _ here
-              (ap (λ (b : Bool). if b then is_least socket (open_sockets past) else parts config past socket || (is_ended config past && is_least socket (open_sockets past))) holds.open_yet
-              ∙ or_first (parts config past socket) (is_ended config past && is_least socket (open_sockets past)) why))
+              (ap (λ (b : Bool). if b then is_it socket (first (open_sockets past)) else parts config past socket || (is_ended config past && is_it socket (first (open_sockets past)))) holds.open_yet
+              ∙ or_first (parts config past socket) (is_ended config past && is_it socket (first (open_sockets past))) why))
               (closes_freely config past socket (no_flow config past socket holds.lawful own) (flows_ask_nothing config f slirp.moment past holds.flows));
           allowed = allowed;
           own = own;
@@ -513,7 +516,7 @@ module _ (config : Config) (at : Standing) (slirp : SlirpState) (f : Flowing) (l
       (left_stays config f.aged slirp then_state (Close socket) past refl refl refl refl refl refl)
       (this_one config past (CallClose socket) (due_is config past step turn.working
       (none_due_for_services config past holds.relayed.heard holds.services.quest) holds.flows.holds.asked (asks step None holds)))
-      (parted step None holds socket among (or_first (gives_way config socket (asked config past)) (is_unused socket past) (ap (gives_way config socket) (asks step None holds) ∙
+      (parted step None holds socket among (or_first (gives_way config false socket (asked config past)) (is_unused socket past) (ap (gives_way config false socket) (asks step None holds) ∙
       (λ i. same socket i && not (other i)))))
       (ap (asked_by config then_state) left ∙ asks_by_port config then_state errand other
       ∙ ap (λ o. with_forward o (without socket slirp.associations) errand) no_forward
@@ -539,8 +542,8 @@ module _ (config : Config) (at : Standing) (slirp : SlirpState) (f : Flowing) (l
       (left_stays config f.aged slirp then_state (Close socket) past refl refl refl refl refl refl)
       (this_one config past (CallClose socket) (due_is config past step turn.working
       (none_due_for_services config past holds.relayed.heard holds.services.quest) holds.flows.holds.asked (asks step None holds)))
-      (name_parted step None holds socket among (or_first (name_gives_way config socket (asked config past) || is_it socket (answered config past)) (has_waited config past socket)
-      (or_first (name_gives_way config socket (asked config past)) (is_it socket (answered config past)) (ap (name_gives_way config socket) (asks step None holds) ∙
+      (name_parted step None holds socket among (or_first (gives_way config true socket (asked config past) || is_it socket (answered config past)) (has_waited config past socket)
+      (or_first (gives_way config true socket (asked config past)) (is_it socket (answered config past)) (ap (gives_way config true socket) (asks step None holds) ∙
       (λ i. same socket i && name i)))))
       (ap (asked_by config then_state) left ∙ asks_by_name config then_state errand name
       ∙ ap (λ o. with_question o (question_without socket slirp.questions) errand) (question_still_none errand.datagram.from (ident_in errand.datagram.body) socket slirp.questions none)
@@ -560,7 +563,7 @@ module _ (config : Config) (at : Standing) (slirp : SlirpState) (f : Flowing) (l
       (owed_stays config f.aged slirp (record slirp { associations = without socket slirp.associations }) (Close socket) past refl refl refl refl refl refl refl)
       (any_one config past (CallClose socket) (due_is config past NeedsNothing turn.working
       (none_due_for_services config past holds.relayed.heard holds.services.quest) holds.flows.holds.asked (asks NeedsNothing None holds)))
-      (parted NeedsNothing None holds socket among (or_second (gives_way config socket (asked config past)) (is_unused socket past) (grind (arith, nat_tests, long))))
+      (parted NeedsNothing None holds socket among (or_second (gives_way config false socket (asked config past)) (is_unused socket past) (grind (arith, nat_tests, long))))
       (asks_nothing config (record slirp { associations = without socket slirp.associations }) (errand_left config past) (errand_is NeedsNothing None holds))
 
   -- a question had waited for long enough
@@ -575,7 +578,7 @@ module _ (config : Config) (at : Standing) (slirp : SlirpState) (f : Flowing) (l
       (owed_stays config f.aged slirp (record slirp { questions = question_without socket slirp.questions }) (Close socket) past refl refl refl refl refl refl refl)
       (any_one config past (CallClose socket) (due_is config past NeedsNothing turn.working
       (none_due_for_services config past holds.relayed.heard holds.services.quest) holds.flows.holds.asked (asks NeedsNothing None holds)))
-      (name_parted NeedsNothing None holds socket among (or_second (name_gives_way config socket (asked config past) || is_it socket (answered config past)) (has_waited config past socket) over))
+      (name_parted NeedsNothing None holds socket among (or_second (gives_way config true socket (asked config past) || is_it socket (answered config past)) (has_waited config past socket) over))
       (asks_nothing config (record slirp { questions = question_without socket slirp.questions }) (errand_left config past) (errand_is NeedsNothing None holds))
 
   -- its answer came just now
@@ -587,8 +590,8 @@ module _ (config : Config) (at : Standing) (slirp : SlirpState) (f : Flowing) (l
       (unclosed socket slirp.associations (no_port NeedsNothing (Some socket) holds socket among)) refl holds in_one (named NeedsNothing (Some socket) holds socket among) allowed
       (owed_stays config f.aged slirp (record slirp { questions = question_without socket slirp.questions }) (Close socket) past refl refl refl refl refl refl refl)
       (this_one config past (CallClose socket) (close_is_due config past socket in_one (asks NeedsNothing (Some socket) holds) holds.relayed.heard holds.services.quest))
-      (name_parted NeedsNothing (Some socket) holds socket among (or_first (name_gives_way config socket (asked config past) || is_it socket (answered config past)) (has_waited config past socket)
-      (or_second (name_gives_way config socket (asked config past)) (is_it socket (answered config past)) (ap (is_it socket) holds.relayed.heard ∙ same socket))))
+      (name_parted NeedsNothing (Some socket) holds socket among (or_first (gives_way config true socket (asked config past) || is_it socket (answered config past)) (has_waited config past socket)
+      (or_second (gives_way config true socket (asked config past)) (is_it socket (answered config past)) (ap (is_it socket) holds.relayed.heard ∙ same socket))))
       (asks_nothing config (record slirp { questions = question_without socket slirp.questions }) (errand_left config past) (errand_is NeedsNothing (Some socket) holds))
 
   -- nothing is left to be sent

@@ -63,16 +63,11 @@ goes_as_question config d errand is name = by (fate config d) refl is
 -- at which address of the host a socket is opened: for a question, and for any other datagram
 pub opened_for_name : (config : Config) (errand : Errand) → asks_a_name config errand ≡ true → config.resolver ≡ Some errand.to → opened_at config errand ≡ endpoint (bind_for config) 0
 opened_for_name config errand name resolver =
-    ap (λ (b : Bool). if b && is_loopback (address errand.to) then endpoint 0 0 else endpoint (unwrap_or config.outbound 0) 0) name
-    ∙ by (is_loopback (address errand.to))
+    ap (λ (b : Bool). endpoint (if b && is_loopback (address errand.to) then 0 else unwrap_or config.outbound 0) 0) name
     ∙ sym (ap (λ (o : Option Endpoint). endpoint (if option_map_or (λ to. is_loopback (address to)) o false then 0 else unwrap_or config.outbound 0) 0) resolver)
-  where
-    by : (b : Bool) → (if b then endpoint 0 0 else endpoint (unwrap_or config.outbound 0) 0) ≡ endpoint (if b then 0 else unwrap_or config.outbound 0) 0
-    by true = refl
-    by false = refl
 
 pub opened_for_other : (config : Config) (errand : Errand) → asks_a_name config errand ≡ false → opened_at config errand ≡ endpoint (unwrap_or config.outbound 0) 0
-opened_for_other config errand other = ap (λ (b : Bool). if b && is_loopback (address errand.to) then endpoint 0 0 else endpoint (unwrap_or config.outbound 0) 0) other
+opened_for_other config errand other = ap (λ (b : Bool). endpoint (if b && is_loopback (address errand.to) then 0 else unwrap_or config.outbound 0) 0) other
 
 -- ---- which call is due for a service
 

@@ -154,6 +154,7 @@ module _ (config : Config) (at : Standing) (slirp : SlirpState) (kept : Kept) (l
         };
         guests = record {
           settings = s.guests.settings;
+          once = s.guests.once;
           known = s.guests.known;
           fragments = record {
             held = s.guests.fragments.held;

@@ -42,7 +42,7 @@ use Rattle.stream_netdev.specs.State.{LinkState, under_way}
 use Rattle.slirp_core.specs.Forwards.{forward_sockets, with_numbers}
 use Rattle.slirp_core.specs.Fragments.{IsHeld}
 use Rattle.slirp_core.specs.Holds.{Standing, after, Begins, Holders, ClosingWith, asked_by, carriers, holders_of, holders_with, Ended, Flowing, Holds, IsOf, OfFlows, Opens, Rests, OverFor}
-use Rattle.slirp_core.specs.Holds.{AllWaited, Stands, Turns, flowing, is_ours}
+use Rattle.slirp_core.specs.Holds.{AllWaited, GivesOnce, Stands, Turns, flowing, is_ours}
 use Rattle.slirp_core.specs.Sockets.{IsRising}
 use Rattle.slirp_core.specs.State.{SlirpState}
 use Rattle.slirp_core.proofs.Guests.{guests_forget, guests_stay}
@@ -117,6 +117,7 @@ pub record IsUnused (config : Config) (kept : Kept) : Type 0 where
 pub record IsUnbegun (config : Config) (slirp : SlirpState) (link : LinkState) : Type 0 where
   pub forwards : slirp.forwards ≡ []
   pub settings : slirp.config ≡ config
+  pub once : GivesOnce config
   pub flows : IsUnused config slirp.flows
   pub known : slirp.known ≡ []
   pub sent : slirp.sent ≡ 0
@@ -166,6 +167,7 @@ begun config slirp link new = record {
   answers = record { sent = sym new.sent; owed = inl (record { left = sym new.pending; again = refl; files = new.transfers }) };
   guests = record {
     settings = new.settings;
+    once = new.once;
     known = sym new.known;
     fragments = record { held = []; is_held = subst (λ (areas : List Gathered). IsHeld areas []) (sym new.fragments) (record { stand = tt; carry = tt }); wait = refl };
   };

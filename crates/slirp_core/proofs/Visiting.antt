@@ -1,5 +1,5 @@
 -- A peer comes to a port of the host that is given to a guest: its flow begins, or it is refused and its socket closed, or none has come.
-use Rattle.std.proofs.Common.{◌≡◌, ℕ, zero, suc, ◌<◌, ◌+◌, ◌==◌, ◌&&◌, ◌||◌, not, nat_lt, ◌⊎◌, inl, inr, Bool, true, false, List, [], ◌∷◌, ◌++◌, length, slice_get, MatchOption, Option}
+use Rattle.std.proofs.Common.{◌≡◌, ℕ, zero, suc, ◌<◌, ◌+◌, ◌==◌, ◌&&◌, ◌||◌, not, ◌⊎◌, inl, inr, Bool, true, false, List, [], ◌∷◌, ◌++◌, length, slice_get, MatchOption, Option}
 use Rattle.std.proofs.Common.{Some, None, option_map, refl, sym, ◌∙◌, ap, subst, arith, if◌then◌else◌}
 use Rattle.std.proofs.lemmas.Bool.Decides.{nat_tests}
 use Rattle.net_octets.specs.declared.Endpoint.{Endpoint}
@@ -27,12 +27,12 @@ use Rattle.run_laws.specs.Moments.{moment}
 use Rattle.run_laws.specs.Shape.{is_ended, is_over, is_working}
 use Rattle.host_policy.specs.declared.Proto.TheVariants.{Tcp}
 use Rattle.dns_relay.specs.Questions.{numbers as question_numbers, without as question_without}
-use Rattle.run_laws.specs.Sockets.{Flow as OfFlow, Listener as OfListener, is_among, is_association, is_listener, kind_of, next_number, number_for_peer, open_sockets, with_peer}
+use Rattle.run_laws.specs.Sockets.{Flow as OfFlow, Listener as OfListener, is_among, is_association, is_listener, kind_of, next_number, number_for_peer, open_sockets, with_peer, first}
 use Rattle.flows_follow.specs.Peers.{fits_peer}
 use Rattle.flows_follow.proofs.Peers.{room_recorded}
 use Rattle.slirp_laws.specs.Agenda.{agenda, all_wanted, is_to_read, wanted_of}
 use Rattle.slirp_laws.specs.Errands.{errand_left}
-use Rattle.slirp_laws.specs.Laws.{May, carries, is_least, may_leave, may_part, parts, takes_peers}
+use Rattle.slirp_laws.specs.Laws.{May, carries, may_leave, may_part, parts, takes_peers}
 use Rattle.slirp_laws.specs.Names.{kind_for}
 use Rattle.slirp_laws.proofs.Bools.{among_last, among_without, and_both, or_second, same, second_of}
 use Rattle.slirp_laws.proofs.Deeds.{accepts, closes, this_one}
@@ -45,6 +45,7 @@ use Rattle.tcp_flows.specs.Runs.{Between, Welcomes}
 use Rattle.port_forward.specs.Opened.{Opened}
 use Rattle.slirp_laws.specs.Datagrams.{NeedsNothing}
 use Rattle.udp_assoc.specs.Associations.{numbers, without}
+use Rattle.slirp_laws.proofs.Given.{led_by_settings}
 use Rattle.slirp_laws.proofs.OpenSockets.{next_is_new}
 use Rattle.slirp_core.proofs.Given.{HasGiven, given_kind}
 use Rattle.run_duties.specs.Serving.{is_left_to_read}
@@ -242,9 +243,9 @@ module _ (config : Config) (count : ℕ) (wants : List Want) (item : Want) (item
           (ap (λ p. is_working p || is_over p) turn.working)
           (and_both (is_among slirp.number (open_sockets past ++ (slirp.number ∷ []))) _
           (among_last slirp.number slirp.number (open_sockets past) ∙ or_second (is_among slirp.number (open_sockets past)) (slirp.number == slirp.number) (same slirp.number))
-          (ap (λ (b : Bool). if b then is_least slirp.number (open_sockets (visit ∷ past)) else parts config (visit ∷ past) slirp.number ||
-          (is_ended config (visit ∷ past) && is_least slirp.number (open_sockets (visit ∷ past)))) holds.open_yet
-          ∙ ap (λ b. b || (is_ended config (visit ∷ past) && is_least slirp.number (open_sockets (visit ∷ past)))) may_part_it))
+          (ap (λ (b : Bool). if b then is_it slirp.number (first (open_sockets (visit ∷ past))) else parts config (visit ∷ past) slirp.number ||
+          (is_ended config (visit ∷ past) && is_it slirp.number (first (open_sockets (visit ∷ past))))) holds.open_yet
+          ∙ ap (λ b. b || (is_ended config (visit ∷ past) && is_it slirp.number (first (open_sockets (visit ∷ past))))) may_part_it))
           (record {
             due = subst (λ o. MatchOption o (Unit {0}) (λ d. CallClose slirp.number ≡ d)) (sym close_is_due) refl;
             touches = subst (MayShut (flow_settings config) (scene config (visit ∷ past)) (book config (visit ∷ past)).came) (sym no_flow_then) tt;
@@ -326,7 +327,7 @@ module _ (config : Config) (count : ℕ) (wants : List Want) (item : Want) (item
   )
 
   leads : port_of config listener ≡ Some forward.guest
-  leads = ap (option_and_then (λ (f : Forward). port_by f.proto f.guest)) place.0 ∙ ap (λ p. port_by p forward.guest) tcp
+  leads = ap (option_and_then (λ (f : Forward). port_by f.proto f.guest)) (led_by_settings config listener forward place.0) ∙ ap (λ p. port_by p forward.guest) tcp
 
   pub nobody_came : Allowed (Accept listener slirp.number NotYetAccepted) → Holds config (standing count wants items) slirp (flowing false slirp.flows) link
       (Accept listener slirp.number NotYetAccepted ∷ past)

@@ -89,9 +89,15 @@ pub record OfClock (at : Standing) (slirp : SlirpState) (past : List Entry) : Ty
   pub moment : moment past ≡ slirp.moment
   pub counted : waits past ≡ at.count
 
+-- The settings alone give ports of the host to guests: none is asked for while the run goes on, and there is no control that could take one back.
+pub record GivesOnce (config : Config) : Type 0 where
+  pub added : config.added ≡ []
+  pub control : config.control ≡ None
+
 -- what only a frame of the guests changes, and time, the settings aside, which nothing does: whose addresses are known, and which fragments wait
 pub record OfGuests (config : Config) (slirp : SlirpState) (past : List Entry) : Type 0 where
   pub settings : slirp.config ≡ config
+  pub once : GivesOnce config
   pub known : known config past ≡ slirp.known
   pub fragments : OfFragments config slirp past
 

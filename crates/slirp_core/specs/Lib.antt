@@ -1,7 +1,6 @@
 pub mod Calm
 pub mod Came
 pub mod Carrying
-pub mod Connecting
 pub mod Counts
 pub mod Datagrams
 pub mod Files

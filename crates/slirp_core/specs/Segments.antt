@@ -7,7 +7,7 @@ use Rattle.ether_frame.specs.Ether.{Ether, read_ether}
 use Rattle.ipv4_head.specs.Ip.{Ip, read_ip}
 use Rattle.ipv4_head.specs.Sets.{PartSet}
 use Rattle.tcp_segment.specs.Tcp.{Tcp, read_tcp, tcp_of}
-use Rattle.record_flows.specs.Lots.{Lot, Dropped, AsksFor, GetsReset}
+use Rattle.record_flows.specs.Lots.{Lot, Dropped, AsksFor, GetsReset, NeedsRoom}
 use Rattle.record_flows.specs.Segments.{OnTuple, from_guest, segment_of}
 use Rattle.run_laws.specs.Fragments.{arrived}
 use Rattle.run_laws.specs.Packets.{Packet, Segment}
@@ -15,7 +15,7 @@ use Rattle.slirp_core.specs.Datagrams.{FitsErrand, datagram_of, errand_of}
 use Rattle.slirp_core.specs.Packets.{Request, ToSend, ToServe, is_segment}
 use Rattle.slirp_core.specs.declared.tcp.SegmentView.{SegmentView}
 use Rattle.slirp_core.specs.declared.tcp.StrayLot.{StrayLot}
-use Rattle.slirp_core.specs.declared.tcp.StrayLot.TheVariants.{Dropped as SeenDropped, Reset, Connects}
+use Rattle.slirp_core.specs.declared.tcp.StrayLot.TheVariants.{Dropped as SeenDropped, Reset, Connects, Crowded}
 use Rattle.slirp_core.specs.declared.tcp.Task.{Task}
 use Rattle.slirp_core.specs.declared.tcp.Task.TheVariants.{Errand as AnErrand, File as AFile, Segment as ASegment}
 
@@ -69,3 +69,4 @@ abbrev pub lot_of : StrayLot → Lot
 lot_of SeenDropped = Dropped
 lot_of Reset = GetsReset
 lot_of (Connects to) = AsksFor to
+lot_of Crowded = NeedsRoom

@@ -1,20 +1,19 @@
 -- How long a wait may last.
-use Rattle.std.specs.Prelude.{◌≡◌, ℕ, ◌-◌, ◌<◌, Bool, true, false, List, [], Option, Some, None, option_map}
+use Rattle.std.specs.Prelude.{◌≡◌, ℕ, ◌-◌, ◌<◌, ◌≤◌, ◌&&◌, ◌⊎◌, nat_le, Bool, true, false, List, [], Option, Some, None, option_map}
 use Rattle.world_face.specs.Journal.{Entry}
 use Rattle.host_policy.specs.Addresses.{Config}
 use Rattle.ipv4_head.specs.Sets.{PartSet}
 use Rattle.ipv4_reasm.specs.Answers.{IsFirstDue}
-use Rattle.flow_laws.specs.Dutiful.{AreAhead, connect_deadline, resend_deadline}
+use Rattle.flow_laws.specs.Dutiful.{AreAhead, close_deadline, resend_deadline}
 use Rattle.halves_follow.specs.Bounds.{IsBy}
 use Rattle.record_flows.specs.Book.{book}
 use Rattle.flow_splice.specs.Splice.{Splice}
 use Rattle.run_duties.specs.Times.{of_flows, rest_ends}
 use Rattle.flows_follow.specs.Core.{CoreHolds}
 use Rattle.tcp_flows.specs.Reading.{AllClear, IsDue, IsDueAfter, NoneDue, NoneDueAfter}
-use Rattle.tcp_flows.specs.Settled.{IsInTime}
+use Rattle.tcp_flows.specs.Settled.{HaveTime, IsInTime}
 use Rattle.tcp_flows.specs.Waits.{IsForSome, RestOnce}
 use Rattle.run_laws.specs.Moments.{moment}
-use Rattle.slirp_core.specs.Connecting.{AreInTime}
 use Rattle.slirp_core.specs.Pumps.{question_left, time_left}
 use Rattle.slirp_core.specs.State.{SlirpState}
 use Rattle.world_face.specs.Moments.{sooner}
@@ -26,12 +25,15 @@ abbrev pub IsPartTime : ℕ → List PartSet → Option ℕ → Type 0
 IsPartTime now held None = held ≡ []
 IsPartTime now held (Some left) = (at : ℕ) × (IsFirstDue held at × (left ≡ at - now))
 
--- what is left until the first of these flows is to be told the time: as long as the link is blocked none waits for what is due already
+-- the link is blocked, and one of these flows is to be told the time already
+abbrev pub WaitForLink : Bool → ℕ → List (Option Splice) → Type 0
+WaitForLink blocked now parts = (blocked ≡ true) × (first : ℕ) × IsDue parts first × (first ≤ now)
+
+-- What is left until the first of these flows is to be told the time. Where that one waits for the link, it is the first after now of those that don't.
 abbrev pub IsFlowTime : Bool → ℕ → List (Option Splice) → Option ℕ → Type 0
-IsFlowTime true now parts None = NoneDueAfter now parts
-IsFlowTime true now parts (Some left) = (at : ℕ) × (IsDueAfter now parts at × (left ≡ at - now))
-IsFlowTime false now parts None = NoneDue parts
-IsFlowTime false now parts (Some left) = (at : ℕ) × (IsDue parts at × (left ≡ at - now))
+IsFlowTime blocked now parts None = NoneDue parts ⊎ (WaitForLink blocked now parts × NoneDueAfter now parts)
+IsFlowTime blocked now parts (Some left) =
+    (at : ℕ) × ((IsDue parts at × ((blocked && nat_le at now) ≡ false)) ⊎ (WaitForLink blocked now parts × IsDueAfter now parts at)) × (left ≡ at - now)
 
 -- By the record a wait that ends with this time suits the flows. It isn't too long for one that connects, if no host's time to connect is over, nor, where the
 -- link isn't blocked and no flow owes a frame, for one that waits for its guest, nor for one that rests; and it isn't too short: something of a flow is to be
@@ -39,11 +41,11 @@ IsFlowTime false now parts (Some left) = (at : ℕ) × (IsDue parts at × (left 
 pub record SuitsFlows (config : Config) (now : ℕ) (blocked : Bool) (parts : List (Option Splice)) (past : List Entry) (time : Option ℕ) : Type 0 where
   pub due : Option ℕ
   pub left : time ≡ option_map (λ at. at - now) due
-  pub connects : AreAhead now (of_flows connect_deadline (book config past).flows) → IsBy due (of_flows connect_deadline (book config past).flows)
+  pub connects : AreAhead now (of_flows close_deadline (book config past).flows) → IsBy due (of_flows close_deadline (book config past).flows)
   pub resends : blocked ≡ false → AllClear parts → IsBy due (of_flows resend_deadline (book config past).flows)
   pub rests : RestOnce config past → AreAhead now (rest_ends config past) → IsBy due (rest_ends config past)
   pub for_some : IsForSome config past due
-  pub later : moment past ≡ now → AreInTime now parts → (blocked ≡ false → (n : ℕ) → IsInTime now parts n) → (at : ℕ) → due ≡ Some at → now < at
+  pub later : moment past ≡ now → HaveTime now parts → (blocked ≡ false → (n : ℕ) → IsInTime now parts n) → (at : ℕ) → due ≡ Some at → now < at
 
 -- what is left until the first packet of these transfers is due to go again, of those that aren't due yet
 abbrev pub IsFileTime : ℕ → List Transfer → Option ℕ → Type 0

@@ -109,11 +109,9 @@ impl Slirp {
     ghost use Rattle.slirp_core.specs.Hearing.{ClosesByKind, WhereItTicks};
     ghost use Rattle.tcp_flows.specs.Runs.{ClosesRising};
     ghost use Rattle.tcp_flows.specs.Reading.{AreTold, IsFirst, IsOpenAt, NoneIsAbove, Stays};
-    ghost use Rattle.tcp_flows.specs.Settled.{ConnectYet, IsInTime, OwesNoAck};
+    ghost use Rattle.tcp_flows.specs.Settled.{HaveTime, IsInTime, OwesNoAck};
     ghost use Rattle.world_face.specs.Journal.{Entry};
     ghost use Rattle.flow_splice.specs.Splice.{Splice};
-    ghost use Rattle.flow_splice.specs.Wants.{connect_end};
-    ghost use Rattle.connection_follows.specs.Holding.{is_connects};
     ghost use Rattle.flows_follow.specs.Core.{CoreHolds, number_of};
     ghost use Rattle.udp_assoc.specs.Associations.{IsLeast, numbers};
     ghost use Rattle.dns_relay.specs.Relaying.{IsLeast as IsLeastAsked};
@@ -335,7 +333,7 @@ impl Slirp {
             (Holds config (after count) self.old (flowing false self.old.flows) link) (Holds config (after count) self.new (flowing true self.new.flows) link) }
         ensures rising { Makes (W.tells world.old) (W.tells world.new) (λ made. WhereItTicks self.old (ClosesByKind made)) }
         ensures none { All (λ a. is_over self.new.moment a ≡ false) self.new.associations }
-        ensures connects { (k : ℕ) (p : Splice) → IsOpenAt self.new.flows.flows.slots k p → is_connects p.conn.stage ≡ true → self.new.moment < connect_end p }
+        ensures in_time { HaveTime self.new.moment self.new.flows.flows.slots }
         ensures ahead { (config : Config) (at : Standing) (aged : Bool) (link : LinkState) (past : List Entry)
             → Holds config at self.old (flowing aged self.old.flows) link past
             → (n : ℕ) → OwesNoAck self.old.flows.flows.slots n → IsInTime self.new.moment self.new.flows.flows.slots n }
@@ -371,7 +369,7 @@ impl Slirp {
         ensures told { AreTold self.new.known self.new.flows.flows.slots }
         ensures ahead { (now n : ℕ) → IsInTime now self.old.flows.flows.slots n → IsInTime now self.new.flows.flows.slots n }
         ensures calm { (n : ℕ) → OwesNoAck self.old.flows.flows.slots n → OwesNoAck self.new.flows.flows.slots n }
-        ensures connects { ConnectYet self.old.flows.flows.slots self.new.flows.flows.slots }
+        ensures in_time { (now : ℕ) → HaveTime now self.old.flows.flows.slots → HaveTime now self.new.flows.flows.slots }
         ensures turn { self.new.flows.turn ≡ self.old.flows.turn }
         ensures served { self.new.flows.served ≡ self.old.flows.served }
         ensures stays { Stays self.old.flows self.new.flows }
@@ -386,7 +384,7 @@ impl Slirp {
         ensures makes { (config : Config) (count : ℕ) (link : LinkState) → count < config.turns → Brings (W.tells world.old) (W.tells world.new)
             (Holds config (after count) self.old (flowing false self.old.flows) link) (Holds config (after count) self.new (flowing true self.new.flows) link) }
         ensures rising { Makes (W.tells world.old) (W.tells world.new) (λ made. WhereItTicks self.old (ClosesRising made)) }
-        ensures connects { (k : ℕ) (p : Splice) → IsOpenAt self.new.flows.flows.slots k p → is_connects p.conn.stage ≡ true → self.new.moment < connect_end p }
+        ensures in_time { HaveTime self.new.moment self.new.flows.flows.slots }
         ensures ahead { (config : Config) (before : ℕ) (aged : Bool) (past : List Entry) → CoreHolds config before aged None self.old.flows.flows past → (n : ℕ)
             → OwesNoAck self.old.flows.flows.slots n
             → IsInTime self.new.moment self.new.flows.flows.slots n }

@@ -22,7 +22,7 @@ impl Slirp {
     ghost use Rattle.world_face.specs.Journal.{Entry};
     ghost use Rattle.flows_follow.specs.Core.{CoreHolds};
     ghost use Rattle.tcp_flows.specs.Reading.{AreTold, HaveSlots};
-    ghost use Rattle.tcp_flows.specs.Settled.{AreSettled, ConnectYet, IsInTime};
+    ghost use Rattle.tcp_flows.specs.Settled.{AreSettled, HaveTime, IsInTime};
     ghost use Rattle.slirp_core.specs.Calm.{AreClear};
     ghost use Rattle.slirp_core.specs.Marks.{KeepsMarks};
 
@@ -52,9 +52,8 @@ impl Slirp {
         ensures settled { (config : Config) (at : Standing) → result ≡ Pumped.Clear → Brings (W.tells world.old) (W.tells world.new)
             (Holds config at self.old (flowing true self.old.flows) link.old) (λ past. Holds config at self.new (flowing true self.new.flows) link.new past
             × AreSettled config self.old.moment self.old.flows.flows.slots past) }
-        // A flow that connects then connected before, and may until the same moment.
-        ensures connects { (config : Config) (at : Standing) (aged : Bool) (past : List Entry)
-            → Holds config at self.old (flowing aged self.old.flows) link.old past → ConnectYet self.old.flows.flows.slots self.new.flows.flows.slots }
+        // Where time closed no flow, it closes none then.
+        ensures in_time { HaveTime self.old.moment self.old.flows.flows.slots → HaveTime self.old.moment self.new.flows.flows.slots }
         // Where all of it is out the link was free before, and no flow owes a frame.
         ensures free { result ≡ Pumped.Clear → link.old.blocked ≡ false }
         ensures clear { result ≡ Pumped.Clear → AreClear self.new.known self.new.flows.flows }
@@ -92,8 +91,7 @@ impl Slirp {
         ensures ahead { (config : Config) (before : ℕ) (aged : Bool) (past : List Entry) → CoreHolds config before aged None self.old.flows.flows past → (n : ℕ)
             → IsInTime self.old.moment self.old.flows.flows.slots n
             → IsInTime self.old.moment self.new.flows.flows.slots n }
-        ensures connects { (config : Config) (aged : Bool) (past : List Entry) → CoreHolds config self.old.moment aged None self.old.flows.flows past
-            → ConnectYet self.old.flows.flows.slots self.new.flows.flows.slots }
+        ensures in_time { HaveTime self.old.moment self.old.flows.flows.slots → HaveTime self.old.moment self.new.flows.flows.slots }
         ensures same { under_way link.new ≡ under_way link.old }
         ensures turn { self.new.flows.turn ≡ self.old.flows.turn }
         ensures marks { KeepsMarks self.old.number self.old.flows self.new.flows }

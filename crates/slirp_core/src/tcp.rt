@@ -53,6 +53,8 @@ pub enum StrayLot {
     Reset,
     /// The host is to connect to this endpoint.
     Connects(Endpoint),
+    /// The host would connect, but each place for a flow is in use.
+    Crowded,
 }
 
 impl Slirp {
@@ -74,7 +76,7 @@ impl Slirp {
     ghost use Rattle.std.specs.Prelude.{◌++◌, Bool, IfNone, drop, min, slice_set, take};
 
     // A guest's segment is handed to its flow. One that is no flow's is answered by a reset or ignored, or the host connects for it, where it begins a
-    // connection that the policy allows and there is room for a flow more.
+    // connection that the policy allows and there is room for a flow more; where there is none a flow gives way that is quiet for long.
     pub(crate) fn take_segment<W: World>(&mut self, world: &mut W, came: &SegmentView<'_>)
         requires none { self.old.pending ≡ [] }
         requires body { length came.now.segment.body.now ≤ most_carried }
@@ -95,6 +97,7 @@ impl Slirp {
             Heard::Strange => self.turn_away(came),
             Heard::Alone => match self.lot(came) {
                 StrayLot::Dropped => {}
+                StrayLot::Crowded => self.flows.give_way(world, self.moment),
                 StrayLot::Reset => self.turn_away(came),
                 StrayLot::Connects(to) => {
                     let number = self.number;
@@ -177,7 +180,7 @@ impl Slirp {
     {
         match self.policy.target(Proto::Tcp, to) {
             Verdict::Go(to) if self.flows.has_room() => StrayLot::Connects(to),
-            Verdict::Go(_) => StrayLot::Dropped,
+            Verdict::Go(_) => StrayLot::Crowded,
             Verdict::Denied(_) => StrayLot::Reset,
         }
     }

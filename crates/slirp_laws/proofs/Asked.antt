@@ -27,6 +27,7 @@ use Rattle.slirp_laws.proofs.OpenSockets.{peer_next}
 use Rattle.slirp_laws.proofs.Sorts.{same_flow}
 use Rattle.slirp_laws.proofs.Steps.{errand_asks}
 use Rattle.slirp_laws.proofs.Uses.{drawn_on}
+use Rattle.slirp_laws.proofs.Phases.{at_any_port}
 
 -- the port for which its socket was opened, that this is of the kind of questions, and that its number was drawn
 pub record KeptQuestion (config : Config) (past : List Entry) (q : Question) : Type 0 where
@@ -43,14 +44,14 @@ not_new : (s n number : ℕ) → (s == number) ≡ true → n < number → (s ==
 not_new s n number new drawn = grind (arith, nat_tests, new, drawn)
 
 opened_on : (config : Config) (e : Entry) (past : List Entry) (n : ℕ) → May config past (call_of e) → n < next_number past → opened_for config n (e ∷ past) ≡ opened_for config n past
-opened_on config (UdpOpen s at answer) past n may drawn = ap (λ (b : Bool). if b then port_for config n past else opened_for config n past) (not_new s n (next_number past) may.socket drawn)
+opened_on config (UdpOpen s at answer) past n may drawn = ap (λ (b : Bool). if b then port_for config at.port n past else opened_for config n past) (not_new s n (next_number past) may.socket drawn)
 opened_on config _ past n may drawn = refl
 
 kind_on : (config : Config) (e : Entry) (past : List Entry) (n : ℕ) → May config past (call_of e) → n < next_number past → kind_for config n (e ∷ past) ≡ kind_for config n past
 kind_on config (Connect socket to answer) past n may drawn = ap (λ (b : Bool). if b then Some OfFlow else kind_for config n past) (not_new socket n (next_number past) may.socket drawn)
 kind_on config (Listen socket at answer) past n may drawn = ap (λ (b : Bool). if b then Some OfListener else kind_for config n past) (not_new socket n (next_number past) may.socket drawn)
 kind_on config (UdpOpen socket at answer) past n may drawn = ap
-    (λ (b : Bool). if b then Some (datagram_kind_for config (nat_lt 0 (waits past)) (errand_left config past)) else kind_for config n past) (not_new socket n (next_number past) may.socket drawn)
+    (λ (b : Bool). if b then Some (datagram_kind_for config (nat_lt 0 (waits past)) at.port (errand_left config past)) else kind_for config n past) (not_new socket n (next_number past) may.socket drawn)
 kind_on config (Accept listener socket answer) past n may drawn = ap (λ (b : Bool). if b then Some OfFlow else kind_for config n past)
     (not_new socket n (next_number past) (peer_next config past listener socket answer may) drawn)
 kind_on config _ past n may drawn = refl
@@ -74,12 +75,14 @@ opened_kept config past socket at Done (Some errand) may lawful left kept = by (
   where
     new : asks_a_name config errand ≡ true → KeptQuestion config (UdpOpen socket at Done ∷ past) (question socket errand (moment past))
     new name = record {
-      guest = ap (λ (b : Bool). if b then port_for config socket past else opened_for config socket past) (same socket)
+      guest = ap (λ (b : Bool). if b then port_for config at.port socket past else opened_for config socket past) (same socket)
+          ∙ ap (λ port. port_for config port socket past)
+          (at_any_port config past socket at errand (let waited = waited_for config past errand left lawful in grind (arith, nat_tests, waited)) left may)
           ∙ ap (λ (b : Bool). if b then last_port config past else given_port config socket) (waited_for config past errand left lawful) ∙ ap
           (option_map (λ (d : Datagram). d.from)) (errand_asks config past errand left).datagram;
-      kind = ap (λ (b : Bool). if b then Some (datagram_kind_for config (nat_lt 0 (waits past)) (errand_left config past)) else kind_for config socket past) (same socket)
-          ∙ ap (λ o. Some (datagram_kind_for config (nat_lt 0 (waits past)) o)) left
-          ∙ ap (λ (b : Bool). Some (if b then DnsSocket else datagram_kind (nat_lt 0 (waits past)))) name;
+      kind = ap (λ (b : Bool). if b then Some (datagram_kind_for config (nat_lt 0 (waits past)) at.port (errand_left config past)) else kind_for config socket past) (same socket)
+          ∙ ap (λ o. Some (datagram_kind_for config (nat_lt 0 (waits past)) at.port o)) left
+          ∙ ap (λ (b : Bool). Some (if b then DnsSocket else datagram_kind (nat_lt 0 (waits past)) at.port)) name;
       drawn = (let number = may.socket in let here : socket ≡ next_number past = grind (arith, nat_tests, number) in omega (arith, here));
     }
 

@@ -28,13 +28,13 @@ use Rattle.slirp_laws.specs.Datagrams.{Errand, GoesTo, Ignored, NeedsSending, Ne
 use Rattle.slirp_laws.specs.Errands.{errand_left}
 use Rattle.slirp_laws.specs.Laws.{May, Lawful, due}
 use Rattle.slirp_laws.specs.Names.{question, questions, step_to_names, with_heard, with_opened, with_sent, with_socket}
-use Rattle.slirp_laws.specs.Ports.{last_datagram}
+use Rattle.slirp_laws.specs.Ports.{last_datagram, given_port}
 use Rattle.slirp_laws.specs.Questions.{WasAsked}
 use Rattle.slirp_laws.proofs.Bools.{and_both, equal, same}
 use Rattle.slirp_laws.proofs.Joining.{waited_for}
 use Rattle.slirp_laws.proofs.Listed.{AllQuestions, all_last, all_moved, all_so, all_without, socket_last}
 use Rattle.slirp_laws.proofs.Longest.{same_port}
-use Rattle.slirp_laws.proofs.Phases.{HasWaited, due_call, has_waited, opens, others_due}
+use Rattle.slirp_laws.proofs.Phases.{HasWaited, has_waited, none_left, opening_call, opens, others_due}
 use Rattle.slirp_laws.proofs.Steps.{Asks, errand_asks, errand_is, goes_by_policy, goes_to_target, step_to_name}
 
 -- ---- a question goes to the resolver
@@ -117,8 +117,11 @@ pub no_socket_yet : (config : Config) (past : List Entry) (socket : ℕ) (at : E
 no_socket_yet config past socket at errand may lawful left names =
     elim (opens config past socket at may) [
       | inl early ↦ (let none = early.0 in let waited = waited_for config past errand left lawful in let some : 0 < waits past = grind (arith, nat_tests, waited) in absurd (omega (arith, none, some)))
-      | inr o ↦ no_socket_for (socket_of errand.datagram.from (ident_in errand.datagram.body) (questions config past)) (questions config past) errand
-          (sym (step_to_name config past errand names left) ∙ o.asked ∙ ap NeedsSocket (the_same o.errand (sym (errand_is config past (NeedsSocket o.errand) o.asked) ∙ left)))
+      | inr later ↦ elim later [
+        | inl o ↦ no_socket_for (socket_of errand.datagram.from (ident_in errand.datagram.body) (questions config past)) (questions config past) errand
+            (sym (step_to_name config past errand names left) ∙ o.asked ∙ ap NeedsSocket (the_same o.errand (sym (errand_is config past (NeedsSocket o.errand) o.asked) ∙ left)))
+        | inr given ↦ (let never : Some errand ≡ None = sym left ∙ none_left config past given.nothing in cc)
+      ]
     ]
   where
     the_same : (other : Errand) → Some other ≡ Some errand → other ≡ errand
@@ -140,7 +143,10 @@ opened_unsent config past socket at errand may lawful left names = record {
   identifier = refl;
   ahead = first_due (phase config past) past (option_or (due_for config (step config past) (next_number past)) (others_due config past)) socket at (has_waited config past)
       (let waited = waited_for config past errand left lawful in grind (arith, nat_tests, waited))
-      (due_call (due config past) (CallUdpOpen socket at) may.place may.due);
+      (elim (opening_call config past socket at (given_port config socket) (CallUdpOpen socket at) may.place may.due) [
+        | inl is ↦ is
+        | inr given ↦ (let never : Some errand ≡ None = sym left ∙ none_left config past given.nothing in cc)
+      ]);
 }
   where
     list_is : questions config (UdpOpen socket at Done ∷ past) ≡ questions config past ++ (question socket errand (moment past) ∷ [])

@@ -1,5 +1,6 @@
 -- A call may come: one lemma for each kind of call, which has what is to be shown of that kind. Only `gathered` builds the record of the sentences, so that one
 -- more sentence is one more line there, and a premise of the kinds of which it speaks.
+use Rattle.slirp_laws.specs.Ports.{given_port}
 use Rattle.std.proofs.Common.{◌∷◌, ◌≡◌, ℕ, ◌==◌, ◌||◌, not, nat_lt, Bool, true, false, List, is_some, MatchOption, Option, Some, None, refl, sym, ◌∙◌, ap, subst}
 use Rattle.std.specs.Prelude.{option_map}
 use Rattle.std.specs.Option.{option_or}
@@ -14,12 +15,12 @@ use Rattle.net_octets.specs.declared.Endpoint.{Endpoint}
 use Rattle.host_policy.specs.Addresses.{Config}
 use Rattle.run_laws.specs.Shape.{due_in, is_over, is_working, may_turn, phase}
 use Rattle.run_laws.specs.Sockets.{next_number}
-use Rattle.record_flows.specs.Book.{book}
+use Rattle.record_flows.specs.Book.{book, port_of}
 use Rattle.record_flows.specs.Laws.{MayFlow, MayTouch, MustTouch, NoneMustClose}
 use Rattle.record_flows.specs.Lots.{due_for_flows}
 use Rattle.run_laws.specs.Moments.{waits}
 use Rattle.slirp_laws.specs.Agenda.{agenda}
-use Rattle.slirp_laws.specs.Laws.{May, MayDue, due, due_for_services, goes_on, has_place, has_socket, is_all_out, is_answered, is_closing, is_served, may_begin}
+use Rattle.slirp_laws.specs.Laws.{May, MayDue, due, due_for_services, goes_on, has_place, has_socket, is_all_out, is_answered, is_added, is_closing, is_served, may_begin}
 use Rattle.slirp_laws.specs.Laws.{may_close, relays, takes_peers}
 use Rattle.slirp_laws.specs.Asking.{step}
 use Rattle.slirp_laws.specs.Datagrams.{due_for}
@@ -28,7 +29,7 @@ use Rattle.slirp_laws.specs.Answers.{Serving, begins_again, begun_by, files_begu
 use Rattle.slirp_laws.specs.Names.{answered}
 use Rattle.tftp_server.specs.Asking.{call_for}
 use Rattle.tftp_server.specs.Transfers.{Said, Transfer, next_again}
-use Rattle.slirp_laws.proofs.Bools.{and_both, same, equal}
+use Rattle.slirp_laws.proofs.Bools.{and_both, same, equal, or_first}
 
 pub gathered : (config : Config) (past : List Entry) (call : Call) → MayFrame past call → MayDue config past call → has_place config past call ≡ true →
     has_socket config past call ≡ true
@@ -147,14 +148,14 @@ module _ (config : Config) (past : List Entry) where
   pub opens : (socket : ℕ) (at : Endpoint) → due config past ≡ Some (CallUdpOpen socket at) → (socket == next_number past) ≡ true → FlowsAskNothing config past →
       is_closing config past ≡ false → May config past (CallUdpOpen socket at)
   opens socket at is next nothing open_yet =
-      gathered config past (CallUdpOpen socket at) tt (this_one config past (CallUdpOpen socket at) is) (some_due config past (CallUdpOpen socket at) is) next refl refl
+      gathered config past (CallUdpOpen socket at) tt (this_one config past (CallUdpOpen socket at) is) (or_first (is_some (due config past)) (is_added config past socket at (given_port config socket)) (some_due config past (CallUdpOpen socket at) is)) next refl refl
       (on_yet open_yet) (untouched config past (CallUdpOpen socket at) nothing tt tt)
 
   -- and so is a port of the host that takes connections
   pub listens : (socket : ℕ) (at : Endpoint) → due config past ≡ Some (CallListen socket at) → (socket == next_number past) ≡ true → FlowsAskNothing config past →
       is_closing config past ≡ false → May config past (CallListen socket at)
   listens socket at is next nothing open_yet =
-      gathered config past (CallListen socket at) tt (this_one config past (CallListen socket at) is) (some_due config past (CallListen socket at) is) next refl refl
+      gathered config past (CallListen socket at) tt (this_one config past (CallListen socket at) is) (or_first (is_some (due config past)) (is_added config past socket at (port_of config socket)) (some_due config past (CallListen socket at) is)) next refl refl
       (on_yet open_yet) (untouched config past (CallListen socket at) nothing tt tt)
 
   -- a peer is taken where the last wait reported the port, while there is room for the flow of one more

@@ -41,7 +41,7 @@ use Rattle.slirp_laws.specs.Names.{questions}
 use Rattle.slirp_laws.specs.Ports.{last_datagram}
 use Rattle.slirp_laws.specs.Said.{Carries, ForPacket, ByFile, Again, HasPorts, IsOfServer, IsReplyToItsPort, Occasion, NoOccasion, Came, Heard, HeardOfName, OfFile, Unsent, Unconnected}
 use Rattle.slirp_laws.specs.Said.{by_call, by_joined, by_made, by_said, by_sent, by_got, heard_on, identification_with, is_for_server, last_occasion, occasion_after, owed_for, refused_or}
-use Rattle.slirp_laws.specs.Said.{unsent_or}
+use Rattle.slirp_laws.specs.Said.{for_guest, unsent_or}
 use Rattle.slirp_laws.specs.Sending.{is_beside, may_ask, sends_again, sends_segment}
 use Rattle.slirp_laws.proofs.Answering.{answer_read}
 use Rattle.slirp_laws.proofs.Beside.{by_request, by_segment, no_request, no_udp}
@@ -175,7 +175,7 @@ goes_here config e past said goes = record { later = []; writer = e; before = pa
 from_by : (config : Config) (e : Entry) (past : List Entry) (last : Option Datagram) (on : Option OnTuple) (o : Occasion) → IsFrom config (e ∷ past) o →
     (happens config past e).came ≡ None → IsFrom config (e ∷ past) (by_call config past e last on o)
 from_by config (Connect socket to answer) past last on o before none = from_joined config (Connect socket to answer ∷ past) answer on o before
-from_by config (UdpOpen socket at answer) past last on o before none = from_made config (UdpOpen socket at answer ∷ past) answer last o before
+from_by config (UdpOpen socket at answer) past last on o before none = from_made config (UdpOpen socket at answer ∷ past) answer (for_guest at.port last) o before
 from_by config (UdpSend socket to octets answer) past last on o before none = from_sent config (UdpSend socket to octets answer ∷ past) answer last o before
 from_by config (UdpRecv socket asked answer octets) past last on o before none = from_got config (UdpRecv socket asked answer octets ∷ past) answer socket octets
     (numbered socket (questions config past)) o before

@@ -8,10 +8,10 @@ use Rattle.world_face.specs.declared.Io.TheVariants.{Done}
 use Rattle.world_face.specs.declared.Made.TheVariants.{Done as MadeDone, Failed as MadeFailed}
 use Rattle.world_face.specs.declared.Sent.TheVariants.{Done as SentDone}
 use Rattle.world_face.specs.declared.Waited.TheVariants.{Ready, Stop}
-use Rattle.world_face.specs.Journal.{Entry, Accept, LinkRead, Close, Listen, Now, UdpOpen, UdpRecv, UdpSend, Wait, LinkWrite, CallAccept, CallClose, CallLinkWrite, CallUdpOpen, CallUdpSend}
+use Rattle.world_face.specs.Journal.{Entry, Accept, LinkRead, Close, Listen, Now, UdpOpen, UdpRecv, UdpSend, Wait, LinkWrite, CallAccept, CallClose, CallLinkWrite, CallListen, CallUdpOpen, CallUdpSend}
 use Rattle.world_face.specs.Frames.{spelling, missing, is_too_long, spelt_length}
 use Rattle.tlv_table.specs.Reading.{read_on}
-use Rattle.host_policy.specs.declared.Proto.TheVariants.{Udp as UdpProto}
+use Rattle.host_policy.specs.declared.Proto.TheVariants.{Tcp as TcpProto, Udp as UdpProto}
 use Rattle.host_policy.specs.Addresses.{Config, endpoint}
 use Rattle.host_policy.specs.Settings.{usual}
 use Rattle.host_policy.specs.Targets.{anywhere}
@@ -254,3 +254,57 @@ question_on_forward may = cc (may.due)
 forward_closed : May naming (run named) (CallClose 0) → ⊥
 unfolding missing spelling is_too_long spelt_length
 forward_closed may = not_both refl may.socket
+
+-- ---- ports that are given while the run goes on
+
+-- port 5555 of the host is asked for with the number 0, and port 6000 for datagrams with 1; there is a control
+abbrev pub adding : Config
+adding = record usual {
+  control = Some (endpoint 2130706433 5556);
+  added = (0, record { proto = TcpProto; host = endpoint 2130706433 5555; guest = endpoint 167772687 22 })
+      ∷ (1, record { proto = UdpProto; host = endpoint 2130706433 6000; guest = endpoint 167772687 4000 }) ∷ [];
+}
+
+-- both are opened; a peer is taken at the one, and heard at the other, which is closed in the run
+abbrev pub added : List Entry
+added =
+    Now 0 ∷ Wait (reading Link ∷ []) None Ready [] ∷ Now 4 ∷ Listen 0 (endpoint 2130706433 5555) MadeDone ∷ UdpOpen 1 (endpoint 2130706433 6000) MadeDone
+    ∷ Wait (reading Link ∷ reading (Listener 0) ∷ reading (Udp 1) ∷ []) None Ready (reading (Listener 0) ∷ reading (Udp 1) ∷ []) ∷ Now 5
+    ∷ Accept 0 2 (FromPeer (endpoint 2130706433 40000)) ∷ []
+
+abbrev pub added_run : List Entry
+added_run = run (added ++ Close 1 ∷ Wait (reading Link ∷ []) None Stop [] ∷ Close 0 ∷ Close 2 ∷ [])
+
+added_lawful : Lawful adding added_run
+unfolding missing spelling is_too_long spelt_length read_on
+added_lawful = is_sound adding added_run refl
+
+added_finished : Finished adding added_run
+unfolding missing spelling is_too_long spelt_length read_on
+added_finished = record { ended = refl; none_due = refl; closed = refl }
+
+-- what comes at it goes to the port of the guest for which it was asked
+added_leads : may adding (run (take 7 added ++ UdpRecv 1 65507 (From peer 2) (hex "6f6b") ∷ [])) (CallLinkWrite asked) ≡ true
+unfolding missing spelling is_too_long spelt_length read_on
+added_leads = refl
+
+-- What may not come: one before the first turn, at another port, for another number, or by the other protocol; or a close of it where there is no control.
+added_early : May adding (run (Now 0 ∷ [])) (CallListen 0 (endpoint 2130706433 5555)) → ⊥
+unfolding missing spelling is_too_long spelt_length read_on
+added_early may = not_both refl may.place
+
+added_elsewhere : May adding (run (take 3 added)) (CallListen 0 (endpoint 2130706433 5557)) → ⊥
+unfolding missing spelling is_too_long spelt_length read_on
+added_elsewhere may = not_both refl may.place
+
+added_unasked : May adding (run (take 5 added)) (CallListen 2 (endpoint 2130706433 5555)) → ⊥
+unfolding missing spelling is_too_long spelt_length read_on
+added_unasked may = not_both refl may.place
+
+added_otherwise : May adding (run (take 3 added)) (CallUdpOpen 0 (endpoint 2130706433 5555)) → ⊥
+unfolding missing spelling is_too_long spelt_length read_on
+added_otherwise may = not_both refl may.place
+
+kept_without_control : May (record adding { control = None }) (run added) (CallClose 1) → ⊥
+unfolding missing spelling is_too_long spelt_length read_on
+kept_without_control may = not_both refl may.socket

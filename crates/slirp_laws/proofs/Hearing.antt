@@ -23,7 +23,7 @@ use Rattle.slirp_laws.specs.Names.{questions}
 use Rattle.slirp_laws.specs.Ports.{last_datagram}
 use Rattle.slirp_laws.specs.Questions.{AnswerCame}
 use Rattle.slirp_laws.specs.Said.{AnswersQuestion, HasPorts, Occasion, NoOccasion, Came, Heard, HeardOfName, OfFile, Unsent, Unconnected, by_call, by_joined, by_made, by_outcome, by_said}
-use Rattle.slirp_laws.specs.Said.{by_sent, heard_on, last_occasion, occasion_after, refused_or, unsent_or}
+use Rattle.slirp_laws.specs.Said.{by_sent, for_guest, heard_on, last_occasion, occasion_after, refused_or, unsent_or}
 use Rattle.slirp_laws.proofs.Asked.{KeptQuestion, kept_questions}
 use Rattle.slirp_laws.proofs.Askers.{WasAskedOf, all_were_asked}
 use Rattle.slirp_laws.proofs.Leaving.{answer_of}
@@ -90,7 +90,7 @@ here config past socket asked peer count octets (Some q) is = record { later = [
 heard_by : (config : Config) (e : Entry) (past : List Entry) (last : Option Datagram) (on : Option OnTuple) (o : Occasion) → IsHeard config (e ∷ past) o → IsHeard config (e ∷ past)
     (by_call config past e last on o)
 heard_by config (Connect socket to answer) past last on o before = heard_joined config (Connect socket to answer ∷ past) answer on o before
-heard_by config (UdpOpen socket at answer) past last on o before = heard_made config (UdpOpen socket at answer ∷ past) answer last o before
+heard_by config (UdpOpen socket at answer) past last on o before = heard_made config (UdpOpen socket at answer ∷ past) answer (for_guest at.port last) o before
 heard_by config (UdpSend socket to octets answer) past last on o before = heard_sent config (UdpSend socket to octets answer ∷ past) answer last o before
 heard_by config (UdpRecv socket asked (From peer count) octets) past last on o before = here config past socket asked peer count octets (numbered socket (questions config past)) refl
 heard_by config (UdpRecv socket asked GotNotYet octets) past last on o before = before

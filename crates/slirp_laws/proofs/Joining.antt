@@ -2,7 +2,7 @@
 use Rattle.std.proofs.Common.{◌≡◌, ℕ, ◌<◌, ◌==◌, ◌&&◌, ◌||◌, not, nat_lt, Bool, true, false, List, [], ◌∷◌, ◌++◌, length, filter, Option, Some, None, option_map, if◌then◌else◌, inl, inr}
 use Rattle.std.proofs.Common.{refl, sym, ◌∙◌, ap, subst, arith}
 use Rattle.std.proofs.lemmas.Bool.Decides.{nat_tests}
-use Rattle.world_face.specs.Journal.{Entry, Connect, Listen, Accept, Close, UdpOpen, UdpSend, UdpRecv, call_of}
+use Rattle.world_face.specs.Journal.{Entry, Connect, Listen, Accept, Close, UdpOpen, UdpSend, UdpRecv, CallUdpOpen, call_of}
 use Rattle.world_face.specs.declared.Accepted.{Accepted}
 use Rattle.world_face.specs.declared.Accepted.TheVariants.{From as FromPeer, NotYet as NoPeer, Failed as AcceptFailed}
 use Rattle.world_face.specs.declared.Made.{Made}
@@ -16,11 +16,11 @@ use Rattle.udp_assoc.specs.Associations.{heard_at, is_numbered, moved_last, numb
 use Rattle.udp_assoc.specs.declared.assocs.Association.{Association}
 use Rattle.run_laws.specs.Moments.{moment, waits}
 use Rattle.run_laws.specs.Packets.{Datagram}
-use Rattle.run_laws.specs.Sockets.{Flow as OfFlow, Listener as OfListener, Kind, DnsSocket, datagram_kind, is_among, is_association, next_number, open_sockets, with_made}
-use Rattle.slirp_laws.specs.Asking.{step}
+use Rattle.run_laws.specs.Sockets.{Association as OfAssociation, Flow as OfFlow, Forward as OfForward, Listener as OfListener, Kind, DnsSocket, datagram_kind, is_among, is_association, next_number, open_sockets, with_made}
+use Rattle.slirp_laws.specs.Asking.{step, step_of}
 use Rattle.slirp_laws.specs.Errands.{errand_left}
 use Rattle.slirp_laws.specs.Names.{datagram_kind_for, kind_for, questions}
-use Rattle.slirp_laws.specs.Datagrams.{Errand, NeedsSocket, NeedsSending, asks_a_name}
+use Rattle.slirp_laws.specs.Datagrams.{Errand, NeedsSocket, NeedsNothing, NeedsSending, asks_a_name}
 use Rattle.slirp_laws.specs.Laws.{May, Lawful}
 use Rattle.slirp_laws.specs.Ports.{is_used_by, last_datagram, last_mac, last_port, last_use, mac_of, opened_for, serves_port, used_at, forward_for, given_port, port_for}
 use Rattle.slirp_laws.specs.Relayed.{association, associations, step_for, with_opened, with_sent}
@@ -28,7 +28,7 @@ use Rattle.slirp_laws.proofs.Bools.{and_false, equal, or_second, or_swap, same, 
 use Rattle.slirp_laws.proofs.Finding.{Joined, same_port_socket, same_step}
 use Rattle.slirp_laws.proofs.Longest.{once_open}
 use Rattle.slirp_laws.proofs.OpenSockets.{next_is_new, peer_next}
-use Rattle.slirp_laws.proofs.Phases.{asks_after_waits, opens, sends}
+use Rattle.slirp_laws.proofs.Phases.{asks_after_waits, at_any_port, given_forward, none_left, opens, sends}
 use Rattle.slirp_laws.proofs.Steps.{Asks, OfErrand, errand_asks, errand_is, unopened}
 use Rattle.slirp_laws.proofs.Uses.{AllBefore, AreKept, AreUnused, Kept, NoneOf, Use, all_unused, are_kept_on, in_order_last, in_order_moved, in_order_on, in_order_without, kept_last}
 use Rattle.slirp_laws.proofs.Uses.{kept_moved, kept_without, none_of, use_unused}
@@ -140,9 +140,9 @@ none_early n None is asks = refl
 none_early n (Some errand) is asks = absurd (omega (arith, is, asks))
 
 module _ (config : Config) (past : List Entry) (socket : ℕ) (at : Endpoint) (answer : Made) (errand : Errand) (number : (socket == next_number past) ≡ true)
-    (waited : nat_lt 0 (waits past) ≡ true) (asks : Asks config (last_datagram config past) errand) where
+    (waited : nat_lt 0 (waits past) ≡ true) (any : at.port ≡ 0) (asks : Asks config (last_datagram config past) errand) where
   port_new : opened_for config socket (UdpOpen socket at answer ∷ past) ≡ Some errand.datagram.from
-  port_new = ap (λ (b : Bool). if b then port_for config socket past else opened_for config socket past) (same socket)
+  port_new = ap (λ (b : Bool). if b then port_for config at.port socket past else opened_for config socket past) (same socket) ∙ ap (λ port. port_for config port socket past) any
       ∙ ap (λ (b : Bool). if b then last_port config past else given_port config socket) waited ∙ ap (option_map (λ (d : Datagram). d.from)) asks.datagram
 
   use_new : last_use socket (UdpOpen socket at answer ∷ past) ≡ length past
@@ -174,29 +174,32 @@ module _ (config : Config) (past : List Entry) (socket : ℕ) (at : Endpoint) (n
   unused answer = unused_below config past socket at answer list number joined.kept
 
   -- a forward's
-  early_kind : waits past ≡ 0 → is_association (Some (datagram_kind (nat_lt 0 (waits past)))) ≡ false
-  early_kind early = let not_yet : nat_lt 0 (waits past) ≡ false = grind (arith, nat_tests, early) in ap (λ (b : Bool). is_association (Some (datagram_kind b))) not_yet
+  early_kind : waits past ≡ 0 → is_association (Some (datagram_kind (nat_lt 0 (waits past)) at.port)) ≡ false
+  early_kind early = let not_yet : nat_lt 0 (waits past) ≡ false = grind (arith, nat_tests, early) in ap (λ (b : Bool). is_association (Some (datagram_kind b at.port))) not_yet
 
-  early_joins : (answer : Made) → waits past ≡ 0 → errand_left config past ≡ None → Joined config (UdpOpen socket at answer ∷ past) (with_opened config answer socket (moment past) None list)
-  early_joins answer early none = by answer
+  plain_joins : (answer : Made) → is_association (Some (datagram_kind (nat_lt 0 (waits past)) at.port)) ≡ false → errand_left config past ≡ None → Joined config (UdpOpen socket at answer ∷ past) (with_opened config answer socket (moment past) None list)
+  plain_joins answer other none = by answer
     where
       carried : (answer : Made) (n : ℕ) → serves_port config (UdpOpen socket at answer ∷ past) n ≡ serves_port config past n
-      carried answer n = fresh_other is_association answer n socket (open_sockets past) (Some (datagram_kind_for config (nat_lt 0 (waits past)) (errand_left config past))) (kind_for config n past) new
-          (ap (λ o. is_association (Some (datagram_kind_for config (nat_lt 0 (waits past)) o))) none ∙ early_kind early)
+      carried answer n = fresh_other is_association answer n socket (open_sockets past) (Some (datagram_kind_for config (nat_lt 0 (waits past)) at.port (errand_left config past))) (kind_for config n past) new
+          (ap (λ o. is_association (Some (datagram_kind_for config (nat_lt 0 (waits past)) at.port o))) none ∙ other)
 
       by : (answer : Made) → Joined config (UdpOpen socket at answer ∷ past) (with_opened config answer socket (moment past) None list)
       by Done = quiet config (UdpOpen socket at Done) past list (unused Done) (carried Done) joined
       by Failed = quiet config (UdpOpen socket at Failed) past list (unused Failed) (carried Failed) joined
 
+  early_joins : (answer : Made) → waits past ≡ 0 → errand_left config past ≡ None → Joined config (UdpOpen socket at answer ∷ past) (with_opened config answer socket (moment past) None list)
+  early_joins answer early none = plain_joins answer (early_kind early) none
+
   -- a guest's
-  module _ (errand : Errand) (waited : nat_lt 0 (waits past) ≡ true) (left : errand_left config past ≡ Some errand) (asks : Asks config (last_datagram config past) errand) where
-    kind_is : (name : Bool) → asks_a_name config errand ≡ name → is_association (Some (datagram_kind_for config (nat_lt 0 (waits past)) (errand_left config past))) ≡ not name
-    kind_is name is = ap (λ o. is_association (Some (datagram_kind_for config (nat_lt 0 (waits past)) o))) left ∙ ap
-        (λ (b : Bool). is_association (Some (if b then DnsSocket else datagram_kind (nat_lt 0 (waits past))))) is ∙ by name
+  module _ (errand : Errand) (waited : nat_lt 0 (waits past) ≡ true) (any : at.port ≡ 0) (left : errand_left config past ≡ Some errand) (asks : Asks config (last_datagram config past) errand) where
+    kind_is : (name : Bool) → asks_a_name config errand ≡ name → is_association (Some (datagram_kind_for config (nat_lt 0 (waits past)) at.port (errand_left config past))) ≡ not name
+    kind_is name is = ap (λ o. is_association (Some (datagram_kind_for config (nat_lt 0 (waits past)) at.port o))) left ∙ ap
+        (λ (b : Bool). is_association (Some (if b then DnsSocket else datagram_kind (nat_lt 0 (waits past)) at.port))) is ∙ by name
       where
-        by : (name : Bool) → is_association (Some (if name then DnsSocket else datagram_kind (nat_lt 0 (waits past)))) ≡ not name
+        by : (name : Bool) → is_association (Some (if name then DnsSocket else datagram_kind (nat_lt 0 (waits past)) at.port)) ≡ not name
         by true = refl
-        by false = ap (λ (b : Bool). is_association (Some (datagram_kind b))) waited
+        by false = ap (λ (b : Bool). is_association (Some (datagram_kind b at.port))) waited ∙ ap (λ port. is_association (Some (datagram_kind true port))) any
 
     list_last : (n : ℕ) → is_among n (numbers (list ++ (association socket errand (moment past) ∷ []))) ≡ (is_among n (numbers list) || (n == socket))
     list_last n = ap (is_among n) (numbers_last list (association socket errand (moment past))) ∙ among_last n socket (numbers list)
@@ -204,23 +207,23 @@ module _ (config : Config) (past : List Entry) (socket : ℕ) (at : Endpoint) (n
     -- for a question
     name_joins : (answer : Made) → asks_a_name config errand ≡ true → Joined config (UdpOpen socket at answer ∷ past) list
     name_joins answer name = quiet config (UdpOpen socket at answer) past list (unused answer)
-        (λ n. fresh_other is_association answer n socket (open_sockets past) (Some (datagram_kind_for config (nat_lt 0 (waits past)) (errand_left config past)))
+        (λ n. fresh_other is_association answer n socket (open_sockets past) (Some (datagram_kind_for config (nat_lt 0 (waits past)) at.port (errand_left config past)))
         (kind_for config n past) new (kind_is true name)) joined
 
     -- for its port
     port_joins : (answer : Made) → asks_a_name config errand ≡ false → NoneOf errand.datagram.from list → Joined config (UdpOpen socket at answer ∷ past)
         (with_opened config answer socket (moment past) (Some errand) list)
     port_joins Done other none = subst (λ (b : Bool). Joined config (UdpOpen socket at Done ∷ past) (if b then list else list ++ (association socket errand (moment past) ∷ []))) (sym other) (record {
-      those = λ n. fresh_one is_association n socket (open_sockets past) (Some (datagram_kind_for config (nat_lt 0 (waits past)) (errand_left config past)))
+      those = λ n. fresh_one is_association n socket (open_sockets past) (Some (datagram_kind_for config (nat_lt 0 (waits past)) at.port (errand_left config past)))
           (kind_for config n past) (kind_is false other)
           ∙ ap (λ b. b || (n == socket)) (joined.those n) ∙ sym (list_last n);
       kept = kept_last config (UdpOpen socket at Done ∷ past) list (association socket errand (moment past)) (are_kept_on config (UdpOpen socket at Done) past list (unused Done) joined.kept)
-          (kept_new config past socket at Done errand number waited asks);
+          (kept_new config past socket at Done errand number waited any asks);
       order = in_order_last (UdpOpen socket at Done ∷ past) list (association socket errand (moment past)) (in_order_on (UdpOpen socket at Done) past list (unused Done) joined.order)
-          (before_new config past socket at Done errand number waited asks list (unused Done) joined.kept none);
+          (before_new config past socket at Done errand number waited any asks list (unused Done) joined.kept none);
     })
     port_joins Failed other none = quiet config (UdpOpen socket at Failed) past list (unused Failed)
-        (λ n. fresh_failed is_association n socket (open_sockets past) (Some (datagram_kind_for config (nat_lt 0 (waits past)) (errand_left config past))) (kind_for config n past) new) joined
+        (λ n. fresh_failed is_association n socket (open_sockets past) (Some (datagram_kind_for config (nat_lt 0 (waits past)) at.port (errand_left config past))) (kind_for config n past) new) joined
 
     late_joins : (answer : Made) (name : Bool) → asks_a_name config errand ≡ name → (name ≡ false → NoneOf errand.datagram.from list) → Joined config
         (UdpOpen socket at answer ∷ past) (with_opened config answer socket (moment past) (Some errand) list)
@@ -233,6 +236,20 @@ pub waited_for : (config : Config) (past : List Entry) (errand : Errand) → err
 waited_for config past errand is lawful =
     let less : 0 < waits past = subst (λ o. OfErrand (λ (errand : Errand). 0 < waits past) o) is (asks_after_waits config past lawful) in grind (arith, nat_tests, less)
 
+-- where a socket is opened at a port that is named no datagram is left to go out
+pub settled_named : (config : Config) (past : List Entry) (socket : ℕ) (at : Endpoint) → Lawful config past → May config past (CallUdpOpen socket at) → (at.port == 0) ≡ false → step config past ≡ NeedsNothing
+settled_named config past socket at lawful may named = elim (opens config past socket at may) [
+  | inl early ↦ ap (step_of config past) (none_early (waits past) (errand_left config past) early.0 (asks_after_waits config past lawful))
+  | inr later ↦ elim later [
+    | inl o ↦ absurd (clash (at.port == 0) (ap (λ (e : Endpoint). e.port == 0) o.at_address) named)
+    | inr given ↦ ap (step_of config past) (none_left config past given.nothing)
+  ]
+]
+  where
+    clash : (b : Bool) → b ≡ true → b ≡ false → ⊥
+    clash true one other = cc
+    clash false one other = cc
+
 abbrev JoinedAt : Config → List Entry → Type 0
 JoinedAt config past = Joined config past (associations config past)
 
@@ -244,9 +261,22 @@ opened_joins config past socket at answer may lawful joined =
           (sym (none_early (waits past) (errand_left config past) early.0 (asks_after_waits config past lawful)))
           (early_joins config past socket at may.socket new (associations config past) joined answer early.0
           (none_early (waits past) (errand_left config past) early.0 (asks_after_waits config past lawful)))
-      | inr o ↦ late o.errand o.asked
+      | inr later ↦ elim later [
+        | inl o ↦ late o.errand o.asked
+        | inr given ↦ (let left = none_left config past given.nothing in
+            subst (λ o. Joined config (UdpOpen socket at answer ∷ past) (with_opened config answer socket (moment past) o (associations config past))) (sym left)
+            (plain_joins config past socket at may.socket new (associations config past) joined answer
+            (given_kind (nat_lt 0 (waits past)) at.port (given_forward config past socket at (given_port config socket) given.is).named) left))
+      ]
     ]
   where
+    some_waits : (errand : Errand) → errand_left config past ≡ Some errand → 0 < waits past
+    some_waits errand left = let waited = waited_for config past errand left lawful in grind (arith, nat_tests, waited)
+
+    given_kind : (waited : Bool) (port : ℕ) → (port == 0) ≡ false → is_association (Some (datagram_kind waited port)) ≡ false
+    given_kind true port some = ap (λ (b : Bool). is_association (Some (if b then OfAssociation else OfForward))) some
+    given_kind false port some = refl
+
     new : is_among socket (open_sockets past) ≡ false
     new = ap (λ n. is_among n (open_sockets past)) (equal socket (next_number past) may.socket) ∙ next_is_new config past lawful
 
@@ -254,7 +284,7 @@ opened_joins config past socket at answer may lawful joined =
     late errand asked =
         let left = errand_is config past (NeedsSocket errand) asked in
         subst (λ o. Joined config (UdpOpen socket at answer ∷ past) (with_opened config answer socket (moment past) o (associations config past))) (sym left)
-        (late_joins config past socket at may.socket new (associations config past) joined errand (waited_for config past errand left lawful) left (errand_asks config past errand left) answer
+        (late_joins config past socket at may.socket new (associations config past) joined errand (waited_for config past errand left lawful) (at_any_port config past socket at errand (some_waits errand left) left may) left (errand_asks config past errand left) answer
         (asks_a_name config errand) refl
         (λ other. none_of errand.datagram.from (associations config past) (same_port_socket config past errand.datagram.from (associations config past) joined
         ∙ unopened config past errand other asked)))

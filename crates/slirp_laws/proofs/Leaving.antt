@@ -17,7 +17,7 @@ use Rattle.dns_relay.specs.Questions.{ident_in, is_answer, is_answered, is_idle,
 use Rattle.run_laws.specs.Moments.{moment}
 use Rattle.run_laws.specs.Packets.{Datagram}
 use Rattle.run_laws.specs.Shape.{Phase, Opening, Started, Woken, Working, Over, due_in, is_ended, is_working, phase}
-use Rattle.run_laws.specs.Sockets.{Kind, Association, DnsSocket, Forward, Listener, Flow, is_among, next_number, open_sockets}
+use Rattle.run_laws.specs.Sockets.{Kind, Association, DnsSocket, Forward, Listener, Flow, is_among, next_number, open_sockets, first}
 use Rattle.record_flows.specs.Book.{book}
 use Rattle.record_flows.specs.Flows.{is_it}
 use Rattle.record_flows.specs.Lots.{due_for_flows}
@@ -26,7 +26,7 @@ use Rattle.slirp_laws.specs.Answers.{serving}
 use Rattle.slirp_laws.specs.Asking.{step, step_of}
 use Rattle.slirp_laws.specs.Datagrams.{Errand, Step, NeedsNothing, NeedsRoom, NeedsSocket, NeedsSending, asks_a_name, due_for}
 use Rattle.slirp_laws.specs.Errands.{errand_left}
-use Rattle.slirp_laws.specs.Laws.{May, Lawful, is_closing, is_least, may_part, name_gives_way, parts}
+use Rattle.slirp_laws.specs.Laws.{May, Lawful, is_closing, may_part, gives_way, parts}
 use Rattle.slirp_laws.specs.Names.{answered, answered_on, has_waited, kind_for, question, questions, with_heard, with_opened, with_sent, with_socket}
 use Rattle.slirp_laws.specs.Ports.{last_datagram, last_use, used_at}
 use Rattle.slirp_laws.specs.Questions.{HasWaitedLong, HasWaitedLongest, IsAnswerTo, WasAsked, WasJustAnswered, is_for_question, questions_open}
@@ -96,16 +96,16 @@ longest config past None (q ∷ list) errand oldest w is = by (nat_le most_quest
         })
     by false few is = absurd cc
 
-gives_way : (config : Config) (past : List Entry) (socket : ℕ) (s : Step) → step config past ≡ s → Lawful config past → name_gives_way config socket s ≡ true → HasWaitedLongest config socket past
-gives_way config past socket (NeedsRoom oldest errand) at lawful is =
+way_given : (config : Config) (past : List Entry) (socket : ℕ) (s : Step) → step config past ≡ s → Lawful config past → gives_way config true socket s ≡ true → HasWaitedLongest config socket past
+way_given config past socket (NeedsRoom oldest errand) at lawful is =
     let this : oldest ≡ socket = sym (equal socket oldest (first_of (socket == oldest) (asks_a_name config errand) is)) in
     let names : asks_a_name config errand ≡ true = second_of (socket == oldest) (asks_a_name config errand) is in
     subst (λ n. HasWaitedLongest config n past) this
     (longest config past (socket_of errand.datagram.from (ident_in errand.datagram.body) (questions config past)) (questions config past) errand oldest (are_waiting config past lawful)
     (sym (step_to_name config past errand names (errand_is config past (NeedsRoom oldest errand) at)) ∙ at))
-gives_way config past socket NeedsNothing at lawful is = absurd cc
-gives_way config past socket (NeedsSocket errand) at lawful is = absurd cc
-gives_way config past socket (NeedsSending s errand) at lawful is = absurd cc
+way_given config past socket NeedsNothing at lawful is = absurd cc
+way_given config past socket (NeedsSocket errand) at lawful is = absurd cc
+way_given config past socket (NeedsSending s errand) at lawful is = absurd cc
 
 waited_long : (past : List Entry) (n now : ℕ) (list : List Question) → AllQuestions (IsUsed past) list → is_idle n now list ≡ true → used_at n past + question_life ≤ now
 waited_long past n now [] all is = absurd cc
@@ -169,16 +169,16 @@ just_answered config socket [] lawful is = absurd cc
 abbrev Reasons : Config → ℕ → List Entry → Type 0
 Reasons config socket past = WasJustAnswered config socket past ⊎ (HasWaitedLong socket past ⊎ HasWaitedLongest config socket past)
 
-by_reason : (config : Config) (past : List Entry) (socket : ℕ) (a b c : Bool) → Lawful config past → name_gives_way config socket (step config past) ≡ a →
+by_reason : (config : Config) (past : List Entry) (socket : ℕ) (a b c : Bool) → Lawful config past → gives_way config true socket (step config past) ≡ a →
     is_it socket (answered config past) ≡ b → has_waited config past socket ≡ c → (a || b || c) ≡ true → Reasons config socket past
-by_reason config past socket true b c lawful way came long is = inr (inr (gives_way config past socket (step config past) refl lawful way))
+by_reason config past socket true b c lawful way came long is = inr (inr (way_given config past socket (step config past) refl lawful way))
 by_reason config past socket false true c lawful way came long is = inl (just_answered config socket past lawful came)
 by_reason config past socket false false true lawful way came long is = inr (inl (waited_long past socket (moment past) (questions config past) (are_waiting config past lawful).used long))
 by_reason config past socket false false false lawful way came long is = absurd cc
 
 by_kind : (config : Config) (past : List Entry) (socket : ℕ) (k : Option Kind) → Lawful config past → is_for_question k ≡ true → may_part config past socket k ≡ true → Reasons config socket past
 by_kind config past socket (Some DnsSocket) lawful one is =
-    by_reason config past socket (name_gives_way config socket (step config past)) (is_it socket (answered config past)) (has_waited config past socket) lawful refl refl refl is
+    by_reason config past socket (gives_way config true socket (step config past)) (is_it socket (answered config past)) (has_waited config past socket) lawful refl refl refl is
 by_kind config past socket (Some Association) lawful one is = absurd cc
 by_kind config past socket (Some Forward) lawful one is = absurd cc
 by_kind config past socket (Some Listener) lawful one is = absurd cc
@@ -189,9 +189,9 @@ pub leaves_for : (config : Config) (past : List Entry) (socket : ℕ) → May co
     (kind_for config socket past) ≡ true → Reasons config socket past
 leaves_for config past socket may lawful running one =
     by_kind config past socket (kind_for config socket past) lawful one
-    (parts_where (is_closing config past) (is_least socket (open_sockets past)) (parts config past socket) (is_ended config past) (λ closing. closing_ended config past lawful closing) running
-    (second_of (is_among socket (open_sockets past)) (if is_closing config past then is_least socket (open_sockets past) else parts config past socket ||
-    (is_ended config past && is_least socket (open_sockets past))) may.socket))
+    (parts_where (is_closing config past) (is_it socket (first (open_sockets past))) (parts config past socket) (is_ended config past) (λ closing. closing_ended config past lawful closing) running
+    (second_of (is_among socket (open_sockets past)) (if is_closing config past then is_it socket (first (open_sockets past)) else parts config past socket ||
+    (is_ended config past && is_it socket (first (open_sockets past)))) may.socket))
 
 -- ---- what is asked on an open socket is kept
 

@@ -17,6 +17,7 @@ pub mod FlowRows
 mod ForwardRows
 pub mod FragmentRows
 pub mod Framing
+pub mod Given
 pub mod Giving
 pub mod Hearing
 mod Histories

@@ -1,7 +1,7 @@
 -- Where the ports of the host that are given to guests are opened, and when they are closed.
-use Rattle.std.proofs.Common.{◌≡◌, ℕ, suc, zero, ◌+◌, ◌<◌, ◌&&◌, ◌||◌, Bool, true, false, List, [], ◌∷◌, drop, slice_get, Option, Some, None, option_map}
+use Rattle.std.proofs.Common.{◌≡◌, ℕ, suc, zero, ◌+◌, ◌<◌, ◌&&◌, ◌||◌, Bool, true, false, List, [], ◌∷◌, drop, slice_get, Option, Some, None, is_some, option_and_then, option_map, ◌⊎◌, inl, inr}
 use Rattle.std.specs.Option.{option_or}
-use Rattle.std.proofs.Common.{if◌then◌else◌, refl, ap, ◌∙◌, subst, arith}
+use Rattle.std.proofs.Common.{if◌then◌else◌, refl, sym, ap, ◌∙◌, subst, arith}
 use Rattle.world_face.specs.Journal.{Entry, Call, Now, Wait, Listen, UdpOpen, CallClose, CallListen, CallUdpOpen}
 use Rattle.world_face.specs.Frames.{Ending, ending, partial}
 use Rattle.world_face.specs.declared.Made.{Made}
@@ -10,18 +10,21 @@ use Rattle.net_octets.specs.declared.Endpoint.{Endpoint}
 use Rattle.host_policy.specs.declared.Forward.{Forward}
 use Rattle.host_policy.specs.declared.Proto.{Proto}
 use Rattle.host_policy.specs.declared.Proto.TheVariants.{Tcp, Udp}
-use Rattle.host_policy.specs.Addresses.{Config}
+use Rattle.host_policy.specs.Addresses.{Config, forward_on}
 use Rattle.run_laws.specs.Moments.{waits}
-use Rattle.run_laws.specs.Shape.{Phase, Opening, Started, Woken, Working, Over, is_ended, phase, phase_by, phase_after, opened, clocked, unless_over, due_in, opening_of}
+use Rattle.run_laws.specs.Shape.{Phase, Opening, Started, Woken, Working, Over, is_ended, phase, phase_by, phase_after, opened, clocked, unless_over, due_in, is_working, opening_of}
 use Rattle.run_laws.specs.Sockets.{Kind, Association as OfAssociation, DnsSocket, Forward as OfForward, Listener as OfListener, Flow as OfFlow, first, is_among, next_number, open_sockets}
+use Rattle.record_flows.specs.Book.{port_by, port_of}
 use Rattle.slirp_laws.specs.Asking.{step}
 use Rattle.slirp_laws.specs.Datagrams.{Errand, Step, NeedsNothing, NeedsRoom, NeedsSocket, NeedsSending, due_for}
 use Rattle.slirp_laws.specs.Names.{kind_for}
-use Rattle.slirp_laws.specs.Laws.{May, Lawful, due, is_closing, is_least, may_part, parts}
-use Rattle.slirp_laws.specs.Said.{OpensGiven, is_given}
+use Rattle.record_flows.specs.Flows.{is_it}
+use Rattle.slirp_laws.specs.Laws.{May, Lawful, is_closing, may_part, parts}
+use Rattle.slirp_laws.specs.Ports.{given_port}
+use Rattle.slirp_laws.specs.Said.{IsForAdded, OpensGiven, is_given}
 use Rattle.slirp_laws.proofs.Bools.{first_of, second_of}
 use Rattle.slirp_laws.proofs.Parting.{closing_ended}
-use Rattle.slirp_laws.proofs.Phases.{HasWaited, IsForOther, asks_after_waits, due_call, for_others, has_waited, opens_for, others_due}
+use Rattle.slirp_laws.proofs.Phases.{HasWaited, IsForOther, asks_after_waits, for_others, given_forward, given_turn, has_waited, opening_call, opens_for, others_due}
 use Rattle.slirp_laws.proofs.Steps.{OfErrand, errand_is}
 
 -- ---- the ports that are still to be opened are those at the end of the settings' list
@@ -115,11 +118,22 @@ listening all Woken past other socket at left never is = absurd cc
 listening all Working past other socket at left never is = absurd (never is)
 listening all (Over cause) past other socket at left never is = absurd (never (closes_first (first (open_sockets past)) other (CallListen socket at) (λ s same. cc) is))
 
-pub listens_where_given : (config : Config) (past : List Entry) (socket : ℕ) (at : Endpoint) → May config past (CallListen socket at) → OpensGiven config.forwards Tcp at
-listens_where_given config past socket at may =
-    listening config.forwards (phase config past) past (option_or (due_for config (step config past) (next_number past)) (others_due config past)) socket at (are_left config past)
-    (no_listening config (step config past) (others_due config past) (next_number past) socket at (for_others config past))
-    (due_call (due config past) (CallListen socket at) may.place may.due)
+-- the forward of the port of a guest that takes connections is for connections
+for_connections : (o : Option Forward) (f : Forward) → o ≡ Some f → is_some (option_and_then (λ (f : Forward). port_by f.proto f.guest) o) ≡ true → f.proto ≡ Tcp
+for_connections o f on some = by f.proto (ap (λ (o : Option Forward). is_some (option_and_then (λ (f : Forward). port_by f.proto f.guest) o)) (sym on) ∙ some)
+  where
+    by : (p : Proto) → is_some (port_by p f.guest) ≡ true → p ≡ Tcp
+    by Tcp is = refl
+    by Udp is = cc
+
+pub listens_where_given : (config : Config) (past : List Entry) (socket : ℕ) (at : Endpoint) → May config past (CallListen socket at)
+    → OpensGiven config.forwards Tcp at ⊎ IsForAdded config Tcp socket at
+listens_where_given config past socket at may = elim (opening_call config past socket at (port_of config socket) (CallListen socket at) may.place may.due) [
+  | inl is ↦ inl (listening config.forwards (phase config past) past (option_or (due_for config (step config past) (next_number past)) (others_due config past)) socket at (are_left config past)
+      (no_listening config (step config past) (others_due config past) (next_number past) socket at (for_others config past)) is)
+  | inr given ↦ (let g = given_forward config past socket at (port_of config socket) given.is in
+      inr (g.forward, g.on, for_connections (forward_on config socket) g.forward g.on g.leads, g.host))
+]
 
 -- what is asked for by a datagram was asked for after a wait
 asked_later : (config : Config) (past : List Entry) (socket : ℕ) (at : Endpoint) → Lawful config past → option_or (due_for config (step config past) (next_number past))
@@ -141,32 +155,42 @@ opening all Working past other socket at left waited early later is = absurd (om
 opening all (Over cause) past other socket at left waited early later is = let more = later (closes_first (first (open_sockets past)) other (CallUdpOpen socket at)
     (λ s same. cc) is) in absurd (omega (arith, early, more))
 
+-- in a turn a wait came
+turned : (p : Phase) (n : ℕ) → is_working p ≡ true → HasWaited p n → n ≡ 0 → ⊥
+turned Working n working waited early = absurd (omega (arith, waited, early))
+turned (Opening count forwards) n working waited early = cc
+turned Started n working waited early = cc
+turned Woken n working waited early = cc
+turned (Over cause) n working waited early = cc
+
 pub opens_where_given : (config : Config) (past : List Entry) (socket : ℕ) (at : Endpoint) → Lawful config past → waits past ≡ 0 → May config past (CallUdpOpen socket at) →
     OpensGiven config.forwards Udp at
-opens_where_given config past socket at lawful early may =
-    opening config.forwards (phase config past) past (option_or (due_for config (step config past) (next_number past)) (others_due config past)) socket at (are_left config past)
-    (has_waited config past) early
-    (asked_later config past socket at lawful) (due_call (due config past) (CallUdpOpen socket at) may.place may.due)
+opens_where_given config past socket at lawful early may = elim (opening_call config past socket at (given_port config socket) (CallUdpOpen socket at) may.place may.due) [
+  | inl is ↦
+      opening config.forwards (phase config past) past (option_or (due_for config (step config past) (next_number past)) (others_due config past)) socket at (are_left config past)
+      (has_waited config past) early (asked_later config past socket at lawful) is
+  | inr given ↦ absurd (turned (phase config past) (waits past) (given_turn config past socket at (given_port config socket) given.is) (has_waited config past) early)
+]
 
--- ---- and it is closed after the end
+-- ---- and it is closed after the end, where there is no control
 
-given_stays : (config : Config) (past : List Entry) (socket : ℕ) (o : Option Kind) → is_given o ≡ true → may_part config past socket o ≡ false
-given_stays config past socket None is = absurd cc
-given_stays config past socket (Some OfAssociation) is = absurd cc
-given_stays config past socket (Some DnsSocket) is = absurd cc
-given_stays config past socket (Some OfForward) is = refl
-given_stays config past socket (Some OfListener) is = refl
-given_stays config past socket (Some OfFlow) is = absurd cc
+given_stays : (config : Config) (past : List Entry) (socket : ℕ) (o : Option Kind) → config.control ≡ None → is_given o ≡ true → may_part config past socket o ≡ false
+given_stays config past socket None none is = absurd cc
+given_stays config past socket (Some OfAssociation) none is = absurd cc
+given_stays config past socket (Some DnsSocket) none is = absurd cc
+given_stays config past socket (Some OfForward) none is = ap is_some none
+given_stays config past socket (Some OfListener) none is = ap is_some none
+given_stays config past socket (Some OfFlow) none is = absurd cc
 
 ended_only : (closing least some ended : Bool) → (closing ≡ true → ended ≡ true) → some ≡ false → (if closing then least else some || (ended && least)) ≡ true → ended ≡ true
 ended_only true least some ended already none is = already refl
 ended_only false least true ended already none is = absurd cc
 ended_only false least false ended already none is = first_of ended least is
 
-pub closes_given_after_the_end : (config : Config) (past : List Entry) (socket : ℕ) → Lawful config past → May config past (CallClose socket) → is_given
+pub closes_given_after_the_end : (config : Config) (past : List Entry) (socket : ℕ) → config.control ≡ None → Lawful config past → May config past (CallClose socket) → is_given
     (kind_for config socket past) ≡ true → is_ended config past ≡ true
-closes_given_after_the_end config past socket lawful may given =
-    ended_only (is_closing config past) (is_least socket (open_sockets past)) (parts config past socket) (is_ended config past) (closing_ended config past lawful)
-    (given_stays config past socket (kind_for config socket past) given)
-    (second_of (is_among socket (open_sockets past)) (if is_closing config past then is_least socket (open_sockets past) else parts config past socket ||
-    (is_ended config past && is_least socket (open_sockets past))) may.socket)
+closes_given_after_the_end config past socket none lawful may given =
+    ended_only (is_closing config past) (is_it socket (first (open_sockets past))) (parts config past socket) (is_ended config past) (closing_ended config past lawful)
+    (given_stays config past socket (kind_for config socket past) none given)
+    (second_of (is_among socket (open_sockets past)) (if is_closing config past then is_it socket (first (open_sockets past)) else parts config past socket ||
+    (is_ended config past && is_it socket (first (open_sockets past)))) may.socket)

@@ -1,7 +1,7 @@
 -- What is left to be sent is what is owed for what came last.
 use Rattle.std.proofs.Common.{not, ◌≡◌, ℕ, zero, suc, ◌+◌, ◌-◌, ◌%◌, ◌^◌, ◌<◌, ◌≤◌, ◌==◌, ◌&&◌, ◌||◌, Bool, true, false, List, [], ◌∷◌, drop, length, bytes_eq, Option, Some, None}
 use Rattle.std.specs.Option.{option_or}
-use Rattle.std.proofs.Common.{if◌then◌else◌, ◌⊎◌, inl, inr, refl, sym, ◌∙◌, ap, subst, arith, nat_lt, option_map}
+use Rattle.std.proofs.Common.{cond, if◌then◌else◌, ◌⊎◌, inl, inr, refl, sym, ◌∙◌, ap, subst, arith, nat_lt, option_map}
 use Rattle.std.proofs.lemmas.Bool.Decides.{nat_tests}
 use Rattle.world_face.specs.Journal.{Entry, LinkRead, LinkWrite, Connect, UdpOpen, UdpSend, UdpRecv, FileLen, FileRead, call_of, Accept, Listen}
 use Rattle.world_face.specs.Frames.{goes_out, opens, tail}
@@ -42,15 +42,15 @@ use Rattle.tftp_server.specs.Transfers.{Outcome, Said}
 use Rattle.host_policy.specs.declared.Reply.{Reply}
 use Rattle.host_policy.specs.declared.Reply.TheVariants.{Nothing, Datagram as ADatagram, Unreachable}
 use Rattle.slirp_laws.specs.Laws.{May, Lawful, may_begin}
-use Rattle.slirp_laws.specs.Ports.{last_datagram, last_mac, mac_of, opened_for, mac_for, mac_known, port_for}
+use Rattle.slirp_laws.specs.Ports.{last_datagram, last_mac, mac_of, opened_for, mac_for, mac_known, port_for, given_port}
 use Rattle.slirp_laws.specs.Said.{AnswersLast, IsRest, Occasion, NoOccasion, Came, Heard, HeardOfName, OfFile, Unsent, Unconnected, by_outcome, by_said, heard_on as heard_of}
-use Rattle.slirp_laws.specs.Said.{identification_with, last_occasion, occasion_after, owed_for, refused_or, unsent_or}
+use Rattle.slirp_laws.specs.Said.{for_guest, identification_with, last_occasion, occasion_after, owed_for, refused_or, unsent_or}
 use Rattle.slirp_laws.specs.Sending.{is_beside}
 use Rattle.slirp_laws.proofs.Bools.{equal_octets, second_of}
 use Rattle.slirp_laws.proofs.Framing.{arp_frame, drop_next, drop_none, first_counts, frames_one, later_counts, part_of_frames}
-use Rattle.slirp_laws.proofs.Joining.{none_early}
+use Rattle.slirp_laws.proofs.Joining.{none_early, settled_named}
 use Rattle.slirp_laws.proofs.OpenSockets.{open_below, hears_on_open, peer_next}
-use Rattle.slirp_laws.proofs.Phases.{asks_after_waits, comes_working, has_waited, hears_settled, more_waits, opens as opened_where, sends, working_waited}
+use Rattle.slirp_laws.proofs.Phases.{asks_after_waits, comes_working, given_forward, has_waited, hears_settled, more_waits, opens as opened_where, sends, working_waited}
 use Rattle.slirp_laws.proofs.Reading.{AllAnswers, SixAnswer, SixSaid, file_answer, six_again, six_occasion, six_owed}
 use Rattle.slirp_laws.proofs.Steps.{Asks, errand_asks, errand_is, none_by_call}
 use Rattle.slirp_laws.proofs.Uses.{drawn_on}
@@ -150,7 +150,7 @@ not_new s socket number new drawn = grind (arith, nat_tests, new, drawn)
 
 port_stays : (config : Config) (e : Entry) (past : List Entry) (socket : ℕ) → May config past (call_of e) → socket < next_number past → opened_for config socket
     (e ∷ past) ≡ opened_for config socket past
-port_stays config (UdpOpen s at answer) past socket may drawn = ap (λ (b : Bool). if b then port_for config socket past else opened_for config socket past)
+port_stays config (UdpOpen s at answer) past socket may drawn = ap (λ (b : Bool). if b then port_for config at.port socket past else opened_for config socket past)
     (not_new s socket (next_number past) may.socket drawn)
 port_stays config _ past socket may drawn = refl
 
@@ -168,7 +168,7 @@ kind_stays : (config : Config) (e : Entry) (past : List Entry) (socket : ℕ) �
 kind_stays config (Connect s to answer) past socket may drawn = ap (λ (b : Bool). if b then Some OfFlow else kind_of socket past) (not_new s socket (next_number past) may.socket drawn)
 kind_stays config (Listen s at answer) past socket may drawn = ap (λ (b : Bool). if b then Some OfListener else kind_of socket past) (not_new s socket (next_number past) may.socket drawn)
 kind_stays config (UdpOpen s at answer) past socket may drawn =
-    ap (λ (b : Bool). if b then Some (datagram_kind (nat_lt 0 (waits past))) else kind_of socket past) (not_new s socket (next_number past) may.socket drawn)
+    ap (λ (b : Bool). if b then Some (datagram_kind (nat_lt 0 (waits past)) at.port) else kind_of socket past) (not_new s socket (next_number past) may.socket drawn)
 kind_stays config (Accept listener s answer) past socket may drawn =
     ap (λ (b : Bool). if b then Some OfFlow else kind_of socket past) (not_new s socket (next_number past) (peer_next config past listener s answer may) drawn)
 kind_stays config _ past socket may drawn = refl
@@ -403,12 +403,8 @@ by_open : (config : Config) (past : List Entry) (socket : ℕ) (at : Endpoint) (
     OwingAt config past → OwingAt config (UdpOpen socket at answer ∷ past)
 by_open config past socket at MadeDone may lawful is = unchanged config (UdpOpen socket at MadeDone) past may refl is
 by_open config past socket at MadeFailed may lawful is = record {
-  owed = (elim (opened_where config past socket at may) [
-    | inl early ↦ before early.0
-    | inr o ↦ told config e past (step config past) (left config past) (last_datagram config past) (last_occasion config past) o.errand.datagram
-        (ap (λ s. unsent config (identification past) s (left config past)) o.asked) (asks o.errand (errand_is config past (NeedsSocket o.errand) o.asked)).datagram
-  ]);
-  heard = unsent_well (next_number (e ∷ past)) None (last_datagram config past) (last_occasion config past) (unchanged config e past may refl is).heard;
+  owed = owed_then (at.port == 0) refl;
+  heard = unsent_well (next_number (e ∷ past)) None (for_guest at.port (last_datagram config past)) (last_occasion config past) (unchanged config e past may refl is).heard;
 }
   where
     e : Entry
@@ -420,14 +416,32 @@ by_open config past socket at MadeFailed may lawful is = record {
     none_yet : waits past ≡ 0 → last_datagram config past ≡ None
     none_yet early = elim (came_after_waits config past lawful) [ inl none ↦ none | inr waited ↦ absurd (omega (arith, early, waited)) ]
 
-    before : waits past ≡ 0 → IsOwed config (UdpOpen socket at MadeFailed ∷ past) (unsent config (identification past) (step config past) (left config past)) (datagrams_out past)
-        (unsent_or (last_datagram config past) (last_occasion config past))
-    before early =
-        let settled = ap (step_of config past) (none_early (waits past) (errand_left config past) early (asks_after_waits config past lawful)) in
-        subst (λ s. IsOwed config (UdpOpen socket at MadeFailed ∷ past) (unsent config (identification past) s (left config past)) (datagrams_out past)
-        (unsent_or (last_datagram config past) (last_occasion config past))) (sym settled)
-        (subst (λ l. IsOwed config (UdpOpen socket at MadeFailed ∷ past) (left config past) (datagrams_out past) (unsent_or l (last_occasion config past))) (sym (none_yet early))
-        (unchanged config (UdpOpen socket at MadeFailed) past may refl is).owed)
+    Then : Option Datagram → Type 0
+    Then last = IsOwed config (UdpOpen socket at MadeFailed ∷ past) (unsent config (identification past) (step config past) (left config past)) (datagrams_out past)
+        (unsent_or last (last_occasion config past))
+
+    quiet : step config past ≡ NeedsNothing → Then None
+    quiet settled =
+        subst (λ s. IsOwed config (UdpOpen socket at MadeFailed ∷ past) (unsent config (identification past) s (left config past)) (datagrams_out past) (last_occasion config past)) (sym settled)
+        (unchanged config (UdpOpen socket at MadeFailed) past may refl is).owed
+
+    clash : (b : Bool) → b ≡ true → b ≡ false → ⊥
+    clash true one two = cc
+    clash false one two = cc
+
+    of_guest : (at.port == 0) ≡ true → Then (last_datagram config past)
+    of_guest any = elim (opened_where config past socket at may) [
+      | inl early ↦ subst Then (sym (none_yet early.0)) (quiet (ap (step_of config past) (none_early (waits past) (errand_left config past) early.0 (asks_after_waits config past lawful))))
+      | inr later ↦ elim later [
+        | inl o ↦ told config e past (step config past) (left config past) (last_datagram config past) (last_occasion config past) o.errand.datagram
+            (ap (λ s. unsent config (identification past) s (left config past)) o.asked) (asks o.errand (errand_is config past (NeedsSocket o.errand) o.asked)).datagram
+        | inr given ↦ absurd (clash (at.port == 0) any (given_forward config past socket at (given_port config socket) given.is).named)
+      ]
+    ]
+
+    owed_then : (b : Bool) → (at.port == 0) ≡ b → Then (for_guest at.port (last_datagram config past))
+    owed_then true any = subst (λ (b : Bool). Then (cond b (last_datagram config past) None)) (sym any) (of_guest any)
+    owed_then false named = subst (λ (b : Bool). Then (cond b (last_datagram config past) None)) (sym named) (quiet (settled_named config past socket at lawful may named))
 
 by_send : (config : Config) (past : List Entry) (socket : ℕ) (to : Endpoint) (octets : List ℕ) (answer : Sent) → May config past (call_of (UdpSend socket to octets answer)) →
     OwingAt config past → OwingAt config (UdpSend socket to octets answer ∷ past)

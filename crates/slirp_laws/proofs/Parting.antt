@@ -9,12 +9,13 @@ use Rattle.world_face.specs.declared.Made.TheVariants.{Done, Failed}
 use Rattle.host_policy.specs.Addresses.{Config}
 use Rattle.run_laws.specs.Moments.{waits}
 use Rattle.run_laws.specs.Shape.{Cause, Phase, Opening, Started, Woken, Working, Over, phase, phase_by, phase_after, opened, may_turn, is_over, is_ended}
-use Rattle.run_laws.specs.Sockets.{Kind, Association as OfAssociation, DnsSocket, Forward as OfForward, Listener, Flow, is_among, is_association, open_sockets}
+use Rattle.run_laws.specs.Sockets.{Kind, Association as OfAssociation, DnsSocket, Forward as OfForward, Listener, Flow, is_among, is_association, open_sockets, first}
 use Rattle.slirp_laws.specs.Asking.{is_full, step, step_of, step_on, yields}
 use Rattle.slirp_laws.specs.Errands.{errand_left}
 use Rattle.slirp_laws.specs.Names.{kind_for, questions, step_to_names, with_socket}
 use Rattle.slirp_laws.specs.Datagrams.{Errand, NeedsRoom, NeedsSocket, asks_a_name}
-use Rattle.slirp_laws.specs.Laws.{May, Lawful, begins_closing, gives_way, is_closing, is_least, is_unused, may_part, parts}
+use Rattle.record_flows.specs.Flows.{is_it}
+use Rattle.slirp_laws.specs.Laws.{May, Lawful, begins_closing, gives_way, is_closing, is_unused, may_part, parts}
 use Rattle.slirp_laws.specs.Ports.{associations_open, forward_for, last_use, longest_unused, socket_for}
 use Rattle.slirp_laws.specs.Said.{IsIdle, IsLongestUnused}
 use Rattle.dns_relay.specs.declared.Question.{Question}
@@ -70,9 +71,9 @@ ended_where false least false ended already none is = first_of ended least is
 begins : (config : Config) (e : Entry) (past : List Entry) → May config past (call_of e) → (is_closing config past ≡ true → is_ended config past ≡ true) →
     begins_closing config past e ≡ true → is_ended config past ≡ true
 begins config (Close socket) past may already is =
-    ended_where (is_closing config past) (is_least socket (open_sockets past)) (parts config past socket) (is_ended config past) already is
-    (second_of (is_among socket (open_sockets past)) (if is_closing config past then is_least socket (open_sockets past) else parts config past socket ||
-    (is_ended config past && is_least socket (open_sockets past))) may.socket)
+    ended_where (is_closing config past) (is_it socket (first (open_sockets past))) (parts config past socket) (is_ended config past) already is
+    (second_of (is_among socket (open_sockets past)) (if is_closing config past then is_it socket (first (open_sockets past)) else parts config past socket ||
+    (is_ended config past && is_it socket (first (open_sockets past)))) may.socket)
 begins config _ past may already is = cc
 
 closing_after : (config : Config) (e : Entry) (past : List Entry) (b : Bool) → begins_closing config past e ≡ b → May config past (call_of e) →
@@ -93,48 +94,48 @@ all_of_them : (config : Config) (past : List Entry) (socket : ℕ) (o : Option �
 all_of_them config past socket None least is other among = cc
 all_of_them config past socket (Some m) least is other among = (let this : m ≡ socket = cc in subst (λ n. last_use n past ≤ last_use other past) this (least.least other among))
 
-yields_to : (config : Config) (socket : ℕ) (o : Option ℕ) (errand : Errand) → gives_way config socket (yields o errand) ≡ true → o ≡ Some socket
+yields_to : (config : Config) (socket : ℕ) (o : Option ℕ) (errand : Errand) → gives_way config false socket (yields o errand) ≡ true → o ≡ Some socket
 yields_to config socket None errand is = cc
 yields_to config socket (Some oldest) errand is = ap Some (sym (equal socket oldest (first_of (socket == oldest) (not (asks_a_name config errand)) is)))
 
-on_socket : (config : Config) (past : List Entry) (socket : ℕ) (o : Option ℕ) (full : Bool) (errand : Errand) → is_full config past ≡ full → gives_way config socket
+on_socket : (config : Config) (past : List Entry) (socket : ℕ) (o : Option ℕ) (full : Bool) (errand : Errand) → is_full config past ≡ full → gives_way config false socket
     (step_on config o past errand) ≡ true → IsLongestUnused config socket past
 on_socket config past socket (Some s) full errand f is = cc
 on_socket config past socket None true errand f is = record {
   full = grind (arith, nat_tests, f);
   least = all_of_them config past socket (longest_unused config past) (least_of past (associations_open config past))
       (yields_to config socket (longest_unused config past) errand (sym
-      (ap (λ (b : Bool). gives_way config socket (if b then yields (longest_unused config past) errand else NeedsSocket errand)) f) ∙ is));
+      (ap (λ (b : Bool). gives_way config false socket (if b then yields (longest_unused config past) errand else NeedsSocket errand)) f) ∙ is));
 }
 on_socket config past socket None false errand f is = (let never : false ≡ true = sym
-    (ap (λ (b : Bool). gives_way config socket (if b then yields (longest_unused config past) errand else NeedsSocket errand)) f) ∙ is in cc)
+    (ap (λ (b : Bool). gives_way config false socket (if b then yields (longest_unused config past) errand else NeedsSocket errand)) f) ∙ is in cc)
 
 -- a question asks none of a port's sockets to give way
-asked_room : (config : Config) (socket oldest : ℕ) (errand : Errand) (b : Bool) → asks_a_name config errand ≡ true → gives_way config socket
+asked_room : (config : Config) (socket oldest : ℕ) (errand : Errand) (b : Bool) → asks_a_name config errand ≡ true → gives_way config false socket
     (if b then NeedsRoom oldest errand else NeedsSocket errand) ≡ true → ⊥
 asked_room config socket oldest errand true name is = let never = second_of (socket == oldest) (not (asks_a_name config errand)) is in cc
 asked_room config socket oldest errand false name is = cc
 
-no_way : (config : Config) (socket : ℕ) (o : Option ℕ) (list : List Question) (errand : Errand) → asks_a_name config errand ≡ true → gives_way config socket (with_socket o list errand) ≡ true → ⊥
+no_way : (config : Config) (socket : ℕ) (o : Option ℕ) (list : List Question) (errand : Errand) → asks_a_name config errand ≡ true → gives_way config false socket (with_socket o list errand) ≡ true → ⊥
 no_way config socket (Some s) list errand name is = cc
 no_way config socket None [] errand name is = cc
 no_way config socket None (q ∷ list) errand name is = asked_room config socket q.number errand _ name is
 
-way_given : (config : Config) (past : List Entry) (socket : ℕ) (o : Option Errand) → gives_way config socket (step_of config past o) ≡ true → IsLongestUnused config socket past
+way_given : (config : Config) (past : List Entry) (socket : ℕ) (o : Option Errand) → gives_way config false socket (step_of config past o) ≡ true → IsLongestUnused config socket past
 way_given config past socket None is = cc
 way_given config past socket (Some errand) is = by (asks_a_name config errand) refl is
   where
-    on_either : (forward : Option ℕ) → gives_way config socket (step_on config (option_or forward (socket_for config errand.datagram.from past)) past errand) ≡ true → IsLongestUnused config socket past
+    on_either : (forward : Option ℕ) → gives_way config false socket (step_on config (option_or forward (socket_for config errand.datagram.from past)) past errand) ≡ true → IsLongestUnused config socket past
     on_either (Some forward) never = cc
     on_either None given = on_socket config past socket (socket_for config errand.datagram.from past) (is_full config past) errand refl given
 
     by : (b : Bool) → asks_a_name config errand ≡ b
-        → gives_way config socket (if b then step_to_names (questions config past) errand else step_on config (option_or (forward_for config errand.datagram.from past) (socket_for config errand.datagram.from past)) past errand) ≡ true
+        → gives_way config false socket (if b then step_to_names (questions config past) errand else step_on config (option_or (forward_for config errand.datagram.from past) (socket_for config errand.datagram.from past)) past errand) ≡ true
         → IsLongestUnused config socket past
     by true name is = absurd (no_way config socket _ (questions config past) errand name is)
     by false other is = on_either (forward_for config errand.datagram.from past) is
 
-either : (config : Config) (past : List Entry) (socket : ℕ) (a b : Bool) → gives_way config socket (step config past) ≡ a → is_unused socket past ≡ b → (a || b) ≡ true →
+either : (config : Config) (past : List Entry) (socket : ℕ) (a b : Bool) → gives_way config false socket (step config past) ≡ a → is_unused socket past ≡ b → (a || b) ≡ true →
     IsIdle socket past ⊎ IsLongestUnused config socket past
 either config past socket true b way idle is = inr (way_given config past socket (errand_left config past) way)
 either config past socket false true way idle is = inl (grind (arith, nat_tests, idle))
@@ -142,7 +143,7 @@ either config past socket false false way idle is = cc
 
 by_kind : (config : Config) (past : List Entry) (socket : ℕ) (k : Option Kind) → is_association k ≡ true → may_part config past socket k ≡ true →
     IsIdle socket past ⊎ IsLongestUnused config socket past
-by_kind config past socket (Some OfAssociation) guests is = either config past socket (gives_way config socket (step config past)) (is_unused socket past) refl refl is
+by_kind config past socket (Some OfAssociation) guests is = either config past socket (gives_way config false socket (step config past)) (is_unused socket past) refl refl is
 by_kind config past socket None guests is = cc
 by_kind config past socket (Some DnsSocket) guests is = cc
 by_kind config past socket (Some OfForward) guests is = cc
@@ -158,6 +159,6 @@ pub parts_for : (config : Config) (past : List Entry) (socket : ℕ) → May con
     (kind_for config socket past) ≡ true → IsIdle socket past ⊎ IsLongestUnused config socket past
 parts_for config past socket may lawful running guests =
     by_kind config past socket (kind_for config socket past) guests
-    (parts_where (is_closing config past) (is_least socket (open_sockets past)) (parts config past socket) (is_ended config past) (λ closing. closing_ended config past lawful closing) running
-    (second_of (is_among socket (open_sockets past)) (if is_closing config past then is_least socket (open_sockets past) else parts config past socket ||
-    (is_ended config past && is_least socket (open_sockets past))) may.socket))
+    (parts_where (is_closing config past) (is_it socket (first (open_sockets past))) (parts config past socket) (is_ended config past) (λ closing. closing_ended config past lawful closing) running
+    (second_of (is_among socket (open_sockets past)) (if is_closing config past then is_it socket (first (open_sockets past)) else parts config past socket ||
+    (is_ended config past && is_it socket (first (open_sockets past)))) may.socket))

@@ -1,7 +1,7 @@
 -- Connections that were accepted at a port of the host stand between the guest that the settings name and a peer that may be seen.
-use Rattle.std.proofs.Common.{◌≡◌, ℕ, ◌==◌, ◌&&◌, ◌||◌, Bool, true, false, List, [], ◌∷◌, length, map, slice_get, Option, Some, None, option_and_then, if◌then◌else◌, refl, sym, ◌∙◌, subst}
+use Rattle.std.proofs.Common.{◌≡◌, ℕ, ◌==◌, ◌&&◌, ◌||◌, Bool, true, false, List, [], ◌∷◌, length, map, Option, Some, None, option_and_then, if◌then◌else◌, refl, sym, ◌∙◌, subst}
 use Rattle.net_octets.specs.declared.Endpoint.{Endpoint}
-use Rattle.host_policy.specs.Addresses.{Config, address}
+use Rattle.host_policy.specs.Addresses.{Config, address, forward_on}
 use Rattle.host_policy.specs.Targets.{is_hidden}
 use Rattle.host_policy.specs.declared.Forward.{Forward}
 use Rattle.host_policy.specs.declared.Proto.{Proto}
@@ -132,11 +132,11 @@ keeps_sought config now guest f fits = by (is_accepted f.story && (address f.tup
     by true = fits
     by false = fits
 
--- a peer that is taken came to a port of the settings
+-- a peer that is taken came to a port of the host that is given to a guest
 led : (config : Config) (listener : ℕ) (guest peer : Endpoint) → port_of config listener ≡ Some guest → is_hidden config peer ≡ false → IsForPeer config (tuple_for config guest peer)
-led config listener guest peer is seen = by (slice_get config.forwards listener) refl is
+led config listener guest peer is seen = by (forward_on config listener) refl is
   where
-    by : (o : Option Forward) → slice_get config.forwards listener ≡ o → option_and_then (λ (f : Forward). port_by f.proto f.guest) o ≡ Some guest → IsForPeer config (tuple_for config guest peer)
+    by : (o : Option Forward) → forward_on config listener ≡ o → option_and_then (λ (f : Forward). port_by f.proto f.guest) o ≡ Some guest → IsForPeer config (tuple_for config guest peer)
     by None at none = cc
     by (Some f) at leads = by_proto f.proto refl leads
       where

@@ -1,22 +1,25 @@
 -- Where sockets are opened, and where datagrams go.
-use Rattle.std.proofs.Common.{◌≡◌, ℕ, ◌<◌, ◌&&◌, ◌⊎◌, Bool, true, false, List, [], Option, Some, None, unwrap_or, if◌then◌else◌, inl, inr, refl, sym, ◌∙◌, ap, subst, arith}
+use Rattle.std.proofs.Common.{◌≡◌, ℕ, ◌<◌, ◌&&◌, ◌⊎◌, Bool, true, false, List, Option, Some, None, is_some, option_and_then, unwrap_or, if◌then◌else◌, inl, inr, refl, sym, ◌∙◌, ap, subst, arith}
 use Rattle.world_face.specs.Journal.{Entry, CallUdpOpen, CallUdpSend}
 use Rattle.net_octets.specs.declared.Endpoint.{Endpoint}
-use Rattle.host_policy.specs.declared.Proto.TheVariants.{Udp as ByUdp}
+use Rattle.host_policy.specs.declared.Forward.{Forward}
+use Rattle.host_policy.specs.declared.Proto.{Proto}
+use Rattle.host_policy.specs.declared.Proto.TheVariants.{Tcp as ByTcp, Udp as ByUdp}
 use Rattle.host_policy.specs.declared.Verdict.TheVariants.{Go}
-use Rattle.host_policy.specs.Addresses.{Config, address, endpoint}
+use Rattle.host_policy.specs.Addresses.{Config, address, endpoint, forward_on}
 use Rattle.host_policy.specs.Targets.{is_loopback, target}
 use Rattle.run_laws.specs.Moments.{waits}
+use Rattle.run_laws.specs.Shape.{GivesNone}
 use Rattle.run_laws.specs.Packets.{Datagram}
 use Rattle.slirp_laws.specs.Datagrams.{Errand, NeedsSending, asks_a_name, opened_at}
 use Rattle.slirp_laws.specs.Asking.{step}
 use Rattle.dns_relay.specs.Questions.{ident_in}
 use Rattle.slirp_laws.specs.Laws.{May, Lawful}
-use Rattle.slirp_laws.specs.Ports.{last_datagram, opened_for}
-use Rattle.slirp_laws.specs.Said.{IsFromHost, SendsWhatCame}
+use Rattle.slirp_laws.specs.Ports.{given_by, given_port, last_datagram, opened_for}
+use Rattle.slirp_laws.specs.Said.{IsForAdded, IsFromHost, SendsWhatCame}
 use Rattle.slirp_laws.proofs.Asked.{asked_for}
 use Rattle.slirp_laws.proofs.Longest.{found_for, given_for}
-use Rattle.slirp_laws.proofs.Phases.{opens, opens_none, sends}
+use Rattle.slirp_laws.proofs.Phases.{given_forward, given_none, opens, opens_none, sends}
 use Rattle.slirp_laws.proofs.Steps.{Asks, errand_asks, errand_is, goes_to_target, opened_for_it, opened_for_question}
 
 of_host : (config : Config) (errand : Errand) (at : Endpoint) → at ≡ opened_at config errand → IsFromHost config at
@@ -26,20 +29,36 @@ of_host config errand at is = subst (IsFromHost config) (sym is) (by (asks_a_nam
     bound None set = inl (ap (λ o. unwrap_or o 0) set)
     bound (Some address) set = inr (set ∙ ap Some (sym (ap (λ o. unwrap_or o 0) set)))
 
-    by : (b : Bool) → IsFromHost config (if b then endpoint 0 0 else endpoint (unwrap_or config.outbound 0) 0)
+    by : (b : Bool) → IsFromHost config (endpoint (if b then 0 else unwrap_or config.outbound 0) 0)
     by true = (refl, inl refl)
     by false = (refl, bound config.outbound refl)
 
-pub opens_anywhere : (config : Config) (past : List Entry) (socket : ℕ) (at : Endpoint) → config.forwards ≡ [] → May config past (CallUdpOpen socket at) → IsFromHost config at
+pub opens_anywhere : (config : Config) (past : List Entry) (socket : ℕ) (at : Endpoint) → GivesNone config → May config past (CallUdpOpen socket at) → IsFromHost config at
 opens_anywhere config past socket at none may = elim (opens config past socket at may) [
-  | inl early ↦ absurd (early.1 (opens_none config past none))
-  | inr o ↦ of_host config o.errand at o.at_address
+  | inl early ↦ absurd (early.1 (opens_none config past none.0))
+  | inr later ↦ elim later [
+    | inl o ↦ of_host config o.errand at o.at_address
+    | inr given ↦ absurd (given_none config past socket at (given_port config socket) none given.is)
+  ]
 ]
 
-pub opens_later : (config : Config) (past : List Entry) (socket : ℕ) (at : Endpoint) → 0 < waits past → May config past (CallUdpOpen socket at) → IsFromHost config at
+-- the forward of the port of a guest that hears datagrams is for datagrams
+pub for_datagrams : (o : Option Forward) (f : Forward) → o ≡ Some f → is_some (option_and_then (λ (f : Forward). given_by f.proto f.guest) o) ≡ true → f.proto ≡ ByUdp
+for_datagrams o f on some = by f.proto (ap (λ (o : Option Forward). is_some (option_and_then (λ (f : Forward). given_by f.proto f.guest) o)) (sym on) ∙ some)
+  where
+    by : (p : Proto) → is_some (given_by p f.guest) ≡ true → p ≡ ByUdp
+    by ByUdp is = refl
+    by ByTcp is = cc
+
+pub opens_later : (config : Config) (past : List Entry) (socket : ℕ) (at : Endpoint) → 0 < waits past → May config past (CallUdpOpen socket at)
+    → IsFromHost config at ⊎ IsForAdded config ByUdp socket at
 opens_later config past socket at waited may = elim (opens config past socket at may) [
   | inl early ↦ (let none = early.0 in absurd (omega (arith, waited, none)))
-  | inr o ↦ of_host config o.errand at o.at_address
+  | inr later ↦ elim later [
+    | inl o ↦ inl (of_host config o.errand at o.at_address)
+    | inr given ↦ (let g = given_forward config past socket at (given_port config socket) given.is in
+        inr (g.forward, g.on, for_datagrams (forward_on config socket) g.forward g.on g.leads, g.host))
+  ]
 ]
 
 -- the socket on which an errand is sent was opened for its port

@@ -13,6 +13,7 @@ use Rattle.host_policy.specs.Ranges.{IsSound, is_forward, is_mask, mask_of, none
 use Rattle.slirp_laws.specs.Questions.{HasNameServer}
 use Rattle.slirp_laws.specs.Said.{HasPorts}
 use Rattle.slirp_laws.specs.Settings.{HasNumbersForPorts}
+use Rattle.slirp_laws.proofs.Given.{by_settings}
 
 -- ---- tests
 
@@ -188,8 +189,9 @@ module _ (config : Config) (sound : IsSound config) where
         (second (is_of_one_host config config.vnameserver) (not (config.vnameserver == config.vhost)) (sound.each Vnameserver));
   }
 
-  pub ports : HasNumbersForPorts config → HasPorts config
-  ports numbers = λ n f at.
+  pub ports : config.added ≡ [] → HasNumbersForPorts config → HasPorts config
+  ports none numbers = λ n f is.
+      let at : slice_get config.forwards n ≡ Some f = sym (by_settings config n none) ∙ is in
       let listed = second (nat_le (length config.forwards) 32) (list_all (is_forward config) config.forwards)
       (first (nat_le (length config.forwards) 32 && list_all (is_forward config) config.forwards) (none_twice same_host_port config.forwards) (sound.each Forwards)) in
       let forward = each_at (is_forward config) config.forwards n f listed at in

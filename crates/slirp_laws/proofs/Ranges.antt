@@ -1,5 +1,5 @@
 -- What guests and peers say is in its range where each answer is one that a World may give.
-use Rattle.std.proofs.Common.{◌≡◌, ℕ, ◌-◌, ◌^◌, ◌<◌, ◌==◌, Bool, true, false, List, [], ◌∷◌, nat_lt, slice_get, Option, Some, None, option_map, option_and_then, if◌then◌else◌, refl, ap, subst}
+use Rattle.std.proofs.Common.{◌≡◌, ℕ, ◌-◌, ◌^◌, ◌<◌, ◌==◌, ◌&&◌, Bool, true, false, List, [], ◌∷◌, nat_lt, Option, Some, None, option_map, option_and_then, if◌then◌else◌, refl, ap, subst}
 use Rattle.std.specs.Prelude.{unwrap_or}
 use Rattle.std.specs.Option.{option_or}
 use Rattle.std.proofs.lemmas.Option.{cond_some}
@@ -17,7 +17,7 @@ use Rattle.net_octets.proofs.Parts.{two_at-fits}
 use Rattle.host_policy.specs.declared.Forward.{Forward}
 use Rattle.host_policy.specs.declared.Proto.{Proto}
 use Rattle.host_policy.specs.declared.Proto.TheVariants.{Tcp as ByTcp, Udp as ByUdp}
-use Rattle.host_policy.specs.Addresses.{Config, is_guest}
+use Rattle.host_policy.specs.Addresses.{Config, is_guest, forward_on}
 use Rattle.ether_frame.specs.Ether.{Ether, read_ether}
 use Rattle.arp_table.specs.Arp.{Arp, read_arp}
 use Rattle.ipv4_head.specs.Ip.{Ip, read_ip}
@@ -40,7 +40,7 @@ use Rattle.dns_relay.specs.declared.Question.{Question}
 use Rattle.dns_relay.specs.Questions.{numbered}
 use Rattle.tftp_server.specs.Asking.{by_answer}
 use Rattle.tftp_server.specs.Transfers.{Outcome as FileOutcome, Said}
-use Rattle.slirp_laws.specs.Said.{Occasion, Heard, by_call, by_joined, by_made, by_outcome, by_said, by_sent, heard_on, last_occasion, occasion_after, refused_or, unsent_or, HasPorts}
+use Rattle.slirp_laws.specs.Said.{Occasion, Heard, by_call, by_joined, by_made, for_guest, by_outcome, by_said, by_sent, heard_on, last_occasion, occasion_after, refused_or, unsent_or, HasPorts}
 use Rattle.slirp_laws.proofs.Octets.{RangeIp, RangePart, arrived_range, ether_range, frame_octets, in_range, ip_range, range_sets}
 
 -- ---- packets
@@ -145,8 +145,8 @@ range_either : (b : Bool) (one before : Option Endpoint) → RangePort one → R
 range_either true one before is was = is
 range_either false one before is was = was
 
-range_opened : (n : ℕ) (e : Entry) (one before : Option Endpoint) → RangePort one → RangePort before → RangePort (opened_by n e one before)
-range_opened n (UdpOpen s at answer) one before is was = range_either (s == n) one before is was
+range_opened : (n : ℕ) (e : Entry) (one : ℕ → Option Endpoint) (before : Option Endpoint) → ((port : ℕ) → RangePort (one port)) → RangePort before → RangePort (opened_by n e one before)
+range_opened n (UdpOpen s at answer) one before is was = range_either (s == n) (one at.port) before (is at.port) was
 range_opened n _ one before is was = was
 
 range_given_by : (proto : Proto) (guest : Endpoint) → IsEndpoint guest → RangePort (given_by proto guest)
@@ -154,20 +154,20 @@ range_given_by ByUdp guest is = is
 range_given_by ByTcp guest is = tt
 
 range_given : (config : Config) (n : ℕ) → HasPorts config → RangePort (given_port config n)
-range_given config n ports = by (slice_get config.forwards n) refl
+range_given config n ports = by (forward_on config n) refl
   where
-    by : (o : Option Forward) → slice_get config.forwards n ≡ o → RangePort (option_and_then (λ (f : Forward). given_by f.proto f.guest) o)
+    by : (o : Option Forward) → forward_on config n ≡ o → RangePort (option_and_then (λ (f : Forward). given_by f.proto f.guest) o)
     by None is = tt
     by (Some f) is = range_given_by f.proto f.guest (ports n f is)
 
-range_next : (config : Config) (n : ℕ) (past : List Entry) → HasPorts config → AreAllowed past → RangePort (port_for config n past)
-range_next config n past ports allowed =
-    range_either (nat_lt 0 (waits past)) (last_port config past) (given_port config n) (range_from (last_datagram config past) (range_last config past allowed)) (range_given config n ports)
+range_next : (config : Config) (port n : ℕ) (past : List Entry) → HasPorts config → AreAllowed past → RangePort (port_for config port n past)
+range_next config port n past ports allowed =
+    range_either ((port == 0) && nat_lt 0 (waits past)) (last_port config past) (given_port config n) (range_from (last_datagram config past) (range_last config past allowed)) (range_given config n ports)
 
 pub range_port : (config : Config) (n : ℕ) (past : List Entry) → HasPorts config → AreAllowed past → RangePort (opened_for config n past)
 range_port config n [] ports allowed = tt
-range_port config n (e ∷ past) ports allowed = range_opened n e (port_for config n past) (opened_for config n past) (range_next config n past ports allowed.1)
-    (range_port config n past ports allowed.1)
+range_port config n (e ∷ past) ports allowed = range_opened n e (λ port. port_for config port n past) (opened_for config n past)
+    (λ port. range_next config port n past ports allowed.1) (range_port config n past ports allowed.1)
 
 -- ---- peers
 
@@ -215,7 +215,7 @@ peer_if false one other is else_ = else_
 peer_by : (config : Config) (e : Entry) (past : List Entry) (last : Option Datagram) (on : Option OnTuple) (o : Occasion) → AreAllowed (e ∷ past) → RangePeer o → RangePeer
     (by_call config past e last on o)
 peer_by config (Connect socket to answer) past last on o allowed before = peer_joined answer on o before
-peer_by config (UdpOpen socket at answer) past last on o allowed before = peer_made answer last o before
+peer_by config (UdpOpen socket at answer) past last on o allowed before = peer_made answer (for_guest at.port last) o before
 peer_by config (UdpSend socket to octets answer) past last on o allowed before = peer_sent answer last o before
 peer_by config (UdpRecv socket asked (From peer n) octets) past last on o allowed before = peer_heard socket peer octets (numbered socket (questions config past)) allowed.0.0.1
 peer_by config (UdpRecv socket asked GotNotYet octets) past last on o allowed before = before

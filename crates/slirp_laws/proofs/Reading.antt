@@ -2,7 +2,7 @@
 use Rattle.std.proofs.Common.{◌≡◌, ℕ, ◌+◌, ◌/◌, ◌%◌, ◌^◌, ◌<◌, ◌≤◌, ◌==◌, ◌&&◌, not, nat_le, Bool, true, false, List, [], ◌∷◌, ◌++◌, length, take, drop, filter, find, map, Option, Some}
 use Rattle.std.specs.Prelude.{unwrap_or}
 use Rattle.std.specs.Option.{option_or}
-use Rattle.std.proofs.Common.{None, Result, Ok, Err, option_map, option_and_then, if◌then◌else◌, refl, sym, ◌∙◌, ap, subst, arith, lit<, zero, suc}
+use Rattle.std.proofs.Common.{None, Result, Ok, Err, option_map, option_and_then, cond, if◌then◌else◌, refl, sym, ◌∙◌, ap, subst, arith, lit<, zero, suc}
 use Rattle.std.proofs.lemmas.Bool.Decides.{nat_tests}
 use Rattle.std.proofs.lemmas.Nat.{from_be_bytes-to_be_bytes_2}
 use Rattle.std.proofs.lemmas.Option.{cond_some}
@@ -72,7 +72,7 @@ use Rattle.slirp_laws.specs.Leasing.{sending_of}
 use Rattle.slirp_laws.specs.Names.{after_call as question_after, question, questions, with_heard as question_heard, with_opened as question_opened, with_sent as question_sent}
 use Rattle.slirp_laws.specs.Ports.{last_datagram, last_mac, mac_by, mac_of, opened_for, mac_for, mac_known}
 use Rattle.slirp_laws.specs.Said.{Carries, is_for_server, Occasion, NoOccasion, Came, Heard, HeardOfName, OfFile, Unsent, Unconnected, by_call, by_got, by_joined, by_made, by_outcome}
-use Rattle.slirp_laws.specs.Said.{by_said, by_sent, heard_on, last_occasion, occasion_after, owed_for, refused_or, unsent_or}
+use Rattle.slirp_laws.specs.Said.{by_said, by_sent, for_guest, heard_on, last_occasion, occasion_after, owed_for, refused_or, unsent_or}
 use Rattle.slirp_laws.proofs.Bools.{first_of}
 use Rattle.slirp_laws.proofs.Spelt.{spelt}
 use Rattle.slirp_laws.proofs.Steps.{errand_asks}
@@ -786,6 +786,10 @@ six_owed config past (Heard socket peer octets) is = six_reply config peer octet
 six_owed config past (Unsent d) is = all_six (told_about config no_network d) (ours_told config no_network d is)
 six_owed config past (Unconnected on) is = (is, tt)
 
+six_for_guest : (b : Bool) (last : Option Datagram) → SixDatagram last → SixDatagram (cond b last None)
+six_for_guest true last is = is
+six_for_guest false last is = tt
+
 six_by_made : (answer : Made) (last : Option Datagram) (o : Occasion) → SixDatagram last → SixOccasion o → SixOccasion (by_made answer last o)
 six_by_made MadeDone last o is before = before
 six_by_made MadeFailed last o is before = six_unsent last o is before
@@ -827,7 +831,7 @@ six_by_joined MadeFailed on o is before = six_refused on o is before
 six_by_call : (config : Config) (past : List Entry) (e : Entry) (last : Option Datagram) (on : Option OnTuple) (o : Occasion) → SixDatagram last → SixOn on → SixOccasion o →
     SixOccasion (by_call config past e last on o)
 six_by_call config past (Connect socket to answer) last on o is one before = six_by_joined answer on o one before
-six_by_call config past (UdpOpen socket at answer) last on o is one before = six_by_made answer last o is before
+six_by_call config past (UdpOpen socket at answer) last on o is one before = six_by_made answer (for_guest at.port last) o (six_for_guest (at.port == 0) last is) before
 six_by_call config past (UdpSend socket to octets answer) last on o is one before = six_by_sent answer last o is before
 six_by_call config past (UdpRecv socket asked answer octets) last on o is one before = six_by_got answer socket octets (numbered socket (questions config past)) o
     (six_numbered socket (questions config past) (six_questions config past)) before

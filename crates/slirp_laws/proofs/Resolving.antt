@@ -1,6 +1,6 @@
 -- What is sent on the socket of a question is a question, and goes to the resolver.
-use Rattle.std.proofs.Common.{◌≡◌, ℕ, ◌==◌, nat_lt, Bool, true, false, List, [], ◌∷◌, Option, Some, None, if◌then◌else◌, inl, inr, refl, sym, ◌∙◌, ap}
-use Rattle.world_face.specs.Journal.{Entry, Connect, Listen, Accept, UdpOpen, CallUdpSend}
+use Rattle.std.proofs.Common.{◌≡◌, ℕ, ◌==◌, nat_lt, Bool, true, false, List, [], ◌∷◌, Option, Some, None, if◌then◌else◌, inl, inr, refl, sym, ◌∙◌, ap, arith}
+use Rattle.world_face.specs.Journal.{Entry, Connect, Listen, Accept, UdpOpen, CallUdpSend, CallUdpOpen}
 use Rattle.net_octets.specs.declared.Endpoint.{Endpoint}
 use Rattle.host_policy.specs.Addresses.{Config, address}
 use Rattle.dns_relay.specs.Questions.{is_question}
@@ -18,8 +18,9 @@ use Rattle.slirp_laws.proofs.Askers.{is_asked, to_resolver}
 use Rattle.slirp_laws.proofs.Bools.{equal, second_of}
 use Rattle.slirp_laws.proofs.Joining.{waited_for}
 use Rattle.slirp_laws.proofs.Longest.{among_if, find_some}
-use Rattle.slirp_laws.proofs.Phases.{sends}
+use Rattle.slirp_laws.proofs.Phases.{at_any_port, sends}
 use Rattle.slirp_laws.proofs.Steps.{Asks, errand_asks, errand_is, opened_for_it}
+use Rattle.std.proofs.lemmas.Bool.Decides.{nat_tests}
 
 -- ---- a question's socket is no association, and no port of the host that is given to a guest
 
@@ -31,15 +32,18 @@ apart (Some Listener) one other = cc
 apart (Some Flow) one other = cc
 apart None one other = cc
 
-no_forward_for : (config : Config) (past : List Entry) (o : Option Errand) → Lawful config past → errand_left config past ≡ o → is_for_question
-    (Some (datagram_kind_for config (nat_lt 0 (waits past)) o)) ≡ true
-    → is_forward (Some (datagram_kind (nat_lt 0 (waits past)))) ≡ false
-no_forward_for config past None lawful left one = absurd (by (nat_lt 0 (waits past)) one)
+no_forward_for : (config : Config) (past : List Entry) (socket : ℕ) (at : Endpoint) (o : Option Errand) → May config past (CallUdpOpen socket at) → Lawful config past
+    → errand_left config past ≡ o → is_for_question (Some (datagram_kind_for config (nat_lt 0 (waits past)) at.port o)) ≡ true
+    → is_forward (Some (datagram_kind (nat_lt 0 (waits past)) at.port)) ≡ false
+no_forward_for config past socket at None may lawful left one = absurd (by (nat_lt 0 (waits past)) (at.port == 0) refl one)
   where
-    by : (waited : Bool) → is_for_question (Some (datagram_kind waited)) ≡ true → ⊥
-    by true is = cc
-    by false is = cc
-no_forward_for config past (Some errand) lawful left one = ap (λ (b : Bool). is_forward (Some (datagram_kind b))) (waited_for config past errand left lawful)
+    by : (waited z : Bool) → (at.port == 0) ≡ z → is_for_question (Some (datagram_kind waited at.port)) ≡ true → ⊥
+    by true true any is = (let same : false ≡ true = sym (ap (λ (z : Bool). is_for_question (Some (if z then Association else Forward))) any) ∙ is in cc)
+    by true false named is = (let same : false ≡ true = sym (ap (λ (z : Bool). is_for_question (Some (if z then Association else Forward))) named) ∙ is in cc)
+    by false z named is = cc
+no_forward_for config past socket at (Some errand) may lawful left one =
+    let waited = waited_for config past errand left lawful in
+    ap (λ (b : Bool). is_forward (Some (datagram_kind b at.port))) waited ∙ ap (λ port. is_forward (Some (datagram_kind true port))) (at_any_port config past socket at errand (grind (arith, nat_tests, waited)) left may)
 
 either : (b : Bool) (one other before now : Option Kind) → (is_for_question one ≡ true → is_forward other ≡ false) → (is_for_question before ≡ true → is_forward now ≡ false) →
     is_for_question (if b then one else before) ≡ true → is_forward (if b then other else now) ≡ false
@@ -50,7 +54,7 @@ no_forward : (config : Config) (n : ℕ) (past : List Entry) → Lawful config p
 no_forward config n (Connect socket to answer ∷ past) lawful = either (socket == n) _ _ (kind_for config n past) (kind_of n past) (λ is. refl) (no_forward config n past lawful.1)
 no_forward config n (Listen socket at answer ∷ past) lawful = either (socket == n) _ _ (kind_for config n past) (kind_of n past) (λ is. refl) (no_forward config n past lawful.1)
 no_forward config n (UdpOpen socket at answer ∷ past) lawful = either (socket == n) _ _ (kind_for config n past) (kind_of n past)
-    (no_forward_for config past (errand_left config past) lawful.1 refl) (no_forward config n past lawful.1)
+    (no_forward_for config past socket at (errand_left config past) lawful.0 lawful.1 refl) (no_forward config n past lawful.1)
 no_forward config n (Accept listener socket answer ∷ past) lawful = either (socket == n) _ _ (kind_for config n past) (kind_of n past) (λ is. refl) (no_forward config n past lawful.1)
 no_forward config n (_ ∷ past) lawful = no_forward config n past lawful.1
 no_forward config n [] lawful = λ is. refl

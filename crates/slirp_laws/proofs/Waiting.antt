@@ -14,7 +14,7 @@ use Rattle.host_policy.specs.Addresses.{Config}
 use Rattle.dns_relay.specs.declared.Question.{Question}
 use Rattle.dns_relay.specs.Questions.{asked_from, heard_at, moved_last, numbers, without}
 use Rattle.run_laws.specs.Moments.{moment, waits}
-use Rattle.run_laws.specs.Sockets.{DnsSocket, Flow as OfFlow, Kind, Listener as OfListener, datagram_kind, is_among, next_number, open_sockets}
+use Rattle.run_laws.specs.Sockets.{Association, DnsSocket, Flow as OfFlow, Forward, Kind, Listener as OfListener, datagram_kind, is_among, next_number, open_sockets}
 use Rattle.slirp_laws.specs.Datagrams.{Errand, NeedsSending, asks_a_name}
 use Rattle.slirp_laws.specs.Errands.{errand_left}
 use Rattle.slirp_laws.specs.Laws.{May, Lawful}
@@ -195,7 +195,7 @@ silent config e past list none carried w = quiet config e past list (none_used e
 -- a socket is opened, for a question or another datagram
 module _ (config : Config) (past : List Entry) (socket : ℕ) (at : Endpoint) (number : (socket == next_number past) ≡ true) (new : is_among socket (open_sockets past) ≡ false) where
   abbrev kind : Option Kind
-  kind = Some (datagram_kind_for config (nat_lt 0 (waits past)) (errand_left config past))
+  kind = Some (datagram_kind_for config (nat_lt 0 (waits past)) at.port (errand_left config past))
 
   unused_below : (answer : Made) (list : List Question) → AllQuestions (KeptQuestion config past) list → AreUnused (UdpOpen socket at answer) list
   unused_below answer [] kept = tt
@@ -218,16 +218,20 @@ module _ (config : Config) (past : List Entry) (socket : ℕ) (at : Endpoint) (n
     sooner_new list unused.1 all.1,
   )
 
-  plain : (waited : Bool) → is_for_question (Some (datagram_kind waited)) ≡ false
-  plain true = refl
+  plain : (waited : Bool) → is_for_question (Some (datagram_kind waited at.port)) ≡ false
+  plain true = by (at.port == 0)
+    where
+      by : (z : Bool) → is_for_question (Some (if z then Association else Forward)) ≡ false
+      by true = refl
+      by false = refl
   plain false = refl
 
   kind_is : (errand : Errand) (name : Bool) → errand_left config past ≡ Some errand → asks_a_name config errand ≡ name → is_for_question kind ≡ name
   kind_is errand name left is =
-      ap (λ o. is_for_question (Some (datagram_kind_for config (nat_lt 0 (waits past)) o))) left
-      ∙ ap (λ (b : Bool). is_for_question (Some (if b then DnsSocket else datagram_kind (nat_lt 0 (waits past))))) is ∙ by name
+      ap (λ o. is_for_question (Some (datagram_kind_for config (nat_lt 0 (waits past)) at.port o))) left
+      ∙ ap (λ (b : Bool). is_for_question (Some (if b then DnsSocket else datagram_kind (nat_lt 0 (waits past)) at.port))) is ∙ by name
     where
-      by : (b : Bool) → is_for_question (Some (if b then DnsSocket else datagram_kind (nat_lt 0 (waits past)))) ≡ b
+      by : (b : Bool) → is_for_question (Some (if b then DnsSocket else datagram_kind (nat_lt 0 (waits past)) at.port)) ≡ b
       by true = refl
       by false = plain (nat_lt 0 (waits past))
 
@@ -252,7 +256,7 @@ module _ (config : Config) (past : List Entry) (socket : ℕ) (at : Endpoint) (n
 
     opened_waits : (answer : Made) (o : Option Errand) → errand_left config past ≡ o → AreWaiting config (UdpOpen socket at answer ∷ past) (with_opened config answer socket (moment past) o list)
     opened_waits Failed o left = failed_waits
-    opened_waits Done None left = other_waits Done (ap (λ o. is_for_question (Some (datagram_kind_for config (nat_lt 0 (waits past)) o))) left ∙ plain (nat_lt 0 (waits past)))
+    opened_waits Done None left = other_waits Done (ap (λ o. is_for_question (Some (datagram_kind_for config (nat_lt 0 (waits past)) at.port o))) left ∙ plain (nat_lt 0 (waits past)))
     opened_waits Done (Some errand) left = by (asks_a_name config errand) refl
       where
         by : (b : Bool) → asks_a_name config errand ≡ b → AreWaiting config (UdpOpen socket at Done ∷ past) (if b then list ++ (question socket errand (moment past) ∷ []) else list)

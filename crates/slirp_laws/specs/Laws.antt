@@ -7,14 +7,16 @@ use Rattle.world_face.specs.Journal.{Entry, Call, Follows, Close, TcpWrite, Call
 use Rattle.world_face.specs.Journal.{CallAccept, CallTcpRead, CallTcpWrite, CallTcpEnd, CallClose, CallUdpOpen, CallUdpSend, CallUdpRecv, CallFileLen, CallFileRead}
 use Rattle.world_face.specs.Frames.{MayFrame, tail}
 use Rattle.world_face.specs.Limits.{most_to_udp}
-use Rattle.host_policy.specs.Addresses.{Config}
+use Rattle.net_octets.specs.declared.Endpoint.{Endpoint}
+use Rattle.host_policy.specs.Addresses.{Config, forward_on}
+use Rattle.host_policy.specs.declared.Forward.{Forward as Given}
 use Rattle.udp_assoc.specs.Associations.{idle_life}
 use Rattle.run_laws.specs.Moments.{moment, waits}
 use Rattle.run_laws.specs.Shape.{phase, may_turn, is_working, is_over, is_ended, due_in}
-use Rattle.run_laws.specs.Sockets.{Kind, Association, DnsSocket, Flow, is_among, is_association, is_flow, is_forward, is_listener, kind_of, next_number, open_sockets}
+use Rattle.run_laws.specs.Sockets.{Kind, Association, DnsSocket, Flow, Forward, Listener, first, is_among, is_association, is_flow, is_forward, is_listener, kind_of, next_number, open_sockets}
 use Rattle.flow_laws.specs.Guest.{is_empty}
-use Rattle.flow_laws.specs.Close.{is_done, host_failed, finds_no_guest, follows_reset, gives_up, connects_too_long, newest_rst}
-use Rattle.record_flows.specs.Book.{book, scene}
+use Rattle.flow_laws.specs.Close.{is_done, host_failed, finds_no_guest, follows_reset, gives_up, newest_rst, waits_too_long}
+use Rattle.record_flows.specs.Book.{book, port_of, scene}
 use Rattle.record_flows.specs.Flows.{Flow as AFlow, Book, Scene, comes_directly, flow_of, guest_is_known, has_room_for_peer, is_it}
 use Rattle.record_flows.specs.Laws.{MayFlow}
 use Rattle.record_flows.specs.Lots.{due_for_flows}
@@ -24,7 +26,7 @@ use Rattle.slirp_laws.specs.Names.{answered, has_waited, kind_for}
 use Rattle.tftp_server.specs.Asking.{call_for}
 use Rattle.slirp_laws.specs.Asking.{step}
 use Rattle.slirp_laws.specs.Datagrams.{Step, NeedsRoom, asks_a_name, due_for}
-use Rattle.slirp_laws.specs.Ports.{used_at}
+use Rattle.slirp_laws.specs.Ports.{given_port, is_port, used_at}
 use Rattle.slirp_laws.specs.Sending.{is_explained}
 
 -- for a service of ours: the socket of a question that was answered is closed at once, or a file is asked for
@@ -42,54 +44,60 @@ due config past =
 abbrev pub MayDue : Config → List Entry → Call → Type 0
 MayDue config past call = MatchOption (due config past) (Unit {0}) (λ d. call ≡ d)
 
--- The shape of a run. The clock is asked, sockets are opened, connect, and send datagrams, and files are asked for only where that is due. A turn begins with a
--- wait, of which there are only so many; the other calls come after it. The link isn't opened by these calls.
+-- A port of the host may be given to a guest while the run goes on: its socket is opened in a turn, where nothing is due, at the port of the host of the
+-- forward that was asked for with the number of the socket, which leads to this port of the guest.
+abbrev pub is_added : Config → List Entry → ℕ → Endpoint → Option Endpoint → Bool
+is_added config past socket at guest =
+    is_working (phase config past) && is_some guest && is_port at (option_map (λ (f : Given). f.host) (forward_on config socket)) && not (at.port == 0)
+
+-- The shape of a run. The clock is asked, sockets connect and send datagrams, and files are asked for only where that is due; sockets are opened where it is,
+-- and for ports of the host that are given to guests. A turn begins with a wait, of which there are only so many; the other calls come after it. The link isn't
+-- opened by these calls.
 abbrev pub has_place : Config → List Entry → Call → Bool
 has_place config past CallNow = is_some (due config past)
 has_place config past (CallWait wants timeout) = may_turn (phase config past) && nat_lt (waits past) config.turns
 has_place config past (CallLinkOpen at) = false
 has_place config past (CallConnect socket to) = is_some (due config past)
-has_place config past (CallListen socket at) = is_some (due config past)
+has_place config past (CallListen socket at) = is_some (due config past) || is_added config past socket at (port_of config socket)
 has_place config past (CallClose socket) = is_working (phase config past) || is_over (phase config past)
-has_place config past (CallUdpOpen socket at) = is_some (due config past)
+has_place config past (CallUdpOpen socket at) = is_some (due config past) || is_added config past socket at (given_port config socket)
 has_place config past (CallUdpSend socket to octets) = is_some (due config past)
 has_place config past (CallFileLen name) = is_some (due config past)
 has_place config past (CallFileRead name place asked) = is_some (due config past)
 has_place config past _ = is_working (phase config past)
 
 -- the longest unused of as many as may be open gives way, of each kind to one of its kind
-abbrev pub gives_way : Config → ℕ → Step → Bool
-gives_way config socket (NeedsRoom oldest errand) = (socket == oldest) && not (asks_a_name config errand)
-gives_way config socket _ = false
-
-abbrev pub name_gives_way : Config → ℕ → Step → Bool
-name_gives_way config socket (NeedsRoom oldest errand) = (socket == oldest) && asks_a_name config errand
-name_gives_way config socket _ = false
+abbrev pub gives_way : Config → (for_name : Bool) → ℕ → Step → Bool
+gives_way config for_name socket (NeedsRoom oldest errand) = (socket == oldest) && (if for_name then asks_a_name config errand else not (asks_a_name config errand))
+gives_way config for_name socket _ = false
 
 -- the idle life of a socket is over (RFC 4787, 4.3)
 abbrev pub is_unused : ℕ → List Entry → Bool
 is_unused socket past = nat_le (used_at socket past + idle_life) (moment past)
 
 -- A flow has a cause of its own to be closed: both ends passed, a call on its socket failed, its guest isn't found or acknowledges nothing, the host doesn't
--- connect, or the guest's reset came directly before. A peer that was refused has no flow.
+-- connect, its peer is gone, or the guest's reset came directly before. A peer that was refused has no flow; one flow gives way to a SYN.
 abbrev pub may_leave : Scene → Book → ℕ → Option AFlow → Bool
 may_leave at b socket None = is_it socket b.doomed
 may_leave at b socket (Some f) =
-    is_done f.story || host_failed f.story || finds_no_guest (guest_is_known at f) at.moment f.story
-    || (not (follows_reset (comes_directly b.came f) f.story) && (gives_up at.moment f.story || connects_too_long at.moment f.story))
+    is_it socket b.doomed || is_done f.story || host_failed f.story || finds_no_guest (guest_is_known at f) at.moment f.story
+    || (not (follows_reset (comes_directly b.came f) f.story) && (gives_up at.moment f.story || waits_too_long at.moment f.story))
     || (comes_directly b.came f && is_some (newest_rst f.story))
 
 abbrev pub leaves : Config → List Entry → ℕ → Bool
 leaves config past socket = may_leave (scene config past) (book config past) socket (flow_of socket (book config past).flows)
 
 -- Why a socket may be closed before the end, by its kind: an association, or one of a question, gives way as the longest unused of its kind, or its idle life
--- is over; that of a question also where the answer came; a flow has its cause.
+-- is over; that of a question also where the answer came; a flow has its cause. That of a port of the host that is given to a guest may be closed where there
+-- is a control, which says when.
 abbrev pub may_part : Config → List Entry → ℕ → Option Kind → Bool
-may_part config past socket (Some Association) = gives_way config socket (step config past) || is_unused socket past
+may_part config past socket (Some Association) = gives_way config false socket (step config past) || is_unused socket past
 may_part config past socket (Some DnsSocket) =
-    name_gives_way config socket (step config past) || is_it socket (answered config past) || has_waited config past socket
+    gives_way config true socket (step config past) || is_it socket (answered config past) || has_waited config past socket
 may_part config past socket (Some Flow) = leaves config past socket
-may_part config past socket _ = false
+may_part config past socket (Some Forward) = is_some config.control
+may_part config past socket (Some Listener) = is_some config.control
+may_part config past socket None = false
 
 abbrev pub parts : Config → List Entry → ℕ → Bool
 parts config past socket = may_part config past socket (kind_for config socket past)
@@ -103,17 +111,12 @@ abbrev pub is_closing : Config → List Entry → Bool
 is_closing config [] = false
 is_closing config (e ∷ past) = if begins_closing config past e then true else is_closing config past
 
--- the least of the open sockets
-abbrev pub is_least : ℕ → List ℕ → Bool
-is_least socket [] = false
-is_least socket (n ∷ sockets) = n == socket
-
--- a socket is closed once: for a reason of its kind, or after the end; once the closing has begun, by rising number
+-- a socket is closed once: for a reason of its kind, or after the end as the least that is open; once the closing has begun, always so
 abbrev pub may_close : Config → List Entry → ℕ → Bool
 may_close config past socket =
     is_among socket (open_sockets past)
-    && (if is_closing config past then is_least socket (open_sockets past)
-    else parts config past socket || (is_ended config past && is_least socket (open_sockets past)))
+    && (if is_closing config past then is_it socket (first (open_sockets past))
+    else parts config past socket || (is_ended config past && is_it socket (first (open_sockets past))))
 
 -- an open socket that carries a guest's datagrams
 abbrev pub carries : List Entry → ℕ → Bool
@@ -135,7 +138,6 @@ takes_peers config past listener = is_among listener (open_sockets past) && is_l
 
 -- Numbers of sockets are drawn upward; calls on sockets are on such as are open, and of their kind.
 abbrev pub has_socket : Config → List Entry → Call → Bool
-has_socket config past (CallLinkOpen at) = false
 has_socket config past (CallConnect socket to) = socket == next_number past
 has_socket config past (CallConnected socket) = joins past socket
 has_socket config past (CallListen socket at) = socket == next_number past

@@ -1,18 +1,18 @@
 -- Connections that peers open at ports of the host.
-use Rattle.std.specs.Prelude.{◌≡◌, ℕ, false, Some, slice_get}
+use Rattle.std.specs.Prelude.{◌≡◌, ℕ, false, Some}
 use Rattle.net_octets.specs.declared.Endpoint.{Endpoint}
-use Rattle.host_policy.specs.Addresses.{Config}
+use Rattle.host_policy.specs.Addresses.{Config, forward_on}
 use Rattle.host_policy.specs.Targets.{is_hidden, shown}
 use Rattle.host_policy.specs.declared.Forward.{Forward}
 use Rattle.host_policy.specs.declared.Proto.TheVariants.{Tcp}
 use Rattle.flow_table.specs.declared.Tuple.{Tuple}
 
--- The two ends are the guest to which the settings give a port of the host for connections, and a peer as the policy shows it, which doesn't pass for another
+-- The two ends are the guest to which a port of the host is given for connections, and a peer as the policy shows it, which doesn't pass for another
 -- address of the network.
 pub record IsForPeer (config : Config) (ends : Tuple) : Type 0 where
   pub place : ℕ
   pub forward : Forward
-  pub given : slice_get config.forwards place ≡ Some forward
+  pub given : forward_on config place ≡ Some forward
   pub proto : forward.proto ≡ Tcp
   pub guest : ends.guest ≡ forward.guest
   pub peer : Endpoint

@@ -1,5 +1,5 @@
 -- What the record of calls says of the guests' ports, of the sockets that were opened for them, and of when each was used.
-use Rattle.std.specs.Prelude.{ℕ, ◌==◌, ◌&&◌, nat_lt, Bool, false, List, [], ◌∷◌, length, filter, find, slice_get, Option, Some, None, option_and_then, option_map, if◌then◌else◌}
+use Rattle.std.specs.Prelude.{ℕ, ◌==◌, ◌&&◌, nat_lt, Bool, false, List, [], ◌∷◌, length, filter, find, Option, Some, None, option_and_then, option_map, if◌then◌else◌}
 use Rattle.std.specs.Option.{option_or}
 use Rattle.world_face.specs.Journal.{Entry, UdpOpen, UdpSend, UdpRecv}
 use Rattle.world_face.specs.declared.Got.TheVariants.{From}
@@ -8,7 +8,7 @@ use Rattle.net_octets.specs.declared.Mac.{Mac}
 use Rattle.host_policy.specs.declared.Forward.{Forward}
 use Rattle.host_policy.specs.declared.Proto.{Proto}
 use Rattle.host_policy.specs.declared.Proto.TheVariants.{Tcp, Udp}
-use Rattle.host_policy.specs.Addresses.{Config}
+use Rattle.host_policy.specs.Addresses.{Config, forward_on}
 use Rattle.host_policy.specs.Targets.{same_endpoint}
 use Rattle.arp_table.specs.Table.{mac_of as learnt_for}
 use Rattle.run_laws.specs.Guests.{known}
@@ -30,26 +30,27 @@ last_port config past = option_map (λ (d : Datagram). d.from) (last_datagram co
 abbrev pub last_mac : Config → List Entry → Option (List ℕ)
 last_mac config past = option_map (λ (d : Datagram). d.mac) (last_datagram config past)
 
--- The port of a guest to which the settings give the host's port for datagrams on a socket: they are opened in their order.
+-- The port of a guest to which the host's port for datagrams on a socket is given.
 abbrev pub given_by : Proto → Endpoint → Option Endpoint
 given_by Udp guest = Some guest
 given_by Tcp guest = None
 
 abbrev pub given_port : Config → ℕ → Option Endpoint
-given_port config socket = option_and_then (λ (f : Forward). given_by f.proto f.guest) (slice_get config.forwards socket)
+given_port config socket = option_and_then (λ (f : Forward). given_by f.proto f.guest) (forward_on config socket)
 
--- the port of a guest for which a socket is opened next: before the first wait the settings', later that of the datagram that came last
-abbrev pub port_for : Config → ℕ → List Entry → Option Endpoint
-port_for config socket past = if nat_lt 0 (waits past) then last_port config past else given_port config socket
+-- The port of a guest for which a socket is opened next at this port of the host: where that is the host's choice, and after the first wait, it is that of the
+-- datagram that came last; else that to which the port of the host is given.
+abbrev pub port_for : Config → (port socket : ℕ) → List Entry → Option Endpoint
+port_for config port socket past = if (port == 0) && nat_lt 0 (waits past) then last_port config past else given_port config socket
 
 -- The port of a guest for which a socket was opened.
-abbrev pub opened_by : ℕ → Entry → Option Endpoint → Option Endpoint → Option Endpoint
-opened_by socket (UdpOpen s at answer) port before = if s == socket then port else before
-opened_by socket _ port before = before
+abbrev pub opened_by : ℕ → Entry → (ℕ → Option Endpoint) → Option Endpoint → Option Endpoint
+opened_by socket (UdpOpen s at answer) for before = if s == socket then for at.port else before
+opened_by socket _ for before = before
 
 abbrev pub opened_for : Config → ℕ → List Entry → Option Endpoint
 opened_for config socket [] = None
-opened_for config socket (e ∷ past) = opened_by socket e (port_for config socket past) (opened_for config socket past)
+opened_for config socket (e ∷ past) = opened_by socket e (λ port. port_for config port socket past) (opened_for config socket past)
 
 -- The hardware address at which its guest hears: that of the datagram for which it was opened, or that was sent on it last.
 abbrev pub mac_by : ℕ → Entry → Option (List ℕ) → Option (List ℕ) → Option (List ℕ)

@@ -1,5 +1,5 @@
 -- What the laws come to, in the words of guests, their ports and their datagrams.
-use Rattle.std.specs.Prelude.{◌≡◌, ℕ, zero, suc, ◌+◌, ◌-◌, ◌%◌, ◌^◌, ◌<◌, ◌≤◌, ◌⊎◌, Bool, true, false, List, [], ◌∷◌, drop, length, slice_get, Option, Some, None, if◌then◌else◌}
+use Rattle.std.specs.Prelude.{◌≡◌, ℕ, zero, suc, ◌+◌, ◌-◌, ◌%◌, ◌^◌, ◌==◌, ◌<◌, ◌≤◌, ◌⊎◌, Bool, true, false, List, [], ◌∷◌, drop, length, slice_get, Option, Some, None, if◌then◌else◌}
 use Rattle.world_face.specs.Frames.{goes_out}
 use Rattle.world_face.specs.Journal.{Entry, Connect, LinkWrite, UdpOpen, UdpSend, UdpRecv, IsEndpoint}
 use Rattle.world_face.specs.declared.Made.{Made}
@@ -15,7 +15,7 @@ use Rattle.host_policy.specs.declared.Forward.{Forward}
 use Rattle.host_policy.specs.declared.Proto.{Proto}
 use Rattle.host_policy.specs.declared.Proto.TheVariants.{Udp as ByUdp}
 use Rattle.host_policy.specs.declared.Verdict.TheVariants.{Go}
-use Rattle.host_policy.specs.Addresses.{Config, address, endpoint}
+use Rattle.host_policy.specs.Addresses.{Config, address, endpoint, forward_on}
 use Rattle.host_policy.specs.Targets.{is_hidden, shown, target}
 use Rattle.ether_frame.specs.Ether.{Ether, read_ether}
 use Rattle.ipv4_head.specs.Ip.{Ip, read_ip}
@@ -83,6 +83,10 @@ abbrev pub unsent_or : Option Datagram → Occasion → Occasion
 unsent_or None before = before
 unsent_or (Some d) before = Unsent d
 
+-- a socket for datagrams that is opened at a port of the host's choice is for a guest's datagram, and another for none
+abbrev pub for_guest : (port : ℕ) → Option Datagram → Option Datagram
+for_guest port last = if port == 0 then last else None
+
 abbrev pub by_made : Made → Option Datagram → Occasion → Occasion
 by_made MadeDone last before = before
 by_made MadeFailed last before = unsent_or last before
@@ -120,7 +124,7 @@ by_joined MadeFailed on before = refused_or on before
 
 abbrev pub by_call : Config → List Entry → Entry → Option Datagram → Option OnTuple → Occasion → Occasion
 by_call config past (Connect socket to answer) last on before = by_joined answer on before
-by_call config past (UdpOpen socket at answer) last on before = by_made answer last before
+by_call config past (UdpOpen socket at answer) last on before = by_made answer (for_guest at.port last) before
 by_call config past (UdpSend socket to octets answer) last on before = by_sent answer last before
 by_call config past (UdpRecv socket asked answer octets) last on before = by_got answer socket octets (numbered_question socket (questions config past)) before
 by_call config past (LinkWrite octets answer) last on before =
@@ -187,6 +191,10 @@ pub record AsksForGuest (config : Config) (past : List Entry) (frame : List ℕ)
 abbrev pub OpensGiven : List Forward → Proto → Endpoint → Type 0
 OpensGiven forwards proto at = (k : ℕ) × (f : Forward) × (slice_get forwards k ≡ Some f) × (f.proto ≡ proto) × (at ≡ f.host)
 
+-- at the port of the host of the forward that was asked for with the number of this socket, with this protocol
+abbrev pub IsForAdded : Config → Proto → ℕ → Endpoint → Type 0
+IsForAdded config proto socket at = (f : Forward) × (forward_on config socket ≡ Some f) × (f.proto ≡ proto) × (at ≡ f.host)
+
 -- the socket of a port of the host that is given to a guest, for connections or for datagrams
 abbrev pub is_given : Option Kind → Bool
 is_given None = false
@@ -196,9 +204,9 @@ is_given (Some OfForward) = true
 is_given (Some OfListener) = true
 is_given (Some OfFlow) = false
 
--- the ports of guests to which the settings give ports of the host are endpoints
+-- the ports of guests to which ports of the host are given are endpoints
 abbrev pub HasPorts : Config → Type 0
-HasPorts config = (n : ℕ) (f : Forward) → slice_get config.forwards n ≡ Some f → IsEndpoint f.guest
+HasPorts config = (n : ℕ) (f : Forward) → forward_on config n ≡ Some f → IsEndpoint f.guest
 
 -- A frame is the first of a packet of a file that wasn't acknowledged for its timeout and goes again as it was, and nothing is left of the answer to what came last.
 pub record GoesAgain (config : Config) (past : List Entry) (frame : List ℕ) : Type 0 where

@@ -550,6 +550,27 @@ impl Conn {
         self.state() == State::Connecting
     }
 
+    /// Whether it isn't over, and our SYN isn't acknowledged.
+    pub fn opening(&self) -> bool
+        ensures { result ≡ is_opening self.now.stage }
+    {
+        self.stage.is_opening()
+    }
+
+    /// Whether an acknowledgement is owed.
+    pub fn owes_ack(&self) -> bool
+        ensures { result ≡ self.now.ack_owed }
+    {
+        self.ack_owed
+    }
+
+    /// Whether our FIN was acknowledged.
+    pub fn end_acked(&self) -> bool
+        ensures { result ≡ self.now.fin_acked }
+    {
+        self.fin_acked
+    }
+
     /// Whether the guest's end was taken.
     pub fn guest_ended(&self) -> bool
         ensures { result ≡ self.now.received.ended }

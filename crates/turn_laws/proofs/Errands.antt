@@ -28,11 +28,12 @@ use Rattle.slirp_laws.proofs.Bools.{among_last, and_both, or_second, same}
 use Rattle.slirp_laws.proofs.Joining.{waited_for}
 use Rattle.slirp_laws.proofs.Listed.{socket_last}
 use Rattle.slirp_laws.proofs.Longest.{among_if, find_none, same_port}
-use Rattle.slirp_laws.proofs.Phases.{Opens, others_due, sends}
+use Rattle.slirp_laws.proofs.Phases.{Opens, at_any_port, others_due, sends}
 use Rattle.slirp_laws.proofs.Steps.{OfErrand, all_errands, errand_asks, errand_in, errand_is, of_errand, step_is_of, step_to_name}
 use Rattle.turn_laws.proofs.Asking.{it_came}
 use Rattle.std.specs.Prelude.{drop}
 use Rattle.host_policy.specs.Targets.{same_endpoint}
+use Rattle.std.proofs.lemmas.Bool.Decides.{nat_tests}
 
 -- ---- it is asked for in a turn alone
 
@@ -167,6 +168,9 @@ module _ (config : Config) (past : List Entry) (socket : ℕ) (at : Endpoint) (e
   waited : nat_lt 0 (waits past) ≡ true
   waited = waited_for config past errand left lawful
 
+  any : at.port ≡ 0
+  any = at_any_port config past socket at errand (grind (arith, nat_tests, waited)) left may
+
   question_sent : asks_a_name config errand ≡ true → calls_for (step config (UdpOpen socket at Done ∷ past)) ≤ 1
   question_sent names =
       let is = ap calls_for (step_to_name config (UdpOpen socket at Done ∷ past) errand names left ∙ ap (λ list. step_to_names list errand) list_is
@@ -181,7 +185,7 @@ module _ (config : Config) (past : List Entry) (socket : ℕ) (at : Endpoint) (e
           ∙ ap (λ (b : Bool). if b then questions config past ++ (question socket errand (moment past) ∷ []) else questions config past) names
 
   its_port : is_port errand.datagram.from (opened_for config socket (UdpOpen socket at Done ∷ past)) ≡ true
-  its_port = ap (is_port errand.datagram.from) (ap (λ (b : Bool). if b then port_for config socket past else opened_for config socket past) (same socket)
+  its_port = ap (is_port errand.datagram.from) (ap (λ (b : Bool). if b then port_for config at.port socket past else opened_for config socket past) (same socket) ∙ ap (λ port. port_for config port socket past) any
       ∙ ap (λ (b : Bool). if b then last_port config past else given_port config socket) waited ∙ ap (option_map (λ (d : Datagram). d.from)) (errand_asks config past errand left).datagram)
       ∙ same_port errand.datagram.from
 
@@ -190,10 +194,10 @@ module _ (config : Config) (past : List Entry) (socket : ℕ) (at : Endpoint) (e
       among_if (λ s. is_association (kind_for config s (UdpOpen socket at Done ∷ past))) socket (open_sockets past ++ (socket ∷ []))
       ∙ and_both (is_among socket (open_sockets past ++ (socket ∷ []))) (is_association (kind_for config socket (UdpOpen socket at Done ∷ past)))
       (among_last socket socket (open_sockets past) ∙ or_second (is_among socket (open_sockets past)) (socket == socket) (same socket))
-      (ap (λ (b : Bool). is_association (if b then Some (datagram_kind_for config (nat_lt 0 (waits past)) (errand_left config past)) else kind_for config socket past)) (same socket)
-      ∙ ap (λ o. is_association (Some (datagram_kind_for config (nat_lt 0 (waits past)) o))) left
-      ∙ ap (λ (b : Bool). is_association (Some (if b then DnsSocket else datagram_kind (nat_lt 0 (waits past))))) other
-      ∙ ap (λ (b : Bool). is_association (Some (datagram_kind b))) waited)
+      (ap (λ (b : Bool). is_association (if b then Some (datagram_kind_for config (nat_lt 0 (waits past)) at.port (errand_left config past)) else kind_for config socket past)) (same socket)
+      ∙ ap (λ o. is_association (Some (datagram_kind_for config (nat_lt 0 (waits past)) at.port o))) left
+      ∙ ap (λ (b : Bool). is_association (Some (if b then DnsSocket else datagram_kind (nat_lt 0 (waits past)) at.port))) other
+      ∙ ap (λ (b : Bool). is_association (Some (datagram_kind b at.port))) waited ∙ ap (λ port. is_association (Some (datagram_kind true port))) any)
 
   at_most_one : (forward own : Option ℕ) (later : List Entry) → (own ≡ None → ⊥) → calls_for (step_on config (option_or forward own) later errand) ≤ 1
   at_most_one (Some forward) own later some = omega arith

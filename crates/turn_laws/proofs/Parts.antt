@@ -15,14 +15,14 @@ use Rattle.world_face.specs.declared.Io.TheVariants.{Done, End, NotYet, Failed}
 use Rattle.world_face.specs.declared.Made.{Made}
 use Rattle.world_face.specs.declared.Made.TheVariants.{Done as MadeDone, Failed as MadeFailed}
 use Rattle.host_policy.specs.Addresses.{Config}
-use Rattle.record_flows.specs.Book.{book}
+use Rattle.record_flows.specs.Book.{book, port_of}
 use Rattle.record_flows.specs.Lots.{asked_for, connects_to, due_by, lot}
 use Rattle.record_flows.specs.Segments.{OnTuple, segment_by, segment_came}
 use Rattle.record_flows.proofs.Newest.{is_newest}
 use Rattle.run_laws.specs.Happenings.{happens}
 use Rattle.run_laws.specs.Moments.{waits}
 use Rattle.run_laws.specs.Packets.{ArpPacket, Datagram, DatagramPacket, Message, Packet, Segment, Unheard}
-use Rattle.run_laws.specs.Shape.{Phase, Opening, Over, Started, Woken, Working, due_in, opened, phase, phase_after, opening_of}
+use Rattle.run_laws.specs.Shape.{Phase, Opening, Over, Started, Woken, Working, due_in, opened, phase, phase_after, opening_of, is_working}
 use Rattle.run_laws.specs.Sockets.{first, next_number, open_sockets}
 use Rattle.slirp_laws.specs.Answers.{Serving, begins_again, begun_by, files_begun, files_by_fate, files_by_packet, files_sent, identification, ledger, served_file, serving}
 use Rattle.slirp_laws.specs.Asking.{step, step_of}
@@ -30,12 +30,12 @@ use Rattle.slirp_laws.specs.Datagrams.{Fate, ForFiles, ForLeases, GoesTo, Ignore
 use Rattle.slirp_laws.specs.Errands.{errand_by_call, errand_left}
 use Rattle.slirp_laws.specs.Laws.{May, due, Lawful}
 use Rattle.slirp_laws.proofs.FileCalls.{sought_length, sought_octets}
-use Rattle.slirp_laws.proofs.Phases.{IsForOther, due_call, for_others, others_due, OpensNone, asks_after_waits, opens as opens_for_it}
+use Rattle.slirp_laws.proofs.Phases.{IsForOther, due_call, given_forward, given_turn, none_left, opening_call, for_others, others_due, OpensNone, asks_after_waits, opens as opens_for_it}
 use Rattle.tftp_server.specs.Asking.{call_for}
 use Rattle.tftp_server.specs.Packets.{Terms, terms_of, options_octets}
 use Rattle.tftp_server.specs.Transfers.{Quest, Said, SeeksLength, SeeksOctets, Settled as SeeksNothing, Sought, Transfer, begins, length_came, measured, next_again, octets_came}
 use Rattle.tftp_server.specs.Transfers.{octets_of, reads_on, seeks_block, seeks_next, told_length, told_octets, transfer, with_room, sends_block, sends}
-use Rattle.turn_laws.specs.Tally.{frames_in}
+use Rattle.turn_laws.specs.Tally.{frames_in, named}
 use Rattle.poll_list.specs.declared.Want.{Want}
 use Rattle.world_face.specs.declared.Waited.{Waited}
 use Rattle.world_face.specs.declared.Waited.TheVariants.{Ready, Stop, Failed as WaitFails}
@@ -45,6 +45,7 @@ use Rattle.host_policy.specs.declared.Proto.TheVariants.{Tcp as ByTcp, Udp as By
 use Rattle.slirp_laws.proofs.Joining.{none_early}
 use Rattle.turn_laws.proofs.Errands.{none_for, sent_next, calls_for, two_most}
 use Rattle.std.specs.Prelude.{option_map}
+use Rattle.slirp_laws.specs.Ports.{given_port}
 
 -- ---- the clock
 
@@ -164,11 +165,23 @@ listened_in Woken past other socket at answer never is = cc
 listened_in Working past other socket at answer never is = absurd (never is)
 listened_in (Over cause) past other socket at answer never is = absurd (closed_first (first (open_sockets past)) other (CallListen socket at) (λ s same. cc) never is)
 
-pub listened_once : (config : Config) (past : List Entry) (socket : ℕ) (at : Endpoint) (answer : Made) → May config past (CallListen socket at) → calls_on_clock
-    (phase config (Listen socket at answer ∷ past)) + 1 ≤ calls_on_clock (phase config past)
-listened_once config past socket at answer may =
-    listened_in (phase config past) past (option_or (due_for config (step config past) (next_number past)) (others_due config past)) socket at answer
-    (no_port config (step config past) (others_due config past) (next_number past) socket at (for_others config past)) (due_call (due config past) (CallListen socket at) may.place may.due)
+-- in a turn
+given_stays : (p : Phase) (answer : Made) → is_working p ≡ true → calls_on_clock (opened answer p) ≤ calls_on_clock p
+given_stays Working MadeDone is = omega arith
+given_stays Working MadeFailed is = omega arith
+given_stays (Opening count forwards) answer is = cc
+given_stays Started answer is = cc
+given_stays Woken answer is = cc
+given_stays (Over cause) answer is = cc
+
+pub listened_once : (config : Config) (past : List Entry) (socket : ℕ) (at : Endpoint) (answer : Made) → May config past (CallListen socket at)
+    → calls_on_clock (phase config (Listen socket at answer ∷ past)) ≤ calls_on_clock (phase config past)
+listened_once config past socket at answer may = elim (opening_call config past socket at (port_of config socket) (CallListen socket at) may.place may.due) [
+  | inl is ↦
+      (let less = listened_in (phase config past) past (option_or (due_for config (step config past) (next_number past)) (others_due config past)) socket at answer
+      (no_port config (step config past) (others_due config past) (next_number past) socket at (for_others config past)) is in omega (arith, less))
+  | inr given ↦ given_stays (phase config past) answer (given_turn config past socket at (port_of config socket) given.is)
+]
 
 opens_some : (p : Phase) (answer : Made) → (OpensNone p → ⊥) → calls_on_clock (opened answer p) + 1 ≤ calls_on_clock p
 opens_some (Opening count []) answer some = absurd (some refl)
@@ -182,16 +195,21 @@ left_none : (socket : ℕ) (at : Endpoint) (o : Option Errand) (answer : Made) �
 left_none socket at o MadeDone none = none
 left_none socket at o MadeFailed none = refl
 
--- a socket for datagrams is one of the settings', or one that a guest's datagram asks for
+-- a socket for datagrams is one of the settings', or one that a guest's datagram asks for, or for a port of the host that is given to a guest later
 pub opened_once : (config : Config) (past : List Entry) (socket : ℕ) (at : Endpoint) (answer : Made) → May config past (CallUdpOpen socket at) → Lawful config past
-    → calls_on_clock (phase config (UdpOpen socket at answer ∷ past)) + calls_for (step config (UdpOpen socket at answer ∷ past)) + 1 ≤ calls_on_clock
-    (phase config past) + calls_for (step config past)
+    → calls_on_clock (phase config (UdpOpen socket at answer ∷ past)) + calls_for (step config (UdpOpen socket at answer ∷ past)) + 1
+    ≤ calls_on_clock (phase config past) + calls_for (step config past) + named at.port
 opened_once config past socket at answer may lawful =
     elim (opens_for_it config past socket at may) [
       | inl early ↦ (let less = opens_some (phase config past) answer early.1 in
           let none = none_for config (UdpOpen socket at answer ∷ past) (left_none socket at (errand_left config past) answer (none_early (waits past) (errand_left config past) early.0
           (asks_after_waits config past lawful))) in omega (arith, less, none))
-      | inr o ↦ (let less = sent_next config past socket at answer o may lawful in let same = clock_stays config (UdpOpen socket at answer) past tt in omega (arith, less, same))
+      | inr later ↦ elim later [
+        | inl o ↦ (let less = sent_next config past socket at answer o may lawful in let same = clock_stays config (UdpOpen socket at answer) past tt in omega (arith, less, same))
+        | inr given ↦ (let clock = given_stays (phase config past) answer (given_turn config past socket at (given_port config socket) given.is) in
+            let none = none_for config (UdpOpen socket at answer ∷ past) (left_none socket at (errand_left config past) answer (none_left config past given.nothing)) in
+            let one : named at.port ≡ 1 = ap (λ (z : Bool). if z then 0 else 1) (given_forward config past socket at (given_port config socket) given.is).named in omega (arith, clock, none, one))
+      ]
     ]
 
 -- ---- the link

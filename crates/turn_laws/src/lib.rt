@@ -11,8 +11,8 @@ ghost use Rattle.slirp_laws.specs.Laws.{Lawful};
 ghost use Rattle.turn_laws.specs.Tally.{most_calls, tally};
 
 /// Since its wait a turn has made few calls, at every moment: three for each item that the wait reported, one for each socket
-/// that was closed, each octet that came on the link or from a file and each frame that began to go out, and three beside. So
-/// has a run before its first wait, with the ports that its settings open for items.
+/// that was closed, each port of the host that was given to a guest, each octet that came on the link or from a file and each
+/// frame that began to go out, and three beside. So has a run before its first wait, with the ports that its settings open for items.
 pub fn a_turn_makes_few_calls()
     ensures { (config : Config) (past : List Entry) → Lawful config past → AreAllowed past → (tally config past).calls ≤ most_calls (tally config past) }
 {}

@@ -1,7 +1,7 @@
 use Rattle.flow_laws.proofs.Sound.{may_is, lawful}
 use Rattle.flow_laws.proofs.Duties.{must_is, dutiful, may_wait_to_write_is}
 use Rattle.flow_laws.proofs.Honesty.{honest}
-use Rattle.flow_laws.proofs.Settled.{settled}
+use Rattle.flow_laws.proofs.Settled.{settled, waits}
 use Rattle.flow_laws.proofs.tests_are_sound.Goals as goal
 
 pub returns-clause-act : goal.returns-clause-act
@@ -24,3 +24,6 @@ returns-clause-settled c = settled
 
 pub returns-clause-writing : goal.returns-clause-writing
 returns-clause-writing c = may_wait_to_write_is
+
+pub returns-clause-wait : goal.returns-clause-wait
+returns-clause-wait c = waits

@@ -8,4 +8,4 @@ pub returns-clause-opens : goal.returns-clause-opens
 returns-clause-opens c = λ config past socket at answer early lawful. opens_where_given config past socket at lawful.1 early lawful.0
 
 pub returns-clause-closes : goal.returns-clause-closes
-returns-clause-closes c = λ config past socket lawful given. closes_given_after_the_end config past socket lawful.1 lawful.0 given
+returns-clause-closes c = λ config past socket none lawful given. closes_given_after_the_end config past socket none lawful.1 lawful.0 given

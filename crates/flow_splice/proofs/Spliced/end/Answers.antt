@@ -33,7 +33,7 @@ returns-in-Done-clause-makes g c =
     let f : Splice = c.args.self.now in
     let now : ℕ = c.args.now in
     let marked = c.mark_ended-change in
-    let ended : Splice = record f { conn = settled (write_ended f.conn); told_end = true } in
+    let ended : Splice = record f { conn = settled (write_ended f.conn); told_end = true; last = now } in
     let is : marked.new.self ≡ ended = marked.ensures.ended in
     let told = subst (λ (x : Splice). Answers (g.W.World.tells c.args.world.now) (g.W.World.tells c.tcp_end.new.self) (TcpEnd x.face.number Done)) c.self.view_is c.in-Done.ensures in
     calls_after _ _ _ (TcpEnd f.face.number Done) (Sees (ends marked.result) marked.new.self c.see.new.self now) _ told c.see.ensures

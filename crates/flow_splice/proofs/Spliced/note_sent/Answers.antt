@@ -1,8 +1,9 @@
-use Rattle.std.proofs.Common.{ap, ◌∙◌}
+use Rattle.std.proofs.Common.{ℕ, ◌≤◌, ◌^◌, ap, subst, sym, ◌∙◌}
 use Rattle.tcp_guest.specs.Connection.{Connection}
 use Rattle.tcp_guest.specs.Owing.{owed_of}
 use Rattle.flow_splice.specs.Splice.{Splice}
 use Rattle.flow_splice.proofs.AtRest.{gone_rests, rests_on}
+use Rattle.flow_splice.proofs.InTime.{either_moment}
 use Rattle.flow_splice.proofs.Spliced.note_sent.Goals as goal
 
 pub invariant_of-self : goal.invariant_of-self
@@ -11,7 +12,7 @@ invariant_of-self c =
     let i = c.self.inside in
     let owed = ap (λ (f : Splice). owed_of f.conn f.up f.down) c.self.view_is ∙ c.requires.owed in (
       record { buffers = c.sent.ensures.buffers _ kept.0.buffers owed; size = kept.0.size; room = kept.0.room; few = kept.0.few; segments = kept.0.segments },
-      kept.1,
+      record { since = kept.1.since; last = c.requires.now; called = subst (λ (n : ℕ). n ≤ 2 ^ 62) (sym c.later_if-self-inside.ensures) (either_moment _ c.args.now i.called c.requires.now kept.1.called) },
       kept.2,
       rests_on i.place i.conn.stage _ kept.3
           (λ resting at. ap (λ (x : Connection). x.stage) c.sent.ensures.connection ∙ gone_rests i.conn i.up i.down c.args.what.now c.args.now owed at),

@@ -1,8 +1,9 @@
-use Rattle.std.proofs.Common.{◌≡◌, ℕ, [], None, Some, refl, arith, subst, sym, ap, inl, ◌∙◌}
+use Rattle.std.proofs.Common.{◌≡◌, ℕ, [], Option, None, Some, refl, arith, subst, sym, ap, inl, ◌∙◌}
 use Rattle.world_face.proofs.Telling.{makes_as, makes_none}
 use Rattle.stream_netdev.specs.State.{LinkState}
 use Rattle.flow_splice.specs.Asks.{AsksOnce}
-use Rattle.flow_splice.specs.Sends.{Acknowledges, SendsOn}
+use Rattle.net_octets.specs.declared.Mac.{Mac}
+use Rattle.flow_splice.specs.Sends.{Acknowledges, IsClearBy, SendsOn}
 use Rattle.flow_splice.specs.Splice.{Splice, is_at_rest, is_open}
 use Rattle.tcp_guest.specs.Connection.{Connection}
 use Rattle.flow_splice.specs.Ahead.{HasPatience, IsAhead, IsEarly}
@@ -10,6 +11,8 @@ use Rattle.flow_splice.proofs.Ahead.{follows_waits}
 use Rattle.flow_splice.proofs.Asking.{known_asks, learn_asks, learn_then, unknown_asks}
 use Rattle.flow_splice.proofs.Marking.{sends_none}
 use Rattle.flow_splice.proofs.Patience.{known_patient, learnt_patient}
+use Rattle.flow_splice.proofs.InTime.{learnt_time}
+use Rattle.flow_splice.specs.Wants.{HasTime}
 use Rattle.flow_splice.proofs.Spliced.pump.Goals as goal
 
 pub returns-then-blocked-clause-makes : goal.returns-then-blocked-clause-makes
@@ -98,3 +101,20 @@ returns-in-None-clause-rests g c resting = inl (c.seek.ensures.rests (ap (λ (x 
 
 pub returns-then-blocked-clause-rests : goal.returns-then-blocked-clause-rests
 returns-then-blocked-clause-rests g c resting = inl c.learn.ensures
+
+pub returns-in-Some-clause-in_time : goal.returns-in-Some-clause-in_time
+returns-in-Some-clause-in_time g c time =
+    c.send_all.ensures.in_time (subst (λ (x : Splice). HasTime x c.args.now) (sym c.learn.ensures) (learnt_time c.args.self.now c.args.mac c.args.now time))
+
+pub returns-in-None-clause-in_time : goal.returns-in-None-clause-in_time
+returns-in-None-clause-in_time g c time =
+    c.seek.ensures.in_time (subst (λ (x : Splice). HasTime x c.args.now) (sym c.learn.ensures) (learnt_time c.args.self.now c.args.mac c.args.now time))
+
+pub returns-then-blocked-clause-in_time : goal.returns-then-blocked-clause-in_time
+returns-then-blocked-clause-in_time g c time = subst (λ (x : Splice). HasTime x c.args.now) (sym c.learn.ensures) (learnt_time c.args.self.now c.args.mac c.args.now time)
+
+pub returns-in-Some-clause-clear : goal.returns-in-Some-clause-clear
+returns-in-Some-clause-clear g c clear =
+    let new : Splice = c.send_all.new.self in
+    let known : new.mac ≡ Some c.in-Some.mac = c.send_all.ensures.stays.same.mac ∙ sym c.mac.ensures ∙ c.in-Some.is in
+    subst (λ (m : Option Mac). IsClearBy m new) (sym known) (c.send_all.ensures.clear clear)

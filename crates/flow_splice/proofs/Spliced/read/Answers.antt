@@ -21,7 +21,7 @@ returns-in-End-clause-makes g c =
     let read = c.ask_octets.ensures.read in
     let octets : List ℕ = read.0 in
     let same : c.ask_octets.new.self ≡ f = read.3 ∙ ap (λ (answer : Io). read_by (gives_octets answer) f octets now) c.in-End.is in
-    let change : c.end_reading.new.self ≡ record f { conn = host_ended f.conn now } = c.end_reading.ensures.change ∙ ap (λ (x : Splice). record x { conn = host_ended x.conn now }) same in
+    let change : c.end_reading.new.self ≡ record f { conn = host_ended f.conn now; last = now } = c.end_reading.ensures.change ∙ ap (λ (x : Splice). record x { conn = host_ended x.conn now; last = now }) same in
     let answers = subst (λ (answer : Io). Answers (g.W.World.tells c.args.world.now) (g.W.World.tells c.ask_octets.new.world) (TcpRead f.face.number asked answer octets)) c.in-End.is read.1 in
     makes_one _ _ (TcpRead f.face.number asked End octets) _ answers
     (λ allowed. (

@@ -17,6 +17,8 @@ use Rattle.flow_splice.proofs.Asking.{requests}
 use Rattle.flow_splice.proofs.Marking.{makes_allowed, sends_none}
 use Rattle.flow_splice.proofs.Patience.{asked_patient}
 use Rattle.flow_splice.proofs.Shaping.{request_works}
+use Rattle.flow_splice.proofs.InTime.{asked_time}
+use Rattle.flow_splice.specs.Wants.{HasTime}
 use Rattle.flow_splice.proofs.Spliced.seek.Goals as goal
 
 pub returns-then-not-asks_now-clause-makes : goal.returns-then-not-asks_now-clause-makes
@@ -59,3 +61,10 @@ returns-clause-waits g c patient =
 
 pub returns-clause-rests : goal.returns-clause-rests
 returns-clause-rests g c resting = absurd (asks_none c.args.self.now resting (sym c.asks_now.ensures ∙ c.if-not-asks_now.false))
+
+pub returns-clause-in_time : goal.returns-clause-in_time
+returns-clause-in_time g c time =
+    let f : Splice = c.args.self.now in
+    let offer = c.offer_request-offered in
+    let is : c.mark_asked.new.self ≡ asked offer.result f c.args.now = c.mark_asked.ensures ∙ ap (λ (x : Splice). asked offer.result x c.args.now) offer.ensures.change in
+    subst (λ (x : Splice). HasTime x c.args.now) (sym is) (asked_time f offer.result c.args.now time)

@@ -23,6 +23,7 @@ use Rattle.flow_splice.proofs.Ahead.{marks_early}
 use Rattle.flow_splice.proofs.Going.{sends}
 use Rattle.flow_splice.proofs.Marking.{closes_keep, makes_allowed, marks_less, marks_stay}
 use Rattle.flow_splice.proofs.Shaping.{marks_work}
+use Rattle.flow_splice.proofs.InTime.{marks_time}
 use Rattle.flow_splice.proofs.Spliced.send.Goals as goal
 
 used_is : (p : Place) (o : Option Owed) (what : Owed) → takes_part_at p o ≡ Some what → (p ≡ Empty → ⊥) × (o ≡ Some what)
@@ -100,3 +101,9 @@ returns-clause-rests g c =
     let offer = c.offer_owed-offered in
     marks_acknowledge offer.result c.args.what.now c.args.self.now c.mark.new.self c.args.now c.mark.ensures.makes.made c.requires.rests c.requires.owed
     (subst (λ (x : Splice). Marks offer.result c.args.what.now x c.mark.new.self c.args.now c.mark.ensures.makes.made) offer.ensures.change c.mark.ensures.makes.holds)
+
+pub returns-clause-in_time : goal.returns-clause-in_time
+returns-clause-in_time g c time =
+    let offer = c.offer_owed-offered in
+    marks_time offer.result c.args.what.now c.args.self.now c.mark.new.self c.args.now c.mark.ensures.makes.made
+    (subst (λ (x : Splice). Marks offer.result c.args.what.now x c.mark.new.self c.args.now c.mark.ensures.makes.made) offer.ensures.change c.mark.ensures.makes.holds) time

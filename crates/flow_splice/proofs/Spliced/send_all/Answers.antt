@@ -24,6 +24,7 @@ loop-what-init g c = record {
   closed = λ shut. shut;
   rests = λ resting. inl refl;
   early = λ early. early;
+  in_time = λ time. time;
 }
 
 pub loop-what-preserved : goal.loop-what-preserved
@@ -47,6 +48,7 @@ loop-what-preserved g c =
       closed = λ shut. c.send.ensures.closed (kept.closed shut);
       rests = acknowledges_once old mid new c.args.now c.in-Some.what c.owed.ensures.rests (sym c.owed.ensures.owed ∙ c.in-Some.is) kept.rests c.send.ensures.rests;
       early = λ early. c.send.ensures.early (kept.early early);
+      in_time = λ time. c.send.ensures.in_time (kept.in_time time);
     }
 
 pub returns-in-Blocked-clause-makes : goal.returns-in-Blocked-clause-makes
@@ -94,3 +96,9 @@ pub returns-in-Failed-clause-rests : goal.returns-in-Failed-clause-rests
 returns-in-Failed-clause-rests g c =
     acknowledges_once c.args.self.now c.loop-what.self c.send.new.self c.args.now c.in-Some.what c.owed.ensures.rests
     (sym c.owed.ensures.owed ∙ c.in-Some.is) c.loop-what.invariant.rests c.send.ensures.rests
+
+pub returns-in-Blocked-clause-in_time : goal.returns-in-Blocked-clause-in_time
+returns-in-Blocked-clause-in_time g c time = c.send.ensures.in_time (c.loop-what.invariant.in_time time)
+
+pub returns-in-Failed-clause-in_time : goal.returns-in-Failed-clause-in_time
+returns-in-Failed-clause-in_time g c time = c.send.ensures.in_time (c.loop-what.invariant.in_time time)

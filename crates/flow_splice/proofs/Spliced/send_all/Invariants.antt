@@ -7,6 +7,7 @@ use Rattle.flow_splice.specs.Sends.{Acknowledges, SendsOn}
 use Rattle.flow_splice.specs.Shapes.{are_sending}
 use Rattle.flow_splice.specs.Splice.{is_at_rest, is_open}
 use Rattle.flow_splice.specs.Stays.{Stays}
+use Rattle.flow_splice.specs.Wants.{HasTime}
 use Rattle.flow_splice.proofs.Spliced.send_all.Given as goal
 
 abbrev pub invariant-loop-what : goal.invariant-loop-what
@@ -19,6 +20,7 @@ invariant-loop-what g l = record {
   closed : is_open l.fn.self ≡ false → is_open l.self ≡ false;
   rests : is_at_rest l.fn.self.place ≡ true → Acknowledges l.fn.self l.self l.now;
   early : IsEarly l.now l.fn.self.conn → IsEarly l.now l.self.conn;
+  in_time : HasTime l.fn.self l.now → HasTime l.self l.now;
 }
 
 abbrev pub decreases-loop-what : goal.decreases-loop-what

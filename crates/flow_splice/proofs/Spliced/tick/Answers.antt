@@ -1,14 +1,19 @@
-use Rattle.std.proofs.Common.{◌≡◌, [], ℕ, true, false, refl, subst, sym, ◌∙◌, ◌⊎◌, inl, inr}
+use Rattle.std.proofs.Common.{◌≡◌, [], ◌∷◌, ℕ, false, refl, ap, subst, sym, ◌∙◌, ◌⊎◌, inl, inr}
 use Rattle.tcp_guest.specs.Connection.{Connection}
 use Rattle.tcp_guest.specs.Hosts.{reset}
-use Rattle.world_face.proofs.Telling.{makes_as, makes_none}
-use Rattle.flow_splice.specs.Splice.{Splice, is_open}
+use Rattle.world_face.proofs.Telling.{makes_as, makes_none, makes_one}
+use Rattle.flow_splice.specs.Splice.{Splice, closed, is_open}
 use Rattle.flow_splice.specs.Ahead.{HasPatience, IsAhead}
 use Rattle.flow_splice.proofs.Ahead.{connects_ahead, dead_ahead, seeking_ahead, tick_ahead}
 use Rattle.flow_splice.proofs.Patience.{as_old_seeks, asks_patient, connects_known, no_seeker}
 use Rattle.flow_splice.proofs.Events.{none_yet, ticks_as}
 use Rattle.flow_splice.proofs.Opened.{open_is}
 use Rattle.flow_splice.proofs.Shutting.{reset_dead}
+use Rattle.flow_splice.proofs.InTime.{open_time, ticked_time}
+use Rattle.flow_splice.proofs.Timing.{left_late}
+use Rattle.flow_splice.specs.Wants.{HasTime}
+use Rattle.flow_splice.specs.Serves.{TicksOn}
+use Rattle.world_face.specs.Journal.{Close}
 use Rattle.flow_splice.proofs.Spliced.tick.Goals as goal
 
 pub returns-then-not-is_open-clause-makes : goal.returns-then-not-is_open-clause-makes
@@ -58,3 +63,25 @@ returns-then-connects-clause-ahead g c s past before h unowed yet =
       no_seeker c.await_host.new.self c.args.now (as_old_seeks f c.await_host.new.self c.await_host.ensures.stays.same
           ∙ connects_known s f past before (open_is s f past before (sym c.is_open.ensures ∙ c.if-not-is_open.false) h) connects),
     )
+
+pub returns-then-is_left-clause-makes : goal.returns-then-is_left-clause-makes
+returns-then-is_left-clause-makes g c =
+    let f : Splice = c.args.self.now in
+    let now : ℕ = c.args.now in
+    let shut : Splice = closed (record f { conn = reset f.conn }) now in
+    makes_one _ _ (Close f.face.number) _ c.fail.ensures.closes
+    (λ allowed. (
+      subst (λ (x : Splice). TicksOn f x now (Close f.face.number ∷ [])) (sym c.fail.ensures.change)
+          (ticks_as f shut now (Close f.face.number ∷ []) (left_late f now (sym c.is_open.ensures ∙ c.if-not-is_open.false) (sym c.is_left.ensures ∙ c.if-is_left.true))),
+      refl,
+    ))
+
+pub returns-else-seeks-clause-in_time : goal.returns-else-seeks-clause-in_time
+returns-else-seeks-clause-in_time g c =
+    let f : Splice = c.args.self.now in
+    let now : ℕ = c.args.now in
+    open_time c.expire.new.self now
+    (λ yet.
+    subst (λ (x : Splice). HasTime x now) (sym (c.expire.ensures.again yet))
+    (ticked_time f now (sym c.connects.ensures ∙ c.if-connects.false) (sym (ap (λ (x : Connection). x.stage) c.expire.ensures.conn) ∙ c.expire.ensures.stage yet)
+    (sym c.is_left.ensures ∙ c.if-is_left.false)))

@@ -11,7 +11,7 @@ use Rattle.flow_splice.specs.Serves.{GoesOn}
 use Rattle.flow_splice.specs.Splice.{Splice, closed}
 use Rattle.flow_splice.proofs.Calls.{calls_after, or_already, or_last, still_is, two_calls}
 use Rattle.flow_splice.proofs.Events.{goes_then}
-use Rattle.flow_splice.proofs.Hosting.{host_takes, host_takes_none}
+use Rattle.flow_splice.proofs.Hosting.{host_takes, host_takes_none, taken_by}
 use Rattle.flow_splice.proofs.Shaping.{gives_ending}
 use Rattle.flow_splice.specs.Hosts.{reads_or_shuts, serves_write}
 use Rattle.flow_splice.specs.Wants.{reads}
@@ -25,7 +25,7 @@ returns-in-Failed-clause-makes g c =
     let f : Splice = c.args.self.now in
     let now : ℕ = c.args.now in
     let front = take (min 16384 (length f.up.held)) f.up.held in
-    let same : c.offer.new.self ≡ f = c.offer.ensures.change ∙ ap (λ (n : ℕ). record f { up = without f.up n }) (ap count_of c.in-Failed.is) ∙ ap
+    let same : c.offer.new.self ≡ f = c.offer.ensures.change ∙ ap (λ (n : ℕ). taken_by f n now) (ap count_of c.in-Failed.is) ∙ ap
     (λ (up : Upward). record f { up = up }) (none_taken f.up) in
     let shut : c.fail.new.self ≡ closed (record f { conn = reset f.conn }) now = c.fail.ensures.change ∙ ap (λ (x : Splice). closed (record x { conn = reset x.conn }) now) same in
     let offers = subst (λ (answer : Io). Answers (g.W.World.tells c.args.world.now) (g.W.World.tells c.offer.new.world) (TcpWrite f.face.number front answer)) c.in-Failed.is c.offer.ensures.offers in

@@ -6,10 +6,9 @@ use Rattle.slirp_core.specs.Holds.{after}
 use Rattle.serve_loop.specs.Turns.{AfterTurn, AreYoung, HoldsNow, IsInTime}
 use Rattle.serve_loop.specs.Served.{ServiceState}
 use Rattle.tcp_flows.specs.Settled.{IsInTime as HasNoneDue}
-use Rattle.slirp_core.specs.Connecting.{AreInTime}
+use Rattle.tcp_flows.specs.Settled.{HaveTime}
 use Rattle.slirp_core.specs.Marks.{KeepsMarks}
 use Rattle.slirp_core.specs.State.{SlirpState}
-use Rattle.slirp_core.proofs.Connecting.{in_time_yet}
 use Rattle.serve_loop.proofs.Turning.{calm_by, clear_by, pumped, sent_by}
 use Rattle.slirp_core.proofs.Counted.{grown}
 use Rattle.serve_loop.proofs.Counted.{pump_counted}
@@ -49,8 +48,7 @@ returns-clause-connects g c config at aged past holds again early =
     let moment_same : new.moment ≡ i.moment = ap (λ (s : SlirpState). s.moment) c.pump-pumped.ensures.others in
     let before : HoldsNow config at aged i link past = subst (λ (s : ServiceState). HoldsNow config at aged s.slirp s.link past) (sym c.self.view_is) holds in
     let early_yet : IsInTime i link = subst (λ (s : ServiceState). IsInTime s.slirp s.link) (sym c.self.view_is) early in (
-      subst (λ (m : ℕ). AreInTime m new.flows.flows.slots) (sym moment_same) (in_time_yet i.moment i.flows.flows.slots new.flows.flows.slots
-          (c.pump-pumped.ensures.connects config at aged past before) early_yet.0),
+      subst (λ (m : ℕ). HaveTime m new.flows.flows.slots) (sym moment_same) (c.pump-pumped.ensures.in_time early_yet.0),
       λ free n.
           let all_out = clear_by c.pump-pumped.result new c.pump-pumped.new.link c.pump-pumped.ensures.leaves (sym c.turn_of.ensures ∙ again) free in
           subst (λ (m : ℕ). HasNoneDue m new.flows.flows.slots n) (sym moment_same) (c.pump-pumped.ensures.ahead config at aged past before n (early_yet.1 (c.pump-pumped.ensures.free all_out) n)),

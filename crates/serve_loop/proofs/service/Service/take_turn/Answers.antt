@@ -24,7 +24,7 @@ returns-in-Again-clause-makes g c config count few =
     (attends_on Again config (after count) (after count) false true old told link link (g.W.World.tells c.args.world.now) (g.W.World.tells c.tick.new.world) refl
     (c.tick.ensures.makes config count link few))
     (λ past holds. (
-      c.tick.ensures.connects,
+      c.tick.ensures.in_time,
       λ free n. c.tick.ensures.ahead config (after count) false link past holds n
           (none_owes config old.moment false None old.flows.flows past holds.flows.holds (calm free).clear n),
     )) in

@@ -5,12 +5,11 @@ use Rattle.std.specs.Prelude.{false}
 use Rattle.flows_follow.specs.Core.{CoreHolds}
 use Rattle.tcp_flows.specs.Kept.{Kept}
 use Rattle.tcp_flows.specs.Reading.{AreTold}
-use Rattle.tcp_flows.specs.Settled.{ConnectYet, IsInTime}
+use Rattle.tcp_flows.specs.Settled.{HaveTime, IsInTime}
 use Rattle.slirp_core.specs.Holds.{Leaves, standing}
 use Rattle.slirp_core.specs.State.{SlirpState}
 use Rattle.stream_netdev.specs.declared.Pumped.{Pumped}
 use Rattle.slirp_core.proofs.Counted.{grown}
-use Rattle.slirp_core.proofs.Connecting.{connect_then}
 use Rattle.slirp_core.proofs.Settling.{pumped_settled}
 use Rattle.slirp_core.specs.Marks.{KeepsMarks}
 use Rattle.slirp_core.proofs.Marking.{marks_stay, marks_then}
@@ -88,26 +87,26 @@ returns-in-Clear-clause-settled g c config at clear =
     (subst (λ (r : Pumped). Leaves r new c.pump_flows.new.link) clear c.pump_flows.ensures.leaves).3
     (λ past holds n early. returns-in-Clear-clause-ahead g c config at true past holds n early)
 
-pub returns-in-Clear-clause-connects : goal.returns-in-Clear-clause-connects
-returns-in-Clear-clause-connects g c config at aged past holds =
+pub returns-in-Clear-clause-in_time : goal.returns-in-Clear-clause-in_time
+returns-in-Clear-clause-in_time g c have =
+    let old : SlirpState = c.args.self.now in
     let told : SlirpState = c.tell_addresses.new.self in
     let same = c.in-Clear.ensures.others in
     let flows_same : c.pump_answers.new.self.flows ≡ told.flows = ap (λ (s : SlirpState). s.flows) same in
-    let moment_same : c.pump_answers.new.self.moment ≡ told.moment = ap (λ (s : SlirpState). s.moment) same in
-    let after = c.tell_addresses.ensures.holds config at aged c.args.link.now past holds in
-    connect_then c.args.self.now.flows.flows.slots told.flows.flows.slots c.pump_flows.new.self.flows.flows.slots c.tell_addresses.ensures.connects
-    (subst (λ (k : Kept). ConnectYet k.flows.slots c.pump_flows.new.self.flows.flows.slots) flows_same
-    (c.pump_flows.ensures.connects config aged past
-    (subst (λ (m : ℕ). CoreHolds config m aged None c.pump_answers.new.self.flows.flows past) (sym moment_same)
-    (subst (λ (k : Kept). CoreHolds config told.moment aged None k.flows past) (sym flows_same) after.flows.holds))))
+    let moment_same : c.pump_answers.new.self.moment ≡ old.moment = ap (λ (s : SlirpState). s.moment) same ∙ ap (λ (s : SlirpState). s.moment) c.tell_addresses.ensures.same in
+    subst (λ (m : ℕ). HaveTime m c.pump_flows.new.self.flows.flows.slots) moment_same
+    (c.pump_flows.ensures.in_time (subst (λ (m : ℕ). HaveTime m c.pump_answers.new.self.flows.flows.slots) (sym moment_same)
+    (subst (λ (k : Kept). HaveTime old.moment k.flows.slots) (sym flows_same) (c.tell_addresses.ensures.in_time old.moment have))))
 
-pub returns-in-Blocked-clause-connects : goal.returns-in-Blocked-clause-connects
-returns-in-Blocked-clause-connects g c config at aged past holds =
-    subst (λ (k : Kept). ConnectYet c.args.self.now.flows.flows.slots k.flows.slots) (sym (ap (λ (s : SlirpState). s.flows) c.in-Blocked.ensures.others)) c.tell_addresses.ensures.connects
+pub returns-in-Blocked-clause-in_time : goal.returns-in-Blocked-clause-in_time
+returns-in-Blocked-clause-in_time g c have =
+    subst (λ (k : Kept). HaveTime c.args.self.now.moment k.flows.slots) (sym (ap (λ (s : SlirpState). s.flows) c.in-Blocked.ensures.others))
+    (c.tell_addresses.ensures.in_time c.args.self.now.moment have)
 
-pub returns-in-Failed-clause-connects : goal.returns-in-Failed-clause-connects
-returns-in-Failed-clause-connects g c config at aged past holds =
-    subst (λ (k : Kept). ConnectYet c.args.self.now.flows.flows.slots k.flows.slots) (sym (ap (λ (s : SlirpState). s.flows) c.in-Failed.ensures.others)) c.tell_addresses.ensures.connects
+pub returns-in-Failed-clause-in_time : goal.returns-in-Failed-clause-in_time
+returns-in-Failed-clause-in_time g c have =
+    subst (λ (k : Kept). HaveTime c.args.self.now.moment k.flows.slots) (sym (ap (λ (s : SlirpState). s.flows) c.in-Failed.ensures.others))
+    (c.tell_addresses.ensures.in_time c.args.self.now.moment have)
 
 -- the marks stay as they were
 pub returns-in-Clear-clause-marks : goal.returns-in-Clear-clause-marks

@@ -3,7 +3,7 @@ use Rattle.world_face.specs.Tells.{Brings}
 use Rattle.flows_follow.specs.Core.{CoreHolds}
 use Rattle.tcp_flows.specs.Kept.{Kept}
 use Rattle.tcp_flows.specs.Reading.{AreTold}
-use Rattle.tcp_flows.specs.Settled.{ConnectYet, IsInTime}
+use Rattle.tcp_flows.specs.Settled.{HaveTime, IsInTime}
 use Rattle.slirp_core.specs.Holds.{AfterPump, Holds, flowing}
 use Rattle.slirp_core.specs.State.{SlirpState}
 use Rattle.slirp_core.proofs.Called.{after_put, pumped_so}
@@ -63,11 +63,8 @@ invariant_of-self g c =
       c.self.invariant.7,
     )
 
-pub returns-clause-connects : goal.returns-clause-connects
-returns-clause-connects g c config aged past holds =
-    let view = c.self.view_is in
-    subst (λ (s : SlirpState). ConnectYet s.flows.flows.slots c.pump.new.self.flows.slots) view
-    (c.pump.ensures.connects config aged past (subst (λ (s : SlirpState). CoreHolds config s.moment aged None s.flows.flows past) (sym view) holds))
+pub returns-clause-in_time : goal.returns-clause-in_time
+returns-clause-in_time g c = subst (λ (s : SlirpState). HaveTime s.moment s.flows.flows.slots → HaveTime s.moment c.pump.new.self.flows.slots) c.self.view_is c.pump.ensures.in_time
 
 pub returns-clause-marks : goal.returns-clause-marks
 returns-clause-marks g c =

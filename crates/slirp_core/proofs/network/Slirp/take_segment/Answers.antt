@@ -1,22 +1,24 @@
-use Rattle.std.proofs.Common.{◌≡◌, ◌+◌, nat_lt, List, [], ◌∷◌, ◌++◌, length, false, refl, sym, ◌∙◌, ap, subst, arith}
+use Rattle.std.proofs.Common.{◌≡◌, ℕ, ◌+◌, append-nil, nat_lt, List, [], ◌∷◌, ◌++◌, length, false, refl, sym, ◌∙◌, ap, subst, arith}
 use Rattle.world_face.specs.Journal.{AreAllowed, Entry, Connect}
 use Rattle.world_face.specs.Tells.{Brings, Makes}
 use Rattle.world_face.specs.declared.Made.TheVariants.{Done, Failed}
-use Rattle.world_face.proofs.Telling.{makes_next}
+use Rattle.world_face.proofs.Telling.{makes_next, makes_then}
 use Rattle.host_policy.specs.Addresses.{Config}
 use Rattle.slirp_laws.specs.Answers.{frames_of, reset_for}
 use Rattle.udp_assoc.proofs.Below.{below_up}
 use Rattle.flows_follow.specs.Seats.{in_use_slots}
 use Rattle.flows_follow.specs.Stands.{lot_without}
 use Rattle.tcp_flows.specs.Kept.{Kept}
+use Rattle.tcp_flows.specs.Way.{GivesWay}
 use Rattle.tcp_flows.specs.Runs.{Hears}
 use Rattle.tcp_flows.specs.declared.guest.Heard.TheVariants.{Alone}
 use Rattle.slirp_core.specs.Holds.{Comes, Holds, flowing}
 use Rattle.slirp_core.specs.Segments.{coming_of}
 use Rattle.slirp_core.specs.State.{SlirpState}
+use Rattle.slirp_core.proofs.Associating.{parted as parted_by}
 use Rattle.slirp_core.proofs.Called.{flows_put}
 use Rattle.slirp_core.proofs.Drawn.{asked_up, drawn_begun, drawn_stay, drawn_up}
-use Rattle.slirp_core.proofs.Hearing.{alone_dropped, alone_reset, connected, heard_strange, asks_for_room, heard_taken, none_made, unconnected_then}
+use Rattle.slirp_core.proofs.Hearing.{alone_crowded, alone_dropped, alone_reset, connected, heard_strange, asks_for_room, heard_taken, none_made, unconnected_then}
 use Rattle.slirp_core.proofs.Telling.{brings_allowed}
 use Rattle.slirp_core.specs.Marks.{KeepsMarks}
 use Rattle.slirp_core.proofs.Marking.{marks_begun, marks_stay, marks_then}
@@ -102,6 +104,48 @@ returns-in-Dropped-clause-makes g c config at link =
     flows_put config at slirp new (flowing false new) link _
     (alone_dropped config at slirp i.flows link coming past comes made new allowed hears
     (ap (λ (k : Config). lot_without k (nat_lt (in_use_slots new.flows.table.slots) (length new.flows.table.slots)) coming.on) (sym comes.guests.settings) ∙ sym c.in-Dropped.ensures))))
+
+-- a segment, and then a flow gives way
+abbrev IsWay : Kept → Kept → ℕ → (List Entry → Type 0) → List Entry → Type 0
+IsWay new parted now P made = (before : List Entry) × (closes : List Entry) × (made ≡ closes ++ before) × P before × GivesWay now new parted closes
+
+-- each place is in use
+pub returns-in-Crowded-clause-makes : goal.returns-in-Crowded-clause-makes
+returns-in-Crowded-clause-makes g c config at link =
+    let i = c.self.inside in
+    let slirp : SlirpState = record {
+      config = i.policy;
+      known = i.guests;
+      sent = i.sent;
+      pending = i.outgoing;
+      moment = i.moment;
+      number = i.number;
+      associations = i.associations.list;
+      questions = i.questions.list;
+      fragments = i.reasm;
+      flows = i.flows;
+      leases = i.leases.leases;
+      forwards = i.forwards;
+      transfers = i.files.transfers;
+    } in
+    let coming = coming_of c.args.came.now in
+    let new = c.take_segment.new.self in
+    let parted = c.give_way.new.self in
+    let P : List Entry → Type 0 = Hears slirp.moment i.flows new coming.on.tuple coming.tcp Alone in
+    let both : Makes (g.W.World.tells c.args.world.now) (g.W.World.tells c.give_way.new.world) (IsWay new parted i.moment P) = makes_then _ _ _ P (GivesWay i.moment new parted)
+    (IsWay new parted i.moment P) c.in-Alone.ensures.makes c.give_way.ensures.makes (λ first second hears gives. (first, second, refl, hears, gives)) in
+    subst (λ (s : SlirpState). Brings (g.W.World.tells c.args.world.now) (g.W.World.tells c.give_way.new.world) (Comes config at s s.flows link coming)
+    (Holds config at (record slirp { flows = parted }) (flowing false parted) link)) c.self.view_is
+    (brings_allowed both (λ made way allowed past comes.
+    let all = subst AreAllowed way.2 allowed in
+    let none = none_made config at slirp i.flows link coming past comes way.0 new (parted_by way.1 way.0 all).1 way.3 in
+    subst (λ (m : List Entry). Holds config at (record slirp { flows = parted }) (flowing false parted) link (m ++ past)) (sym way.2)
+    (subst (λ (b : List Entry). Holds config at (record slirp { flows = parted }) (flowing false parted) link ((way.1 ++ b) ++ past)) (sym none)
+    (subst (λ (m : List Entry). Holds config at (record slirp { flows = parted }) (flowing false parted) link (m ++ past)) (sym (append-nil way.1))
+    (flows_put config at slirp parted (flowing false parted) link _
+    (alone_crowded config at slirp i.flows link coming past comes way.0 new (parted_by way.1 way.0 all).1 way.3
+    (ap (λ (k : Config). lot_without k (nat_lt (in_use_slots new.flows.table.slots) (length new.flows.table.slots)) coming.on) (sym comes.guests.settings) ∙ sym c.in-Crowded.ensures)
+    parted way.1 (parted_by way.1 way.0 all).0 way.4))))))
 
 -- it is answered by a reset
 pub returns-in-Reset-clause-makes : goal.returns-in-Reset-clause-makes
@@ -241,6 +285,20 @@ invariant_of-self-in-Reset g c =
       c.self.invariant.7,
     )
 
+pub invariant_of-self-in-Crowded : goal.invariant_of-self-in-Crowded
+invariant_of-self-in-Crowded g c =
+    let i = c.self.inside in (
+      c.self.invariant.0,
+      c.self.invariant.1,
+      c.self.invariant.2,
+      drawn_stay i.number c.take_segment.new.self c.give_way.new.self c.give_way.ensures.stays
+          (drawn_stay i.number i.flows c.take_segment.new.self c.in-Alone.ensures.stays c.self.invariant.3),
+      c.self.invariant.4,
+      c.self.invariant.5,
+      c.self.invariant.6,
+      c.self.invariant.7,
+    )
+
 pub invariant_of-self-in-Failed : goal.invariant_of-self-in-Failed
 invariant_of-self-in-Failed g c =
     let i = c.self.inside in (
@@ -288,6 +346,14 @@ returns-in-Dropped-clause-marks g c =
     let i = c.self.inside in
     subst (λ (s : SlirpState). KeepsMarks s.number s.flows c.take_segment.new.self) c.self.view_is
     (marks_stay i.number i.flows c.take_segment.new.self c.in-Alone.ensures.served c.in-Alone.ensures.turn c.in-Alone.ensures.stays)
+
+pub returns-in-Crowded-clause-marks : goal.returns-in-Crowded-clause-marks
+returns-in-Crowded-clause-marks g c =
+    let i = c.self.inside in
+    subst (λ (s : SlirpState). KeepsMarks s.number s.flows c.give_way.new.self) c.self.view_is
+    (marks_then i.number i.number i.flows c.take_segment.new.self c.give_way.new.self (omega arith)
+    (marks_stay i.number i.flows c.take_segment.new.self c.in-Alone.ensures.served c.in-Alone.ensures.turn c.in-Alone.ensures.stays)
+    (marks_stay i.number c.take_segment.new.self c.give_way.new.self c.give_way.ensures.served c.give_way.ensures.turn c.give_way.ensures.stays))
 
 pub returns-in-Reset-clause-marks : goal.returns-in-Reset-clause-marks
 returns-in-Reset-clause-marks g c =

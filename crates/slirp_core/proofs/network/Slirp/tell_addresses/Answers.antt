@@ -1,9 +1,9 @@
-use Rattle.std.proofs.Common.{subst, sym}
+use Rattle.std.proofs.Common.{ℕ, subst, sym}
 use Rattle.tcp_flows.specs.Reading.{Stays}
-use Rattle.tcp_flows.specs.Settled.{ConnectYet, IsInTime, OwesNoAck}
+use Rattle.tcp_flows.specs.Settled.{HaveTime, IsInTime, OwesNoAck}
 use Rattle.slirp_core.specs.Holds.{Holds, flowing}
 use Rattle.slirp_core.specs.State.{SlirpState}
-use Rattle.slirp_core.proofs.Connecting.{learnt_connects}
+use Rattle.slirp_core.proofs.Connecting.{learnt_time}
 use Rattle.slirp_core.proofs.Called.{addresses_told, flows_put}
 use Rattle.slirp_core.proofs.Drawn.{drawn_stay}
 use Rattle.slirp_core.proofs.network.Slirp.tell_addresses.Goals as goal
@@ -50,10 +50,10 @@ invariant_of-self c =
       c.self.invariant.7,
     )
 
-pub returns-clause-connects : goal.returns-clause-connects
-returns-clause-connects c =
-    subst (λ (s : SlirpState). ConnectYet s.flows.flows.slots c.learn.new.self.flows.slots) c.self.view_is
-    (learnt_connects c.self.inside.guests c.self.inside.flows.flows.slots c.learn.new.self.flows.slots c.learn.ensures.learnt)
+pub returns-clause-in_time : goal.returns-clause-in_time
+returns-clause-in_time c =
+    subst (λ (s : SlirpState). (now : ℕ) → HaveTime now s.flows.flows.slots → HaveTime now c.learn.new.self.flows.slots) c.self.view_is
+    (learnt_time c.self.inside.guests c.self.inside.flows.flows.slots c.learn.new.self.flows.slots c.learn.ensures.learnt)
 
 pub returns-clause-stays : goal.returns-clause-stays
 returns-clause-stays c = subst (λ (s : SlirpState). Stays s.flows c.learn.new.self) c.self.view_is c.learn.ensures.stays

@@ -1,11 +1,11 @@
-use Rattle.std.proofs.Common.{◌≡◌, ℕ, ◌-◌, ◌<◌, arith, ◌&&◌, nat_le, Bool, List, Option, None, Some, true, false, ap, refl, subst, ◌∙◌}
+use Rattle.std.proofs.Common.{◌≡◌, ℕ, ◌-◌, ◌<◌, inl, inr, arith, ◌&&◌, nat_le, Bool, List, Option, None, Some, true, false, ap, refl, subst, sym, ◌∙◌}
 use Rattle.std.proofs.lemmas.Bool.Decides.{nat_tests}
 use Rattle.world_face.specs.Journal.{Entry}
 use Rattle.host_policy.specs.Addresses.{Config}
 use Rattle.flows_follow.specs.Core.{CoreHolds}
 use Rattle.tcp_flows.specs.Reading.{IsDue}
 use Rattle.slirp_core.specs.State.{SlirpState}
-use Rattle.slirp_core.specs.Timeouts.{SuitsFlows}
+use Rattle.slirp_core.specs.Timeouts.{IsFlowTime, SuitsFlows, WaitForLink}
 use Rattle.slirp_core.proofs.Bounding.{suits_after, suits_due}
 use Rattle.slirp_core.proofs.network.Slirp.time_of_flows.Goals.{else-blocked-via-else-blocked, else-blocked-via-then-blocked+else-due-self}
 use Rattle.slirp_core.proofs.network.Slirp.time_of_flows.Goals as goal
@@ -61,3 +61,28 @@ returns-then-due-self-clause-suits c =
     suits_after config i.moment c.args.blocked i.flows.flows.slots past (Some c.in_ok-later.later) (Some (c.in_ok-later.later - i.moment)) refl
     (c.in_ok-later.ensures.for_some config before past holds) c.if-blocked.true
     (c.in_ok-later.ensures.in_time config before true past holds) (c.in_ok-later.ensures.rests config before past holds) c.in_ok-later.ensures.next)
+
+abbrev Time : Bool → Option ℕ → SlirpState → Type 0
+Time blocked time s = IsFlowTime blocked s.moment s.flows.flows.slots time
+
+pub returns-in_err-later-clause-time : goal.returns-in_err-later-clause-time
+returns-in_err-later-clause-time c =
+    let i = c.self.inside in
+    let none : IsFlowTime c.args.blocked i.moment i.flows.flows.slots None = inr ((c.if-blocked.true, c.in_ok-due.due, c.in_ok-due.ensures.due, c.if-due-self.true), c.in_err-later.ensures.next) in
+    subst (Time c.args.blocked c.from_residual-in_err-later.result) c.self.view_is
+    (subst (λ (o : Option ℕ). IsFlowTime c.args.blocked i.moment i.flows.flows.slots o) (sym c.from_residual-in_err-later.ensures) none)
+
+pub returns-clause-time : goal.returns-clause-time
+returns-clause-time c =
+    let i = c.self.inside in
+    let not_late : (c.args.blocked && nat_le c.in_ok-due.due i.moment) ≡ false = elim c.else-blocked.branch [
+      | else-blocked-via-else-blocked w ↦ ap (λ (b : Bool). b && nat_le c.in_ok-due.due i.moment) w.if-blocked.false
+      | else-blocked-via-then-blocked+else-due-self w ↦ ap (λ (b : Bool). b && nat_le c.in_ok-due.due i.moment) w.if-blocked.true ∙ not_yet c.in_ok-due.due i.moment w.if-due-self.false
+    ] in
+    subst (Time c.args.blocked (Some c.saturating_sub.result)) c.self.view_is (c.in_ok-due.due, inl (c.in_ok-due.ensures.due, not_late), c.saturating_sub.ensures)
+
+pub returns-then-due-self-clause-time : goal.returns-then-due-self-clause-time
+returns-then-due-self-clause-time c =
+    let i = c.self.inside in
+    let due : WaitForLink c.args.blocked i.moment i.flows.flows.slots = (c.if-blocked.true, c.in_ok-due.due, c.in_ok-due.ensures.due, c.if-due-self.true) in
+    subst (Time c.args.blocked (Some (c.in_ok-later.later - i.moment))) c.self.view_is (c.in_ok-later.later, inr (due, c.in_ok-later.ensures.next), refl)

@@ -3,7 +3,7 @@ use Rattle.flow_splice.specs.Splice.{Splice}
 use Rattle.tcp_flows.specs.Kept.{Kept, part_of}
 use Rattle.tcp_flows.specs.Reading.{IsNextAfter}
 use Rattle.tcp_flows.specs.Waits.{IsForSome}
-use Rattle.tcp_flows.proofs.Awaiting.{from_part, in_time_after, rests_later, same_slots}
+use Rattle.tcp_flows.proofs.Awaiting.{from_blocked, in_time_after, rests_later, same_slots}
 use Rattle.tcp_flows.proofs.flows.TcpFlows.due_after.Goals as goal
 
 pub returns-clause-next : goal.returns-clause-next
@@ -21,7 +21,7 @@ returns-clause-for_some c config before past holds = by c.due_after.result (retu
     by None is = tt
     by (Some at) is =
         let some = is.some in
-        from_part config before true None c.args.self.now.flows past holds refl
+        from_blocked config before true None c.args.self.now.flows past holds refl
         (same_slots c.self.inside.slots.items c.args.self.now.flows.table.slots c.args.self.now.flows.slots (sym (ap (λ (s : Kept). s.flows.table.slots) c.self.view_is)
         ∙ c.self.invariant.0.slots_are) (ap (λ (s : Kept). s.flows.slots) c.self.view_is)) at
         some.0 some.1 some.2 some.3
