@@ -110,6 +110,8 @@ static pthread_barrier_t bar;
 struct flow { uint64_t n; double secs; int ok, connected, err; };
 static void *flow_thread(void *v) { struct flow *f = v; int fd = dial(A, P, f->secs); f->connected = fd >= 0; if (fd < 0) f->err = errno; pthread_barrier_wait(&bar); if (fd < 0) return 0;
   char q[32]; int k = sprintf(q, "%lu\n", f->n); uint64_t c = 0, w = 0; if (!put(fd, q, k)) get_pattern(fd, UINT64_MAX, &c, &w); f->ok = c == f->n && !w; if (!f->ok) f->err = errno; close(fd); return 0; }
+static void *flow_up_thread(void *v) { struct flow *f = v; int fd = dial(A, P, f->secs); f->connected = fd >= 0; if (fd < 0) f->err = errno; pthread_barrier_wait(&bar); if (fd < 0) return 0;
+  char q[64]; int k = sprintf(q, "%lu\n", f->n); unsigned long c = 0, w = 1; if (!put(fd, q, k) && !put_pattern(fd, f->n)) { line(fd, q, 60); if (sscanf(q, "%lu %lu", &c, &w) != 2) w = 1; } f->ok = c == f->n && !w; if (!f->ok) f->err = errno; close(fd); return 0; }
 struct wr { int fd; uint64_t n; int bad; };
 static void *writer(void *v) { struct wr *w = v; w->bad = put_pattern(w->fd, w->n) != 0; return 0; }
 
@@ -141,10 +143,13 @@ int main(int argc, char **argv) {
       else { r = put(fd, o, size) || get(fd, b, size) || memcmp(b, o, size); if (r) { bad++; break; } }
       if (r) bad++; else t[done++] = now() - s; }
     double s = now() - t0; lat(t, done, l); int ok = fd >= 0 && done && (udp ? bad * 100 <= count : !bad); printf("{\"ok\":%s,\"done\":%zu,\"bad\":%zu,\"secs\":%.4f,\"per_s\":%.1f,%s}\n", ok ? "true" : "false", done, bad, s, done / s, l); return !ok; }
-  if (!strcmp(c, "flows")) { int k = N(4, 40); uint64_t n = N(5, 10000); double secs = N(6, 30); struct flow *f = calloc(k, sizeof *f); pthread_t *t = calloc(k, sizeof *t); pthread_attr_t a; pthread_attr_init(&a); pthread_attr_setstacksize(&a, 256 << 10); pthread_barrier_init(&bar, 0, k + 1);
-    for (int i = 0; i < k; i++) { f[i].n = n; f[i].secs = secs; pthread_create(&t[i], &a, flow_thread, &f[i]); }
+  if (!strcmp(c, "flows") || !strcmp(c, "flowsup")) { int isup = c[5] == 'u'; int k = N(4, 40); uint64_t n = N(5, 10000); double secs = N(6, 30); struct flow *f = calloc(k, sizeof *f); pthread_t *t = calloc(k, sizeof *t); pthread_attr_t a; pthread_attr_init(&a); pthread_attr_setstacksize(&a, 256 << 10); pthread_barrier_init(&bar, 0, k + 1);
+    for (int i = 0; i < k; i++) { f[i].n = n; f[i].secs = secs; pthread_create(&t[i], &a, isup ? flow_up_thread : flow_thread, &f[i]); }
     pthread_barrier_wait(&bar); double tc = now() - t0; int ok = 0, con = 0, err = 0; for (int i = 0; i < k; i++) { pthread_join(t[i], 0); ok += f[i].ok; con += f[i].connected; if (f[i].err) err = f[i].err; } double s = now() - t0 - tc;
     printf("{\"ok\":%s,\"flows\":%d,\"connected\":%d,\"whole\":%d,\"connect_secs\":%.4f,\"secs\":%.4f,\"mb_s\":%.2f,\"errno\":%d}\n", ok == k ? "true" : "false", k, con, ok, tc, s, ok * (double)n / s / 1e6, err); return ok != k; }
+  if (!strcmp(c, "hold")) { int n = N(4, 1), con = 0; size_t size = N(5, 64); int *fd = calloc(n + 1, sizeof *fd); uint8_t *b = malloc(size + 1);
+    for (int i = 0; i < n; i++) { fd[i] = dial(A, P, 10); if (fd[i] < 0 || put(fd[i], pat, size) || get(fd[i], b, size)) break; con++; }
+    printf("{\"ok\":%s,\"connected\":%d,\"errno\":%d,\"secs\":%.4f}\n", con == n ? "true" : "false", con, con == n ? 0 : errno, now() - t0); fflush(stdout); for (;;) pause(); }
   if (!strcmp(c, "bidir")) { uint64_t n = N(4, 1e6), got = 0, wrong = 0; int fd = dial(A, P, N(5, 30)); t0 = now(); struct wr w = { fd, n, 1 }; pthread_t t; if (fd >= 0) { pthread_create(&t, 0, writer, &w); if (get_pattern(fd, n, &got, &wrong)) shutdown(fd, SHUT_RDWR); pthread_join(t, 0); }
     double s = now() - t0; int ok = !w.bad && got == n && !wrong; printf("{\"ok\":%s,\"octets\":%lu,\"wrong\":%lu,\"secs\":%.4f,\"mb_s\":%.2f}\n", ok ? "true" : "false", got, wrong, s, n / s / 1e6); return !ok; }
   if (!strcmp(c, "half")) { uint64_t got = 0, wrong = 0; int fd = dial(A, P, 10); int bad = fd < 0 || put_pattern(fd, 5000); if (!bad) { shutdown(fd, SHUT_WR); get_pattern(fd, UINT64_MAX, &got, &wrong); } int ok = got == 100000 && !wrong;
