@@ -1,23 +1,17 @@
 // The loop of turns.
 //
 // A run begins with the ports of the host that are given to guests and with the moment (`start`), then goes by turns until one ends it (`serve`). A turn tells
-// the flows of TCP the time, closes what has been
-// idle too long, sends what is owed, with the packets of files that are due to go again, and waits for what it wants; then it asks for the moment and serves
-// what was reported, in the order of the list: a
-// frame is read and taken in, a peer of a forward is taken, a peer's datagram is received, or a flow's socket is served, writing before reading, and after each what is owed for it is
-// sent. A frame or a datagram is read only while nothing is left to be sent. At the end every socket is closed, by rising number.
-ghost use Rattle.std.specs.Prelude.{◌≡◌, ◌&&◌, ◌||◌, List, true, false, IfSome, None, if◌then◌else◌};
-ghost use Rattle.slirp_laws.specs.Agenda.{is_to_read, is_to_write};
+// the flows of TCP the time, closes what has been idle too long, sends what is owed, with the packets of files that are due to go again, and waits for what it
+// wants; then it asks for the moment and serves what was reported (reports.rt). At the end every socket is closed, by rising number.
+ghost use Rattle.std.specs.Prelude.{◌≡◌, ◌&&◌, List, true, false, IfSome, if◌then◌else◌};
 ghost use Rattle.slirp_core.specs.Holds.{Standing};
-ghost use Rattle.serve_loop.specs.Turns.{StaysCalm, is_read_now, still};
 ghost use Rattle.poll_list.specs.Listing.{reads, writes};
 ghost use Rattle.serve_loop.specs.Ends.{turn_of};
-ghost use Rattle.poll_list.specs.declared.Who.TheVariants.{Link as TheLink, Listener, Udp, Tcp};
-ghost use Rattle.slirp_laws.specs.Agenda.{wanted_of};
+ghost use Rattle.poll_list.specs.declared.Who.TheVariants.{Link as TheLink};
 ghost use Rattle.slirp_core.specs.Pumps.{TcpOnce};
-ghost use Rattle.poll_list.specs.declared.Want.{Want as AnItem};
 ghost use Rattle.world_face.specs.Limits.{most_ready, most_to_udp};
 
+use crate::reports::still;
 use arrayvec::ArrayVec;
 use host_policy::{Forward, SlirpConfig};
 use net_octets::NoMemory;
@@ -25,7 +19,7 @@ use poll_list::{ReadyList, Want, Who};
 use slirp_core::{LONGEST_ASSEMBLED, Slirp, TurnWants};
 use std::alloc::Global;
 use std::marker::Model;
-use stream_netdev::{Arrived, Link, Pumped};
+use stream_netdev::{Link, Pumped};
 use world_face::{MOST_READY, MOST_TO_UDP, Waited, World};
 
 /// How a run ended.
@@ -70,12 +64,12 @@ pub enum Slept {
 /// A network that serves one link.
 #[derive(Drop)]
 pub struct Service {
-    slirp: Slirp,
-    link: Link,
-    wants: TurnWants,
+    pub(crate) slirp: Slirp,
+    pub(crate) link: Link,
+    pub(crate) wants: TurnWants,
     ready: ReadyList,
-    payload: Vec<u8>,
-    joined: Vec<u8>,
+    pub(crate) payload: Vec<u8>,
+    pub(crate) joined: Vec<u8>,
     turns: u64,
     // the ports of the host that are to be opened
     forwards: ArrayVec<Forward, 32>,
@@ -110,16 +104,13 @@ impl Service {
     ghost use Rattle.stream_netdev.specs.State.{under_way};
     ghost use Rattle.serve_loop.specs.Ends.{end_of, IsCounted};
     ghost use Rattle.slirp_core.specs.Counts.{AreGrown};
-    ghost use Rattle.slirp_core.specs.Holds.{AfterListening, after, standing};
-    ghost use Rattle.serve_loop.specs.Turns.{AfterItem, AfterTurn, AllSent, AreYoung, AttendsAfterSleep, AttendsAfterTaking, AttendsAfterTurn, AttendsAfterWholeTurn, AttendsNow, CanTake};
+    ghost use Rattle.slirp_core.specs.Holds.{AfterListening, after};
+    ghost use Rattle.serve_loop.specs.Turns.{AfterTurn, AllSent, AreYoung, AttendsAfterSleep, AttendsAfterTaking, AttendsAfterTurn, AttendsAfterWholeTurn, AttendsNow};
     ghost use Rattle.serve_loop.specs.Turns.{HoldsNow, IsCalm, IsCalmAfter, IsInTime, IsStep, MayRest, NoneGoesAgain, NoneTold, ServedAfter, ServesNow, all_passed_over, is_frame_due};
-    ghost use Rattle.serve_loop.specs.Turns.{is_passed_over};
     ghost use Rattle.run_duties.specs.Duties.{Attended, Dutiful};
-    ghost use Rattle.run_duties.specs.Serving.{is_left_to_read};
     ghost use Rattle.slirp_core.specs.Marks.{KeepsMarks};
     ghost use Rattle.slirp_core.specs.Pumps.{is_settled};
     ghost use Rattle.serve_loop.specs.Served.{IsBuilt, IsNew, Stays};
-    ghost use Rattle.slirp_core.specs.Hearing.{Receives, is_heard};
 
     /// A network with these settings that has served nothing. It takes all the memory that it will ever need.
     pub fn open(alloc: Global, c: &SlirpConfig) -> Result<Service, NoMemory>
@@ -393,216 +384,15 @@ impl Service {
         self.ready.items()[place]
     }
 
-    // Serves an item of what a wait reported in the directions that were waited for, and sends what is then owed. Of what wasn't waited for no call comes, and no pump after it.
-    fn attend<W: World>(&mut self, world: &mut W, item: &Want, to_read: bool) -> Turn
-        requires on { ReadsOn (under_way self.old.link) }
-        requires number { self.old.slirp.number + 1 < 2 ^ 64 }
-        ensures makes { (config : Config) (count : ℕ) (items : List AnItem) → (to_read ≡ true → reads TheLink self.old.wants ≡ true)
-            → Brings (W.tells world.old) (W.tells world.new)
-            (ServesNow config count self.old.wants (item.now ∷ items) to_read self.old.slirp self.old.link)
-            (AfterItem result config count self.old.wants items (still to_read item.now) self.new.slirp self.new.link) }
-        ensures step { IsStep result (W.tells world.old).faults (W.tells world.new).faults self.new.link }
-        ensures calm { StaysCalm result self.old.wants item.now self.old.slirp self.old.link self.new.slirp self.new.link }
-        ensures stays { Stays self.old self.new }
-        ensures number { self.new.slirp.number ≤ self.old.slirp.number + 1 }
-        ensures passed { (to_read ≡ true → reads TheLink self.old.wants ≡ true) → is_passed_over self.old.wants item.now ≡ true → (result ≡ Turn.Again)
-            × (self.new ≡ self.old) × (world.new ≡ world.old) }
-    {
-        match item.of {
-            Who::Link => self.attend_link(world, item, to_read),
-            Who::Udp(number) => self.attend_port(world, number, item),
-            Who::Tcp(number) => self.attend_flow(world, number, item),
-            Who::Listener(number) => self.attend_listener(world, number, item),
-        }
-    }
-
-    // The link: a frame is read where one is still to be read, or the link takes more.
-    fn attend_link<W: World>(&mut self, world: &mut W, item: &Want, to_read: bool) -> Turn
-        requires of { item.now.of ≡ TheLink }
-        requires on { ReadsOn (under_way self.old.link) }
-        requires number { self.old.slirp.number + 1 < 2 ^ 64 }
-        ensures makes { (config : Config) (count : ℕ) (items : List AnItem) → (to_read ≡ true → reads TheLink self.old.wants ≡ true)
-            → Brings (W.tells world.old) (W.tells world.new)
-            (ServesNow config count self.old.wants (item.now ∷ items) to_read self.old.slirp self.old.link)
-            (AfterItem result config count self.old.wants items (still to_read item.now) self.new.slirp self.new.link) }
-        ensures step { IsStep result (W.tells world.old).faults (W.tells world.new).faults self.new.link }
-        ensures calm { StaysCalm result self.old.wants item.now self.old.slirp self.old.link self.new.slirp self.new.link }
-        ensures stays { Stays self.old self.new }
-        ensures number { self.new.slirp.number ≤ self.old.slirp.number + 1 }
-        ensures passed { (to_read ≡ true → reads TheLink self.old.wants ≡ true) → is_passed_over self.old.wants item.now ≡ true → (result ≡ Turn.Again)
-            × (self.new ≡ self.old) × (world.new ≡ world.old) }
-    {
-        if is_read_now(to_read, item) {
-            return match self.receive_frame(world) {
-                Turn::Again => self.pump(world),
-                Turn::Ended(end) => Turn::Ended(end),
-            };
-        }
-        if item.write && writes_link(self.wants.items()) {
-            return self.pump(world);
-        }
-        Turn::Again
-    }
-
-    // A port of the host: a peer is taken, where there is room yet for a flow more.
-    fn attend_listener<W: World>(&mut self, world: &mut W, number: u64, item: &Want) -> Turn
-        requires of { item.now.of ≡ Listener number }
-        requires on { ReadsOn (under_way self.old.link) }
-        requires number { self.old.slirp.number + 1 < 2 ^ 64 }
-        ensures makes { (config : Config) (count : ℕ) (items : List AnItem) (to_read : Bool) → Brings (W.tells world.old) (W.tells world.new)
-            (ServesNow config count self.old.wants (item.now ∷ items) to_read self.old.slirp self.old.link)
-            (AfterItem result config count self.old.wants items to_read self.new.slirp self.new.link) }
-        ensures step { IsStep result (W.tells world.old).faults (W.tells world.new).faults self.new.link }
-        ensures calm { StaysCalm result self.old.wants item.now self.old.slirp self.old.link self.new.slirp self.new.link }
-        ensures stays { Stays self.old self.new }
-        ensures number { self.new.slirp.number ≤ self.old.slirp.number + 1 }
-        ensures passed { is_passed_over self.old.wants item.now ≡ true → (result ≡ Turn.Again) × (self.new ≡ self.old) × (world.new ≡ world.old) }
-    {
-        if !self.waits_for_peers(number, item) {
-            return Turn::Again;
-        }
-        self.slirp.accept(world, number);
-        self.pump(world)
-    }
-
-    // A guest's port: a datagram is received.
-    fn attend_port<W: World>(&mut self, world: &mut W, number: u64, item: &Want) -> Turn
-        requires of { item.now.of ≡ Udp number }
-        requires on { ReadsOn (under_way self.old.link) }
-        ensures makes { (config : Config) (count : ℕ) (items : List AnItem) (to_read : Bool) → Brings (W.tells world.old) (W.tells world.new)
-            (ServesNow config count self.old.wants (item.now ∷ items) to_read self.old.slirp self.old.link)
-            (AfterItem result config count self.old.wants items to_read self.new.slirp self.new.link) }
-        ensures step { IsStep result (W.tells world.old).faults (W.tells world.new).faults self.new.link }
-        ensures calm { StaysCalm result self.old.wants item.now self.old.slirp self.old.link self.new.slirp self.new.link }
-        ensures stays { Stays self.old self.new }
-        ensures number { self.new.slirp.number ≡ self.old.slirp.number }
-        ensures passed { is_passed_over self.old.wants item.now ≡ true → (result ≡ Turn.Again) × (self.new ≡ self.old) × (world.new ≡ world.old) }
-    {
-        if !self.waits_for(number, item) {
-            return Turn::Again;
-        }
-        self.receive_datagram(world, number);
-        self.pump(world)
-    }
-
-    // A flow's socket.
-    fn attend_flow<W: World>(&mut self, world: &mut W, number: u64, item: &Want) -> Turn
-        requires of { item.now.of ≡ Tcp number }
-        requires on { ReadsOn (under_way self.old.link) }
-        ensures makes { (config : Config) (count : ℕ) (items : List AnItem) (to_read : Bool) → Brings (W.tells world.old) (W.tells world.new)
-            (ServesNow config count self.old.wants (item.now ∷ items) to_read self.old.slirp self.old.link)
-            (AfterItem result config count self.old.wants items to_read self.new.slirp self.new.link) }
-        ensures step { IsStep result (W.tells world.old).faults (W.tells world.new).faults self.new.link }
-        ensures calm { StaysCalm result self.old.wants item.now self.old.slirp self.old.link self.new.slirp self.new.link }
-        ensures stays { Stays self.old self.new }
-        ensures number { self.new.slirp.number ≡ self.old.slirp.number }
-        ensures passed { is_passed_over self.old.wants item.now ≡ true → (result ≡ Turn.Again) × (self.new ≡ self.old) × (world.new ≡ world.old) }
-    {
-        let Some(wanted) = self.counted(number, item) else {
-            return Turn::Again;
-        };
-        self.slirp
-            .take_report(world, number, wanted.read, wanted.write);
-        self.pump(world)
-    }
-
-    // What counts of a report on a flow's socket: the directions that were waited for, and nothing exactly where none was.
-    fn counted(&self, number: u64, item: &Want) -> Option<Want>
-        requires { item.now.of ≡ Tcp number }
-        ensures counts { IfSome result (λ w. w ≡ wanted_of self.now.wants item.now) }
-        ensures some { IfSome result (λ w. (w.read || w.write) ≡ true) }
-        ensures none { result ≡ None → ((wanted_of self.now.wants item.now).read || (wanted_of self.now.wants item.now).write) ≡ false }
-    {
-        let wants = self.wants.of_flows();
-        let read = item.read && reads_among(wants, Who::Tcp(number));
-        let write = item.write && writes_among(wants, Who::Tcp(number));
-        if !(read || write) {
-            return None;
-        }
-        Some(Want {
-            of: item.of,
-            read,
-            write,
-        })
-    }
-
-    // Whether a report on this listener is for reading, and peers were waited for.
-    fn waits_for_peers(&self, number: u64, item: &Want) -> bool
-        ensures { result ≡ (item.now.read && reads (Listener number) self.now.wants) }
-    {
-        item.read && reads_among(self.wants.of_listeners(), Who::Listener(number))
-    }
-
-    // Whether a report on this socket is for reading, and datagrams on it were waited for.
-    fn waits_for(&self, number: u64, item: &Want) -> bool
-        ensures { result ≡ (item.now.read && reads (Udp number) self.now.wants) }
-    {
-        item.read && reads_among(self.wants.of_datagrams(), Who::Udp(number))
-    }
-
-    // Reads a frame where nothing is left to be sent, and hands it to the network.
-    fn receive_frame<W: World>(&mut self, world: &mut W) -> Turn
-        requires on { ReadsOn (under_way self.old.link) }
-        requires number { self.old.slirp.number + 1 < 2 ^ 64 }
-        ensures makes { (config : Config) (count : ℕ) (wants : List AnItem) (item : AnItem) (items : List AnItem)
-            → is_to_read TheLink (wanted_of wants item) ≡ true → Brings (W.tells world.old) (W.tells world.new)
-            (λ past. HoldsNow config (standing count wants (item ∷ items)) false self.old.slirp self.old.link past
-            × CanTake config self.old.slirp self.old.link past)
-            (λ past. AfterTurn result config (standing count wants items) false self.new.slirp self.new.link past
-            × (result ≡ Turn.Again → is_left_to_read config past TheLink ≡ false)) }
-        ensures marks { KeepsMarks self.old.slirp.number self.old.slirp.flows self.new.slirp.flows }
-        ensures step { IsStep result (W.tells world.old).faults (W.tells world.new).faults self.new.link }
-        ensures stays { Stays self.old self.new }
-        ensures number { self.new.slirp.number ≤ self.old.slirp.number + 1 }
-    {
-        if !self.is_settled() {
-            return Turn::Again;
-        }
-        match self.link.read_frame(world) {
-            Arrived::Frame => {
-                self.slirp.input(world, self.link.frame(), &mut self.joined);
-                Turn::Again
-            }
-            Arrived::NotYet => Turn::Again,
-            Arrived::End => Turn::Ended(End::Done),
-            Arrived::Cut(n) => Turn::Ended(End::Cut(n)),
-            Arrived::TooLong(n) => Turn::Ended(End::TooLong(n)),
-            Arrived::Failed => Turn::Ended(End::LinkFault),
-        }
-    }
-
-    // Receives a datagram on a socket where nothing is left to be sent.
-    fn receive_datagram<W: World>(&mut self, world: &mut W, number: u64)
-        // Where nothing is left to be sent and the socket is open a datagram is asked for on it, once.
-        ensures receives { is_settled self.old.slirp self.old.link ≡ true → is_heard number self.old.slirp ≡ true
-            → Makes (W.tells world.old) (W.tells world.new) (Receives number) }
-        ensures makes { (config : Config) (count : ℕ) (wants : List AnItem) (item : AnItem) (items : List AnItem)
-            → is_to_read (Udp number) (wanted_of wants item) ≡ true → Brings (W.tells world.old) (W.tells world.new)
-            (λ past. HoldsNow config (standing count wants (item ∷ items)) false self.old.slirp self.old.link past
-            × CanTake config self.old.slirp self.old.link past)
-            (λ past. HoldsNow config (standing count wants items) false self.new.slirp self.new.link past
-            × (is_left_to_read config past (Udp number) ≡ false)) }
-        ensures counts { AreGrown (W.tells world.old).faults (W.tells world.new).faults }
-        ensures link { self.new.link ≡ self.old.link }
-        ensures flows { self.new.slirp.flows ≡ self.old.slirp.flows }
-        ensures stays { Stays self.old self.new }
-        ensures number { self.new.slirp.number ≡ self.old.slirp.number }
-    {
-        if self.is_settled() {
-            self.slirp
-                .receive_datagram(world, number, &mut self.payload);
-        }
-    }
-
     // Whether nothing is left to be sent.
-    fn is_settled(&self) -> bool
+    pub(crate) fn is_settled(&self) -> bool
         ensures { result ≡ is_settled self.now.slirp self.now.link }
     {
         self.slirp.is_settled(&self.link)
     }
 
     // Sends what is owed.
-    fn pump<W: World>(&mut self, world: &mut W) -> Turn
+    pub(crate) fn pump<W: World>(&mut self, world: &mut W) -> Turn
         requires { ReadsOn (under_way self.old.link) }
         ensures makes { (config : Config) (at : Standing) (aged : Bool) → Brings (W.tells world.old) (W.tells world.new)
             (HoldsNow config at aged self.old.slirp self.old.link) (AfterTurn result config at aged self.new.slirp self.new.link) }
@@ -634,7 +424,7 @@ fn report(link: &mut Link, ready: &[Want])
 }
 
 // Whether the link is among these for writing.
-fn writes_link(items: &[Want]) -> bool
+pub(crate) fn writes_link(items: &[Want]) -> bool
     ensures { result ≡ writes TheLink items.now }
 {
     items.iter().any(|item| item.of == Who::Link && item.write)
@@ -645,102 +435,6 @@ fn reads_link(items: &[Want]) -> bool
     ensures { result ≡ reads TheLink items.now }
 {
     items.iter().any(|item| item.of == Who::Link && item.read)
-}
-
-// Whether this item is the frame that is to be read.
-fn is_read_now(to_read: bool, item: &Want) -> bool
-    ensures { result ≡ is_read_now to_read item.now }
-{
-    to_read && item.of == Who::Link && item.read
-}
-
-// Whether a frame is still to be read after this item.
-fn still(to_read: bool, item: &Want) -> bool
-    ensures { result ≡ still to_read item.now }
-{
-    to_read && !(item.of == Who::Link && item.read)
-}
-
-// The number of the socket that an item is of.
-fn socket_of(who: Who) -> Option<u64> {
-    match who {
-        Who::Link => None,
-        Who::Listener(number) | Who::Udp(number) | Who::Tcp(number) => Some(number),
-    }
-}
-
-// Whether this one is among them, for reading. What is waited for stands by rising number, so what isn't found there is looked for among all only where none was wanted.
-fn reads_among(wants: &[Want], of: Who) -> bool
-    ensures { result ≡ reads of wants.now }
-{
-    reads_in_order(wants, of) || reads_anywhere(wants, of)
-}
-
-fn reads_in_order(wants: &[Want], of: Who) -> bool
-    ensures { result ≡ true → reads of wants.now ≡ true }
-{
-    match wants.binary_search_by_key(&socket_of(of), |want| socket_of(want.of)) {
-        Ok(place) => reads_at(wants, place, of),
-        Err(_) => false,
-    }
-}
-
-fn reads_anywhere(wants: &[Want], of: Who) -> bool
-    ensures { result ≡ reads of wants.now }
-{
-    wants.iter().any(|want| is_read(want, of))
-}
-
-fn reads_at(wants: &[Want], place: usize, of: Who) -> bool
-    ensures { result ≡ true → reads of wants.now ≡ true }
-{
-    let Some(want) = wants.get(place) else {
-        return false;
-    };
-    is_read(want, of)
-}
-
-fn is_read(want: &Want, of: Who) -> bool
-    ensures { result ≡ is_to_read of want.now }
-{
-    want.of == of && want.read
-}
-
-// And for writing.
-fn writes_among(wants: &[Want], of: Who) -> bool
-    ensures { result ≡ writes of wants.now }
-{
-    writes_in_order(wants, of) || writes_anywhere(wants, of)
-}
-
-fn writes_in_order(wants: &[Want], of: Who) -> bool
-    ensures { result ≡ true → writes of wants.now ≡ true }
-{
-    match wants.binary_search_by_key(&socket_of(of), |want| socket_of(want.of)) {
-        Ok(place) => writes_at(wants, place, of),
-        Err(_) => false,
-    }
-}
-
-fn writes_anywhere(wants: &[Want], of: Who) -> bool
-    ensures { result ≡ writes of wants.now }
-{
-    wants.iter().any(|want| is_written(want, of))
-}
-
-fn writes_at(wants: &[Want], place: usize, of: Who) -> bool
-    ensures { result ≡ true → writes of wants.now ≡ true }
-{
-    let Some(want) = wants.get(place) else {
-        return false;
-    };
-    is_written(want, of)
-}
-
-fn is_written(want: &Want, of: Who) -> bool
-    ensures { result ≡ is_to_write of want.now }
-{
-    want.of == of && want.write
 }
 
 // What a pump comes to in a turn.
