@@ -5,6 +5,7 @@ mod allowing;
 mod answering;
 mod giving;
 mod line;
+mod outcomes;
 mod printing;
 mod reading;
 mod reported;

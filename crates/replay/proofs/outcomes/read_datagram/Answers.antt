@@ -3,7 +3,7 @@ use Rattle.address_text.specs.Texts.{endpoint_text}
 use Rattle.replay.specs.Text.{hexadecimal}
 use Rattle.replay.proofs.Words.{endpoint_word}
 use Rattle.replay.proofs.Refusing.{same_fault, spaced_parts}
-use Rattle.replay.proofs.reading.read_datagram.Goals as goal
+use Rattle.replay.proofs.outcomes.read_datagram.Goals as goal
 
 pub returns-in_err-peer-clause-refused : goal.returns-in_err-peer-clause-refused
 returns-in_err-peer-clause-refused c = let p = err_from_is_err_and c.from_residual-in_err-peer.result c.from_residual-in_err-peer.ensures.1 in rw (p.1, p.2)
