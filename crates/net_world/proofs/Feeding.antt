@@ -1,7 +1,7 @@
 -- Listeners that waited are ready again, one place after the other.
 use Rattle.std.proofs.Common.{◌≡◌, ℕ, zero, suc, ◌<◌, ◌+◌, ◌||◌, Bool, true, false, List, [], ◌∷◌, length, get_or, Option, Some, None, inl, inr, refl, sym, ap, ◌∙◌, arith, ◌⊎◌}
 use Rattle.std.proofs.lemmas.Bool.{cases_eq}
-use Rattle.net_world.specs.declared.sockets.Slot.{Slot}
+use Rattle.net_world.specs.declared.slot.Slot.{Slot}
 use Rattle.net_world.specs.declared.sockets.Place.{Place}
 use Rattle.net_world.specs.Tables.{number_of, slot_at, fed, fed_at, place_at, ArePlaced, IsKnownStarved, OthersStay}
 

@@ -9,7 +9,7 @@ use Rattle.std.proofs.lemmas.Cmp.{ranked}
 use Rattle.std.proofs.lemmas.Bool.{cases_eq, cases_lt}
 use Rattle.poll_list.specs.declared.Who.{Who}
 use Rattle.poll_list.specs.declared.Who.TheVariants.{Link, Listener, Udp, Tcp}
-use Rattle.net_world.specs.declared.sockets.Slot.{Slot}
+use Rattle.net_world.specs.declared.slot.Slot.{Slot}
 use Rattle.net_world.specs.declared.sockets.Place.{Place}
 use Rattle.net_world.specs.declared.sockets.Listed.{Listed}
 use Rattle.net_world.specs.Tables.{rank_of, number_of, by_rank, InOrder, listed_at, place_at, slot_at, reads, IsOf, one, count_below, AreListed, ArePlaced, Lists, OthersStay}

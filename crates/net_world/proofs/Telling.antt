@@ -14,7 +14,7 @@ use Rattle.poll_list.specs.declared.Who.TheVariants.{Link, Listener, Udp, Tcp}
 use Rattle.poll_list.specs.Listing.{same_who}
 use Rattle.poll_list.specs.Picks.{Adds, Begins, GoesOn, part_in, as_list}
 use Rattle.poll_list.proofs.Picking.{goes_on_step}
-use Rattle.net_world.specs.declared.sockets.Slot.{Slot}
+use Rattle.net_world.specs.declared.slot.Slot.{Slot}
 use Rattle.net_world.specs.declared.sockets.Known.{Known}
 use Rattle.net_world.specs.declared.sockets.Listed.{Listed}
 use Rattle.net_world.specs.Tables.{InOrder, rank_of, by_rank, Rise, slot_at, known_of, one}

@@ -3,8 +3,8 @@ use Rattle.std.specs.Prelude.{◌≡◌, Bool, true, false, Ok, Err}
 use Rattle.std.specs.declared.io.ErrorKind.{ErrorKind}
 use Rattle.std.specs.declared.io.ErrorKind.TheVariants.{WouldBlock, ConnectionAborted}
 use Rattle.octet_buffer.specs.Streams.{Answer}
-use Rattle.net_world.specs.declared.sockets.Came.{Came}
-use Rattle.net_world.specs.declared.sockets.Came.TheVariants.{NotYet, Failed}
+use Rattle.net_world.specs.declared.slot.Came.{Came}
+use Rattle.net_world.specs.declared.slot.Came.TheVariants.{NotYet, Failed}
 use Rattle.net_world.specs.declared.stream_calls.Ready.{Ready}
 
 -- Of a call that failed so: it would have waited; the connection was given up before it was taken; or the system had no descriptor for it, and it stays there.

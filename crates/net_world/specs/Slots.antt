@@ -1,7 +1,7 @@
 -- What a socket is.
 use Rattle.std.specs.Prelude.{Bool, true, false, Option, None}
-use Rattle.net_world.specs.declared.sockets.Socket.{Socket}
-use Rattle.net_world.specs.declared.sockets.Socket.TheVariants.{Listener, Stream, Datagrams}
+use Rattle.net_world.specs.declared.slot.Socket.{Socket}
+use Rattle.net_world.specs.declared.slot.Socket.TheVariants.{Listener, Stream, Datagrams}
 
 -- what is known of a connection's stream; nothing of other sockets
 abbrev pub of_stream : {S A : Type 0} → (S → Option A) → Socket S → Option A

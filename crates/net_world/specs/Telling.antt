@@ -7,7 +7,7 @@ use Rattle.poll_list.specs.declared.Who.TheVariants.{Link}
 use Rattle.net_world.specs.declared.link.Link.{Link as Stands}
 use Rattle.net_world.specs.Linking.{is_told_readable, is_told_writable}
 use Rattle.poll_list.specs.Listing.{same_who}
-use Rattle.net_world.specs.declared.sockets.Slot.{Slot}
+use Rattle.net_world.specs.declared.slot.Slot.{Slot}
 use Rattle.net_world.specs.declared.sockets.Known.{Known}
 use Rattle.net_world.specs.declared.sockets.Listed.{Listed}
 use Rattle.net_world.specs.Tables.{rank_of, by_rank, Rise, slot_at, known_of, nothing_known, one}

@@ -11,7 +11,7 @@ ghost use Rattle.net_world.specs.Linking.{is_told_readable, is_told_writable, be
 ghost use Rattle.net_world.specs.Places.{listens};
 ghost use Rattle.net_world.specs.Recording.{Passes, passing_untold};
 ghost use Rattle.net_world.specs.Tables.{IsTaken, Joins, Opens, Table, number_of, slot_at};
-ghost use Rattle.net_world.specs.declared.sockets.Slot.{Slot};
+ghost use Rattle.net_world.specs.declared.slot.Slot.{Slot};
 ghost use Rattle.net_world.specs.declared.place.Place.{Place};
 ghost use Rattle.net_world.specs.Telling.{AreInOrder, AreReady, IsReadable, IsWritable, TellsOneRead, TellsRead, TellsWrite, link_known, read_sockets};
 

@@ -12,6 +12,7 @@ mod laws;
 mod link;
 mod net_world;
 mod place;
+mod slot;
 mod socket_file;
 mod sockets;
 mod stream_calls;

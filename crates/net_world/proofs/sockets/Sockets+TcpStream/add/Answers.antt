@@ -5,7 +5,7 @@ use Rattle.std.specs.Ordering.{nat_cmp}
 use Rattle.mio.specs.declared.net.stream.TcpStream.{TcpStream}
 use Rattle.net_world.specs.declared.sockets.TheConstants.{MOST}
 use Rattle.net_world.specs.declared.sockets.Place.{Place}
-use Rattle.net_world.specs.declared.sockets.Slot.{Slot}
+use Rattle.net_world.specs.declared.slot.Slot.{Slot}
 use Rattle.net_world.specs.Tables.{AreListed, ArePlaced, Finds, OthersStay, Table, number_of, place_at, ready_for_none, slot_at}
 use Rattle.net_world.proofs.Standing.{inserted}
 use Rattle.net_world.proofs.Changing.{added, finds_none, starved_with}

@@ -1,5 +1,5 @@
 use Rattle.std.proofs.Common.{sym, refl, arith}
-use Rattle.net_world.specs.declared.sockets.Slot.{Slot}
+use Rattle.net_world.specs.declared.slot.Slot.{Slot}
 use Rattle.net_world.proofs.Standing.{alone}
 use Rattle.net_world.proofs.Changing.{changed, room, starved_still}
 use Rattle.net_world.proofs.sockets.Sockets.note.Goals as goal

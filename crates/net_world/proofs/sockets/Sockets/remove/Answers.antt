@@ -1,7 +1,7 @@
 use Rattle.std.proofs.Common.{ℕ, ◌≡◌, ◌<◌, ◌≤◌, ◌∙◌, List, length, Option, Some, None, Ok, Err, set, sym, ap, subst, refl, arith}
 use Rattle.std.specs.List.Sorted.{IsBinarySearchResult}
 use Rattle.std.specs.Ordering.{nat_cmp}
-use Rattle.net_world.specs.declared.sockets.Slot.{Slot}
+use Rattle.net_world.specs.declared.slot.Slot.{Slot}
 use Rattle.net_world.specs.declared.sockets.Place.{Place}
 use Rattle.net_world.specs.Tables.{AreListed, ArePlaced, Finds, IsKnownStarved, OthersStay, Table, slot_at}
 use Rattle.net_world.proofs.Standing.{alone}

@@ -1,5 +1,5 @@
 use Rattle.std.proofs.Common.{◌≡◌, ◌∙◌, Some, Bool, true, false, ◌||◌, sym, ap, subst, refl, arith}
-use Rattle.net_world.specs.declared.sockets.Slot.{Slot}
+use Rattle.net_world.specs.declared.slot.Slot.{Slot}
 use Rattle.net_world.specs.Tables.{Table, slot_at}
 use Rattle.net_world.proofs.Changing.{alone_so, changed_so, one_slot, room, starved_still, taken}
 use Rattle.net_world.proofs.sockets.Sockets.take.Goals as goal

@@ -1,6 +1,6 @@
 use Rattle.std.proofs.Common.{◌≡◌, ◌∙◌, Some, length, sym, subst, refl, arith}
 use Rattle.world_face.specs.Journal.{filled}
-use Rattle.net_world.specs.declared.sockets.Slot.{Slot}
+use Rattle.net_world.specs.declared.slot.Slot.{Slot}
 use Rattle.net_world.specs.Tables.{IsRead, Table, slot_at}
 use Rattle.net_world.proofs.Changing.{alone_so, becomes, changed_so, one_slot, room, starved_still}
 use Rattle.net_world.proofs.sockets.Sockets.tcp_read.Goals as goal
