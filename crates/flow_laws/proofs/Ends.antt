@@ -1,35 +1,35 @@
 -- The list of the ends of a guest's stream has exactly these.
 use Rattle.std.proofs.Common.{refl, ◌≡◌, ℕ, ◌≤◌, List, [], ◌∷◌, length, Option, None, Some, ◌⊎◌, inl, inr, arith, subst, sym, ap, Bool, true, false, ◌&&◌, ◌||◌, if◌then◌else◌, IsTrue}
 use Rattle.std.proofs.Common.{nat_eq, nat_le, ℤ, pos, negsuc, ◌+◌}
+use Rattle.std.specs.List.{list_any}
 use Rattle.std.proofs.lemmas.Bool.Decides.{nat_tests}
 use Rattle.flow_laws.specs.Guest.{Up, Known, Came, Acked, Wrote, Ended, EndsAt, Honest, HasCome, IsAcknowledged, ackd, ends, front}
 use Rattle.flow_laws.specs.Flow.{push}
-use Rattle.flow_laws.specs.Close.{contains}
 use Rattle.flow_laws.specs.Computed.{all_ends, end_if, ends_at, has_come, least_end, acknowledged}
 use Rattle.flow_laws.proofs.Computing.{both, either, nat_same, nat_within}
 
 -- ---- of lists
 
-pub contains_first : (x : ℕ) (xs : List ℕ) → IsTrue (contains x (x ∷ xs))
+pub contains_first : (x : ℕ) (xs : List ℕ) → IsTrue (list_any (nat_eq x) (x ∷ xs))
 contains_first x xs = let same : nat_eq x x ≡ true = grind (arith, nat_tests) in rw same refl
 
-pub contains_later : (x y : ℕ) (xs : List ℕ) → IsTrue (contains x xs) → IsTrue (contains x (y ∷ xs))
-contains_later x y xs is = or_later (nat_eq x y) (contains x xs) is
+pub contains_later : (x y : ℕ) (xs : List ℕ) → IsTrue (list_any (nat_eq x) xs) → IsTrue (list_any (nat_eq x) (y ∷ xs))
+contains_later x y xs is = or_later (nat_eq x y) (list_any (nat_eq x) xs) is
   where
     or_later : (a b : Bool) → IsTrue b → IsTrue (a || b)
     or_later true b is = refl
     or_later false b is = is
 
-pub push_has : (x : ℕ) (o : Option ℕ) (xs : List ℕ) → IsTrue (contains x xs) → IsTrue (contains x (push o xs))
+pub push_has : (x : ℕ) (o : Option ℕ) (xs : List ℕ) → IsTrue (list_any (nat_eq x) xs) → IsTrue (list_any (nat_eq x) (push o xs))
 push_has x None xs is = is
 push_has x (Some y) xs is = contains_later x y xs is
 
-pub push_is : (x : ℕ) (o : Option ℕ) (xs : List ℕ) → o ≡ Some x → IsTrue (contains x (push o xs))
+pub push_is : (x : ℕ) (o : Option ℕ) (xs : List ℕ) → o ≡ Some x → IsTrue (list_any (nat_eq x) (push o xs))
 push_is x o xs is = rw is (contains_first x xs)
 
-push_cases : (i : ℕ) (o : Option ℕ) (xs : List ℕ) → IsTrue (contains i (push o xs)) → (o ≡ Some i) ⊎ IsTrue (contains i xs)
+push_cases : (i : ℕ) (o : Option ℕ) (xs : List ℕ) → IsTrue (list_any (nat_eq i) (push o xs)) → (o ≡ Some i) ⊎ IsTrue (list_any (nat_eq i) xs)
 push_cases i None xs has = inr has
-push_cases i (Some k) xs has = elim (either (nat_eq i k) (contains i xs) has) [ inl here ↦ inl (ap (λ (j : ℕ). Some j) (sym (nat_same i k here))) | inr there ↦ inr there ]
+push_cases i (Some k) xs has = elim (either (nat_eq i k) (list_any (nat_eq i) xs) has) [ inl here ↦ inl (ap (λ (j : ℕ). Some j) (sym (nat_same i k here))) | inr there ↦ inr there ]
 
 -- ---- an end is in the list
 
@@ -40,7 +40,7 @@ end_if_is : (fin : Bool) (a : ℕ) (z : ℤ) (i : ℕ) → IsTrue fin → z ≡ 
 end_if_is true a z i is same low = rw same (when_le a i (Some i) i low refl)
 end_if_is false a z i is same low = absurd cc
 
-pub ends_has : (past : List Up) (i : ℕ) → EndsAt past i → IsTrue (contains i (all_ends past))
+pub ends_has : (past : List Up) (i : ℕ) → EndsAt past i → IsTrue (list_any (nat_eq i) (all_ends past))
 ends_has [] i c = absurd c
 ends_has (Came n xs fin heeded ∷ past) i (inl (is, same, low)) = push_is i (end_if fin (ackd past) (ends past n xs)) (all_ends past) (end_if_is fin (ackd past) (ends past n xs) i is same low)
 ends_has (Came n xs fin heeded ∷ past) i (inr c) = push_has i (end_if fin (ackd past) (ends past n xs)) (all_ends past) (ends_has past i c)
@@ -87,12 +87,12 @@ pub acknowledged_is : (past : List Up) (a : ℕ) → Honest past → IsAcknowled
 acknowledged_is past a h (inl (is, low)) =
     by (all_ends past) (λ i has. ends_at_is past i has)
   where
-    by : (es : List ℕ) → ((i : ℕ) → IsTrue (contains i es) → EndsAt past i) → a ≡ least_end (ackd past) es
+    by : (es : List ℕ) → ((i : ℕ) → IsTrue (list_any (nat_eq i) es) → EndsAt past i) → a ≡ least_end (ackd past) es
     by [] ends_here = is
     by (e ∷ es) ends_here = let least = low e (ends_here e (contains_first e es)) in omega (arith, is, least)
 acknowledged_is past a h (inr (end, low)) =
     by (all_ends past) (λ i has. ends_at_is past i has) (ends_has past a end)
   where
-    by : (es : List ℕ) → ((i : ℕ) → IsTrue (contains i es) → EndsAt past i) → IsTrue (contains a es) → a ≡ least_end (ackd past) es
+    by : (es : List ℕ) → ((i : ℕ) → IsTrue (list_any (nat_eq i) es) → EndsAt past i) → IsTrue (list_any (nat_eq a) es) → a ≡ least_end (ackd past) es
     by [] ends_here has = absurd cc
     by (e ∷ es) ends_here has = let same = h.ends a e end (ends_here e (contains_first e es)) in omega (arith, same, low)

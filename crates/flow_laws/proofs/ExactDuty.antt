@@ -1,6 +1,7 @@
 -- Of an honest guest the test of what is done misses nothing either.
 use Rattle.std.proofs.Common.{refl, ◌≡◌, ℕ, ◌+◌, ◌-◌, List, [], ◌∷◌, length, min, Option, None, Some, is_some, inl, inr, arith, subst, ap, ◌∙◌, ◌⊎◌, Bool, true, false, not, ◌&&◌, IsTrue}
 use Rattle.std.proofs.Common.{nat_eq, nat_le}
+use Rattle.std.specs.List.{list_any}
 use Rattle.std.proofs.lemmas.Bool.{cases_lt}
 use Rattle.std.specs.Option.{unwrap_or}
 use Rattle.seq_space.specs.Places.{number_of}
@@ -9,7 +10,7 @@ use Rattle.flow_laws.specs.Event.{Segment, Departs, At, Story}
 use Rattle.flow_laws.specs.Guest.{Up, EndsAt, Honest, IsAcknowledged, ackd, front, written}
 use Rattle.flow_laws.specs.Flow.{guest, their_number, is_closed}
 use Rattle.flow_laws.specs.Windows.{field, our_shift}
-use Rattle.flow_laws.specs.Close.{before, contains, newest_rst}
+use Rattle.flow_laws.specs.Close.{before, newest_rst}
 use Rattle.flow_laws.specs.Lawful.{Act, AskConnected, Write, EndHost, Read, Send, Close}
 use Rattle.flow_laws.specs.Dutiful.{TellsRoom, MustClose, SendsItsRoom, OffersWhatWasAcknowledged, ClosesAfterReset, Must}
 use Rattle.flow_laws.specs.Computed.{acknowledged, all_ends, least_end, ends_at, is_honest}
@@ -26,7 +27,7 @@ use Rattle.flow_laws.proofs.Holding.{and_true, three_true, implied, same_nat, lo
 acknowledged_holds : (past : List Up) → Honest past → IsAcknowledged past (acknowledged past)
 acknowledged_holds past fair = by (all_ends past) (λ i has. ends_at_is past i has) (λ i end. ends_has past i end)
   where
-    by : (es : List ℕ) → ((i : ℕ) → IsTrue (contains i es) → EndsAt past i) → ((i : ℕ) → EndsAt past i → IsTrue (contains i es)) → IsAcknowledged past (least_end (ackd past) es)
+    by : (es : List ℕ) → ((i : ℕ) → IsTrue (list_any (nat_eq i) es) → EndsAt past i) → ((i : ℕ) → EndsAt past i → IsTrue (list_any (nat_eq i) es)) → IsAcknowledged past (least_end (ackd past) es)
     by [] says has = inl (refl, λ i end. absurd (let none = has i end in cc))
     by (e ∷ es) says has =
         let end = says e (contains_first e es) in

@@ -1,12 +1,12 @@
 -- Tests that compute: of numbers and lists, of the guest's stream, and of the host's.
 use Rattle.std.specs.Prelude.{ℕ, zero, suc, ◌+◌, ◌^◌, List, [], ◌∷◌, length, drop, min, Option, None, Some, slice_get, Bool, true, false, not, ◌&&◌, ◌||◌, if◌then◌else◌, ℤ, pos, negsuc}
 use Rattle.std.specs.Prelude.{◌+ℤ◌, nat_le, nat_lt, nat_eq}
+use Rattle.std.specs.List.{list_any}
 use Rattle.seq_space.specs.Places.{number_of, steps_up}
 use Rattle.flow_laws.specs.Event.{Segment, Story}
 use Rattle.flow_laws.specs.Guest.{Up, Came, is_empty, octet_at, first_of, front, begins, ends, top, ackd}
 use Rattle.flow_laws.specs.Host.{got, sent, our_place}
 use Rattle.flow_laws.specs.Flow.{host, push}
-use Rattle.flow_laws.specs.Close.{contains}
 
 -- ---- of numbers and lists
 
@@ -87,7 +87,7 @@ all_ends (Came n xs fin heeded ∷ past) = push (end_if fin (ackd past) (ends pa
 all_ends (_ ∷ past) = all_ends past
 
 abbrev pub ends_at : List Up → ℕ → Bool
-ends_at past i = contains i (all_ends past)
+ends_at past i = list_any (nat_eq i) (all_ends past)
 
 abbrev pub has_come : List Up → ℕ → Bool
 has_come past n = nat_le n (length (front past)) || (ends_at past (length (front past)) && nat_eq n (length (front past) + 1))

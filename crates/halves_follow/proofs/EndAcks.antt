@@ -1,12 +1,13 @@
 -- What a flow knows of the two ends, where a segment goes out.
 use Rattle.std.proofs.Common.{refl, ◌≡◌, ℕ, zero, suc, ◌+◌, ◌^◌, ◌<◌, ◌≤◌, List, ◌∷◌, arith, Option, Some, None, is_some, Bool, true, false, not, ◌&&◌, ◌||◌, if◌then◌else◌, IsTrue, nat_lt}
 use Rattle.std.proofs.Common.{nat_eq, ap, sym, ◌∙◌, subst}
+use Rattle.std.specs.List.{list_any}
 use Rattle.std.proofs.lemmas.Bool.Decides.{nat_tests}
 use Rattle.seq_space.specs.Places.{number_of, steps_up}
 use Rattle.flow_laws.specs.Event.{Segment, Departs, At, Story}
 use Rattle.flow_laws.specs.Guest.{Up, Acked, Honest, first_of, ackd}
 use Rattle.flow_laws.specs.Flow.{guest, their_number, acknowledges, push}
-use Rattle.flow_laws.specs.Close.{contains, after_fins, fin_was_acknowledged, ended_first, fin_is_out}
+use Rattle.flow_laws.specs.Close.{after_fins, fin_was_acknowledged, ended_first, fin_is_out}
 use Rattle.flow_laws.proofs.GuestLaws.{honest_before}
 use Rattle.flow_laws.proofs.Scaled.{OpensOnce}
 use Rattle.flow_laws.proofs.Sides.{guest_acked}
@@ -77,8 +78,8 @@ module _ (past : Story) (p : Part) (sure ours_first : Bool) (last m : ℕ) (seg 
     -- where the end is among what was taken, it is sure
     sure_now : p.received.ended ≡ true → IsTrue (fin_was_acknowledged (At m (Departs seg) ∷ past))
     sure_now ended =
-        or_left (seg.ack && not seg.rst && contains seg.acknowledgement (after_fins past)) (fin_was_acknowledged past)
-        (all_true seg.ack (not seg.rst) (contains seg.acknowledgement (after_fins past)) ack (rw rst refl) (subst (λ (n : ℕ). IsTrue (contains n (after_fins past))) (sym here) (e.fin ended)))
+        or_left (seg.ack && not seg.rst && list_any (nat_eq seg.acknowledgement) (after_fins past)) (fin_was_acknowledged past)
+        (all_true seg.ack (not seg.rst) (list_any (nat_eq seg.acknowledgement) (after_fins past)) ack (rw rst refl) (subst (λ (n : ℕ). IsTrue (list_any (nat_eq n) (after_fins past))) (sym here) (e.fin ended)))
       where
         all_places : (b : Bool) → b ≡ true → (if b then p.received.taken + 1 else p.received.taken) ≡ p.received.taken + 1
         all_places b is = rw is refl
@@ -87,7 +88,7 @@ module _ (past : Story) (p : Part) (sure ours_first : Bool) (last m : ℕ) (seg 
         here = number ∙ ap (λ (t : ℕ). number_of p.received.first t) (all_places p.received.ended ended)
 
     -- and where it isn't, an honest guest's end isn't acknowledged now
-    not_sure : Honest (guest past) → p.received.ended ≡ false → IsTrue (contains seg.acknowledgement (after_fins past)) → ⊥
+    not_sure : Honest (guest past) → p.received.ended ≡ false → IsTrue (list_any (nat_eq seg.acknowledgement) (after_fins past)) → ⊥
     not_sure honest ended is =
         let o = of_end past once seg.acknowledgement is in
         let same_first : o.0 ≡ p.received.first = some_same o.0 p.received.first (sym o.1 ∙ known) in
@@ -110,7 +111,7 @@ module _ (past : Story) (p : Part) (sure ours_first : Bool) (last m : ℕ) (seg 
       low = rw acked_now e.low;
       kept_low = λ i x is. rw acked_now (e.kept_low i x is);
       fin = e.fin;
-      was_sure = λ is. by_sure sure p.received.ended is (λ before. or_right (seg.ack && not seg.rst && contains seg.acknowledgement (after_fins past)) (fin_was_acknowledged past)
+      was_sure = λ is. by_sure sure p.received.ended is (λ before. or_right (seg.ack && not seg.rst && list_any (nat_eq seg.acknowledgement) (after_fins past)) (fin_was_acknowledged past)
           (e.was_sure before)) sure_now;
       is_sure = λ honest is. by_ended p.received.ended refl (honest_before (At m (Departs seg)) past honest) is;
       at = ap (λ (g : List Up). number_of (first_of g) (ackd g)) acked_now ∙ number_after (first_of (guest past)) (ackd (guest past)) seg.acknowledgement small;
@@ -138,8 +139,8 @@ module _ (past : Story) (p : Part) (sure ours_first : Bool) (last m : ℕ) (seg 
 
         by_ended : (b : Bool) → p.received.ended ≡ b → Honest (guest past) → IsTrue (fin_was_acknowledged (At m (Departs seg) ∷ past)) → (sure || b) ≡ true
         by_ended true ended honest is = or_none sure
-        by_ended false ended honest is = split (seg.ack && not seg.rst && contains seg.acknowledgement (after_fins past)) (fin_was_acknowledged past) is
-            (λ here. absurd (not_sure honest ended (last_part seg.ack (not seg.rst) (contains seg.acknowledgement (after_fins past)) here)))
+        by_ended false ended honest is = split (seg.ack && not seg.rst && list_any (nat_eq seg.acknowledgement) (after_fins past)) (fin_was_acknowledged past) is
+            (λ here. absurd (not_sure honest ended (last_part seg.ack (not seg.rst) (list_any (nat_eq seg.acknowledgement) (after_fins past)) here)))
             (λ there. or_left sure false (e.is_sure honest there))
 
         moved : nat_lt (ackd (guest past)) (ackd (guest (At m (Departs seg) ∷ past))) ≡ not (nat_eq seg.acknowledgement last)
@@ -162,8 +163,8 @@ module _ (past : Story) (p : Part) (sure ours_first : Bool) (last m : ℕ) (seg 
     low = rw same e.low;
     kept_low = λ i x is. rw same (e.kept_low i x is);
     fin = e.fin;
-    was_sure = λ is. or_right (seg.ack && not seg.rst && contains seg.acknowledgement (after_fins past)) (fin_was_acknowledged past) (e.was_sure is);
-    is_sure = λ honest is. e.is_sure (honest_before (At m (Departs seg)) past honest) (only_old seg.ack (not seg.rst) (contains seg.acknowledgement (after_fins past))
+    was_sure = λ is. or_right (seg.ack && not seg.rst && list_any (nat_eq seg.acknowledgement) (after_fins past)) (fin_was_acknowledged past) (e.was_sure is);
+    is_sure = λ honest is. e.is_sure (honest_before (At m (Departs seg)) past honest) (only_old seg.ack (not seg.rst) (list_any (nat_eq seg.acknowledgement) (after_fins past))
         (fin_was_acknowledged past) none is);
     at = rw same e.at;
     order = ap (λ (g : List Up). if nat_lt (ackd (guest past)) (ackd g) then fin_is_out past else ended_first past) same ∙ still (ackd (guest past)) (fin_is_out past) (ended_first past) ∙ e.order;

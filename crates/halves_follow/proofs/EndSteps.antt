@@ -1,13 +1,14 @@
 -- What a flow knows of the two ends, event by event.
 use Rattle.std.proofs.Common.{refl, ◌≡◌, ℕ, ◌+◌, ◌%◌, ◌^◌, ◌<◌, ◌≤◌, List, ◌∷◌, length, max, arith, Some, is_some, slice_get, Bool, true, false, not, ◌&&◌, ◌||◌, if◌then◌else◌, IsTrue, ℤ}
 use Rattle.std.proofs.Common.{pos, negsuc, ◌+ℤ◌, ◌≤ℤ◌, int_le, nat_eq, inl, inr, ap, sym, ◌∙◌, subst, ◌⊎◌}
+use Rattle.std.specs.List.{list_any}
 use Rattle.std.proofs.lemmas.Int.{ints}
 use Rattle.std.proofs.lemmas.Bool.Decides.{nat_tests}
 use Rattle.seq_space.specs.Places.{number_of, place}
 use Rattle.flow_laws.specs.Event.{Segment, Arrives, At, Story}
 use Rattle.flow_laws.specs.Guest.{Came, top, first_of, ackd, ends, from_zero}
 use Rattle.flow_laws.specs.Flow.{guest, their_number, is_closed, is_heeded}
-use Rattle.flow_laws.specs.Close.{contains, after_fins}
+use Rattle.flow_laws.specs.Close.{after_fins}
 use Rattle.flow_laws.proofs.GuestLaws.{honest_before}
 use Rattle.halves_follow.specs.Received.{Has}
 use Rattle.halves_follow.specs.Part.{Part}
@@ -16,23 +17,23 @@ use Rattle.halves_follow.proofs.Reach.{octet_reaches, taken_reaches, fin_reaches
 
 -- ---- the list of FINs only grows
 
-more_of : (b : Bool) (n k : ℕ) (ks : List ℕ) → IsTrue (contains n ks) → IsTrue (contains n (if b then k ∷ ks else ks))
-more_of true n k ks is = or_later (nat_eq n k) (contains n ks) is
+more_of : (b : Bool) (n k : ℕ) (ks : List ℕ) → IsTrue (list_any (nat_eq n) ks) → IsTrue (list_any (nat_eq n) (if b then k ∷ ks else ks))
+more_of true n k ks is = or_later (nat_eq n k) (list_any (nat_eq n) ks) is
   where
     or_later : (a b : Bool) → IsTrue b → IsTrue (a || b)
     or_later true b is = refl
     or_later false b is = is
 more_of false n k ks is = is
 
-pub fins_stay : (m : ℕ) (past : Story) (seg : Segment) (n : ℕ) → IsTrue (contains n (after_fins past)) → IsTrue (contains n (after_fins (At m (Arrives seg) ∷ past)))
+pub fins_stay : (m : ℕ) (past : Story) (seg : Segment) (n : ℕ) → IsTrue (list_any (nat_eq n) (after_fins past)) → IsTrue (list_any (nat_eq n) (after_fins (At m (Arrives seg) ∷ past)))
 fins_stay m past seg n is = more_of _ n ((seg.number + length seg.octets + 1) % 2 ^ 32) (after_fins past) is
 
 int_yes : (a : ℕ) (z : ℤ) → pos a ≤ℤ z → int_le (pos a) z ≡ true
 int_yes a (pos n) low = let is : a ≤ n = omega (arith, ints) in grind (arith, nat_tests)
 int_yes a (negsuc n) low = absurd (omega (arith, ints))
 
-one_of : (b : Bool) (n k : ℕ) (ks : List ℕ) → b ≡ true → k ≡ n → IsTrue (contains n (if b then k ∷ ks else ks))
-one_of b n k ks is same = rw (is, same) (first n (contains n ks))
+one_of : (b : Bool) (n k : ℕ) (ks : List ℕ) → b ≡ true → k ≡ n → IsTrue (list_any (nat_eq n) (if b then k ∷ ks else ks))
+one_of b n k ks is same = rw (is, same) (first n (list_any (nat_eq n) ks))
   where
     first : (n : ℕ) (b : Bool) → IsTrue (nat_eq n n || b)
     first n b = let same : nat_eq n n ≡ true = grind (arith, nat_tests) in rw same refl
@@ -97,12 +98,12 @@ module _ (past : Story) (p q : Part) (sure ours_first : Bool) (last m : ℕ) (se
   fin_next : (not seg.syn && not seg.rst && is_some (their_number past) && not (is_closed past)) ≡ true → (p.received.ended ≡ true → length ys ≡ 0) →
       (p.received.ended ≡ false → ackd (guest past) ≤ p.received.taken)
       → (took ≡ true → IsTrue seg.fin × (p.received.ended ≡ false) × (place seg.number p.received.first p.received.taken +ℤ pos (length seg.octets) ≡ pos (p.received.taken + length ys)))
-      → q.received.ended ≡ true → IsTrue (contains (number_of q.received.first (q.received.taken + 1)) (after_fins (At m (Arrives seg) ∷ past)))
+      → q.received.ended ≡ true → IsTrue (list_any (nat_eq (number_of q.received.first (q.received.taken + 1))) (after_fins (At m (Arrives seg) ∷ past)))
   fin_next counts none acked takes over =
       elim (or_cases p.received.ended took (sym q_ended ∙ over)) [
         | inl before ↦
             let still : number_of p.received.first (p.received.taken + 1) ≡ number_of q.received.first (q.received.taken + 1) = by_parts before in
-            subst (λ (n : ℕ). IsTrue (contains n (after_fins (At m (Arrives seg) ∷ past)))) still (fins_stay m past seg (number_of p.received.first (p.received.taken + 1)) (e.fin before))
+            subst (λ (n : ℕ). IsTrue (list_any (nat_eq n) (after_fins (At m (Arrives seg) ∷ past)))) still (fins_stay m past seg (number_of p.received.first (p.received.taken + 1)) (e.fin before))
         | inr now ↦
             let t = takes now in
             let number : (seg.number + length seg.octets + 1) % 2 ^ 32 ≡ number_of q.received.first (q.received.taken + 1) =

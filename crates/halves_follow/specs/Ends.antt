@@ -1,10 +1,11 @@
 -- What a flow knows of the two ends, against its story.
-use Rattle.std.specs.Prelude.{◌≡◌, ℕ, ◌+◌, ◌<◌, ◌≤◌, List, Some, Bool, true, IsTrue, ◌⊎◌}
+use Rattle.std.specs.Prelude.{◌≡◌, ℕ, ◌+◌, ◌<◌, ◌≤◌, List, Some, Bool, true, IsTrue, nat_eq, ◌⊎◌}
+use Rattle.std.specs.List.{list_any}
 use Rattle.seq_space.specs.Places.{number_of}
 use Rattle.flow_laws.specs.Event.{Story}
 use Rattle.flow_laws.specs.Guest.{Up, top, first_of, ackd, ack_is_due, Honest}
 use Rattle.flow_laws.specs.Flow.{guest}
-use Rattle.flow_laws.specs.Close.{contains, after_fins, fin_was_acknowledged, ended_first}
+use Rattle.flow_laws.specs.Close.{after_fins, fin_was_acknowledged, ended_first}
 use Rattle.halves_follow.specs.Received.{Received, places_taken}
 use Rattle.halves_follow.specs.Part.{Part}
 
@@ -12,7 +13,7 @@ use Rattle.halves_follow.specs.Part.{Part}
 pub record Ends (past : Story) (p : Part) (sure ours_first : Bool) (last : ℕ) : Type 0 where
   pub low : p.received.taken ≤ top (guest past)
   pub kept_low : (i x : ℕ) → p.kept i ≡ Some x → i < top (guest past)
-  pub fin : p.received.ended ≡ true → IsTrue (contains (number_of p.received.first (p.received.taken + 1)) (after_fins past))
+  pub fin : p.received.ended ≡ true → IsTrue (list_any (nat_eq (number_of p.received.first (p.received.taken + 1))) (after_fins past))
   pub was_sure : sure ≡ true → IsTrue (fin_was_acknowledged past)
   pub is_sure : Honest (guest past) → IsTrue (fin_was_acknowledged past) → sure ≡ true
   pub at : number_of (first_of (guest past)) (ackd (guest past)) ≡ last

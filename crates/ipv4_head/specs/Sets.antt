@@ -1,7 +1,7 @@
 -- Parts of datagrams, and the sets of them that wait to be joined (RFC 791, 2.3 and 3.2; of overlaps RFC 5722, 3).
 use Rattle.std.specs.Prelude.{◌≡◌, ℕ, ◌+◌, ◌-◌, ◌*◌, ◌/◌, ◌%◌, ◌^◌, ◌<◌, ◌≤◌, ◌==◌, ◌&&◌, ◌||◌, not, false, Bool, nat_lt, nat_le, min, List, [], ◌∷◌, ◌++◌, length, drop, filter, find, map}
 use Rattle.std.specs.Prelude.{Option, None, Some, slice_get, slice_set, if◌then◌else◌}
-use Rattle.std.specs.Option.{option_map}
+use Rattle.std.specs.Option.{option_map, option_map_or}
 use Rattle.std.specs.List.{Contains, AllPairs, list_any, list_all, range_with_len, position_or_len, remove}
 use Rattle.net_octets.specs.Octets.{one_at, two_at, part, two, word_sum, checksum}
 use Rattle.ipv4_head.specs.declared.IpView.{IpView}
@@ -83,13 +83,12 @@ young now sets = filter (is_young now) sets
 abbrev pub place_of : Key → List PartSet → ℕ
 place_of key sets = position_or_len (λ s. is_same_key key s.key) sets
 
-abbrev pub parts_of : Option PartSet → List Part
-parts_of None = []
-parts_of (Some s) = s.parts
+abbrev pub set_for : Key → List PartSet → Option PartSet
+set_for key sets = slice_get sets (place_of key sets)
 
 -- the parts of the datagram that wait so far
 abbrev pub parts_for : Key → List PartSet → List Part
-parts_for key sets = parts_of (slice_get sets (place_of key sets))
+parts_for key sets = option_map_or (λ s. s.parts) (set_for key sets) []
 
 -- the oldest of 16 sets gives way to a new one
 abbrev pub with_room : List PartSet → List PartSet
@@ -101,7 +100,7 @@ put_in now key p sets None = with_room sets ++ record { key = key; since = now; 
 put_in now key p sets (Some s) = slice_set sets (place_of key sets) (record s { parts = s.parts ++ p ∷ [] })
 
 abbrev pub with_part : ℕ → Key → Part → List PartSet → List PartSet
-with_part now key p sets = put_in now key p sets (slice_get sets (place_of key sets))
+with_part now key p sets = put_in now key p sets (set_for key sets)
 
 -- what becomes of a part
 pub data Outcome : Type 0 where
@@ -122,22 +121,18 @@ outcome now key p sets = outcome_among p (parts_for key (young now sets))
 
 -- the sets after a part came: old sets go, a part that clashes takes its set with it, and one that is uneven or too long changes nothing
 abbrev pub changed_by : Outcome → ℕ → Key → Part → List PartSet → List PartSet
-changed_by UnevenPart now key p sets = sets
-changed_by LongPart now key p sets = sets
 changed_by Clashes now key p sets = remove sets (place_of key sets)
 changed_by Waits now key p sets = with_part now key p sets
 changed_by Joined now key p sets = with_part now key p sets
+changed_by _ now key p sets = sets
 
 abbrev pub sets_after : ℕ → Key → Part → List PartSet → List PartSet
 sets_after now key p sets = changed_by (outcome now key p sets) now key p (young now sets)
 
 -- where the part joined its datagram the set goes, as the datagram is taken
 abbrev pub left_by : Outcome → Key → List PartSet → List PartSet
-left_by UnevenPart key sets = sets
-left_by LongPart key sets = sets
-left_by Clashes key sets = sets
-left_by Waits key sets = sets
 left_by Joined key sets = remove sets (place_of key sets)
+left_by _ key sets = sets
 
 abbrev pub sets_left : ℕ → Key → Part → List PartSet → List PartSet
 sets_left now key p sets = left_by (outcome now key p sets) key (sets_after now key p sets)
@@ -162,37 +157,19 @@ pub record IsJoined (s : PartSet) (ip : Ip) (life : ℕ) : Type 0 where
   pub ident : ip.ident ≡ s.key.ident
 
 -- the octet at a place of the body to which parts join: that of the part that has it
-abbrev pub octet_in : ℕ → Option Part → ℕ
-octet_in k None = 0
-octet_in k (Some p) = one_at p.body (k - start_of p)
-
 abbrev pub octet_of : List Part → ℕ → ℕ
-octet_of parts k = octet_in k (find (has_octet k) parts)
+octet_of parts k = option_map_or (λ p. one_at p.body (k - start_of p)) (find (has_octet k) parts) 0
 
 -- where the last part ends
-abbrev pub is_last : Part → Bool
-is_last p = not p.more
-
-abbrev pub end_by : Option Part → ℕ
-end_by None = 0
-end_by (Some p) = end_of p
-
 abbrev pub joined_size : List Part → ℕ
-joined_size parts = end_by (find is_last parts)
+joined_size parts = option_map_or end_of (find (λ p. not p.more) parts) 0
 
 abbrev pub joined_body : List Part → List ℕ
 joined_body parts = map (octet_of parts) (range_with_len 0 (joined_size parts))
 
 -- the header of the part at the start
-abbrev pub is_first : Part → Bool
-is_first p = p.place == 0
-
-abbrev pub head_by : Option Part → List ℕ
-head_by None = []
-head_by (Some p) = p.head
-
 abbrev pub first_head : List Part → List ℕ
-first_head parts = head_by (find is_first parts)
+first_head parts = option_map_or (λ p. p.head) (find (λ p. p.place == 0) parts) []
 
 -- the datagram to which the parts of a set join, where they do
 abbrev pub joined : PartSet → Ip
@@ -200,15 +177,9 @@ joined s = let body = joined_body s.parts in
     record { ident = s.key.ident; more = false; place = 0; proto = s.key.proto; from = s.key.from; to = s.key.to; head = whole_head (first_head s.parts) (length body); body = body }
 
 -- the datagram that is whole by a part, where these sets wait, all of them young: that to which its set then joins
-abbrev pub set_for : Key → List PartSet → Option PartSet
-set_for key sets = slice_get sets (place_of key sets)
-
 abbrev pub whole_by : Outcome → Option PartSet → Option Ip
 whole_by Joined set = option_map joined set
-whole_by UnevenPart set = None
-whole_by LongPart set = None
-whole_by Clashes set = None
-whole_by Waits set = None
+whole_by _ set = None
 
 abbrev pub whole_with : ℕ → Key → Part → List PartSet → Option Ip
 whole_with now key p waiting = whole_by (outcome_among p (parts_for key waiting)) (set_for key (changed_by (outcome_among p (parts_for key waiting)) now key p waiting))

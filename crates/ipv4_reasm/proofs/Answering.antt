@@ -9,7 +9,7 @@ use Rattle.std.proofs.lemmas.List.Quantifiers.{position-Some}
 use Rattle.std.proofs.lemmas.List.Sums.{prefix_len-le-length}
 use Rattle.std.proofs.lemmas.Option.{cond_some, get_or_from_slice_get, slice_get_past, slice_get_within}
 use Rattle.ipv4_head.specs.Sets.{Key, Part, PartSet, Outcome, Clashes, Joined, LongPart, UnevenPart, Waits, changed_by, do_clash, end_of, is_same_key, is_too_long, is_uneven, is_whole}
-use Rattle.ipv4_head.specs.Sets.{outcome_among, parts_for, parts_of, place_of, put_in, with_part, with_room}
+use Rattle.ipv4_head.specs.Sets.{outcome_among, parts_for, place_of, put_in, with_part, with_room}
 use Rattle.ipv4_reasm.specs.declared.reasm.Added.{Added}
 use Rattle.ipv4_reasm.specs.declared.reasm.Added.TheVariants.{Whole, Kept, Overlap}
 use Rattle.ipv4_reasm.specs.Answers.{IsAnswered, IsWholeAt, answer_of, said}
@@ -152,12 +152,15 @@ record Found (key : Key) (sets : List PartSet) (i : ℕ) (g : Gathered) (s : Par
   pub stands : StandsFor g s
   pub parts : parts_for key sets ≡ s.parts
 
+set_parts : Option PartSet → List Part
+set_parts o = option_map_or (λ (s : PartSet). s.parts) o []
+
 found : (key : Key) (sets : List PartSet) (held : List Gathered) (g : Gathered) → StandFor held sets → slice_get held (place_in key held) ≡ Some g → (s : PartSet) × Found key sets
     (place_in key held) g s
 found key sets held g stand at =
     let s = stand_get held sets (place_in key held) g stand at in
     let place = sym (stand_place key held sets stand) in
-    (s.0, record { place = place; at = s.1.0; stands = s.1.1; parts = ap parts_of (ap (slice_get sets) place ∙ s.1.0) })
+    (s.0, record { place = place; at = s.1.0; stands = s.1.1; parts = ap set_parts (ap (slice_get sets) place ∙ s.1.0) })
 
 -- a part to those of its datagram
 pub answered_clash : (now : ℕ) (key : Key) (p : Part) (sets : List PartSet) (held : List Gathered) (g : Gathered) → is_uneven p ≡ false → is_too_long p ≡ false →
@@ -264,7 +267,7 @@ answered_start now key p sets held g even short stand absent room =
     let full = full_same (with_kept area p) (p ∷ []) (kept_gathers area [] p holds fits refl) in
     let absent_set : place_of key sets ≡ length sets = sym (stand_place key held sets stand) ∙ absent ∙ stand_length held sets stand in
     let none : slice_get sets (place_of key sets) ≡ None = slice_get_past sets (place_of key sets) (let a = stand_place key held sets stand in let b = stand_length held sets stand in omega arith) in
-    let parts : parts_for key sets ≡ [] = ap parts_of none in
+    let parts : parts_for key sets ≡ [] = ap set_parts none in
     let sets_are : with_part now key p sets ≡ with_room sets ++ s_after ∷ [] = ap (put_in now key p sets) none in
     let roomy_stand = stand_roomy held sets stand in
     let stands : StandFor (roomy held ++ after_part area p ∷ []) (with_part now key p sets) =

@@ -1,13 +1,15 @@
 -- A set whose parts carry octets joins to one datagram.
-use Rattle.std.proofs.Common.{◌≡◌, ℕ, zero, suc, ◌+◌, ◌-◌, ◌<◌, ◌≤◌, ◌==◌, ◌&&◌, not, cond, Bool, true, false, List, [], ◌∷◌, length, find, map, get_or, ltb, leb, Some, refl, sym, ◌∙◌, ap}
+use Rattle.std.proofs.Common.{◌≡◌, ℕ, zero, suc, ◌+◌, ◌-◌, ◌<◌, ◌≤◌, ◌==◌, ◌&&◌, not, cond, Bool, true, false, List, [], ◌∷◌, length, find, map, get_or, ltb, leb, Option, Some, refl, sym, ◌∙◌, ap}
 use Rattle.std.proofs.Common.{arith, eq-eqb}
 use Rattle.std.specs.List.{Contains, range_with_len}
+use Rattle.std.specs.Option.{option_map_or}
 use Rattle.std.proofs.lemmas.Bool.{lt-ltb, ltb-true, le-leb, leb-true}
 use Rattle.std.proofs.lemmas.List.FromFn.{fill_by_all}
 use Rattle.std.proofs.lemmas.Bool.Decides.{nat_tests}
+use Rattle.net_octets.specs.Octets.{one_at}
 use Rattle.ipv4_head.specs.Ip.{Ip}
-use Rattle.ipv4_head.specs.Sets.{Carrying, OfParts, Key, Part, PartSet, IsJoined, Joins, start_of, end_of, has_octet, is_first, is_last, end_by, head_by, first_head, joined, joined_body}
-use Rattle.ipv4_head.specs.Sets.{joined_size, octet_in, octet_of, whole_head, do_share}
+use Rattle.ipv4_head.specs.Sets.{Carrying, OfParts, Key, Part, PartSet, IsJoined, Joins, start_of, end_of, has_octet, first_head, joined, joined_body}
+use Rattle.ipv4_head.specs.Sets.{joined_size, octet_of, whole_head, do_share}
 use Rattle.ipv4_reasm.proofs.Gathering.{and_is, both, clash_last, clash_one, clash_share, not_true}
 use Rattle.ipv4_reasm.proofs.Joining.{read_part}
 
@@ -43,9 +45,9 @@ share_start p q at_start too some any =
 size_is : (parts : List Part) (body : List ℕ) → Joins parts body → length body ≡ joined_size parts
 size_is parts body j =
     let last = j.last in
-    let f = found is_last parts last.0 last.1.0 (not_true last.0.more last.1.1) in
+    let f = found (λ (p : Part). not p.more) parts last.0 last.1.0 (not_true last.0.more last.1.1) in
     let same = clash_one parts f.part last.0 j.apart f.there last.1.0 (clash_last f.part last.0 f.passes last.1.1) in
-    sym (ap end_by f.is ∙ ap end_of same ∙ last.1.2)
+    sym (ap (λ (o : Option Part). option_map_or end_of o 0) f.is ∙ ap end_of same ∙ last.1.2)
 
 octet_is : (parts : List Part) (body : List ℕ) (k : ℕ) → Joins parts body → k < length body → get_or body k 0 ≡ octet_of parts k
 octet_is parts body k j less =
@@ -54,7 +56,7 @@ octet_is parts body k j less =
     let f = found (has_octet k) parts w.0 w.1.0 has in
     let t = both (leb (start_of f.part) k) (ltb k (end_of f.part)) f.passes in
     read_part body f.part.body (start_of f.part) k 0 (j.stands f.part f.there) (leb-true (start_of f.part) k t.0) (ltb-true k (end_of f.part) t.1)
-    ∙ sym (ap (octet_in k) f.is)
+    ∙ sym (ap (λ (o : Option Part). option_map_or (λ (p : Part). one_at p.body (k - start_of p)) o 0) f.is)
 
 body_is : (parts : List Part) (body : List ℕ) → Joins parts body → body ≡ joined_body parts
 body_is parts body j =
@@ -63,10 +65,10 @@ body_is parts body j =
 
 head_is : (key : Key) (parts : List Part) (p : Part) (body : List ℕ) → Joins parts body → OfParts Carrying key parts → Contains parts p → p.place ≡ 0 → p.head ≡ first_head parts
 head_is key parts p body j all there at_start =
-    let f = found is_first parts p there (eq-eqb p.place 0 at_start) in
+    let f = found (λ (p : Part). p.place == 0) parts p there (eq-eqb p.place 0 at_start) in
     let front : f.part.place ≡ 0 = (let h = f.passes in grind (arith, nat_tests, h)) in
     let same = clash_one parts f.part p j.apart f.there there (clash_share f.part p (share_start f.part p front at_start (carries key parts f.part all f.there) (carries key parts p all there))) in
-    sym (ap head_by f.is ∙ ap (λ (q : Part). q.head) same)
+    sym (ap (λ (o : Option Part). option_map_or (λ (p : Part). p.head) o []) f.is ∙ ap (λ (q : Part). q.head) same)
 
 -- the datagram to which a set joins is that of the definition
 pub joined_is : (s : PartSet) (ip : Ip) (life : ℕ) → IsJoined s ip life → OfParts Carrying s.key s.parts → ip ≡ joined s

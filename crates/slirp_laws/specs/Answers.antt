@@ -27,7 +27,7 @@ use Rattle.record_flows.specs.Segments.{OnTuple, asked_in, from_guest, segment_i
 use Rattle.dhcp_server.specs.declared.leases.Lease.{Lease}
 use Rattle.dns_relay.specs.declared.Question.{Question}
 use Rattle.dns_relay.specs.Questions.{is_answered, numbered}
-use Rattle.tftp_server.specs.Transfers.{Files, Outcome, Said, Transfer, begun, came, next_again, no_files, said_again, ticked, with_again}
+use Rattle.tftp_server.specs.Transfers.{Files, Outcome, Said, Transfer, begun, came, next_again, said_again, settled, ticked, with_again}
 use Rattle.tftp_server.specs.Asking.{by_answer}
 use Rattle.run_laws.specs.Moments.{moment}
 use Rattle.run_laws.specs.Happenings.{Arrival, Happening, happens}
@@ -342,7 +342,7 @@ ledger_after config past h l = record {
 }
 
 abbrev pub ledger : Config → List Entry → Ledger
-ledger config [] = record { left = []; serving = record { now = 0; leases = leases config []; files = no_files; again = None } }
+ledger config [] = record { left = []; serving = record { now = 0; leases = leases config []; files = settled []; again = None } }
 ledger config (e ∷ past) = ledger_after config past (happens config past e) (ledger config past)
 
 abbrev pub left : Config → List Entry → List (List ℕ)

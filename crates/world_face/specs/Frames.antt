@@ -2,8 +2,7 @@
 use Rattle.std.specs.Prelude.{◌≡◌, ℕ, ◌+◌, ◌-◌, ◌==◌, ◌≤◌, nat_lt, Bool, false, List, [], ◌∷◌, ◌++◌, length, take, drop, Option, Some, None, if◌then◌else◌}
 use Rattle.std.specs.Int.{w32, from_be_bytes, to_be_bytes}
 use Rattle.world_face.specs.Limits.{most_from_link, most_to_link}
-use Rattle.world_face.specs.Journal.{Entry, Call, Wait, LinkRead, LinkWrite, CallNow, CallWait, CallLinkOpen, CallLinkRead, CallLinkWrite, CallConnect, CallConnected, CallListen}
-use Rattle.world_face.specs.Journal.{CallAccept, CallTcpRead, CallTcpWrite, CallTcpEnd, CallClose, CallUdpOpen, CallUdpSend, CallUdpRecv, CallFileLen, CallFileRead, count_of}
+use Rattle.world_face.specs.Journal.{Entry, Call, Wait, LinkRead, LinkWrite, CallLinkRead, CallLinkWrite, count_of}
 use Rattle.poll_list.specs.Listing.{writes}
 use Rattle.world_face.specs.declared.Io.{Io}
 use Rattle.world_face.specs.declared.Io.TheVariants.{Done, End, NotYet, Failed}
@@ -90,9 +89,7 @@ ending _ so_far = None
 -- what is left of the frame that went out last
 abbrev pub rest_after : Io → List ℕ → List ℕ → List ℕ
 rest_after (Done n) octets rest = drop n octets
-rest_after End octets rest = rest
-rest_after NotYet octets rest = rest
-rest_after Failed octets rest = rest
+rest_after _ octets rest = rest
 
 abbrev pub tail_after : Entry → List ℕ → List ℕ
 tail_after (LinkWrite octets answer) rest = rest_after answer octets rest
@@ -115,9 +112,7 @@ is_blocked (e ∷ past) = blocked_after e (is_blocked past)
 -- the frame that goes out: by a write that takes something where nothing is left of the frame before
 abbrev pub begun_by : Io → List ℕ → Option (List ℕ)
 begun_by (Done n) octets = Some (drop 4 octets)
-begun_by End octets = None
-begun_by NotYet octets = None
-begun_by Failed octets = None
+begun_by _ octets = None
 
 abbrev pub opens : Entry → List ℕ → Option (List ℕ)
 opens (LinkWrite octets answer) [] = begun_by answer octets
@@ -133,21 +128,6 @@ MayOffer (x ∷ rest) octets = octets ≡ x ∷ rest
 
 -- A read asks for what is missing. A write offers a frame after its length, or what is left of one, where the link isn't blocked.
 abbrev pub MayFrame : List Entry → Call → Type 0
-MayFrame past CallNow = Unit {0}
-MayFrame past (CallWait wants timeout) = Unit {0}
-MayFrame past (CallLinkOpen at) = Unit {0}
 MayFrame past (CallLinkRead asked) = asked ≡ missing (partial past)
 MayFrame past (CallLinkWrite octets) = MayOffer (tail past) octets × (is_blocked past ≡ false)
-MayFrame past (CallConnect socket to) = Unit {0}
-MayFrame past (CallConnected socket) = Unit {0}
-MayFrame past (CallListen socket at) = Unit {0}
-MayFrame past (CallAccept listener socket) = Unit {0}
-MayFrame past (CallTcpRead socket asked) = Unit {0}
-MayFrame past (CallTcpWrite socket octets) = Unit {0}
-MayFrame past (CallTcpEnd socket) = Unit {0}
-MayFrame past (CallClose socket) = Unit {0}
-MayFrame past (CallUdpOpen socket at) = Unit {0}
-MayFrame past (CallUdpSend socket to octets) = Unit {0}
-MayFrame past (CallUdpRecv socket asked) = Unit {0}
-MayFrame past (CallFileLen name) = Unit {0}
-MayFrame past (CallFileRead name place asked) = Unit {0}
+MayFrame past _ = Unit {0}

@@ -94,15 +94,12 @@ call_of (FileRead name place asked answer octets) = CallFileRead name place aske
 -- how many octets a read or a write moved
 abbrev pub count_of : Io → ℕ
 count_of (Done n) = n
-count_of End = 0
-count_of NotYet = 0
-count_of Failed = 0
+count_of _ = 0
 
 -- how many octets a datagram has that came
 abbrev pub count_got : Got → ℕ
 count_got (From peer n) = n
-count_got GotNotYet = 0
-count_got GotFailed = 0
+count_got _ = 0
 
 -- what of a slice was filled
 abbrev pub filled : Io → List ℕ → List ℕ
