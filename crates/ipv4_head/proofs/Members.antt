@@ -1,9 +1,9 @@
 -- What holds of each part of each set, as a part comes.
-use Rattle.std.proofs.Common.{◌≡◌, ℕ, zero, suc, ◌+◌, ◌<◌, ◌==◌, ◌&&◌, nat_lt, nat_le, cond, Bool, true, false, List, [], ◌∷◌, ◌++◌, length, take, drop, filter, find, Option, Some, None}
+use Rattle.std.proofs.Common.{◌≡◌, ℕ, zero, suc, ◌==◌, ◌&&◌, nat_le, cond, Bool, true, false, List, [], ◌∷◌, ◌++◌, length, take, drop, find, Option, Some, None}
 use Rattle.std.proofs.Common.{slice_get, slice_set, if◌then◌else◌, refl, sym, ◌∙◌, ap, subst, arith}
 use Rattle.std.proofs.lemmas.Bool.Decides.{nat_tests}
 use Rattle.std.proofs.lemmas.List.Folds.{find_at}
-use Rattle.std.specs.List.{position_or_len, remove}
+use Rattle.std.specs.List.{remove}
 use Rattle.ipv4_head.specs.Sets.{OfParts, OfSets, Key, Part, PartSet, Outcome, UnevenPart, LongPart, Clashes, Waits, Joined, is_same_key, is_uneven, is_young, young, place_of, parts_for}
 use Rattle.ipv4_head.specs.Sets.{put_in, with_room, with_part, outcome_among, changed_by, left_by, sets_after, sets_left, outcome}
 

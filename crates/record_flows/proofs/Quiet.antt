@@ -5,7 +5,7 @@ use Rattle.flow_laws.specs.Close.{last_at, may_give_way}
 use Rattle.record_flows.specs.Flows.{Flow, flow_of}
 use Rattle.record_flows.specs.Lots.{goes_before, quietest, the_earlier}
 use Rattle.record_flows.specs.Said.{Each, Differ}
-use Rattle.record_flows.proofs.Lists.{is_number, numbers_same}
+use Rattle.record_flows.proofs.Lists.{numbers_same}
 
 true_false : true ≡ false → ⊥
 true_false is = cc

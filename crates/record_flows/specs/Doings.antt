@@ -8,7 +8,7 @@ use Rattle.world_face.specs.declared.Made.TheVariants.{Done as MadeDone, Failed 
 use Rattle.world_face.specs.declared.Joined.{Joined}
 use Rattle.world_face.specs.declared.Joined.TheVariants.{Yes, NotYet as NotYetJoined, Failed as JoinFailed}
 use Rattle.world_face.specs.declared.Accepted.{Accepted}
-use Rattle.world_face.specs.declared.Accepted.TheVariants.{From, NotYet as NotYetAccepted, Failed as AcceptFailed}
+use Rattle.world_face.specs.declared.Accepted.TheVariants.{From}
 use Rattle.net_octets.specs.declared.Endpoint.{Endpoint}
 use Rattle.host_policy.specs.Addresses.{Config}
 use Rattle.flow_laws.specs.Event.{Event, Connected as HostConnected, ConnectsYet, ConnectFails, Writes, WriteFails, Reads, ReadsEnd, ReadFails, EndsHost, EndFails}
