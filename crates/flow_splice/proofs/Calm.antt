@@ -1,5 +1,6 @@
 -- A segment of the guest that leaves a flow open isn't a reset that was fatal, unless an acknowledgement is owed.
 use Rattle.std.proofs.Common.{refl, ◌≡◌, ℕ, ◌+◌, ◌^◌, ◌%◌, ◌∷◌, Bool, true, false, ◌&&◌, ◌||◌, Option, None, Some, if◌then◌else◌, nat_eq, IsTrue, arith, ap, sym, ◌∙◌, inl, inr, ◌⊎◌}
+use Rattle.std.specs.Option.{option_map_or}
 use Rattle.std.proofs.lemmas.Bool.Decides.{nat_tests}
 use Rattle.seq_space.specs.Places.{number_of}
 use Rattle.sock_buffers.specs.Downward.{Downward}
@@ -17,7 +18,7 @@ use Rattle.flow_laws.specs.Settings.{Settings}
 use Rattle.flow_laws.specs.Event.{Arrives, At, Segment, Story}
 use Rattle.flow_laws.specs.Guest.{ack_is_due, ackd}
 use Rattle.flow_laws.specs.Flow.{guest, next_number as number_after, our_number, their_number}
-use Rattle.flow_laws.specs.Close.{follows_reset, some_fatal}
+use Rattle.flow_laws.specs.Close.{follows_reset, is_fatal}
 use Rattle.flow_laws.proofs.Sides.{their_first}
 use Rattle.halves_follow.proofs.Due.{none_due}
 use Rattle.halves_follow.proofs.Owing.{not_fatal}
@@ -30,7 +31,7 @@ calm_either past false calm = refl
 
 -- a segment without RST is no reset
 pub plain_calm : (past : Story) (m : ℕ) (seg : Segment) → seg.rst ≡ false → follows_reset true (At m (Arrives seg) ∷ past) ≡ false
-plain_calm past m seg rst = ap (λ (b : Bool). some_fatal past (if b then Some seg else None)) rst
+plain_calm past m seg rst = ap (λ (b : Bool). option_map_or (is_fatal past) (if b then Some seg else None) false) rst
 
 differs : (a b : ℕ) → (a ≡ b → ⊥) → nat_eq a b ≡ false
 differs a b apart = by (nat_eq a b) refl
@@ -76,7 +77,7 @@ module _ (s : Settings) (c : Connection) (up : Upward) (down : Downward) (past :
 
       by : (b : Bool) → seg.rst ≡ b → follows_reset true (At m (Arrives seg) ∷ past) ≡ false
       by true rst =
-          ap (λ (b : Bool). some_fatal past (if b then Some seg else None)) rst
+          ap (λ (b : Bool). option_map_or (is_fatal past) (if b then Some seg else None) false) rst
           ∙ here (their_number past) (h.opened.theirs ∙ ap (λ (b : Bool). if b then None else Some c.received.first) calls) (other rst)
       by false rst = plain_calm past m seg rst
 

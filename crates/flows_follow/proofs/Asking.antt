@@ -18,7 +18,7 @@ use Rattle.flow_laws.specs.Flow.{is_accepted}
 use Rattle.record_flows.specs.Book.{book, scene, turned}
 use Rattle.record_flows.specs.Doings.{Doing, Seeks, doing, doing_by, goes, seeks}
 use Rattle.record_flows.specs.Flows.{Flow, flow_of, seeks_for, with_event}
-use Rattle.record_flows.specs.Laws.{MaySendOn, MayWrite, MustSendOn, MustWrite, flow_settings}
+use Rattle.record_flows.specs.Laws.{MaySend, SendsOn, WritesBy, MustSend, flow_settings}
 use Rattle.record_flows.specs.Segments.{asked_in, segment_in}
 use Rattle.record_flows.specs.Taught.{taught}
 use Rattle.record_flows.proofs.Apart.{map_found, seeks_number}
@@ -105,17 +105,17 @@ module _ (config : Config) (face : Face) (f : Flow) (past : List Entry) (n : ℕ
     begins : may_begin config past (tail past) octets ≡ true
     begins = ap (λ t. may_begin config past t octets) none ∙ ap (is_explained config past) is ∙ explained (left config past) nothing
 
-    writes_it : MayWrite (flow_settings config) (moment past) (book config past).flows (tail past) octets
+    writes_it : WritesBy (MaySend (flow_settings config) (moment past)) (book config past).flows (tail past) octets
     writes_it =
-        subst (λ t. MayWrite (flow_settings config) (moment past) (book config past).flows t octets) (sym none)
-        (subst (λ x. MaySendOn (flow_settings config) (moment past) (book config past).flows (segment_in x)) (sym is)
-        (subst (MaySendOn (flow_settings config) (moment past) (book config past).flows) (sym (no_segment face)) tt))
+        subst (λ t. WritesBy (MaySend (flow_settings config) (moment past)) (book config past).flows t octets) (sym none)
+        (subst (λ x. SendsOn (MaySend (flow_settings config) (moment past)) (book config past).flows (segment_in x)) (sym is)
+        (subst (SendsOn (MaySend (flow_settings config) (moment past)) (book config past).flows) (sym (no_segment face)) tt))
 
-    must_write : MustWrite (flow_settings config) (moment past) (book config past).flows (tail past) octets
+    must_write : WritesBy (MustSend (flow_settings config) (moment past)) (book config past).flows (tail past) octets
     must_write =
-        subst (λ t. MustWrite (flow_settings config) (moment past) (book config past).flows t octets) (sym none)
-        (subst (λ x. MustSendOn (flow_settings config) (moment past) (book config past).flows (segment_in x)) (sym is)
-        (subst (MustSendOn (flow_settings config) (moment past) (book config past).flows) (sym (no_segment face)) tt))
+        subst (λ t. WritesBy (MustSend (flow_settings config) (moment past)) (book config past).flows t octets) (sym none)
+        (subst (λ x. SendsOn (MustSend (flow_settings config) (moment past)) (book config past).flows (segment_in x)) (sym is)
+        (subst (SendsOn (MustSend (flow_settings config) (moment past)) (book config past).flows) (sym (no_segment face)) tt))
 
     pub may_request : May config past (CallLinkWrite octets)
     may_request = writes config past octets framed (due_is config past work ∙ asks_nothing.due) asks_nothing.stay (ap is_working work.working) begins work.open_yet (writes_it, must_write)

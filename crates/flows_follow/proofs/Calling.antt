@@ -8,14 +8,14 @@ use Rattle.host_policy.specs.Addresses.{Config}
 use Rattle.run_laws.specs.Moments.{moment}
 use Rattle.run_laws.specs.Shape.{Phase, due_in, is_ended, is_over, is_working, phase}
 use Rattle.run_laws.specs.Sockets.{Kind, Association, DnsSocket, Forward, Listener, Flow as AFlow, is_among, is_flow, kind_of, next_number, open_sockets, first}
-use Rattle.flow_laws.specs.Event.{Segment, Event, Closes, At, Story}
+use Rattle.flow_laws.specs.Event.{Segment, Event, Closes, At, Story, is_failure}
 use Rattle.flow_laws.specs.Close.{ended_first, finds_no_guest, follows_reset, gives_up, host_failed, is_done, newest_rst, rests_since, waits_too_long}
 use Rattle.flow_laws.specs.Flow.{is_closed}
 use Rattle.flow_laws.specs.Lawful.{Act, AskConnected, Write, EndHost, Read, HasOwnCause, May as MayOfOne}
 use Rattle.flow_laws.specs.Dutiful.{Must as MustOfOne, MustClose, read_size}
 use Rattle.record_flows.specs.Book.{after_close as rests_after, book, rest, scene, turned}
 use Rattle.record_flows.specs.Doings.{Calls, Shuts, doing}
-use Rattle.record_flows.specs.Flows.{Flow, closing, comes_directly, fails, flow_of, guest_is_known, is_it, shuts, with_event}
+use Rattle.record_flows.specs.Flows.{Flow, closing, comes_directly, flow_of, guest_is_known, is_it, shuts, with_event}
 use Rattle.record_flows.specs.Laws.{AsksForRoom, ClosesAtOnce, MayAct, MayFlow, MayShut, MayTouch, MustAct, MustTouch, NoneMustClose, flow_settings}
 use Rattle.record_flows.specs.Lots.{due_by, due_for_flows}
 use Rattle.record_flows.specs.Said.{Differ}
@@ -201,7 +201,7 @@ module _ (config : Config) (face : Face) (f : Flow) (past : List Entry) (work : 
 
   -- an event that closes nothing
   pub record IsCall (ev : Event) : Type 0 where
-    pub failed : (m : ℕ) (story : Story) → host_failed (At m ev ∷ story) ≡ fails ev
+    pub failed : (m : ℕ) (story : Story) → host_failed (At m ev ∷ story) ≡ is_failure ev
     pub closed : (m : ℕ) (story : Story) → is_closed (At m ev ∷ story) ≡ is_closed story
     pub rests : (m : ℕ) (story : Story) → rests_since (At m ev ∷ story) ≡ rests_since story
 
@@ -220,7 +220,7 @@ module _ (config : Config) (face : Face) (f : Flow) (past : List Entry) (work : 
         other = has.other;
         owned = owner_id f.tuple (book config (e ∷ past)).flows (book config past).flows only.same ∙ has.owned;
         socket = λ open_yet. same ∙ has.socket (sym (call.closed (moment past) f.story) ∙ open_yet);
-        due = ap (λ b. due_for_flows config b (next_number (e ∷ past))) new ∙ due_after (fails ev) (next_number (e ∷ past)) ∙ ap (λ t. close_if t face.number)
+        due = ap (λ b. due_for_flows config b (next_number (e ∷ past))) new ∙ due_after (is_failure ev) (next_number (e ∷ past)) ∙ ap (λ t. close_if t face.number)
             (sym (call.failed (moment past) f.story));
         others = λ number g other found. has.others number g other (sym (only.apart number other) ∙ found);
       }

@@ -34,7 +34,7 @@ use Rattle.flow_laws.specs.Host.{answered as answered_yet, sent}
 use Rattle.record_flows.specs.Book.{book, is_young, quiet, scene, turned}
 use Rattle.record_flows.specs.Doings.{Doing, Seeks, comes, doing, doing_by, ended_by, goes, joined, read_by, seeks, visits, written_by}
 use Rattle.record_flows.specs.Flows.{Flow, Book, Rest, Scene, flow_of, is_on, is_resting, is_strange, is_used, owner, sends, used}
-use Rattle.record_flows.specs.Laws.{MaySend, MaySendOn, MayShut, MayWrite, MustSend, MustSendOn, MustWrite, flow_settings}
+use Rattle.record_flows.specs.Laws.{MaySend, SendsOn, MayShut, WritesBy, MustSend, flow_settings}
 use Rattle.record_flows.specs.Lots.{Lot, OfFlow, Dropped, GetsReset, due_for_flows, is_mistaken, is_opening, is_reset, is_reset_by, is_to_many, lot_by}
 use Rattle.record_flows.specs.Said.{ConnectsAsAsked}
 use Rattle.record_flows.specs.Segments.{OnTuple, asked_in, from_guest, segment_by, segment_came, segment_in}
@@ -506,7 +506,7 @@ module _ (config : Config) (past : List Entry) (frame : List ℕ) (rest : List (
   may_send on (Some f) read owned =
       subst (λ b. MatchBool b (Unit {0}) (MayFor (flow_settings config) f.story (moment past) (Send on.segment))) (sym (left_strange config past frame rest on f fits lawful ends is read owned)) tt
 
-  may_send_on : (o : Option OnTuple) → segment_in frame ≡ o → MaySendOn (flow_settings config) (moment past) (book config past).flows o
+  may_send_on : (o : Option OnTuple) → segment_in frame ≡ o → SendsOn (MaySend (flow_settings config) (moment past)) (book config past).flows o
   may_send_on None read = tt
   may_send_on (Some on) read = may_send on (owner on.tuple (book config past).flows) read refl
 
@@ -516,17 +516,18 @@ module _ (config : Config) (past : List Entry) (frame : List ℕ) (rest : List (
   must_send on (Some f) read owned =
       subst (λ b. MatchBool b (Unit {0}) (MustOfOne (flow_settings config) f.story (moment past) (Send on.segment))) (sym (left_strange config past frame rest on f fits lawful ends is read owned)) tt
 
-  must_send_on : (o : Option OnTuple) → segment_in frame ≡ o → MustSendOn (flow_settings config) (moment past) (book config past).flows o
+  must_send_on : (o : Option OnTuple) → segment_in frame ≡ o → SendsOn (MustSend (flow_settings config) (moment past)) (book config past).flows o
   must_send_on None read = tt
   must_send_on (Some on) read = must_send on (owner on.tuple (book config past).flows) read refl
 
   pub answer_may_go : (octets : List ℕ) → drop 4 octets ≡ frame → FlowsLetWrite config past octets
   answer_may_go octets begins = by (tail past)
     where
-      by : (t : List ℕ) → MayWrite (flow_settings config) (moment past) (book config past).flows t octets × MustWrite (flow_settings config) (moment past) (book config past).flows t octets
+      by : (t : List ℕ) → WritesBy (MaySend (flow_settings config) (moment past)) (book config past).flows t octets
+          × WritesBy (MustSend (flow_settings config) (moment past)) (book config past).flows t octets
       by [] = (
-        subst (λ f. MaySendOn (flow_settings config) (moment past) (book config past).flows (segment_in f)) (sym begins) (may_send_on (segment_in frame) refl),
-        subst (λ f. MustSendOn (flow_settings config) (moment past) (book config past).flows (segment_in f)) (sym begins) (must_send_on (segment_in frame) refl),
+        subst (λ f. SendsOn (MaySend (flow_settings config) (moment past)) (book config past).flows (segment_in f)) (sym begins) (may_send_on (segment_in frame) refl),
+        subst (λ f. SendsOn (MustSend (flow_settings config) (moment past)) (book config past).flows (segment_in f)) (sym begins) (must_send_on (segment_in frame) refl),
       )
       by (x ∷ rest) = (tt, tt)
 

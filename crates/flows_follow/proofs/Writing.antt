@@ -19,7 +19,7 @@ use Rattle.flow_laws.specs.Dutiful.{Must as MustOfOne}
 use Rattle.record_flows.specs.Book.{book, quiet, scene, turned}
 use Rattle.record_flows.specs.Doings.{Nothing, Goes, doing, doing_by, goes}
 use Rattle.record_flows.specs.Flows.{Flow, flow_of, is_on, is_strange, owner, sends, with_event}
-use Rattle.record_flows.specs.Laws.{MaySend, MaySendOn, MayWrite, MustSend, MustSendOn, MustWrite, flow_settings}
+use Rattle.record_flows.specs.Laws.{MaySend, SendsOn, WritesBy, MustSend, flow_settings}
 use Rattle.record_flows.specs.Lots.{due_for_flows}
 use Rattle.record_flows.specs.Said.{Differ}
 use Rattle.record_flows.specs.Segments.{OnTuple, asked_in, segment_in}
@@ -118,28 +118,28 @@ module _ (config : Config) (face : Face) (f : Flow) (past : List Entry) (has : H
         ∙ ap (is_explained config past) is
         ∙ explained (left config past) nothing
 
-    sent : (o : Option OnTuple) → o ≡ Some (on_ends face to seg) → MaySendOn (flow_settings config) (moment past) (book config past).flows o
+    sent : (o : Option OnTuple) → o ≡ Some (on_ends face to seg) → SendsOn (MaySend (flow_settings config) (moment past)) (book config past).flows o
     sent o on =
-        subst (MaySendOn (flow_settings config) (moment past) (book config past).flows) (sym on)
+        subst (SendsOn (MaySend (flow_settings config) (moment past)) (book config past).flows) (sym on)
         (subst (MaySend (flow_settings config) (moment past) seg) (sym (owner_is differ))
         (subst (λ b. MatchBool b (Unit {0}) (MayOfOne (flow_settings config) f.story (moment past) (Send seg))) (sym (not_strange seg may)) may))
 
-    writes_it : MayWrite (flow_settings config) (moment past) (book config past).flows (tail past) octets
+    writes_it : WritesBy (MaySend (flow_settings config) (moment past)) (book config past).flows (tail past) octets
     writes_it =
-        subst (λ t. MayWrite (flow_settings config) (moment past) (book config past).flows t octets) (sym none)
-        (subst (λ x. MaySendOn (flow_settings config) (moment past) (book config past).flows (segment_in x)) (sym is) (sent (segment_in frame) carries.carried))
+        subst (λ t. WritesBy (MaySend (flow_settings config) (moment past)) (book config past).flows t octets) (sym none)
+        (subst (λ x. SendsOn (MaySend (flow_settings config) (moment past)) (book config past).flows (segment_in x)) (sym is) (sent (segment_in frame) carries.carried))
 
-    must_send : MustOfOne (flow_settings config) f.story (moment past) (Send seg) → (o : Option OnTuple) → o ≡ Some (on_ends face to seg) → MustSendOn (flow_settings config)
-        (moment past) (book config past).flows o
+    must_send : MustOfOne (flow_settings config) f.story (moment past) (Send seg) → (o : Option OnTuple) → o ≡ Some (on_ends face to seg) → SendsOn (MustSend (flow_settings config)
+        (moment past)) (book config past).flows o
     must_send must o on =
-        subst (MustSendOn (flow_settings config) (moment past) (book config past).flows) (sym on)
+        subst (SendsOn (MustSend (flow_settings config) (moment past)) (book config past).flows) (sym on)
         (subst (MustSend (flow_settings config) (moment past) seg) (sym (owner_is differ))
         (subst (λ b. MatchBool b (Unit {0}) (MustOfOne (flow_settings config) f.story (moment past) (Send seg))) (sym (not_strange seg may)) must))
 
-    must_write : MustOfOne (flow_settings config) f.story (moment past) (Send seg) → MustWrite (flow_settings config) (moment past) (book config past).flows (tail past) octets
+    must_write : MustOfOne (flow_settings config) f.story (moment past) (Send seg) → WritesBy (MustSend (flow_settings config) (moment past)) (book config past).flows (tail past) octets
     must_write must =
-        subst (λ t. MustWrite (flow_settings config) (moment past) (book config past).flows t octets) (sym none)
-        (subst (λ x. MustSendOn (flow_settings config) (moment past) (book config past).flows (segment_in x)) (sym is) (must_send must (segment_in frame) carries.carried))
+        subst (λ t. WritesBy (MustSend (flow_settings config) (moment past)) (book config past).flows t octets) (sym none)
+        (subst (λ x. SendsOn (MustSend (flow_settings config) (moment past)) (book config past).flows (segment_in x)) (sym is) (must_send must (segment_in frame) carries.carried))
 
     pub may_write : MustOfOne (flow_settings config) f.story (moment past) (Send seg) → InWork config past → left config past ≡ [] → MayFrame past (CallLinkWrite octets) →
         May config past (CallLinkWrite octets)

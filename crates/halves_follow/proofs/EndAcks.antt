@@ -79,7 +79,8 @@ module _ (past : Story) (p : Part) (sure ours_first : Bool) (last m : ℕ) (seg 
     sure_now : p.received.ended ≡ true → IsTrue (fin_was_acknowledged (At m (Departs seg) ∷ past))
     sure_now ended =
         or_left (seg.ack && not seg.rst && list_any (nat_eq seg.acknowledgement) (after_fins past)) (fin_was_acknowledged past)
-        (all_true seg.ack (not seg.rst) (list_any (nat_eq seg.acknowledgement) (after_fins past)) ack (rw rst refl) (subst (λ (n : ℕ). IsTrue (list_any (nat_eq n) (after_fins past))) (sym here) (e.fin ended)))
+        (all_true seg.ack (not seg.rst) (list_any (nat_eq seg.acknowledgement) (after_fins past)) ack (rw rst refl)
+        (subst (λ (n : ℕ). IsTrue (list_any (nat_eq n) (after_fins past))) (sym here) (e.fin ended)))
       where
         all_places : (b : Bool) → b ≡ true → (if b then p.received.taken + 1 else p.received.taken) ≡ p.received.taken + 1
         all_places b is = rw is refl

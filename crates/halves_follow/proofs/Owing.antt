@@ -1,6 +1,7 @@
 -- Whether a flow is done, or closed after a reset.
 use Rattle.std.proofs.Common.{refl, ◌≡◌, ℕ, ◌+◌, ◌<◌, ◌≤◌, List, [], ◌∷◌, length, arith, Option, Some, None, Bool, true, false, ◌&&◌, ◌||◌, if◌then◌else◌, IsTrue, nat_le, nat_eq, ap, ◌∙◌}
 use Rattle.std.proofs.Common.{inl, inr, ◌⊎◌}
+use Rattle.std.specs.Option.{option_map_or}
 use Rattle.std.proofs.lemmas.Bool.{cases_lt}
 use Rattle.std.proofs.lemmas.Bool.Decides.{nat_tests}
 use Rattle.seq_space.specs.Places.{number_of}
@@ -9,7 +10,7 @@ use Rattle.flow_laws.specs.Event.{Segment, Arrives, At, Story}
 use Rattle.flow_laws.specs.Guest.{ack_is_due, ackd}
 use Rattle.flow_laws.specs.Host.{Down, Ours, Got, GotEnd, Sent, Confirmed, sent, acked, got, got_end, owned, answered, is_acceptable}
 use Rattle.flow_laws.specs.Flow.{guest, host, their_number, our_number, next_number, oldest_sendings, sendings, syn_sendings}
-use Rattle.flow_laws.specs.Close.{is_done, host_was_ended, our_fin_is_acked, fin_was_acknowledged, newest_rst, before, some_fatal, follows_reset, host_failed, gives_up}
+use Rattle.flow_laws.specs.Close.{is_done, host_was_ended, our_fin_is_acked, fin_was_acknowledged, newest_rst, before, is_fatal, follows_reset, host_failed, gives_up}
 use Rattle.flow_laws.specs.Lawful.{IsLawful}
 use Rattle.flow_laws.proofs.HostLaws.{sent_is_read}
 use Rattle.halves_follow.proofs.Heard.{old_acked}
@@ -25,7 +26,7 @@ no_and false = refl
 pub no_reset : (past : Story) (directly : Bool) → newest_rst past ≡ None → follows_reset directly past ≡ false
 no_reset past directly none = by (newest_rst past) none
   where
-    by : (o : Option Segment) → o ≡ None → (directly && some_fatal (before past) o) ≡ false
+    by : (o : Option Segment) → o ≡ None → (directly && option_map_or (is_fatal (before past)) o false) ≡ false
     by o is = rw is (no_and directly)
 
 pub failed_no_reset : (past : Story) → host_failed past ≡ true → newest_rst past ≡ None
@@ -46,7 +47,7 @@ not_fatal past m seg directly f last known same apart none = ap (λ (b : Bool). 
         at : (n : ℕ) → n ≡ last → (nat_eq seg.number n || ack_is_due (guest past)) ≡ false
         at n is = rw (is, apart) none
 
-    by : (r : Bool) → some_fatal past (if r then Some seg else None) ≡ false
+    by : (r : Bool) → option_map_or (is_fatal past) (if r then Some seg else None) false ≡ false
     by true = here (their_number past) known
     by false = refl
 

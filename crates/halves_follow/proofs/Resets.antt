@@ -1,13 +1,14 @@
 -- The guest's reset at the number that is expected next: a cause of the close, which owes none.
 use Rattle.std.proofs.Common.{refl, ◌≡◌, ℕ, ◌+◌, List, [], ◌∷◌, length, arith, Option, Some, None, Bool, true, false, ◌&&◌, ◌||◌, not, if◌then◌else◌, IsTrue, MatchOption, nat_eq, ap, sym}
 use Rattle.std.proofs.Common.{◌∙◌, subst, ◌⊎◌, inl, inr, length-append}
+use Rattle.std.specs.Option.{option_map_or}
 use Rattle.std.proofs.lemmas.Bool.Decides.{nat_tests}
 use Rattle.seq_space.specs.Places.{number_of}
 use Rattle.flow_laws.specs.Settings.{Settings}
 use Rattle.flow_laws.specs.Event.{Segment, Arrives, At, Story}
 use Rattle.flow_laws.specs.Guest.{Up, Known, Came, Acked, Wrote, Ended, is_empty, ack_is_due, ackd, first_of, HasCome, Honest, written}
 use Rattle.flow_laws.specs.Flow.{guest, their_number, our_number, next_number}
-use Rattle.flow_laws.specs.Close.{IsReset, newest_rst, some_fatal, follows_reset}
+use Rattle.flow_laws.specs.Close.{IsReset, newest_rst, is_fatal, follows_reset}
 use Rattle.flow_laws.specs.Lawful.{HasOwnCause}
 use Rattle.flow_laws.proofs.Sides.{their_first}
 use Rattle.halves_follow.specs.Received.{Received, received, places_taken}
@@ -62,8 +63,8 @@ module _ (s : Settings) (m : ℕ) (past : Story) (seg : Segment) (rst : seg.rst 
 
   -- ---- and none is owed
 
-  fatal_by : some_fatal past (Some seg) ≡ true → follows_reset true (At m (Arrives seg) ∷ past) ≡ true
-  fatal_by is = ap (λ (o : Option Segment). some_fatal past o) newest ∙ is
+  fatal_by : is_fatal past seg ≡ true → follows_reset true (At m (Arrives seg) ∷ past) ≡ true
+  fatal_by is = ap (λ (o : Option Segment). option_map_or (is_fatal past) o false) newest ∙ is
 
   pub reset_is_fatal : (p : Part) (last : ℕ) → their_number past ≡ Some p.received.first → number_of (first_of (guest past)) (ackd (guest past)) ≡ last → IsCurrent (guest past) p.received last
       → seg.number ≡ number_of p.received.first (places_taken p.received) → follows_reset true (At m (Arrives seg) ∷ past) ≡ true

@@ -1,8 +1,9 @@
 -- What is answered of a part, by the sets for which the areas stand.
-use Rattle.std.proofs.Common.{◌≡◌, ◌+◌, ◌/◌, ◌%◌, ◌<◌, ◌≤◌, ◌&&◌, not, List, ℕ, Bool, true, false, cond, zero, suc, inl, inr, [], ◌∷◌, ◌++◌, length, drop, set, ltb, leb, eqb, None, Some}
+use Rattle.std.proofs.Common.{◌≡◌, ◌+◌, ◌/◌, ◌%◌, ◌<◌, ◌≤◌, ◌&&◌, not, List, ℕ, Bool, true, false, cond, zero, suc, inl, inr, [], ◌∷◌, ◌++◌, length, drop, set, ltb, leb, eqb, Option, None, Some}
 use Rattle.std.proofs.Common.{refl, ap, sym, ◌∙◌, arith, subst, length-set, eqb-true, eq-eqb, add-zero, length-append}
 use Rattle.std.specs.Prelude.{slice_get}
 use Rattle.std.specs.List.{list_any, remove, position}
+use Rattle.std.specs.Option.{option_map_or}
 use Rattle.std.proofs.lemmas.Bool.{cases_lt, lt-ltb, ltb-false, or_parts}
 use Rattle.std.proofs.lemmas.List.Folds.{position_or_len-set, position_or_len_push}
 use Rattle.std.proofs.lemmas.List.Quantifiers.{position-Some}
@@ -152,7 +153,7 @@ record Found (key : Key) (sets : List PartSet) (i : ℕ) (g : Gathered) (s : Par
   pub stands : StandsFor g s
   pub parts : parts_for key sets ≡ s.parts
 
-set_parts : Option PartSet → List Part
+abbrev set_parts : Option PartSet → List Part
 set_parts o = option_map_or (λ (s : PartSet). s.parts) o []
 
 found : (key : Key) (sets : List PartSet) (held : List Gathered) (g : Gathered) → StandFor held sets → slice_get held (place_in key held) ≡ Some g → (s : PartSet) × Found key sets

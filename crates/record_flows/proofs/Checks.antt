@@ -20,7 +20,7 @@ use Rattle.record_flows.specs.Book.{book, scene}
 use Rattle.record_flows.specs.Check.{may_act, may_shut, may_send, may_send_on, may_write, is_close, is_connect, is_call, may_due, is_due, may_touch, must_act, asks_for_room, must_send}
 use Rattle.record_flows.specs.Check.{must_send_on, must_write, must_touch, closes_at_once, may_flow, keeps_flows}
 use Rattle.record_flows.specs.Flows.{Flow, Scene, closing, flow_of, is_strange, owner}
-use Rattle.record_flows.specs.Laws.{flow_settings, MayAct, MayShut, MaySend, MaySendOn, MayWrite, MayTouch, MustAct, AsksForRoom, MustSend, MustSendOn, MustWrite, MustTouch, MayFlow, KeepsFlows}
+use Rattle.record_flows.specs.Laws.{flow_settings, MayAct, MayShut, MaySend, SendsOn, WritesBy, MayTouch, MustAct, AsksForRoom, MustSend, MustTouch, MayFlow, KeepsFlows}
 use Rattle.record_flows.specs.Lots.{due_for_flows}
 use Rattle.record_flows.specs.Segments.{OnTuple, segment_in}
 use Rattle.record_flows.proofs.Lists.{numbers_same}
@@ -45,11 +45,11 @@ sends s now seg (Some f) is = by_test (is_strange seg f) is
     by_test true is = tt
     by_test false is = may_is s f.story now (Send seg) is
 
-sends_on : (s : Settings) (now : ℕ) (flows : List Flow) (o : Option OnTuple) → may_send_on s now flows o ≡ true → MaySendOn s now flows o
+sends_on : (s : Settings) (now : ℕ) (flows : List Flow) (o : Option OnTuple) → may_send_on s now flows o ≡ true → SendsOn (MaySend s now) flows o
 sends_on s now flows None is = tt
 sends_on s now flows (Some on) is = sends s now on.segment (owner on.tuple flows) is
 
-writes : (s : Settings) (now : ℕ) (flows : List Flow) (rest octets : List ℕ) → may_write s now flows rest octets ≡ true → MayWrite s now flows rest octets
+writes : (s : Settings) (now : ℕ) (flows : List Flow) (rest octets : List ℕ) → may_write s now flows rest octets ≡ true → WritesBy (MaySend s now) flows rest octets
 writes s now flows [] octets is = sends_on s now flows (segment_in (drop 4 octets)) is
 writes s now flows (x ∷ rest) octets is = tt
 
@@ -152,11 +152,11 @@ must_sends s now seg (Some f) is = by_test (is_strange seg f) is
     by_test true is = tt
     by_test false is = must_is s f.story now (Send seg) is
 
-must_sends_on : (s : Settings) (now : ℕ) (flows : List Flow) (o : Option OnTuple) → must_send_on s now flows o ≡ true → MustSendOn s now flows o
+must_sends_on : (s : Settings) (now : ℕ) (flows : List Flow) (o : Option OnTuple) → must_send_on s now flows o ≡ true → SendsOn (MustSend s now) flows o
 must_sends_on s now flows None is = tt
 must_sends_on s now flows (Some on) is = must_sends s now on.segment (owner on.tuple flows) is
 
-must_writes : (s : Settings) (now : ℕ) (flows : List Flow) (rest octets : List ℕ) → must_write s now flows rest octets ≡ true → MustWrite s now flows rest octets
+must_writes : (s : Settings) (now : ℕ) (flows : List Flow) (rest octets : List ℕ) → must_write s now flows rest octets ≡ true → WritesBy (MustSend s now) flows rest octets
 must_writes s now flows [] octets is = must_sends_on s now flows (segment_in (drop 4 octets)) is
 must_writes s now flows (x ∷ rest) octets is = tt
 

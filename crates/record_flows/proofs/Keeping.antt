@@ -20,7 +20,7 @@ use Rattle.run_laws.specs.Sockets.{next_number}
 use Rattle.record_flows.specs.Book.{book, scene, turned, quiet}
 use Rattle.record_flows.specs.Doings.{Doing, Nothing, Pauses, Joins, Visits, Calls, comes, goes, seeks, doing_by, joined, read_by, written_by, ended_by}
 use Rattle.record_flows.specs.Flows.{flow_of}
-use Rattle.record_flows.specs.Laws.{flow_settings, MayAct, MayWrite, MaySendOn, MustAct, MustWrite, MustSendOn, ClosesAtOnce, MayDue, MayFlow, KeepsFlows}
+use Rattle.record_flows.specs.Laws.{flow_settings, MayAct, MaySend, WritesBy, SendsOn, MustAct, MustSend, ClosesAtOnce, MayDue, MayFlow, KeepsFlows}
 use Rattle.record_flows.specs.Lots.{due_by, connects_to}
 use Rattle.record_flows.specs.Said.{Each, IsSound, AreKept}
 use Rattle.record_flows.specs.Segments.{OnTuple, segment_came, segment_in, asked_in}
@@ -83,13 +83,13 @@ module _ (config : Config) (past : List Entry) (kept : AreKept config past) wher
   asked None none stay = nothing none
   asked (Some guest) none stay = seeks_sound config (flow_settings config) (scene config past) (next_number past) (book config past) kept guest none stay
 
-  went : (frame : List ℕ) (o : Option OnTuple) → (book config past).doomed ≡ None → Stay → MaySendOn (flow_settings config) (moment past) (book config past).flows o
-      → MustSendOn (flow_settings config) (moment past) (book config past).flows o → IsNext (goes o (asked_in frame))
+  went : (frame : List ℕ) (o : Option OnTuple) → (book config past).doomed ≡ None → Stay → SendsOn (MaySend (flow_settings config) (moment past)) (book config past).flows o
+      → SendsOn (MustSend (flow_settings config) (moment past)) (book config past).flows o → IsNext (goes o (asked_in frame))
   went frame None none stay may must = asked (asked_in frame) none stay
   went frame (Some on) none stay may must = goes_sound config (flow_settings config) (scene config past) (next_number past) (book config past) kept on none may must
 
-  begun : (octets : List ℕ) (answer : Io) → (book config past).doomed ≡ None → Stay → (rest : List ℕ) → MayWrite (flow_settings config) (moment past) (book config past).flows rest octets
-      → MustWrite (flow_settings config) (moment past) (book config past).flows rest octets → IsNext (doing_by None (opens (LinkWrite octets answer) rest) (LinkWrite octets answer))
+  begun : (octets : List ℕ) (answer : Io) → (book config past).doomed ≡ None → Stay → (rest : List ℕ) → WritesBy (MaySend (flow_settings config) (moment past)) (book config past).flows rest octets
+      → WritesBy (MustSend (flow_settings config) (moment past)) (book config past).flows rest octets → IsNext (doing_by None (opens (LinkWrite octets answer) rest) (LinkWrite octets answer))
   begun octets answer none stay (x ∷ rest) may must = nothing none
   begun octets (Done n) none stay [] may must = went (drop 4 octets) (segment_in (drop 4 octets)) none stay may must
   begun octets End none stay [] may must = nothing none

@@ -1,7 +1,6 @@
 -- What becomes of a flow by one event.
 use Rattle.std.proofs.Common.{◌≡◌, ℕ, ◌≤◌, Bool, true, false, List, [], ◌∷◌, Option, Some, None, MatchBool, MatchOption, if◌then◌else◌, refl, sym, subst, arith}
-use Rattle.flow_laws.specs.Event.{Segment, Event, Connects, Accepts, Arrives, Departs, Connected, ConnectsYet, ConnectFails, Writes, WriteFails, Reads, ReadsEnd, ReadFails, EndsHost}
-use Rattle.flow_laws.specs.Event.{EndFails, AsksAddress, Closes, At, Story, IsStory, Opens, newest_moment}
+use Rattle.flow_laws.specs.Event.{Segment, Event, Departs, At, Story, IsStory, Opens, is_failure, newest_moment}
 use Rattle.flow_laws.specs.Close.{host_failed}
 use Rattle.flow_laws.specs.Dutiful.{Must, MustClose, MustHappen}
 use Rattle.flow_laws.specs.Lawful.{Act, AskConnected, Write, EndHost, Read, Send, May, MayHappen, act_of}
@@ -13,31 +12,12 @@ use Rattle.world_face.specs.declared.Made.TheVariants.{Done as MadeDone, Failed 
 use Rattle.world_face.specs.declared.Joined.{Joined}
 use Rattle.world_face.specs.declared.Joined.TheVariants.{Yes, NotYet as NotYetJoined, Failed as JoinFailed}
 use Rattle.record_flows.specs.Doings.{joined, read_by, written_by, ended_by}
-use Rattle.record_flows.specs.Flows.{Flow, fails, is_strange, sends, with_event}
+use Rattle.record_flows.specs.Flows.{Flow, is_strange, sends, with_event}
 use Rattle.record_flows.specs.Said.{Kept}
 
 longer : (past : Story) (m : ℕ) (e : Event) → (Opens e → ⊥) → newest_moment past ≤ m → IsStory past → IsStory (At m e ∷ past)
 longer [] m e other later story = absurd story
 longer (b ∷ past) m e other later story = (other, later, story)
-
--- the last thing that happened is a call that failed
-fails_is : (m : ℕ) (e : Event) (past : Story) → host_failed (At m e ∷ past) ≡ true → fails e ≡ true
-fails_is m (Connects ours syn) past is = cc
-fails_is m (Accepts ours) past is = cc
-fails_is m (Arrives seg) past is = cc
-fails_is m (Departs seg) past is = cc
-fails_is m Connected past is = cc
-fails_is m ConnectsYet past is = cc
-fails_is m ConnectFails past is = refl
-fails_is m (Writes xs n) past is = cc
-fails_is m (WriteFails xs) past is = refl
-fails_is m (Reads xs) past is = cc
-fails_is m ReadsEnd past is = cc
-fails_is m ReadFails past is = refl
-fails_is m EndsHost past is = cc
-fails_is m EndFails past is = refl
-fails_is m AsksAddress past is = cc
-fails_is m (Closes directly ended known) past is = cc
 
 -- ---- the events of calls
 
@@ -105,14 +85,14 @@ module _ (s : Settings) (now : ℕ) where
 
   -- an event that may happen, and is as it must be where it was done
   pub happened : (doomed doomed_new : Option ℕ) (e : Event) (f : Flow) → (Opens e → ⊥) → MayHappen s f.story (At now e) → MustHappen s f.story (At now e) →
-      (fails e ≡ true → doomed_new ≡ Some f.number)
+      (is_failure e ≡ true → doomed_new ≡ Some f.number)
       → Kept s now doomed f → Kept s now doomed_new (with_event now e f)
   happened doomed doomed_new e f other may must dooms kept = record {
     story = longer f.story now e other kept.moment kept.story;
     moment = omega arith;
     lawful = (may, kept.lawful);
     dutiful = (must, kept.dutiful);
-    failed = λ failed. dooms (fails_is now e f.story failed);
+    failed = dooms;
   }
 
   not_true : (b : Bool) → (b ≡ true → ⊥) → b ≡ false

@@ -2,7 +2,7 @@
 use Rattle.std.proofs.Common.{◌≡◌, ℕ, ◌+◌, ◌<◌, ◌≤◌, ◌==◌, ◌&&◌, Bool, true, false, [], ◌∷◌, length, find, Option, Some, None, if◌then◌else◌, refl, sym, ◌∙◌, ap, subst, arith}
 use Rattle.net_octets.specs.declared.Endpoint.{Endpoint}
 use Rattle.host_policy.specs.Addresses.{Config, address}
-use Rattle.flow_laws.specs.Event.{Event, Connects, Accepts, Arrives, AsksAddress, Closes, At, Opens}
+use Rattle.flow_laws.specs.Event.{Event, Connects, Accepts, Arrives, AsksAddress, Closes, At, Opens, is_failure}
 use Rattle.flow_laws.specs.Close.{host_failed}
 use Rattle.flow_laws.specs.Flow.{first_number, is_accepted}
 use Rattle.flow_laws.specs.Dutiful.{Must, MustClose, MustHappen}
@@ -11,7 +11,7 @@ use Rattle.flow_laws.specs.Settings.{Settings}
 use Rattle.flow_table.specs.declared.Tuple.{Tuple}
 use Rattle.record_flows.specs.Book.{opens, port_of, tuple_for, is_refused, heard, joins_for, visits_for, doom, quiet, turned}
 use Rattle.record_flows.specs.Doings.{Comes, Goes, Seeks, Joins, Visits, Calls, Shuts}
-use Rattle.record_flows.specs.Flows.{Flow, Book, Scene, closing, is_on, is_numbered, owner, flow_of, tell, with_event, sends, seeks_for, shuts, fails, comes_directly, comes_last, guest_is_known}
+use Rattle.record_flows.specs.Flows.{Flow, Book, Scene, closing, is_on, is_numbered, owner, flow_of, tell, with_event, sends, seeks_for, shuts, comes_directly, comes_last, guest_is_known}
 use Rattle.record_flows.specs.Lots.{giving_way}
 use Rattle.record_flows.specs.Laws.{MayShut, MaySend, MustSend}
 use Rattle.record_flows.specs.Said.{Each, Differ, Kept, IsSound}
@@ -95,12 +95,12 @@ module _ (config : Config) (s : Settings) (sc : Scene) (next : ℕ) (b : Book) (
   pub calls_sound : (socket : ℕ) (e : Event) → b.doomed ≡ None → (Opens e → ⊥) → ((f : Flow) → flow_of socket b.flows ≡ Some f → MayHappen s f.story (At sc.moment e))
       → ((f : Flow) → flow_of socket b.flows ≡ Some f → MustHappen s f.story (At sc.moment e)) → IsSound s sc.moment next (turned config sc (Calls socket e) b)
   calls_sound socket e none other may must =
-      let is = told (is_numbered socket) (with_event sc.moment e) (if fails e then Some socket else None) (λ f. refl) none
-      (λ f found kept. happened s sc.moment b.doomed (if fails e then Some socket else None) e f other (may f found) (must f found)
+      let is = told (is_numbered socket) (with_event sc.moment e) (if is_failure e then Some socket else None) (λ f. refl) none
+      (λ f found kept. happened s sc.moment b.doomed (if is_failure e then Some socket else None) e f other (may f found) (must f found)
       (λ failed. dooms f (found_number socket b.flows f found) failed) kept) in
       record { differ = is.0; below = is.1; each = is.2 }
     where
-      dooms : (f : Flow) → f.number ≡ socket → fails e ≡ true → (if fails e then Some socket else None) ≡ Some f.number
+      dooms : (f : Flow) → f.number ≡ socket → is_failure e ≡ true → (if is_failure e then Some socket else None) ≡ Some f.number
       dooms f number failed = ap (λ t. if t then Some socket else None) failed ∙ ap Some (sym number)
 
   -- its socket is closed, which alone may be the one that is to be

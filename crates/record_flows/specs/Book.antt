@@ -8,7 +8,7 @@ use Rattle.host_policy.specs.declared.Proto.TheVariants.{Tcp, Udp}
 use Rattle.host_policy.specs.Addresses.{Config, forward_on}
 use Rattle.host_policy.specs.Targets.{shown, is_hidden}
 use Rattle.flow_table.specs.declared.Tuple.{Tuple}
-use Rattle.flow_laws.specs.Event.{Segment, Event, Connects, Accepts, Arrives, At, Story}
+use Rattle.flow_laws.specs.Event.{Segment, Event, Connects, Accepts, Arrives, At, Story, is_failure}
 use Rattle.flow_laws.specs.Flow.{first_number}
 use Rattle.flow_laws.specs.Close.{renews, ends_rest, rests_since}
 use Rattle.run_laws.specs.Guests.{known}
@@ -16,7 +16,7 @@ use Rattle.run_laws.specs.Moments.{moment}
 use Rattle.run_laws.specs.Shape.{is_ended}
 use Rattle.run_laws.specs.Sockets.{first, open_sockets}
 use Rattle.record_flows.specs.Doings.{Doing, Nothing, Comes, Goes, Seeks, Pauses, Joins, Visits, Calls, Shuts, doing}
-use Rattle.record_flows.specs.Flows.{Flow, Rest, Book, Scene, is_on, is_numbered, owner, flow_of, is_used, used, rests_among, tell, with_event, sends, seeks_for, shuts, fails}
+use Rattle.record_flows.specs.Flows.{Flow, Rest, Book, Scene, is_on, is_numbered, owner, flow_of, is_used, used, rests_among, tell, with_event, sends, seeks_for, shuts}
 use Rattle.record_flows.specs.Lots.{giving_way}
 use Rattle.record_flows.specs.Segments.{OnTuple}
 
@@ -86,20 +86,16 @@ abbrev pub joins_for : Config → ℕ → ℕ → Option OnTuple → Book → Bo
 joins_for config now socket None book = quiet book
 joins_for config now socket (Some on) book = opens config now socket on.tuple (Connects (first_number now (length book.flows)) on.segment) book
 
--- a segment came: its flow was told, and one may give way to it
+-- a segment came: its flow was told
 abbrev pub heard : ℕ → OnTuple → Book → Book
-heard now on book = record {
+heard now on book = record (quiet book) {
   flows = tell (is_on on.tuple) (with_event now (Arrives on.segment)) book.flows;
   rests = after_segment now on.segment (owner on.tuple book.flows) book.rests;
   came = Some on;
-  doomed = None;
 }
 
-abbrev pub with_room_for : Config → ℕ → OnTuple → Book → Book
-with_room_for config now on book = record { flows = book.flows; rests = book.rests; came = book.came; doomed = giving_way config now on book }
-
 abbrev pub doom : ℕ → Book → Book
-doom socket book = record { flows = book.flows; rests = book.rests; came = None; doomed = Some socket }
+doom socket book = record (quiet book) { doomed = Some socket }
 
 abbrev pub visits_for : Config → ℕ → ℕ → Endpoint → Option Endpoint → Book → Book
 visits_for config now socket peer None book = quiet book
@@ -108,22 +104,19 @@ visits_for config now socket peer (Some guest) book =
     else opens config now socket (tuple_for config guest peer) (Accepts (first_number now (length book.flows))) book
 
 abbrev pub shut : Scene → ℕ → List Flow → Book → Book
-shut scene socket flows book = record { flows = flows; rests = after_close scene.moment (flow_of socket flows) book.rests; came = None; doomed = None }
+shut scene socket flows book = record (quiet book) { flows = flows; rests = after_close scene.moment (flow_of socket flows) book.rests }
 
+-- by a segment that came one flow may give way to it
 abbrev pub turned : Config → Scene → Doing → Book → Book
 turned config scene Nothing book = quiet book
-turned config scene (Comes on) book = with_room_for config scene.moment on (heard scene.moment on book)
-turned config scene (Goes on) book = record { flows = tell (is_on on.tuple) (sends scene.moment on.segment) book.flows; rests = book.rests; came = None; doomed = None }
-turned config scene (Seeks guest) book = record { flows = map (seeks_for scene.moment guest) book.flows; rests = book.rests; came = None; doomed = None }
-turned config scene Pauses book = record { flows = book.flows; rests = filter (is_young scene.moment) book.rests; came = None; doomed = None }
+turned config scene (Comes on) book = record (heard scene.moment on book) { doomed = giving_way config scene.moment on (heard scene.moment on book) }
+turned config scene (Goes on) book = record (quiet book) { flows = tell (is_on on.tuple) (sends scene.moment on.segment) book.flows }
+turned config scene (Seeks guest) book = record (quiet book) { flows = map (seeks_for scene.moment guest) book.flows }
+turned config scene Pauses book = record (quiet book) { rests = filter (is_young scene.moment) book.rests }
 turned config scene (Joins socket) book = joins_for config scene.moment socket book.came book
 turned config scene (Visits listener socket peer) book = visits_for config scene.moment socket peer (port_of config listener) book
-turned config scene (Calls socket event) book = record {
-  flows = tell (is_numbered socket) (with_event scene.moment event) book.flows;
-  rests = book.rests;
-  came = None;
-  doomed = if fails event then Some socket else None;
-}
+turned config scene (Calls socket event) book =
+    record (quiet book) { flows = tell (is_numbered socket) (with_event scene.moment event) book.flows; doomed = if is_failure event then Some socket else None }
 turned config scene (Shuts socket) book = shut scene socket (tell (is_numbered socket) (shuts scene book.came) book.flows) book
 
 abbrev pub scene : Config → List Entry → Scene

@@ -1,12 +1,12 @@
 -- The flows of a run: each with its two ends and its story.
-use Rattle.std.specs.Prelude.{ℕ, ◌-◌, ◌/◌, ◌==◌, ◌&&◌, not, nat_lt, Bool, true, false, List, [], ◌∷◌, length, filter, find, Option, Some, None, is_some, if◌then◌else◌}
+use Rattle.std.specs.Prelude.{ℕ, ◌-◌, ◌/◌, ◌==◌, ◌&&◌, not, nat_lt, Bool, false, List, [], ◌∷◌, length, filter, find, Option, Some, None, is_some, if◌then◌else◌}
 use Rattle.std.specs.List.{list_any}
 use Rattle.net_octets.specs.declared.Ip4.{Ip4}
 use Rattle.net_octets.specs.declared.Mac.{Mac}
 use Rattle.host_policy.specs.Addresses.{address}
 use Rattle.arp_table.specs.Table.{mac_of}
 use Rattle.flow_table.specs.declared.Tuple.{Tuple}
-use Rattle.flow_laws.specs.Event.{Segment, Event, Departs, ConnectFails, WriteFails, ReadFails, EndFails, AsksAddress, Closes, At, Story}
+use Rattle.flow_laws.specs.Event.{Segment, Event, Departs, AsksAddress, Closes, At, Story}
 use Rattle.flow_laws.specs.Flow.{is_accepted}
 use Rattle.flow_laws.specs.Close.{owes_reset, is_owed_reset, is_in_use}
 use Rattle.flow_laws.specs.Lawful.{Act, Close}
@@ -124,10 +124,3 @@ closing scene came f = Close (comes_directly came f) (comes_last scene f) (guest
 
 abbrev pub shuts : Scene → Option OnTuple → Flow → Flow
 shuts scene came f = with_event scene.moment (Closes (comes_directly came f) (comes_last scene f) (guest_is_known scene f)) f
-
-abbrev pub fails : Event → Bool
-fails ConnectFails = true
-fails (WriteFails octets) = true
-fails ReadFails = true
-fails EndFails = true
-fails _ = false

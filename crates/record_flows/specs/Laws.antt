@@ -33,19 +33,20 @@ abbrev pub MaySend : Settings → ℕ → Segment → Option Flow → Type 0
 MaySend s now segment None = segment.rst ≡ true
 MaySend s now segment (Some f) = MatchBool (is_strange segment f) (Unit {0}) (May s f.story now (Send segment))
 
-abbrev pub MaySendOn : Settings → ℕ → List Flow → Option OnTuple → Type 0
-MaySendOn s now flows None = Unit {0}
-MaySendOn s now flows (Some on) = MaySend s now on.segment (owner on.tuple flows)
+-- what is said of a segment and its flow holds of the one that goes out, if one does
+abbrev pub SendsOn : (Segment → Option Flow → Type 0) → List Flow → Option OnTuple → Type 0
+SendsOn Sends flows None = Unit {0}
+SendsOn Sends flows (Some on) = Sends on.segment (owner on.tuple flows)
 
 -- a write begins a frame where nothing is left of the one before
-abbrev pub MayWrite : Settings → ℕ → List Flow → List ℕ → List ℕ → Type 0
-MayWrite s now flows [] octets = MaySendOn s now flows (segment_in (drop 4 octets))
-MayWrite s now flows (x ∷ rest) octets = Unit {0}
+abbrev pub WritesBy : (Segment → Option Flow → Type 0) → List Flow → List ℕ → List ℕ → Type 0
+WritesBy Sends flows [] octets = SendsOn Sends flows (segment_in (drop 4 octets))
+WritesBy Sends flows (x ∷ rest) octets = Unit {0}
 
 -- Each call on a flow's socket, each segment that goes out and each close is one that may be, by what happened to the flow. A socket connects
 -- only where a guest's SYN asks for it; a peer gets the next number.
 abbrev pub MayTouch : Config → List Entry → Call → Type 0
-MayTouch config past (CallLinkWrite octets) = MayWrite (flow_settings config) (moment past) (book config past).flows (tail past) octets
+MayTouch config past (CallLinkWrite octets) = WritesBy (MaySend (flow_settings config) (moment past)) (book config past).flows (tail past) octets
 MayTouch config past (CallConnect socket to) = due_for_flows config (book config past) (next_number past) ≡ Some (CallConnect socket to)
 MayTouch config past (CallConnected socket) = MayAct (flow_settings config) (moment past) (flow_of socket (book config past).flows) AskConnected
 MayTouch config past (CallAccept listener socket) = socket ≡ next_number past
@@ -76,19 +77,10 @@ abbrev pub MustSend : Settings → ℕ → Segment → Option Flow → Type 0
 MustSend s now segment None = Unit {0}
 MustSend s now segment (Some f) = MatchBool (is_strange segment f) (Unit {0}) (Must s f.story now (Send segment))
 
-abbrev pub MustSendOn : Settings → ℕ → List Flow → Option OnTuple → Type 0
-MustSendOn s now flows None = Unit {0}
-MustSendOn s now flows (Some on) = MustSend s now on.segment (owner on.tuple flows)
-
--- and so it does where a write begins its frame
-abbrev pub MustWrite : Settings → ℕ → List Flow → List ℕ → List ℕ → Type 0
-MustWrite s now flows [] octets = MustSendOn s now flows (segment_in (drop 4 octets))
-MustWrite s now flows (x ∷ rest) octets = Unit {0}
-
 -- Each segment tells the room that is left, the host is offered all that was acknowledged and asked for all that there is room for, and after a
 -- guest's reset at the next number nothing is done for the flow but its close.
 abbrev pub MustTouch : Config → List Entry → Call → Type 0
-MustTouch config past (CallLinkWrite octets) = MustWrite (flow_settings config) (moment past) (book config past).flows (tail past) octets
+MustTouch config past (CallLinkWrite octets) = WritesBy (MustSend (flow_settings config) (moment past)) (book config past).flows (tail past) octets
 MustTouch config past (CallConnected socket) = MustAct (flow_settings config) (moment past) (flow_of socket (book config past).flows) AskConnected
 MustTouch config past (CallTcpRead socket asked) =
     MustAct (flow_settings config) (moment past) (flow_of socket (book config past).flows) Read × AsksForRoom (flow_settings config) (flow_of socket (book config past).flows) asked

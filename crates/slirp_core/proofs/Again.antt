@@ -18,7 +18,7 @@ use Rattle.tftp_server.specs.Serving.{IsFromServer, said_by}
 use Rattle.tftp_server.proofs.Turning.{begun_left, ticked_left, ticked_none}
 use Rattle.record_flows.specs.Book.{book}
 use Rattle.record_flows.specs.Doings.{Nothing, doing, doing_by, goes}
-use Rattle.record_flows.specs.Laws.{MaySendOn, MayWrite, MustSendOn, MustWrite, flow_settings}
+use Rattle.record_flows.specs.Laws.{MaySend, SendsOn, WritesBy, MustSend, flow_settings}
 use Rattle.record_flows.specs.Segments.{asked_in, segment_in}
 use Rattle.run_laws.specs.Moments.{moment}
 use Rattle.tftp_server.specs.Transfers.{Files, Said, Transfer, are_left, begun, next_again, said_again, ticked}
@@ -51,10 +51,11 @@ module _ (config : Config) (past : List Entry) (said : Said) (frame : List ℕ) 
   pub may_write_again : FlowsLetWrite config past octets
   may_write_again = by (tail past)
     where
-      by : (t : List ℕ) → MayWrite (flow_settings config) (moment past) (book config past).flows t octets × MustWrite (flow_settings config) (moment past) (book config past).flows t octets
+      by : (t : List ℕ) → WritesBy (MaySend (flow_settings config) (moment past)) (book config past).flows t octets
+          × WritesBy (MustSend (flow_settings config) (moment past)) (book config past).flows t octets
       by [] = (
-        subst (MaySendOn (flow_settings config) (moment past) (book config past).flows) (sym its_segment) tt,
-        subst (MustSendOn (flow_settings config) (moment past)
+        subst (SendsOn (MaySend (flow_settings config) (moment past)) (book config past).flows) (sym its_segment) tt,
+        subst (SendsOn (MustSend (flow_settings config) (moment past))
             (book config past).flows) (sym its_segment) tt,
       )
       by (x ∷ t) = (tt, tt)

@@ -11,7 +11,7 @@ use Rattle.slirp_laws.specs.Sending.{requests, requests_by}
 use Rattle.slirp_laws.specs.Answers.{identification, datagrams_in, datagrams_out, with_datagrams, again_frames, left, serving, taken, is_first, is_out}
 use Rattle.record_flows.specs.Book.{book}
 use Rattle.record_flows.specs.Doings.{doing_by}
-use Rattle.record_flows.specs.Laws.{MayWrite, MustWrite, flow_settings}
+use Rattle.record_flows.specs.Laws.{MaySend, WritesBy, MustSend, flow_settings}
 use Rattle.run_laws.specs.Moments.{moment}
 use Rattle.slirp_laws.specs.Datagrams.{NeedsNothing}
 use Rattle.slirp_laws.specs.Sending.{is_beside, is_explained}
@@ -143,7 +143,7 @@ after_flush config at slirp f old new made past result pumped some (answer, is, 
     begins (x ∷ t) rest some is = refl
 
     goes_on : (t rest : List ℕ) → 0 < length rest → t ≡ rest
-        → MayWrite (flow_settings config) (moment past) (book config past).flows t rest × MustWrite (flow_settings config) (moment past) (book config past).flows t rest
+        → WritesBy (MaySend (flow_settings config) (moment past)) (book config past).flows t rest × WritesBy (MustSend (flow_settings config) (moment past)) (book config past).flows t rest
     goes_on [] rest some is = absurd (omega (arith, ap length is))
     goes_on (x ∷ t) rest some is = (tt, tt)
 

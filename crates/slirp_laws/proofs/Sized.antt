@@ -15,7 +15,7 @@ use Rattle.flow_laws.specs.Event.{Segment, Story}
 use Rattle.flow_laws.specs.Lawful.{IsPiece, May as MayOfOne, Send}
 use Rattle.flow_laws.specs.Windows.{is_scaled, least_shift, mss}
 use Rattle.record_flows.specs.Book.{book}
-use Rattle.record_flows.specs.Laws.{MaySend, MaySendOn, MayWrite, flow_settings}
+use Rattle.record_flows.specs.Laws.{MaySend, SendsOn, WritesBy, flow_settings}
 use Rattle.record_flows.specs.Segments.{OnTuple, segment_in}
 use Rattle.slirp_laws.specs.Answers.{left}
 use Rattle.slirp_laws.specs.Laws.{Lawful}
@@ -74,9 +74,9 @@ module _ (config : Config) (past : Story) (now : ℕ) (on : OnTuple) (may : MayO
 -- ---- of a run
 
 module _ (config : Config) (past : List Entry) (frame : List ℕ) where
-  may_on : (octets : List ℕ) (answer : Io) (t : List ℕ) → opens (LinkWrite octets answer) t ≡ Some frame → MayWrite (flow_settings config) (moment past) (book config past).flows t octets
-      → MaySendOn (flow_settings config) (moment past) (book config past).flows (segment_in frame)
-  may_on octets (Done n) [] out may = subst (λ x. MaySendOn (flow_settings config) (moment past) (book config past).flows (segment_in x)) (same out) may
+  may_on : (octets : List ℕ) (answer : Io) (t : List ℕ) → opens (LinkWrite octets answer) t ≡ Some frame → WritesBy (MaySend (flow_settings config) (moment past)) (book config past).flows t octets
+      → SendsOn (MaySend (flow_settings config) (moment past)) (book config past).flows (segment_in frame)
+  may_on octets (Done n) [] out may = subst (λ x. SendsOn (MaySend (flow_settings config) (moment past)) (book config past).flows (segment_in x)) (same out) may
     where
       same : Some (drop 4 octets) ≡ Some frame → drop 4 octets ≡ frame
       same is = cc
@@ -85,14 +85,14 @@ module _ (config : Config) (past : List Entry) (frame : List ℕ) where
   may_on octets Failed [] out may = cc
   may_on octets answer (x ∷ t) out may = cc
 
-  may_begin : (e : Entry) → Lawful config (e ∷ past) → goes_out e past ≡ Some frame → MaySendOn (flow_settings config) (moment past) (book config past).flows (segment_in frame)
+  may_begin : (e : Entry) → Lawful config (e ∷ past) → goes_out e past ≡ Some frame → SendsOn (MaySend (flow_settings config) (moment past)) (book config past).flows (segment_in frame)
   may_begin (LinkWrite octets answer) lawful out = may_on octets answer (tail past) out lawful.0.flows.touches
   may_begin _ lawful out = cc
 
-  of_owner : (f : IsOfFlow config past frame) → MaySendOn (flow_settings config) (moment past) (book config past).flows (segment_in frame) → MayOfOne
+  of_owner : (f : IsOfFlow config past frame) → SendsOn (MaySend (flow_settings config) (moment past)) (book config past).flows (segment_in frame) → MayOfOne
       (flow_settings config) f.flow.story (moment past) (Send f.on.segment)
   of_owner f may =
-      let sends = subst (MaySendOn (flow_settings config) (moment past) (book config past).flows) f.carried may in
+      let sends = subst (SendsOn (MaySend (flow_settings config) (moment past)) (book config past).flows) f.carried may in
       let own = subst (MaySend (flow_settings config) (moment past) f.on.segment) f.owner sends in
       subst (λ b. MatchBool b (Unit {0}) (MayOfOne (flow_settings config) f.flow.story (moment past) (Send f.on.segment))) f.own own
 

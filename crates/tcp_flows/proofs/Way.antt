@@ -4,12 +4,13 @@ use Rattle.std.proofs.Common.{if◌then◌else◌, refl, sym, ◌∙◌, ap, sub
 use Rattle.std.proofs.lemmas.Bool.Decides.{nat_tests}
 use Rattle.std.specs.List.{list_any}
 use Rattle.std.specs.Prelude.{Contains}
+use Rattle.std.specs.Option.{option_map_or}
 use Rattle.net_octets.specs.declared.Mac.{Mac}
 use Rattle.world_face.specs.Journal.{Call, CallClose, Close, Entry}
 use Rattle.host_policy.specs.Addresses.{Config}
 use Rattle.flow_table.specs.Slots.{AreKept, Flows}
 use Rattle.flow_laws.specs.Event.{At, Closes, Segment, Story}
-use Rattle.flow_laws.specs.Close.{before, follows_reset, last_at, may_give_way, newest_rst, owes_reset, some_fatal}
+use Rattle.flow_laws.specs.Close.{before, follows_reset, last_at, may_give_way, newest_rst, owes_reset, is_fatal}
 use Rattle.flow_laws.specs.Flow.{is_closed}
 use Rattle.record_flows.specs.Book.{book, scene}
 use Rattle.record_flows.specs.Flows.{Flow, comes_directly, comes_last, flow_of, guest_is_known, is_resting, is_used, used}
@@ -273,7 +274,7 @@ module _ (config : Config) (now : ℕ) (few : now ≤ 2 ^ 62) (table : Flows) (p
 
     follows_then : Following config now q (At now (Closes direct (comes_last (scene config past) f) (guest_is_known (scene config past) f)) ∷ f.story)
     follows_then = follows_on f.story direct (comes_last (scene config past) f) (guest_is_known (scene config past) f) it_may
-        (ap (λ b. b && some_fatal (before f.story) (newest_rst f.story)) direct_not) followed_here
+        (ap (λ b. b && option_map_or (is_fatal (before f.story)) (newest_rst f.story) false) direct_not) followed_here
 
     abbrev is_called : Called config p.face f past now (Close (number_of p) ∷ []) (At now (Closes direct (comes_last (scene config past) f) (guest_is_known (scene config past) f)) ∷ [])
     is_called = called config (flows_of table parts opened) past now k p q holds_then between.at between.lawful between.work (ends_of p.face) f here_is slot_is as_old.face was_is ends_are once_is
