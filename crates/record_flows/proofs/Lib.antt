@@ -22,5 +22,6 @@ pub mod TcpHeaders
 pub mod TcpForwards
 pub mod TcpRefused
 pub mod Lots
+pub mod Quietest
 pub mod Quiet
 pub mod TcpDuties

@@ -1,5 +1,5 @@
 -- Words in which laws of the flows of a run are said.
-use Rattle.std.specs.Prelude.{◌≡◌, ℕ, ◌<◌, ◌≤◌, ◌==◌, true, false, List, [], ◌∷◌, ◌++◌, ◌⊎◌, take, Option, Some, None, if◌then◌else◌}
+use Rattle.std.specs.Prelude.{◌≡◌, ℕ, ◌<◌, ◌≤◌, ◌==◌, true, false, List, [], ◌∷◌, ◌++◌, ◌⊎◌, take, Contains, Option, Some, None, if◌then◌else◌}
 use Rattle.world_face.specs.Journal.{Entry, TcpRead, TcpWrite}
 use Rattle.world_face.specs.declared.Io.{Io}
 use Rattle.world_face.specs.declared.Io.TheVariants.{Done, End, NotYet, Failed}
@@ -10,7 +10,7 @@ use Rattle.host_policy.specs.declared.Proto.TheVariants.{Tcp as OverTcp}
 use Rattle.host_policy.specs.declared.Verdict.TheVariants.{Go, Denied}
 use Rattle.host_policy.specs.declared.Rule.{Rule}
 use Rattle.flow_laws.specs.Event.{IsStory, newest_moment}
-use Rattle.flow_laws.specs.Close.{host_failed}
+use Rattle.flow_laws.specs.Close.{host_failed, last_at, may_give_way}
 use Rattle.flow_laws.specs.Dutiful.{IsDutiful}
 use Rattle.flow_laws.specs.Lawful.{IsLawful}
 use Rattle.flow_laws.specs.Settings.{Settings}
@@ -106,3 +106,9 @@ pub record IsDenied (config : Config) (b : Book) (on : OnTuple) : Type 0 where
 pub record IsIgnored (config : Config) (b : Book) (on : OnTuple) : Type 0 where
   pub nobodys : IsNobodys b on
   pub why : (is_to_many config on.tuple.other ≡ true) ⊎ (config.flows ≤ used b.flows)
+
+-- a flow may give way, and of all that may none had its last sign of life earlier
+pub record IsQuietest (now : ℕ) (flows : List Flow) (f : Flow) : Type 0 where
+  pub one : Contains flows f
+  pub may : may_give_way now f.story ≡ true
+  pub least : (g : Flow) → Contains flows g → may_give_way now g.story ≡ true → last_at f.story ≤ last_at g.story

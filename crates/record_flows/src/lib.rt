@@ -28,11 +28,12 @@ ghost use Rattle.flow_laws.specs.Lawful.{HasCause, IsLawful, IsPrefixOf};
 ghost use Rattle.flow_laws.specs.Said.{CameAt, closed_as_failed, reset_is_out, something_is_out};
 ghost use Rattle.run_laws.specs.Moments.{moment};
 ghost use Rattle.run_laws.specs.Happenings.{happens};
-ghost use Rattle.record_flows.specs.Book.{book, scene, story};
+ghost use Rattle.record_flows.specs.Book.{book, heard, scene, story};
 ghost use Rattle.record_flows.specs.Flows.{Book, Flow, comes_directly, comes_last, flow_of, guest_is_known};
 ghost use Rattle.record_flows.specs.Laws.{flow_settings, KeepsFlows};
-ghost use Rattle.record_flows.specs.Lots.{Dropped, NeedsRoom, is_opening, is_reset, lot};
-ghost use Rattle.record_flows.specs.Said.{ConnectsAsAsked, Differ, IsDenied, IsIgnored, given_on, taken_on};
+ghost use Rattle.record_flows.specs.Doings.{Comes, doing};
+ghost use Rattle.record_flows.specs.Lots.{Dropped, NeedsRoom, giving_way, is_opening, is_reset, lot};
+ghost use Rattle.record_flows.specs.Said.{ConnectsAsAsked, Differ, IsDenied, IsIgnored, IsQuietest, given_on, taken_on};
 ghost use Rattle.record_flows.specs.Segments.{OnTuple, segment_came};
 ghost use Rattle.record_flows.specs.Touching.{AreApart};
 
@@ -155,4 +156,16 @@ pub fn syns_are_denied_or_ignored_for_a_reason()
         → IsDenied config b on }
     ensures ignored { (config : Config) (b : Book) (on : OnTuple) → is_opening on.segment ≡ true
         → (lot config b on ≡ Dropped) ⊎ (lot config b on ≡ NeedsRoom) → IsIgnored config b on }
+{}
+
+/// A flow gives way to a guest's SYN alone, to one that finds as many flows in use as may be (RFC 5382, REQ-5). It had no sign of
+/// life for its quiet time, and of all flows of which that is so none had its last sign of life earlier. It is doomed by the entry
+/// that brings the SYN, so that the next entry closes its socket.
+pub fn the_quietest_gives_way_to_a_syn()
+    ensures syn { (config : Config) (now number : ℕ) (on : OnTuple) (b : Book) → giving_way config now on b ≡ Some number
+        → lot config b on ≡ NeedsRoom }
+    ensures quietest { (config : Config) (now number : ℕ) (on : OnTuple) (b : Book) → giving_way config now on b ≡ Some number
+        → (f : Flow) × (f.number ≡ number) × IsQuietest now b.flows f }
+    ensures doomed { (config : Config) (past : List Entry) (e : Entry) (on : OnTuple) → doing config past e ≡ Comes on
+        → (book config (e ∷ past)).doomed ≡ giving_way config (moment past) on (heard (moment past) on (book config past)) }
 {}
