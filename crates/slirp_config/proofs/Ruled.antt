@@ -116,7 +116,7 @@ not_bare text behind dhcp_start f is r = no_type r.kind (r.outside ++ 45 ∷ r.i
 same_behind : (a b : List ℕ) → codes "hostfwd=" ++ a ≡ codes "hostfwd=" ++ b → a ≡ b
 same_behind a b is = cc
 
-same_rule : (text : List ℕ) (dhcp_start : ℕ) (f g : Forward) → IsRule text dhcp_start f → IsRule text dhcp_start g → f ≡ g
+pub same_rule : (text : List ℕ) (dhcp_start : ℕ) (f g : Forward) → IsRule text dhcp_start f → IsRule text dhcp_start g → f ≡ g
 same_rule text dhcp_start f g (inl r) (inl q) = same_forward text dhcp_start f g r q
 same_rule text dhcp_start f g (inl r) (inr q) = absurd (not_bare text q.0 dhcp_start f q.1 r)
 same_rule text dhcp_start f g (inr r) (inl q) = absurd (not_bare text r.0 dhcp_start g r.1 q)

@@ -66,6 +66,7 @@ use crate::values::read_link;
 use address_text::{NoReading, read_number};
 use arrayvec::ArrayString;
 use host_policy::{Field, SlirpConfig};
+pub use rules::read_rule;
 use world_face::LinkAt;
 
 /// What the words of the command line ask for.

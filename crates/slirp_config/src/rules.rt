@@ -54,7 +54,7 @@ fn read_rules(
     ensures refused { OnErr result ((all : List AForward) → ¬ AreForwards (map (λ rule. rule.now) rules.now) dhcp_start.0 all) }
 {
     for rule in rules {
-        let forward = read_rule(rule, dhcp_start)?;
+        let forward = read_rule(rule.as_bytes(), dhcp_start)?;
         put_one(forward, forwards);
     }
     Ok(())
@@ -83,20 +83,23 @@ pub(crate) fn is_rule(word: &str) -> bool
 fn is_host_rule(word: &str) -> bool
     ensures { MatchBool result ((forward : AForward) × IsRule word.now 0 forward) (¬ ((forward : AForward) × IsRule word.now 0 forward)) }
 {
-    match read_rule(word, Ip4(0)) {
+    match read_rule(word.as_bytes(), Ip4(0)) {
         Ok(_) => true,
         Err(_) => false,
     }
 }
 
-// A rule: without an address of a guest it leads to the first that is lent.
-fn read_rule(text: &str, dhcp_start: Ip4) -> Result<Forward, NoReading>
+/// A RULE for a port of the host, with `hostfwd=` in front or without. Without an address of a guest it leads to the first that is lent.
+///
+/// # Errors
+/// `NoReading` where the octets aren't one; a RULE of guests (`guestfwd=`) is none.
+pub fn read_rule(text: &[u8], dhcp_start: Ip4) -> Result<Forward, NoReading>
     ensures rule { IfOk result (λ f. IsRule text.now dhcp_start.0 f) }
     ensures refused { OnErr result ((f : AForward) → ¬ IsRule text.now dhcp_start.0 f) }
 {
-    match text.strip_prefix("hostfwd=") {
-        Some(behind) => read_forward(behind.as_bytes(), dhcp_start),
-        None => read_forward(text.as_bytes(), dhcp_start),
+    match text.strip_prefix(b"hostfwd=") {
+        Some(behind) => read_forward(behind, dhcp_start),
+        None => read_forward(text, dhcp_start),
     }
 }
 
