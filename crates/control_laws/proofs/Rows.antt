@@ -4,9 +4,9 @@ use Rattle.std.specs.Prelude.{bytes_eq, codes, if◌then◌else◌}
 use Rattle.net_octets.specs.declared.Endpoint.{Endpoint}
 use Rattle.poll_list.specs.declared.Want.{Want}
 use Rattle.poll_list.specs.declared.Who.TheVariants.{Listener, Tcp as Connection}
-use Rattle.world_face.specs.Journal.{Entry, Accept, CallClose, CallListen, CallNow, Close, Listen, TcpRead, TcpWrite, Wait}
+use Rattle.world_face.specs.Journal.{Entry, Accept, CallAccept, CallClose, CallListen, CallNow, Close, Follows, Listen, Now, TcpRead, TcpWrite, Wait}
 use Rattle.world_face.specs.declared.Accepted.TheVariants.{From}
-use Rattle.world_face.specs.declared.Io.TheVariants.{Done, End}
+use Rattle.world_face.specs.declared.Io.TheVariants.{Done, End, Failed}
 use Rattle.world_face.specs.declared.Made.TheVariants.{Done as MadeDone, Failed as MadeFailed}
 use Rattle.world_face.specs.declared.Waited.TheVariants.{Ready}
 use Rattle.host_policy.specs.Addresses.{Config, endpoint}
@@ -158,3 +158,68 @@ not_yet is = cc
 
 listens_first : MayControl read config opened CallNow
 listens_first = refl
+
+-- a read that fails is the last call, though a whole line was kept from before: nothing is answered, and the close comes next
+abbrev broken : List Entry
+broken = TcpWrite peer (codes "ok" ++ 10 ∷ []) Failed ∷ Listen 0 ssh.host MadeDone ∷ TcpRead peer 129 (Done 4) (97 ∷ 10 ∷ 97 ∷ 10 ∷ []) ∷ met
+
+only_its_close : MayControl read config broken (CallClose peer)
+only_its_close = refl
+
+nothing_is_said : (desk read config broken).talk.left ≡ []
+nothing_is_said = refl
+
+-- a whole run up to the second peer, of which each call is one that may come: a connection ends, is closed, and another is accepted
+abbrev for_a_peer : List Want
+for_a_peer = record { of = Listener listener; read = true; write = false } ∷ []
+
+abbrev for_a_line : List Want
+for_a_line = record { of = Connection peer; read = true; write = false } ∷ []
+
+abbrev run : List Entry
+run =
+    Accept listener (peer + 1) (From (endpoint 0x7f000001 40001)) ∷ Now 3 ∷ Wait for_a_peer None Ready for_a_peer ∷ Close peer ∷ TcpRead peer 129 End [] ∷ Now 2
+    ∷ Wait for_a_line None Ready for_a_line ∷ Accept listener peer (From (endpoint 0x7f000001 40000)) ∷ Now 1 ∷ Wait for_a_peer None Ready for_a_peer ∷ Now 0 ∷ opened
+
+each_may_come : Follows (MayControl read config) run
+each_may_come = (
+  record { on = refl; number = refl; alone = refl; reported = refl },
+  (
+    refl,
+    (
+      record { own = refl; served = refl },
+      (
+        refl,
+        (
+          record { peer = refl; out = refl; asked = refl; reported = refl },
+          (
+            refl,
+            (
+              record { own = refl; served = refl },
+              (
+                record { on = refl; number = refl; alone = refl; reported = refl },
+                (
+                  refl,
+                  (
+                    record { own = refl; served = refl },
+                    (
+                      refl,
+                      (record { number = refl; configured = refl; opening = (0, refl); first = refl }, tt),
+                    ),
+                  ),
+                ),
+              ),
+            ),
+          ),
+        ),
+      ),
+    ),
+  ),
+)
+
+the_second_is_there : (desk read config run).talk.peer ≡ Some (peer + 1)
+the_second_is_there = refl
+
+-- while the first is open no other may be
+not_beside_another : MayControl read config met (CallAccept listener (peer + 1)) → ⊥
+not_beside_another may = cc may.alone

@@ -29,13 +29,14 @@ use Rattle.control_laws.specs.Replies.{fault_text, list_reply, reply_line}
 abbrev pub Reads : Type 0
 Reads = List ℕ → Command
 
--- the call that comes next, whatever else could: the opening of a forward's socket for a command, or a close, of such a socket for a command, or of a connection that is over
+-- the call that comes next, whatever else could: for a command the opening of a forward's socket or its close; or the close of a connection that is over
 pub data Awaited : Type 0 where
   Nothing : Awaited
   Opening : (forward : Forward) → Awaited
   Shutting : (socket : ℕ) → Awaited
 
--- the connection; the forwards in force, in the order in which they were added, each with the number of its socket; all for which a socket was asked for while the run went on, by its number; and the call that is awaited
+-- the connection; the forwards in force, in the order in which they were added, each with the number of its socket;
+-- all for which a socket was asked for while the run went on, by its number; and the call that is awaited
 pub record Desk : Type 0 where
   pub talk : Talk
   pub forwards : List Opened
@@ -113,26 +114,26 @@ abbrev pub is_peer : ℕ → Option ℕ → Bool
 is_peer socket None = false
 is_peer socket (Some peer) = peer == socket
 
--- a call that was a connection's last one: its close comes next
-abbrev pub parts_if : (last : Bool) → ℕ → Desk → Desk
-parts_if true socket d = awaits (Shutting socket) d
-parts_if false socket d = d
+-- A call that was a connection's last one: its close comes next, and no line is answered. After any other a whole line is.
+abbrev pub after_call : Reads → Config → (seen : List Entry) → (last : Bool) → ℕ → Desk → Desk
+after_call read config past true socket d = awaits (Shutting socket) d
+after_call read config past false socket d = serves read config past d
 
 -- a close: of the listener or the connection, at the end, or the one that was awaited
 abbrev pub shut : ℕ → Desk → Desk
 shut socket d =
-    if socket == listener then with_talk (deaf d.talk) d
-    else (if is_peer socket d.talk.peer then with_talk (hung_up d.talk) d else awaits Nothing d)
+    if socket == listener then awaits Nothing (with_talk (deaf d.talk) d)
+    else (if is_peer socket d.talk.peer then awaits Nothing (with_talk (hung_up d.talk) d) else awaits Nothing d)
 
 -- what an entry makes of it
 abbrev pub after_entry : Reads → Config → (seen : List Entry) → Entry → Desk → Desk
 after_entry read config past (Listen socket at answer) d = if is_controls socket then with_talk (after_listen answer d.talk) d else opens_awaited d.awaited answer socket d
 after_entry read config past (UdpOpen socket at answer) d = opens_awaited d.awaited answer socket d
 after_entry read config past (Accept from socket answer) d = if is_controls from then with_talk (after_accept answer d.talk) d else d
-after_entry read config past (TcpRead socket asked answer octets) d = if is_controls socket
-    then serves read config past (parts_if (is_last answer (d.talk.kept ++ octets)) socket (with_talk (after_read answer octets d.talk) d)) else d
-after_entry read config past (TcpWrite socket octets answer) d = if is_controls socket
-    then serves read config past (parts_if (fails answer) socket (with_talk (after_write answer d.talk) d)) else d
+after_entry read config past (TcpRead socket asked answer octets) d =
+    if is_controls socket then after_call read config past (is_last answer (d.talk.kept ++ octets)) socket (with_talk (after_read answer octets d.talk) d) else d
+after_entry read config past (TcpWrite socket octets answer) d =
+    if is_controls socket then after_call read config past (fails answer) socket (with_talk (after_write answer d.talk) d) else d
 after_entry read config past (Close socket) d = shut socket d
 after_entry read config past _ d = d
 
