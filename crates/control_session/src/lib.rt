@@ -14,7 +14,8 @@ ghost use Rattle.world_face.specs.Journal.{Listen, Accept, Close, TcpRead, TcpWr
 ghost use Rattle.world_face.specs.declared.Accepted.{Accepted as AnAccepted};
 ghost use Rattle.world_face.specs.declared.Io.{Io as AnIo};
 ghost use Rattle.world_face.specs.Tells.{Answers, Makes};
-ghost use Rattle.control_session.specs.Talk.{after_accept, after_line, after_listen, after_read, after_write, all_closed, closed_if, deaf, fails, first_line, free, has_line, hung_up, is_last, is_out, listener, listener_want, longest_reply, most_at_once, next_peer, over, peer_closed, peer_want, silent, want_of};
+ghost use Rattle.control_session.specs.Talk.{after_accept, after_line, after_listen, after_read, after_write, all_closed, closed_if, deaf, fails, first_line, free, has_line};
+ghost use Rattle.control_session.specs.Talk.{hung_up, is_last, is_out, listener, listener_want, longest_reply, most_at_once, next_peer, over, peer_closed, peer_want, silent, want_of};
 
 use crate::line::Line;
 use crate::reply::Reply;
@@ -191,7 +192,8 @@ impl Session {
         requires unread { has_line self.old.kept ≡ false }
         requires room { 0 < free self.old.kept }
         ensures { (answer : AnIo) × (octets : List ℕ)
-            × Makes (W.tells world.old) (W.tells world.new) (λ made. made ≡ closed_if (is_last answer (self.old.kept ++ octets)) connection ++ (TcpRead connection (free self.old.kept) answer octets ∷ []))
+            × Makes (W.tells world.old) (W.tells world.new) (λ made. made ≡ closed_if (is_last answer (self.old.kept ++ octets)) connection
+            ++ (TcpRead connection (free self.old.kept) answer octets ∷ []))
             × (self.new ≡ after_read answer octets self.old) }
     {
         let answer = self.line.read(world, connection);

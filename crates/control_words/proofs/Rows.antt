@@ -121,5 +121,8 @@ no_guests behind f (inl is) =
     no_type f.proto (subst (λ (t : List ℕ). IsType t f.proto) (sym kind) is.type)
 no_guests behind f (inr is) = omega (arith, ap head is.1)
 
+abbrev led : List ℕ
+led = codes "guestfwd=:10.0.2.100:7-127.0.0.1:7007"
+
 guests : Means guest (codes "add guestfwd=:10.0.2.100:7-127.0.0.1:7007") What
-guests = add_alone _ (codes "guestfwd=:10.0.2.100:7-127.0.0.1:7007") refl (λ f is. no_guests (codes "10.0.2.100:7-127.0.0.1:7007") f (rule_of guest _ (codes "guestfwd=:10.0.2.100:7-127.0.0.1:7007") f refl is))
+guests = add_alone _ led refl (λ f is. no_guests (codes "10.0.2.100:7-127.0.0.1:7007") f (rule_of guest _ led f refl is))

@@ -106,6 +106,7 @@ one_command guest line What Lists a b = absurd (a.no_list b)
 one_command guest line What What a b = refl
 
 -- of both protocols none is a removal
-pub no_removal : (line : List ℕ) → ((host : Endpoint) → ¬ IsRemove line Tcp host) → ((host : Endpoint) → ¬ IsRemove line Udp host) → (proto : Proto) (host : Endpoint) → ¬ IsRemove line proto host
+pub no_removal : (line : List ℕ) → ((host : Endpoint) → ¬ IsRemove line Tcp host) → ((host : Endpoint) → ¬ IsRemove line Udp host)
+    → (proto : Proto) (host : Endpoint) → ¬ IsRemove line proto host
 no_removal line tcp udp Tcp host is = tcp host is
 no_removal line tcp udp Udp host is = udp host is
