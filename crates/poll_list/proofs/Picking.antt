@@ -1,7 +1,7 @@
 -- Facts on lists that are picked from a list of wants.
 use Rattle.std.proofs.Common.{◌≡◌, true, false, ◌||◌, ◌&&◌, not, List, [], ◌∷◌, ◌++◌, inl, inr, append_assoc, append-nil, suc, zero, length, length-append, take, drop, get_or, drop-cons}
 use Rattle.std.proofs.Common.{ℕ, ◌+◌, ◌<◌, ◌≤◌, Option, refl, arith, sym, subst}
-use Rattle.std.proofs.lemmas.List.{take-append-drop, drop_all}
+use Rattle.std.proofs.lemmas.List.{take-append-drop}
 use Rattle.std.proofs.lemmas.Bool.{and_parts, and_from, or_parts, or_from, not-true, not_from_false}
 use Rattle.std.specs.List.{list_any}
 use Rattle.poll_list.specs.declared.Want.{Want}
@@ -82,11 +82,14 @@ goes_on_step all wants rest old new i d below goes adds =
     let goes' : GoesOn all (get_or wants i d ∷ (drop (i + 1) wants ++ rest)) old = subst (λ (l : List Want). GoesOn all (l ++ rest) old) parts goes in
     goes_on_part all (drop (i + 1) wants ++ rest) old new (get_or wants i d) goes' adds
 
+-- of wants in a row the front ones may be passed
+picked_behind : (wants rest parts : List Want) → IsPickedFrom rest parts → IsPickedFrom (wants ++ rest) parts
+picked_behind [] rest parts p = p
+picked_behind (want ∷ wants) rest parts p = picked_skip want (wants ++ rest) parts (picked_behind wants rest parts p)
+
 -- all wants but those behind are passed
-pub goes_on_passed : (all wants rest ready : List Want) (i : ℕ) → i ≡ length wants → GoesOn all (drop i wants ++ rest) ready → GoesOn all rest ready
-goes_on_passed all wants rest ready i end goes =
-    let past : length wants ≤ i = omega (arith, end) in
-    subst (λ (l : List Want). GoesOn all (l ++ rest) ready) (drop_all i wants past) goes
+pub goes_on_passed : (all wants rest ready : List Want) (i : ℕ) → GoesOn all (drop i wants ++ rest) ready → GoesOn all rest ready
+goes_on_passed all wants rest ready i goes more p = goes more (picked_behind (drop i wants) rest more p)
 
 -- on from the wants in front to those behind
 pub goes_on_split : (all wants ready : List Want) (i : ℕ) → GoesOn all wants ready → GoesOn all (take i wants ++ drop i wants) ready

@@ -1,6 +1,9 @@
 //! Lists of what a program waits for, and of what became ready.
 #![tactic(auto)]
 
+ghost use Rattle.std.specs.Prelude.{◌≡◌};
+ghost use Rattle.poll_list.specs.Listing.{count_to_write};
+
 use std::alloc::{AllocError, Global};
 use std::marker::Model;
 
@@ -27,18 +30,20 @@ pub struct Want {
 pub struct Wants {
     list: Vec<Want>,
     room: usize,
+    // How many of the list are for writing.
+    writes: usize,
 }
 
 impl Model for Wants {
-    ghost use Rattle.std.specs.Prelude.{◌≤◌, length};
+    ghost use Rattle.std.specs.Prelude.{◌≡◌, ◌≤◌, length};
     ghost use Rattle.std.specs.Vec.{vec_capacity};
-    ghost use Rattle.poll_list.specs.Listing.{Listing};
+    ghost use Rattle.poll_list.specs.Listing.{Listing, count_to_write};
 
     ghost Value = { Listing };
 
     ghost view = { λ w. record { items = w.list.items; capacity = w.room } };
 
-    ghost invariant = { λ w. (length w.list.items ≤ w.room) × (w.room ≤ vec_capacity w.list) };
+    ghost invariant = { λ w. (length w.list.items ≤ w.room) × (w.room ≤ vec_capacity w.list) × (w.writes ≡ count_to_write w.list.items) };
 }
 
 impl Wants {
@@ -53,6 +58,7 @@ impl Wants {
         Ok(Wants {
             list,
             room: capacity,
+            writes: 0,
         })
     }
 
@@ -62,6 +68,7 @@ impl Wants {
         ensures capacity { self.new.capacity ≡ self.old.capacity }
     {
         self.list.clear();
+        self.writes = 0;
     }
 
     /// Puts a want at the end.
@@ -71,9 +78,13 @@ impl Wants {
         ensures capacity { self.new.capacity ≡ self.old.capacity }
     {
         self.list.push_reserved(w);
+        if w.write {
+            self.writes += 1;
+        }
     }
 
     /// Puts all of a list at the end, in its order.
+    #[tactic(auto, using(crate::proofs::Counting::count_appended))]
     pub fn add_all(&mut self, wants: &[Want])
         requires { length self.old.items + length wants.now ≤ self.old.capacity }
         ensures items { self.new.items ≡ self.old.items ++ wants.now }
@@ -82,17 +93,25 @@ impl Wants {
         if wants.is_empty() {
             return;
         }
+        let more = count_writes(wants);
         if self.list.extend_from_slice(wants).is_err() {
             unreachable!();
         }
+        self.writes += more;
     }
 
     /// Takes away all but the first `len`; nothing where there are no more.
+    #[tactic(auto, using(crate::proofs::Counting::count_parted))]
     pub fn truncate(&mut self, len: usize)
         ensures items { self.new.items ≡ take len self.old.items }
         ensures capacity { self.new.capacity ≡ self.old.capacity }
     {
+        if len >= self.list.len() {
+            return;
+        }
+        let fewer = count_writes(&self.list[len..]);
         self.list.truncate(len);
+        self.writes -= fewer;
     }
 
     /// The wants, in the order in which they were put.
@@ -101,6 +120,20 @@ impl Wants {
     {
         self.list.as_slice()
     }
+
+    /// How many of the wants are for writing, that of the link among them. No want is looked at: the count is kept as wants are put and taken away.
+    pub fn writes(&self) -> usize
+        ensures { result ≡ count_to_write self.now.items }
+    {
+        self.writes
+    }
+}
+
+// How many of some wants are for writing.
+fn count_writes(wants: &[Want]) -> usize
+    ensures { result ≡ count_to_write wants.now }
+{
+    wants.iter().filter(|want| want.write).count()
 }
 
 /// What a wait reported: a list with room for a fixed number of items, all of it taken at opening.
