@@ -5,14 +5,14 @@ use Rattle.std.specs.List.Sorted.{IsBinarySearchResult}
 use Rattle.std.specs.declared.cmp.Ordering.{Ordering}
 use Rattle.std.specs.Cmp.{IsTotalOrder}
 use Rattle.std.proofs.lemmas.Bool.{cases_lt}
-use Rattle.std.proofs.lemmas.List.{append-nil, get_or_default, take_more}
-use Rattle.std.proofs.Math.Seq.{take-length}
+use Rattle.std.proofs.lemmas.List.{append-nil, get_or_default, take-append-drop, take_more}
 use Rattle.std.proofs.lemmas.List.Elements.{Contains-append_cases, Contains-append_left, Contains-append_right, Contains-push_cases}
 use Rattle.poll_list.specs.declared.Want.{Want}
 use Rattle.poll_list.specs.declared.Who.{Who}
 use Rattle.poll_list.specs.declared.Who.TheVariants.{Link, Listener, Udp, Tcp}
-use Rattle.poll_list.specs.Listing.{same_who}
+use Rattle.poll_list.specs.Listing.{count_to_write, same_who}
 use Rattle.poll_list.specs.Picks.{Adds, Begins, GoesOn, part_in, as_list}
+use Rattle.poll_list.proofs.Counting.{is_counted}
 use Rattle.poll_list.proofs.Picking.{goes_on_step}
 use Rattle.net_world.specs.declared.slot.Slot.{Slot}
 use Rattle.net_world.specs.declared.sockets.Known.{Known}
@@ -231,9 +231,13 @@ module _ {S : Type 0} (slots : List (Option (Slot S))) where
         | inr here ↦ let clash : true ≡ false = sym wanted ∙ ap (λ (w : Want). w.write) (sym here) ∙ idle in absurd (cc)
       ]
 
-  pub written_all : (wants told : List Want) (i : ℕ) → i ≡ length wants → AreWritten slots (take i wants) told → AreWritten slots wants told
-  written_all wants told i end all =
-      subst (λ (l : List Want). AreWritten slots l told) (ap (λ (n : ℕ). take n wants) end ∙ take-length wants) all
+  -- behind the last that is for writing no more has to be told
+  pub written_all : (wants told : List Want) (i : ℕ) → count_to_write (drop i wants) ≡ 0 → AreWritten slots (take i wants) told → AreWritten slots wants told
+  written_all wants told i none all want h wanted writable =
+      elim (Contains-append_cases (take i wants) (drop i wants) want (subst (λ (l : List Want). Contains l want) (sym (take-append-drop i wants)) h)) [
+        | inl before ↦ all want before wanted writable
+        | inr behind ↦ absurd (omega (arith, none, is_counted (drop i wants) want behind wanted))
+      ]
 
 -- on from the want at a place to those behind it
 pub goes_on_at : (all wants old new : List Want) (i : ℕ) (d : Want) → i < length wants → GoesOn all (drop i wants) old → Adds (get_or wants i d) old new → GoesOn all (drop (i + 1) wants) new

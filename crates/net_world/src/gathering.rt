@@ -4,7 +4,7 @@ ghost use Rattle.std.specs.List.{Contains};
 ghost use Rattle.std.specs.List.Sorted.{IsSearchInRange, IsBinarySearchResult};
 ghost use Rattle.std.specs.declared.cmp.Ordering.TheVariants.{Less};
 ghost use Rattle.poll_list.specs.declared.Want.{Want};
-ghost use Rattle.poll_list.specs.Listing.{same_who};
+ghost use Rattle.poll_list.specs.Listing.{count_to_write, same_who};
 ghost use Rattle.poll_list.specs.declared.Who.TheVariants.{Link};
 ghost use Rattle.poll_list.specs.Picks.{IsPart, IsPickedFrom, GoesOn, Adds, Begins, BeginsWithLink, part_in, as_list};
 ghost use Rattle.net_world.specs.Telling.{AreInOrder, AreReady, IsEndWanted, IsLinkAtMost, IsReadable, IsWritable, TellsOneRead, TellsRead, TellsWrite, WantsRead, link_told, read_sockets};
@@ -15,8 +15,9 @@ use mio::net::TcpStream;
 use poll_list::{ReadyList, Want, Wants, Who};
 
 /// Puts the parts of the wants that are known to be ready into a list, in place of what it held. What is known of the link is told. Each socket that is ready
-/// for reading is looked up among the wants, and the sockets of the wants for writing that lie between those are looked up by their numbers. So a connection
-/// that idles, which is ready for writing and not wanted for it, costs one look at its want.
+/// for reading is looked up among the wants, and the sockets of the wants for writing that lie between those are looked up by their numbers, up to the last of
+/// them. So a connection that idles, which is ready for writing and not wanted for it, costs one look at its want where a socket behind it is wanted for
+/// writing, and nothing else.
 ///
 /// At most `most` sockets are told for reading. Where more are ready, those are told that stand past the one that was told last, and the others at
 /// later waits: so each has its turn.
@@ -45,19 +46,20 @@ pub(crate) fn gather(
         → TellsOneRead sockets.now.slots ready.new.items }
 {
     ready.clear();
-    let mut left = gather_first(wants.items(), link, ready);
+    let mut to_write = wants.writes();
+    let mut left = gather_first(wants.items(), link, &mut to_write, ready);
     let mut room = most;
     for listed in in_turn(left, sockets.readable(), sockets, most) {
         if room == 0 {
             break;
         }
-        let (rest, is_read) = gather_up_to(left, listed, sockets, ready);
+        let (rest, is_read) = gather_up_to(left, listed, sockets, &mut to_write, ready);
         left = rest;
         if is_read {
             room -= 1;
         }
     }
-    gather_written(left, sockets, ready);
+    gather_written(left, sockets, &mut to_write, ready);
 }
 
 /// Puts the link alone into a list, in place of what it held, where it is wanted for reading, or for writing and takes octets.
@@ -71,13 +73,21 @@ pub(crate) fn gather_link(wants: &Wants, write: bool, ready: &mut ReadyList)
 {
     ready.clear();
     let known = Known { read: true, write };
-    gather_first(wants.items(), known, ready);
+    let mut to_write = wants.writes();
+    gather_first(wants.items(), known, &mut to_write, ready);
 }
 
 // Adds the part of the link's want that is ready, and answers the wants that come after it. The link stands first where it is wanted; all wants are
-// answered where it isn't.
-fn gather_first<'a>(wants: &'a [Want], known: Known, ready: &mut ReadyList) -> &'a [Want]
-    requires { length ready.old.items + length wants.now ≤ ready.old.capacity }
+// answered where it isn't. The wants for writing among them are counted, before and after.
+fn gather_first<'a>(
+    wants: &'a [Want],
+    known: Known,
+    to_write: &mut usize,
+    ready: &mut ReadyList,
+) -> &'a [Want]
+    requires room { length ready.old.items + length wants.now ≤ ready.old.capacity }
+    requires counted { to_write.old ≡ count_to_write wants.now }
+    ensures counted { to_write.new ≡ count_to_write result.now }
     ensures goes_on { (all : List Want) → GoesOn all wants.now ready.old.items → GoesOn all result.now ready.new.items }
     ensures link { ready.old.items ≡ [] → BeginsWithLink known.read known.write wants.now ready.new.items }
     ensures few { length ready.new.items + length result.now ≤ length ready.old.items + length wants.now }
@@ -94,6 +104,7 @@ fn gather_first<'a>(wants: &'a [Want], known: Known, ready: &mut ReadyList) -> &
     if !is_link(want.of) {
         return wants;
     }
+    *to_write -= usize::from(want.write);
     add_part(*want, known, ready);
     rest
 }
@@ -106,15 +117,19 @@ fn is_link(of: Who) -> bool
 }
 
 // Adds the part of the want for a socket that is ready for reading, after the parts of the wants for writing that stand before it, and answers the wants that
-// come after it, and whether it was told for reading; all of them, and false, where it isn't wanted.
+// come after it, and whether it was told for reading; all of them, and false, where it isn't wanted. The wants for writing among them are counted, before
+// and after.
 fn gather_up_to<'a>(
     wants: &'a [Want],
     listed: &Listed,
     sockets: &Sockets<TcpStream>,
+    to_write: &mut usize,
     ready: &mut ReadyList,
 ) -> (&'a [Want], bool)
     requires room { length ready.old.items + length wants.now ≤ ready.old.capacity }
     requires listed { Contains sockets.now.readable listed.now }
+    requires counted { to_write.old ≡ count_to_write wants.now }
+    ensures counted { to_write.new ≡ count_to_write result.0.now }
     ensures goes_on { (all : List Want) → GoesOn all wants.now ready.old.items → GoesOn all result.0.now ready.new.items }
     ensures begins { (first : List Want) → Begins first ready.old.items → Begins first ready.new.items }
     ensures few { length ready.new.items + length result.0.now ≤ length ready.old.items + length wants.now }
@@ -131,14 +146,23 @@ fn gather_up_to<'a>(
     let Some(at) = place_among(wants, listed.of) else {
         return (wants, false);
     };
-    gather_written(&wants[..at], sockets, ready);
+    gather_written(&wants[..at], sockets, to_write, ready);
+    *to_write -= usize::from(wants[at].write);
     add_part(wants[at], sockets.known(listed), ready);
     (&wants[at + 1..], wants[at].read)
 }
 
-// Adds the parts of wants for writing that are ready, for writing alone: which sockets are told for reading is settled before.
-fn gather_written(wants: &[Want], sockets: &Sockets<TcpStream>, ready: &mut ReadyList)
-    requires { length ready.old.items + length wants.now ≤ ready.old.capacity }
+// Adds the parts of wants for writing that are ready, for writing alone: which sockets are told for reading is settled before. `to_write` counts the wants for
+// writing from the first of these on: those among these are taken from it, and where none is left no want is looked at.
+fn gather_written(
+    wants: &[Want],
+    sockets: &Sockets<TcpStream>,
+    to_write: &mut usize,
+    ready: &mut ReadyList,
+)
+    requires room { length ready.old.items + length wants.now ≤ ready.old.capacity }
+    requires counted { count_to_write wants.now ≤ to_write.old }
+    ensures counted { to_write.new + count_to_write wants.now ≡ to_write.old }
     ensures goes_on { (all rest : List Want) → GoesOn all (wants.now ++ rest) ready.old.items → GoesOn all rest ready.new.items }
     ensures begins { (first : List Want) → Begins first ready.old.items → Begins first ready.new.items }
     ensures few { length ready.new.items ≤ length ready.old.items + length wants.now }
@@ -148,12 +172,16 @@ fn gather_written(wants: &[Want], sockets: &Sockets<TcpStream>, ready: &mut Read
     ensures count { read_sockets ready.new.items ≡ read_sockets ready.old.items }
 {
     for want in wants {
+        if *to_write == 0 {
+            break;
+        }
         if want.write {
             let known = Known {
                 read: false,
                 write: sockets.look_up(want.of).write,
             };
             add_part(*want, known, ready);
+            *to_write -= 1;
         }
     }
 }

@@ -22,6 +22,7 @@ loop-listed-init c =
     let rest = λ (want : Want) (h : Contains c.args.wants.now.items want) (other : want.of ≡ Link → ⊥).
     c.gather_first-left.ensures.rest want (subst (λ (l : List Want). Contains l want) (sym c.items.ensures) h) other in record {
       picks = goes_on_from _ _ _ _ _ c.items.ensures c.clear.ensures.items c.gather_first-left.ensures.goes_on;
+      counted = c.gather_first-left.ensures.counted;
       link = λ want others is. c.gather_first-left.ensures.link c.clear.ensures.items want others (c.items.ensures ∙ is);
       few = search rules;
       capacity = search rules;
@@ -52,6 +53,7 @@ loop-listed-preserved c =
     let on : Begins c.loop-listed.ready.items c.gather_up_to-is_read.new.ready.items = does.begins c.loop-listed.ready.items (begins_itself c.loop-listed.ready.items) in
     record {
       picks = does.goes_on _ was.picks;
+      counted = does.counted;
       link = λ want others is who. does.begins _ (was.link want others is who);
       few = omega (arith, does.few, was.few);
       capacity = does.capacity ∙ was.capacity;

@@ -2,6 +2,7 @@ use Rattle.std.proofs.Common.{◌≡◌, ◌⊎◌, ℕ, ◌+◌, ◌<◌, ◌�
 use Rattle.std.specs.List.{Contains}
 use Rattle.poll_list.specs.declared.Want.{Want}
 use Rattle.poll_list.specs.declared.Who.TheVariants.{Link}
+use Rattle.poll_list.specs.Listing.{count_to_write}
 use Rattle.poll_list.specs.Picks.{GoesOn, BeginsWithLink}
 use Rattle.net_world.specs.declared.sockets.Listed.{Listed}
 use Rattle.net_world.specs.Telling.{AreInOrder, AreReady, IsWritable, TellsOneRead, TellsRead, TellsWrite, read_sockets}
@@ -10,6 +11,7 @@ use Rattle.net_world.proofs.gathering.gather.Given as goal
 abbrev pub invariant-loop-listed : goal.invariant-loop-listed
 invariant-loop-listed l = record {
   picks : GoesOn l.fn.wants.items l.left l.ready.items;
+  counted : l.to_write ≡ count_to_write l.left;
   link : BeginsWithLink l.fn.link.read l.fn.link.write l.fn.wants.items l.ready.items;
   few : length l.ready.items + length l.left ≤ length l.fn.wants.items;
   capacity : l.ready.capacity ≡ l.fn.ready.capacity;

@@ -1,8 +1,11 @@
-use Rattle.std.proofs.Common.{◌≡◌, ◌-◌, ◌+◌, length, take, drop, get_or, false, ◌∙◌, ap, sym, subst, refl, inl, inr, arith}
+use Rattle.std.proofs.Common.{◌≡◌, ℕ, ◌<◌, ◌-◌, ◌+◌, Bool, true, cond, List, length, take, drop, get_or, false, ◌∙◌, ap, sym, subst, refl, inl, inr, arith}
 use Rattle.std.proofs.lemmas.List.{take_rest}
 use Rattle.poll_list.specs.declared.Want.{Want}
 use Rattle.poll_list.specs.declared.Who.{Who}
 use Rattle.poll_list.specs.declared.Who.TheVariants.{Link}
+use Rattle.std.specs.Int.{from_bool}
+use Rattle.poll_list.specs.Listing.{count_to_write}
+use Rattle.poll_list.proofs.Counting.{count_from, count_parted}
 use Rattle.poll_list.specs.Picks.{as_list, part_in}
 use Rattle.poll_list.proofs.Picking.{goes_on_split, begins_added}
 use Rattle.net_world.specs.Telling.{IsKnown, IsWritable, TellsRead, TellsWrite}
@@ -11,6 +14,30 @@ use Rattle.net_world.proofs.gathering.gather_up_to.Goals as goal
 
 abbrev link : Want
 link = record { of = Link; read = false; write = false }
+
+bit : (b : Bool) → from_bool b ≡ cond {A = ℕ} b 1 0
+bit true = refl
+bit false = refl
+
+-- what is left to write is that want, where it is for writing, and those behind it
+left_to_write : (wants : List Want) (at old new one : ℕ) → at < length wants → old ≡ count_to_write wants → new + count_to_write (take at wants) ≡ old
+    → one ≡ from_bool (get_or wants at link).write → new ≡ one + count_to_write (drop (at + 1) wants)
+left_to_write wants at old new one below all rest is =
+    let here : one ≡ cond {A = ℕ} (get_or wants at link).write 1 0 = is ∙ bit (get_or wants at link).write in
+    omega (arith, all, rest, here, count_parted wants at, count_from wants at link below)
+
+pub overflow_sub-to_write : goal.overflow_sub-to_write
+overflow_sub-to_write c =
+    let left = left_to_write c.args.wants.now c.in-Some.at c.args.to_write.now c.gather_written.new.to_write c.from.result c.in-Some.ensures.place c.requires.counted c.gather_written.ensures.counted c.from.ensures in
+    omega (arith, left)
+
+pub returns-clause-counted : goal.returns-clause-counted
+returns-clause-counted c =
+    let wants = c.args.wants.now in
+    let at = c.in-Some.at in
+    let whole : take (length wants - (at + 1)) (drop (at + 1) wants) ≡ drop (at + 1) wants = take_rest wants (at + 1) in
+    let left = left_to_write wants at c.args.to_write.now c.gather_written.new.to_write c.from.result c.in-Some.ensures.place c.requires.counted c.gather_written.ensures.counted c.from.ensures in
+    rw whole (omega (arith, left))
 
 pub returns-in_default-clause-reads : goal.returns-in_default-clause-reads
 returns-in_default-clause-reads c rise want h same reads = absurd (c.in_default.ensures.none rise refl want h same)

@@ -1,5 +1,6 @@
 use Rattle.std.proofs.Common.{◌≡◌, ◌+◌, ◌≤◌, List, ◌++◌, length, take, drop}
 use Rattle.poll_list.specs.declared.Want.{Want}
+use Rattle.poll_list.specs.Listing.{count_to_write}
 use Rattle.poll_list.specs.Picks.{GoesOn, Begins}
 use Rattle.net_world.specs.declared.sockets.Known.{Known}
 use Rattle.net_world.specs.Telling.{AreReady, read_sockets}
@@ -15,4 +16,5 @@ invariant-loop-want l = record {
   ready : (link : Known) → AreReady link l.fn.sockets.slots l.fn.ready.items → AreReady link l.fn.sockets.slots l.ready.items;
   written : AreWritten l.fn.sockets.slots (take l.want-index l.fn.wants) l.ready.items;
   count : read_sockets l.ready.items ≡ read_sockets l.fn.ready.items;
+  counted : l.to_write + count_to_write l.fn.wants ≡ l.fn.to_write + count_to_write (drop l.want-index l.fn.wants);
 }
