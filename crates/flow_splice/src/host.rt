@@ -13,6 +13,7 @@ ghost use Rattle.flow_splice.specs.Hosts.{IsRead, gives_octets};
 
 use crate::Spliced;
 use crate::guest::later_if;
+use crate::scratch::Scratch;
 use sock_buffers::Down;
 use tcp_guest::{Change, Conn, HostNews};
 use world_face::{Io, Joined, MOST_TO_FLOW, Made, World};
@@ -27,8 +28,15 @@ impl Spliced {
 
     /// The host's socket was reported ready, for reading, for writing or for both. It is asked whether it connected, or gets octets, and the guest's end
     /// where no octet is left before it; and then what it has is read, as far as there is room. Where a call fails, or both ends passed, the socket is closed.
-    /// A direction that wasn't reported isn't served.
-    pub fn host_ready<W: World>(&mut self, world: &mut W, now: u64, read: bool, write: bool)
+    /// A direction that wasn't reported isn't served. The octets pass through the scratch.
+    pub fn host_ready<W: World>(
+        &mut self,
+        world: &mut W,
+        scratch: &mut Scratch,
+        now: u64,
+        read: bool,
+        write: bool,
+    )
         requires now { now ≤ 2 ^ 62 }
         requires few { octets_read self.old.down + 16384 < 2 ^ 62 }
         // Each direction that was reported is served; reading, unless a call for writing closed the socket before it.
@@ -39,12 +47,18 @@ impl Spliced {
         ensures passes_end { write ≡ true → is_connects self.old.conn.stage ≡ false → PassesEnd self.new }
         ensures closed { is_open_by self.old ≡ false → self.new ≡ self.old }
     {
-        self.serve_writing(world, now, write);
-        self.serve_reading(world, now, read);
+        self.serve_writing(world, scratch, now, write);
+        self.serve_reading(world, scratch, now, read);
     }
 
     // The socket was reported ready for writing, or not.
-    fn serve_writing<W: World>(&mut self, world: &mut W, now: u64, ready: bool)
+    fn serve_writing<W: World>(
+        &mut self,
+        world: &mut W,
+        scratch: &mut Scratch,
+        now: u64,
+        ready: bool,
+    )
         requires now { now ≤ 2 ^ 62 }
         ensures makes { Makes (W.tells world.old) (W.tells world.new)
             (λ made. GoesOn self.old self.new false now made × (is_writing made ≡ true) × (ready ≡ false → made ≡ [])
@@ -60,14 +74,20 @@ impl Spliced {
         if self.connects() {
             self.connect(world, now);
         } else if self.owes_octets() {
-            self.write(world, now);
+            self.write(world, scratch, now);
         } else if self.owes_end() {
             self.end(world, now);
         }
     }
 
     // The socket was reported ready for reading, or not.
-    fn serve_reading<W: World>(&mut self, world: &mut W, now: u64, ready: bool)
+    fn serve_reading<W: World>(
+        &mut self,
+        world: &mut W,
+        scratch: &mut Scratch,
+        now: u64,
+        ready: bool,
+    )
         requires now { now ≤ 2 ^ 62 }
         requires few { octets_read self.old.down + 16384 < 2 ^ 62 }
         ensures makes { Makes (W.tells world.old) (W.tells world.new)
@@ -78,7 +98,7 @@ impl Spliced {
         ensures closed { is_open_by self.old ≡ false → self.new ≡ self.old }
     {
         if ready && self.is_open() && self.may_read() {
-            self.read(world, now);
+            self.read(world, scratch, now);
         }
     }
 
@@ -133,7 +153,7 @@ impl Spliced {
     // ---- what it takes
 
     // Offers octets that are held. Where the host took the last of them, the guest's end follows.
-    fn write<W: World>(&mut self, world: &mut W, now: u64)
+    fn write<W: World>(&mut self, world: &mut W, scratch: &mut Scratch, now: u64)
         requires now { now ≤ 2 ^ 62 }
         requires open_yet { is_open_by self.old ≡ true }
         requires connected { is_connects self.old.conn.stage ≡ false }
@@ -144,13 +164,13 @@ impl Spliced {
         ensures stays { StaysButWritten self.old self.new }
         ensures passes_end { PassesEnd self.new }
     {
-        match self.offer(world, now) {
+        match self.offer(world, scratch, now) {
             Io::Failed => self.fail(world, now),
             Io::Done(_) | Io::End | Io::NotYet => self.end_after_octets(world, now),
         }
     }
 
-    fn offer<W: World>(&mut self, world: &mut W, now: u64) -> Io
+    fn offer<W: World>(&mut self, world: &mut W, scratch: &mut Scratch, now: u64) -> Io
         requires now { now ≤ 2 ^ 62 }
         requires some { 0 < length self.old.up.held }
         ensures offers { Answers (W.tells world.old) (W.tells world.new)
@@ -162,8 +182,8 @@ impl Spliced {
         ensures few { count_of result ≤ min 16384 (length self.old.up.held) }
         ensures buffers { HasBuffers self.new.conn self.new.up self.new.down }
     {
-        let count = self.up.front_piece(&mut self.buffer);
-        let answer = world.tcp_write(self.number, &self.buffer[..count]);
+        let count = self.up.front_piece(&mut scratch.octets);
+        let answer = world.tcp_write(self.number, &scratch.octets[..count]);
         self.up.written(answer.count());
         self.last = later_if(answer.count() > 0, now, self.last);
         answer
@@ -233,7 +253,7 @@ impl Spliced {
     ghost use Rattle.flow_splice.specs.Wants.{may_read as may_read_by};
 
     // Reads octets, as many as there is room for, 16,384 at most.
-    fn read<W: World>(&mut self, world: &mut W, now: u64)
+    fn read<W: World>(&mut self, world: &mut W, scratch: &mut Scratch, now: u64)
         requires now { now ≤ 2 ^ 62 }
         requires open_yet { is_open_by self.old ≡ true }
         requires may { may_read_by self.old ≡ true }
@@ -243,7 +263,7 @@ impl Spliced {
         ensures stays { StaysButRead self.old self.new }
         ensures passes_end { PassesEnd self.old → PassesEnd self.new }
     {
-        match self.ask_octets(world, now) {
+        match self.ask_octets(world, scratch, now) {
             Io::End => self.end_reading(now),
             Io::Failed => self.fail(world, now),
             Io::Done(_) | Io::NotYet => {}
@@ -251,7 +271,7 @@ impl Spliced {
     }
 
     // Asks for them, and takes those that came.
-    fn ask_octets<W: World>(&mut self, world: &mut W, now: u64) -> Io
+    fn ask_octets<W: World>(&mut self, world: &mut W, scratch: &mut Scratch, now: u64) -> Io
         requires now { now ≤ 2 ^ 62 }
         requires may { may_read_by self.old ≡ true }
         requires few { octets_read self.old.down + 16384 < 2 ^ 62 }
@@ -268,7 +288,7 @@ impl Spliced {
             self.number,
             &mut self.conn,
             &mut self.down,
-            &mut self.buffer,
+            &mut scratch.octets,
             now,
         );
         self.last = later_if(held < self.down.held(), now, self.last);

@@ -13,6 +13,7 @@ mod guest;
 mod host;
 pub mod laws;
 mod pump;
+mod scratch;
 mod time;
 
 ghost use Rattle.std.specs.Prelude.{◌≡◌, ℕ, ◌+◌, ◌-◌, ◌*◌, ◌^◌, ◌<◌, ◌≤◌, List, [], ◌∷◌, ◌++◌, length, take, drop, min, if◌then◌else◌, nat_le, true, false, None, Some, IfOk, IsSome, Bool, ◌&&◌, not};
@@ -31,12 +32,13 @@ ghost use Rattle.flow_splice.specs.Wants.{sooner};
 
 use net_octets::{Endpoint, Ip4, Mac, NoMemory};
 use poll_list::{Want, Who};
+pub use scratch::Scratch;
 use seq_space::Seq;
 use sock_buffers::{Down, Up};
 use std::alloc::Global;
 use std::marker::Model;
 use tcp_guest::{Change, Conn};
-use world_face::{MOST_TO_FLOW, World};
+use world_face::World;
 
 /// How long a socket may take to connect, in milliseconds.
 const CONNECTS_FOR: u64 = 75_000;
@@ -95,7 +97,6 @@ pub struct Spliced {
     pub(crate) last: u64,
     // that at which our SYN went out last
     pub(crate) called: u64,
-    pub(crate) buffer: Vec<u8>,
 }
 
 impl Model for Spliced {
@@ -123,7 +124,7 @@ impl Model for Spliced {
       called = s.called;
     } };
 
-    ghost invariant = { λ s. IsSound s.conn s.up s.down s.asked s.mru × AreMoments s.since s.last s.called × (length s.buffer.items ≡ 16384) × (rests_by s.place s.conn.stage ≡ true) };
+    ghost invariant = { λ s. IsSound s.conn s.up s.down s.asked s.mru × AreMoments s.since s.last s.called × (rests_by s.place s.conn.stage ≡ true) };
 }
 
 impl Spliced {
@@ -140,7 +141,7 @@ impl Spliced {
     ghost use Rattle.flow_laws.specs.Flow.{guest};
     ghost use Rattle.flow_laws.specs.Guest.{Honest};
 
-    /// The place for a flow, with all the memory that one will ever need: `ring` octets for each direction, from 1 to 1,048,576. `mru` is the longest
+    /// The place for a flow, with all the memory that one will ever need of its own: `ring` octets for each direction, from 1 to 1,048,576. `mru` is the longest
     /// datagram that comes from the guest, from 576 to 9,216 octets.
     ///
     /// # Errors
@@ -155,9 +156,6 @@ impl Spliced {
         ensures mru { IfOk result (λ f. f.mru ≡ mru) }
     {
         let (Ok(up), Ok(down)) = (Up::open(alloc, ring), Down::open(alloc, ring)) else {
-            return Err(NoMemory);
-        };
-        let Ok(buffer) = vec![in alloc; 0; MOST_TO_FLOW] else {
             return Err(NoMemory);
         };
         Ok(Spliced {
@@ -180,7 +178,6 @@ impl Spliced {
             mru,
             last: 0,
             called: 0,
-            buffer,
         })
     }
 

@@ -17,6 +17,7 @@ ghost use Rattle.net_octets.specs.Sizes.{most_frame};
 
 use crate::frames::{Route, write_frame, write_request};
 use crate::guest::later_if;
+use crate::scratch::Scratch;
 use crate::time::REQUESTS;
 use crate::{Place, Spliced};
 use net_octets::{Ip4, Mac};
@@ -33,6 +34,7 @@ impl Spliced {
         &mut self,
         world: &mut W,
         link: &mut Link,
+        scratch: &mut Scratch,
         what: &Owed,
         mac: Mac,
         ident: u16,
@@ -66,7 +68,7 @@ impl Spliced {
             what,
             self.mru,
             &self.down,
-            &mut self.buffer,
+            &mut scratch.octets,
         )
     }
 }
@@ -173,11 +175,12 @@ impl Spliced {
     /// Sends all that the flow owes, one segment at a time, until the link is blocked. Each datagram that goes out has the number `ident`, which is one more
     /// then, modulo 2^16. `mac` is the guest's hardware address, where it is known: the flow keeps it. A flow that calls a guest whose address isn't known
     /// asks for it in place of its SYN. Where both ends passed with what went out the socket is closed. No other call is made: it only writes on the link, and
-    /// failed exactly where its last write did. A flow at rest only acknowledges (RFC 9293, 3.10.7.4, TIME-WAIT), and rests on.
+    /// failed exactly where its last write did. Its frames are written in the scratch. A flow at rest only acknowledges (RFC 9293, 3.10.7.4, TIME-WAIT), and rests on.
     pub fn pump<W: World>(
         &mut self,
         world: &mut W,
         link: &mut Link,
+        scratch: &mut Scratch,
         ident: &mut u16,
         mac: Option<Mac>,
         now: u64,
@@ -207,8 +210,8 @@ impl Spliced {
             return Pumped::Blocked;
         }
         match self.mac() {
-            Some(mac) => self.send_all(world, link, ident, mac, now),
-            None => self.seek(world, link, now),
+            Some(mac) => self.send_all(world, link, scratch, ident, mac, now),
+            None => self.seek(world, link, scratch, now),
         }
     }
 
@@ -241,7 +244,13 @@ impl Spliced {
     }
 
     // Asks for the guest's hardware address, where it is time to.
-    fn seek<W: World>(&mut self, world: &mut W, link: &mut Link, now: u64) -> Pumped
+    fn seek<W: World>(
+        &mut self,
+        world: &mut W,
+        link: &mut Link,
+        scratch: &mut Scratch,
+        now: u64,
+    ) -> Pumped
         requires now { now ≤ 2 ^ 62 }
         requires none { link.old.tail ≡ [] }
         requires free { link.old.blocked ≡ false }
@@ -265,7 +274,7 @@ impl Spliced {
         if !self.asks_now() {
             return Pumped::Clear;
         }
-        let offered = self.offer_request(world, link);
+        let offered = self.offer_request(world, link, scratch);
         self.mark_asked(offered, now);
         outcome(offered, link.blocked())
     }
@@ -277,7 +286,12 @@ impl Spliced {
         self.is_open() && self.asked < REQUESTS && self.asks
     }
 
-    fn offer_request<W: World>(&mut self, world: &mut W, link: &mut Link) -> Offered
+    fn offer_request<W: World>(
+        &mut self,
+        world: &mut W,
+        link: &mut Link,
+        scratch: &mut Scratch,
+    ) -> Offered
         requires none { link.old.tail ≡ [] }
         requires free { link.old.blocked ≡ false }
         ensures makes { Makes (W.tells world.old) (W.tells world.new) (λ made. Writes result (spelling (request_frame self.old.face)) made
@@ -289,7 +303,7 @@ impl Spliced {
         ensures fits { self.old.face.guest.addr.0 < 2 ^ 32 }
     {
         let (vhost, guest) = (self.vhost, self.guest.addr);
-        offer_arp(world, link, vhost, guest, &mut self.buffer)
+        offer_arp(world, link, vhost, guest, &mut scratch.octets)
     }
 
     // Where the link took something of the request, an answer is waited for.
@@ -310,6 +324,7 @@ impl Spliced {
         &mut self,
         world: &mut W,
         link: &mut Link,
+        scratch: &mut Scratch,
         ident: &mut u16,
         mac: Mac,
         now: u64,
@@ -334,7 +349,7 @@ impl Spliced {
         // for the prover: a read gives the range of the number.
         let _first = *ident;
         while let Some(what) = self.owed() {
-            match self.send(world, link, ident, &what, mac, now) {
+            match self.send(world, link, scratch, ident, &what, mac, now) {
                 Pumped::Clear => {}
                 Pumped::Blocked => return Pumped::Blocked,
                 Pumped::Failed => return Pumped::Failed,
@@ -348,6 +363,7 @@ impl Spliced {
         &mut self,
         world: &mut W,
         link: &mut Link,
+        scratch: &mut Scratch,
         ident: &mut u16,
         what: &Owed,
         mac: Mac,
@@ -372,7 +388,7 @@ impl Spliced {
         ensures early { IsEarly now self.old.conn → IsEarly now self.new.conn }
         ensures in_time { HasTime self.old now → HasTime self.new now }
     {
-        let offered = self.offer_owed(world, link, what, mac, *ident);
+        let offered = self.offer_owed(world, link, scratch, what, mac, *ident);
         self.mark(world, ident, what, offered, now);
         outcome(offered, link.blocked())
     }

@@ -20,8 +20,7 @@ invariant_of-self g c =
         last = subst (λ (n : ℕ). n ≤ 2 ^ 62) (sym c.later_if-self-inside.ensures) (either_moment _ c.args.now i.last c.requires.now moments.last);
         called = moments.called;
       },
-      grind (arith, common_steps),
-      rests_on i.place i.conn.stage _ c.self.invariant.3 (λ resting at. read_rests _ i.conn i.down read.0 c.args.now _ _ read.3 ∙ at),
+      rests_on i.place i.conn.stage _ c.self.invariant.2 (λ resting at. read_rests _ i.conn i.down read.0 c.args.now _ _ read.3 ∙ at),
     )
 
 pub returns-clause-read : goal.returns-clause-read

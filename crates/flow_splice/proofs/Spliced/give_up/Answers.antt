@@ -10,6 +10,5 @@ invariant_of-self c =
     let i = c.self.inside in (
       record { buffers = c.on_host.ensures.buffers _ _ kept.0.buffers; size = kept.0.size; room = kept.0.room; few = kept.0.few; segments = kept.0.segments },
       kept.1,
-      kept.2,
-      rests_on i.place i.conn.stage _ kept.3 (λ resting at. ap (λ (x : Connection). x.stage) c.on_host.ensures.connection ∙ news_rests Failed i.conn c.args.now at),
+      rests_on i.place i.conn.stage _ kept.2 (λ resting at. ap (λ (x : Connection). x.stage) c.on_host.ensures.connection ∙ news_rests Failed i.conn c.args.now at),
     )

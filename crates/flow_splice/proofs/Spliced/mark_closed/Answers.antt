@@ -9,7 +9,6 @@ invariant_of-self c =
     let kept = c.self.invariant in (
       kept.0,
       kept.1,
-      kept.2,
       subst (λ (p : Place). rests_by p c.self.inside.conn.stage ≡ true) (sym (subst (λ (f : Splice). c.place_after-self-inside.result ≡ place_after f.conn.stage c.args.now)
           (sym c.self.view_is) c.place_after-self-inside.ensures)) (closed_rests c.self.inside.conn.stage c.args.now),
     )

@@ -10,8 +10,7 @@ invariant_of-self c =
     let i = c.self.inside in (
       record { buffers = c.on_host.ensures.buffers _ _ kept.0.buffers; size = kept.0.size; room = kept.0.room; few = kept.0.few; segments = kept.0.segments },
       record { since = kept.1.since; last = c.requires.now; called = kept.1.called },
-      kept.2,
-      rests_on i.place i.conn.stage _ kept.3 (λ resting at. ap (λ (x : Connection). x.stage) c.on_host.ensures.connection ∙ news_rests WriteEnded i.conn c.args.now at),
+      rests_on i.place i.conn.stage _ kept.2 (λ resting at. ap (λ (x : Connection). x.stage) c.on_host.ensures.connection ∙ news_rests WriteEnded i.conn c.args.now at),
     )
 
 pub returns-clause-buffers : goal.returns-clause-buffers

@@ -13,7 +13,6 @@ invariant_of-self c =
     let owed = ap (λ (f : Splice). owed_of f.conn f.up f.down) c.self.view_is ∙ c.requires.owed in (
       record { buffers = c.sent.ensures.buffers _ kept.0.buffers owed; size = kept.0.size; room = kept.0.room; few = kept.0.few; segments = kept.0.segments },
       record { since = kept.1.since; last = c.requires.now; called = subst (λ (n : ℕ). n ≤ 2 ^ 62) (sym c.later_if-self-inside.ensures) (either_moment _ c.args.now i.called c.requires.now kept.1.called) },
-      kept.2,
-      rests_on i.place i.conn.stage _ kept.3
+      rests_on i.place i.conn.stage _ kept.2
           (λ resting at. ap (λ (x : Connection). x.stage) c.sent.ensures.connection ∙ gone_rests i.conn i.up i.down c.args.what.now c.args.now owed at),
     )

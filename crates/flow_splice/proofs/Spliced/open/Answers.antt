@@ -11,6 +11,5 @@ invariant_of-result c =
     let least = c.requires.least in (
       rw (up_is, down_is) (record { buffers = c.to_guest.ensures.buffers c.args.ring; size = refl; room = omega (arith, few); few = omega arith; segments = omega (arith, least) }),
       omega arith,
-      search rules,
       refl,
     )

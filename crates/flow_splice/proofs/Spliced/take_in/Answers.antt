@@ -28,10 +28,9 @@ invariant_of-self c =
     let rests = subst (λ (f : Splice). is_at_rest f.place ≡ true → ends_rest f.conn (tcp_of c.args.seg.now) ≡ false) (sym c.self.view_is) c.requires.rests in (
       record { buffers = c.on_segment-change.ensures.buffers; size = down_size ∙ kept.0.size ∙ sym size; room = omega (arith, size, room); few = kept.0.few; segments = kept.0.segments },
       record { since = kept.1.since; last = c.requires.now; called = kept.1.called },
-      kept.2,
-      rests_on i.place i.conn.stage _ kept.3
+      rests_on i.place i.conn.stage _ kept.2
           (λ resting at. ap (λ (x : Connection). x.stage) c.on_segment-change.ensures.connection ∙ segment_rests i.conn i.up i.down (tcp_of c.args.seg.now) c.args.now at (rests resting)),
     )
 
 pub returns-clause-rests : goal.returns-clause-rests
-returns-clause-rests c = (invariant_of-self c).3
+returns-clause-rests c = (invariant_of-self c).2
