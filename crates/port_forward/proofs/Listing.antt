@@ -11,7 +11,7 @@ use Rattle.host_policy.specs.Addresses.{endpoint}
 use Rattle.host_policy.specs.Ranges.{same_proto}
 use Rattle.host_policy.specs.Targets.{same_endpoint}
 use Rattle.port_forward.specs.Entries.{is_for_datagrams, opened_of, port_of, proto_of, same_port}
-use Rattle.port_forward.specs.Opened.{Opened, is_at, is_taken, leads_to, socket_at, socket_for, socket_of, without}
+use Rattle.port_forward.specs.Opened.{Opened, forward_with, is_at, is_on, is_taken, leads_to, socket_at, socket_for, socket_of, without}
 use Rattle.port_forward.specs.declared.ports.Lead.{Lead}
 use Rattle.port_forward.specs.declared.ports.Port.{Port}
 
@@ -98,3 +98,21 @@ as_many es list count is view = is ∙ sym (length-map es opened_of) ∙ ap leng
 pub first_socket : (guest : Endpoint) (es : List (Port × Lead)) (list : List Opened) (found : Option (Port × Lead)) → found ≡ find (λ e. leads_to guest (opened_of e)) es → map opened_of es ≡ list
     → option_map number_of found ≡ socket_for guest list
 first_socket guest es list found is view = ap (option_map number_of) is ∙ sym (first_there guest es) ∙ ap (socket_for guest) view
+
+-- the forward with a number
+abbrev pub forward_in : Port × Lead → Forward
+forward_in e = (opened_of e).0
+
+forward_for : (b : Bool) (e : Port × Lead) (o : Option Opened) (f : Option (Port × Lead)) → option_map (λ (x : Opened). x.0) o ≡ option_map forward_in f
+    → option_map (λ (x : Opened). x.0) (cond b (Some (opened_of e)) o) ≡ option_map forward_in (cond b (Some e) f)
+forward_for true e o f same = refl
+forward_for false e o f same = same
+
+forward_there : (socket : ℕ) (es : List (Port × Lead)) → forward_with socket (map opened_of es) ≡ option_map forward_in (find (λ e. is_on socket (opened_of e)) es)
+forward_there socket [] = refl
+forward_there socket (e ∷ es) =
+    forward_for (is_on socket (opened_of e)) e (find (is_on socket) (map opened_of es)) (find (λ (e : Port × Lead). is_on socket (opened_of e)) es) (forward_there socket es)
+
+pub forward_found : (socket : ℕ) (es : List (Port × Lead)) (list : List Opened) (found : Option (Port × Lead)) → found ≡ find (λ e. is_on socket (opened_of e)) es → map opened_of es ≡ list
+    → option_map forward_in found ≡ forward_with socket list
+forward_found socket es list found is view = ap (option_map forward_in) is ∙ sym (forward_there socket es) ∙ ap (forward_with socket) view

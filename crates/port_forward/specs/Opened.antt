@@ -1,5 +1,5 @@
 -- The list of open forwards: in the order in which they were added, each with the number of the socket that was opened for it.
-use Rattle.std.specs.Prelude.{ℕ, ◌&&◌, not, Bool, List, filter, find, Option, option_map}
+use Rattle.std.specs.Prelude.{ℕ, ◌==◌, ◌&&◌, not, Bool, List, filter, find, Option, option_map}
 use Rattle.std.specs.List.{list_any}
 use Rattle.net_octets.specs.declared.Endpoint.{Endpoint}
 use Rattle.host_policy.specs.declared.Forward.{Forward}
@@ -39,3 +39,11 @@ leads_to guest opened = same_proto opened.0.proto Udp && same_endpoint opened.0.
 -- the socket of the first that does
 abbrev pub socket_for : Endpoint → List Opened → Option ℕ
 socket_for guest list = option_map socket_of (find (leads_to guest) list)
+
+-- its socket has this number
+abbrev pub is_on : ℕ → Opened → Bool
+is_on socket opened = socket_of opened == socket
+
+-- the forward whose socket has this number
+abbrev pub forward_with : ℕ → List Opened → Option Forward
+forward_with socket list = option_map (λ opened. opened.0) (find (is_on socket) list)

@@ -12,7 +12,7 @@ ghost use Rattle.world_face.specs.Journal.{Close};
 ghost use Rattle.world_face.specs.Tells.{Answers, Makes, Rose};
 ghost use Rattle.port_forward.specs.declared.FwdFault.TheVariants.{Refused};
 ghost use Rattle.port_forward.specs.Adding.{Adds, fault_of, opening_of};
-ghost use Rattle.port_forward.specs.Opened.{socket_at, socket_for, without};
+ghost use Rattle.port_forward.specs.Opened.{forward_with, socket_at, socket_for, without};
 
 use crate::ports::{Lead, Port, forward_of, is_for, port_of, put, remove};
 pub use host_policy::Forward;
@@ -143,6 +143,17 @@ impl Forwards {
             .iter()
             .find(|(port, lead)| is_for(port, lead, guest))?;
         Some(lead.number)
+    }
+
+    /// The forward whose socket has this number. None exactly where there is none.
+    pub fn with_socket(&self, number: u64) -> Option<Forward>
+        ensures { result ≡ forward_with number self.now }
+    {
+        let (port, lead) = self
+            .ports
+            .iter()
+            .find(|(_, lead)| lead.number == number)?;
+        Some(forward_of(port, lead))
     }
 
     /// Removes the forward of a port of the host, and closes its socket. Connections that came by it go on.
