@@ -18,7 +18,7 @@ use Rattle.stream_netdev.proofs.Reading.{reads_first}
 use Rattle.tcp_flows.specs.Kept.{IsFor, Kept}
 use Rattle.port_forward.specs.Opened.{Opened}
 use Rattle.slirp_core.specs.Forwards.{forward_sockets}
-use Rattle.slirp_core.specs.Holds.{AfterListening, after, flowing, Begins, ClosesAll, ClosingWith, Opens, Stands, Turns, Holders, holders_of}
+use Rattle.slirp_core.specs.Holds.{AfterListening, after, flowing, Begins, ClosesAll, Closing, Opens, Stands, Turns, Holders, holders_of}
 use Rattle.slirp_core.specs.Numbers.{flows_for}
 use Rattle.slirp_core.specs.State.{SlirpState}
 use Rattle.run_duties.specs.Duties.{Attended, Dutiful, Must}
@@ -40,7 +40,6 @@ unbegun : (service : ServiceState) → IsNew service → IsUnbegun service.slirp
 unbegun service new = record {
   forwards = new.forwards;
   settings = refl;
-  once = new.once;
   flows = record { flows = ap (λ (k : Kept). k.flows) new.flows; settings = subst (IsFor service.slirp.config) (sym new.flows) (flows_fit service.slirp.config); unit = new.unit };
   known = new.known;
   sent = new.sent;
@@ -65,7 +64,7 @@ opens service new = begun service.slirp.config service.slirp service.link (unbeg
 pub refused : (config : Config) (place : ℕ) (slirp : SlirpState) (link : LinkState) (made : List Entry) → AfterListening (Some place) config slirp link made
     → Closes config (ListenRefused place) slirp.forwards (holders_of slirp) made
 refused config place slirp link made closing = record {
-  closing = subst (λ p. ClosingWith config p (forward_sockets slirp.forwards) (holders_of slirp) made) closing.is closing;
+  closing = subst (λ p. Closing config p (forward_sockets slirp.forwards) (holders_of slirp) made) closing.is closing;
   is = ap (end_of config) closing.is;
 }
 

@@ -5,7 +5,6 @@ use Rattle.dhcp_server.specs.declared.leases.Lease.TheVariants.{Free}
 use Rattle.poll_list.specs.declared.Want.{Want}
 use Rattle.stream_netdev.specs.State.{LinkState, under_way}
 use Rattle.host_policy.specs.Ranges.{IsSound}
-use Rattle.slirp_core.specs.Holds.{GivesOnce}
 use Rattle.slirp_core.specs.Numbers.{flows_for}
 use Rattle.slirp_core.specs.State.{SlirpState}
 
@@ -29,11 +28,9 @@ pub record IsBuilt (config : Config) : Type 0 where
 
 -- nothing was read or written, no datagram was sent, no guest is known, no socket is open, no moment was told, nothing is owed, no fragment waits, no address
 -- is lent and no guest gets a file; there is room for as many flows as the settings say, and none of them was used; no port of the host is open yet, and no
--- question waits; the settings alone give ports of the host to guests; a frame has room for a header and a unit of 8 octets, and there are at most 2^44 turns,
--- one at least
+-- question waits; a frame has room for a header and a unit of 8 octets, and there are at most 2^44 turns, one at least
 pub record IsNew (service : ServiceState) : Type 0 where
   pub sound : IsSound service.slirp.config
-  pub once : GivesOnce service.slirp.config
   pub forwards : service.slirp.forwards ≡ []
   pub flows : service.slirp.flows ≡ flows_for service.slirp.config
   pub unit : 28 ≤ service.slirp.config.mtu

@@ -19,7 +19,7 @@ use Rattle.stream_netdev.specs.Keeps.{ReadsOn}
 use Rattle.stream_netdev.specs.State.{LinkState, under_way}
 use Rattle.port_forward.specs.Opened.{Opened}
 use Rattle.slirp_core.specs.Forwards.{forward_sockets}
-use Rattle.slirp_core.specs.Holds.{Standing, after, standing, flowing, Holders, holders_of, Holds, Ended, ClosingWith}
+use Rattle.slirp_core.specs.Holds.{Standing, after, standing, flowing, Holders, holders_of, Holds, Ended, Closing}
 use Rattle.slirp_core.specs.Calm.{AreClear}
 use Rattle.tcp_flows.specs.Settled.{HaveTime}
 use Rattle.tcp_flows.specs.Settled.{IsInTime as HasNoneDue}
@@ -160,7 +160,7 @@ pub record IsStep (result : Turn) (old new : Counts) (link : LinkState) : Type 0
 
 -- a run that has this end; only its sockets are to be closed
 pub record Closes (config : Config) (end : End) (forwards : List Opened) (o : Holders) (past : List Entry) : Type 0 where
-  pub closing : ClosingWith config (phase config past) (forward_sockets forwards) o past
+  pub closing : Closing config (phase config past) (forward_sockets forwards) o past
   pub is : end ≡ end_of config (phase config past)
 
 -- the sockets of a run that has this end are closed, and it is the end of the whole

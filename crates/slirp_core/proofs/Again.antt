@@ -190,7 +190,6 @@ module _ (config : Config) (at : Standing) (slirp : SlirpState) (kept : Kept) (l
     answers = record { sent = holds.answers.sent; owed = owes_it (next_again now all) refl fits };
     guests = record {
       settings = holds.guests.settings;
-      once = holds.guests.once;
       known = holds.guests.known;
       fragments = record {
         held = holds.guests.fragments.held;

@@ -1,5 +1,5 @@
 -- The calls that the associations make, step by step.
-use Rattle.std.proofs.Common.{◌≡◌, ℕ, ◌+◌, ◌<◌, ◌≤◌, ◌||◌, Bool, true, false, nat_le, List, [], ◌∷◌, ◌++◌, length, take, slice_get, is_some, unwrap_or, Option, Some, None, if◌then◌else◌}
+use Rattle.std.proofs.Common.{◌≡◌, ℕ, ◌+◌, ◌<◌, ◌≤◌, ◌||◌, Bool, true, false, nat_le, List, [], ◌∷◌, ◌++◌, length, take, is_some, unwrap_or, Option, Some, None, if◌then◌else◌}
 use Rattle.std.proofs.Common.{refl, sym, ◌∙◌, ap, subst, append_assoc, arith}
 use Rattle.poll_list.specs.declared.Want.{Want}
 use Rattle.poll_list.specs.declared.Who.TheVariants.{Udp}
@@ -27,11 +27,11 @@ use Rattle.slirp_laws.specs.Relayed.{with_forward, with_socket, without_socket}
 use Rattle.slirp_laws.proofs.Finding.{socket_among}
 use Rattle.port_forward.specs.Opened.{socket_for as port_for}
 use Rattle.stream_netdev.specs.State.{LinkState}
-use Rattle.slirp_core.specs.Forwards.{guest_on}
+use Rattle.slirp_core.specs.Forwards.{IsInForce, guest_on}
 use Rattle.slirp_core.specs.Holds.{asked_by, Standing, standing, IsLast, Flowing, HoldsAt, Holds}
 use Rattle.slirp_core.specs.Replies.{outbound_of, told_by, owed_by}
 use Rattle.slirp_core.specs.State.{SlirpState}
-use Rattle.slirp_core.proofs.Given.{forward_of, guest_given}
+use Rattle.slirp_core.proofs.Given.{guest_found, in_force_with}
 use Rattle.slirp_core.proofs.Names.{among_both, association_unmoved, none_moved, numbered_is}
 use Rattle.slirp_core.proofs.Parts.{skipped}
 use Rattle.slirp_core.proofs.Sockets.{among_numbered, last_among, no_association}
@@ -210,15 +210,16 @@ module _ (config : Config) (count : ℕ) (wants : List Want) (item : Want) (item
       → Holds config (standing count wants (item ∷ items)) slirp f link past
       → Holds config (standing count wants items) (record slirp { associations = new; pending = owed_by slirp into reply }) f link (made ++ past)
   heard slirp past socket room into new reply made reported whole none out (OnForward guest for receives is) allowed holds =
-      let place = forward_of config.forwards socket guest (sym (guest_given config socket) ∙ sym (ap (λ l. guest_on l socket) holds.forwards) ∙ for) in
+      let found = guest_found slirp.forwards socket guest for in
+      let one = in_force_with config slirp.forwards past holds.forwards socket found.0 found.1 in
       subst (λ (l : List Association). Holds config (standing count wants items) (record slirp { associations = l; pending = owed_by slirp into reply }) f link (made ++ past)) (sym is)
       (subst (λ (r : Reply). Holds config (standing count wants items) (record slirp { pending = owed_by slirp into r }) f link (made ++ past)) (sym receives.2)
       (subst (λ (m : List Entry). Holds config (standing count wants items) (record slirp { pending = owed_by slirp into (passed receives.0 guest None) }) f link (m ++ past)) (sym receives.1)
       (subst (λ (g : Endpoint). Holds config (standing count wants items) (record slirp { pending = owed_by slirp into (passed receives.0 g None) }) f link
-      (UdpRecv socket room receives.0 (filled_got receives.0 into) ∷ past)) place.3
-      (by place.0 place.1 place.2 receives.0 (subst AreAllowed receives.1 allowed).0))))
+      (UdpRecv socket room receives.0 (filled_got receives.0 into) ∷ past)) found.3
+      (by found.0 one found.2 receives.0 (subst AreAllowed receives.1 allowed).0))))
     where
-      by : (forward : AForward) → slice_get config.forwards socket ≡ Some forward → forward.proto ≡ ByUdp → (answer : Got) → Allowed (UdpRecv socket room answer (filled_got answer into))
+      by : (forward : AForward) → IsInForce config past (forward, socket) → forward.proto ≡ ByUdp → (answer : Got) → Allowed (UdpRecv socket room answer (filled_got answer into))
           → Holds config (standing count wants items) (record slirp { pending = owed_by slirp into (passed answer forward.guest None) }) f link
           (UdpRecv socket room answer (filled_got answer into) ∷ past)
       by forward at udp (From peer size) allowed = after_forward config count wants item items slirp f link past socket room reported whole none out holds forward at udp peer size

@@ -1,5 +1,5 @@
 -- What the core waits for is all that can be taken, and where the link isn't blocked all that is owed is out.
-use Rattle.std.proofs.Common.{◌≡◌, ℕ, zero, suc, ◌+◌, ◌<◌, ◌≤◌, ◌==◌, ◌&&◌, ◌||◌, not, nat_lt, Bool, true, false, is_some, List, [], ◌∷◌, ◌++◌, All, filter, length, slice_get, nat_le, IsTrue}
+use Rattle.std.proofs.Common.{◌≡◌, ℕ, ◌==◌, ◌&&◌, ◌||◌, not, nat_lt, Bool, true, false, is_some, List, [], ◌∷◌, ◌++◌, All, filter, length, slice_get, nat_le, IsTrue}
 use Rattle.flow_laws.specs.Guest.{is_empty}
 use Rattle.std.specs.Option.{option_or}
 use Rattle.std.proofs.Common.{IsPermutation, Option, None, Some, option_map, inl, inr, refl, sym, ap, ◌∙◌, subst, arith, if◌then◌else◌}
@@ -13,7 +13,6 @@ use Rattle.world_face.specs.Journal.{Entry}
 use Rattle.host_policy.specs.Addresses.{Config}
 use Rattle.ipv4_head.specs.Sets.{PartSet}
 use Rattle.host_policy.specs.Ranges.{same_proto}
-use Rattle.host_policy.specs.declared.Forward.{Forward}
 use Rattle.host_policy.specs.declared.Proto.{Proto}
 use Rattle.host_policy.specs.declared.Proto.TheVariants.{Tcp, Udp}
 use Rattle.port_forward.specs.Opened.{Opened}
@@ -67,7 +66,8 @@ use Rattle.run_duties.specs.Waiting.{WaitsFor, is_all_sent, is_for_datagrams, ta
 use Rattle.waiting_flows.proofs.Listing.{AreOfFlows, AreOver, AreOverBy, DoRise, DoRiseBy, all_waited_for, of_flows}
 use Rattle.slirp_core.specs.Calm.{AreClear}
 use Rattle.tcp_flows.specs.Settled.{HaveTime}
-use Rattle.slirp_core.specs.Forwards.{forward_sockets, is_over, sockets_over, with_numbers}
+use Rattle.slirp_core.specs.Forwards.{forward_sockets, given_kind, is_over, sockets_over}
+use Rattle.slirp_core.specs.Sockets.{AllAbove, IsRising}
 use Rattle.slirp_core.specs.Holds.{Flowing, Holds, Standing, carriers, flowing, holders_of}
 use Rattle.slirp_core.specs.Owed.{IsOwed, OfFile, OfLeft}
 use Rattle.slirp_core.specs.Fragments.{IsHeld}
@@ -76,11 +76,11 @@ use Rattle.slirp_core.specs.Waiting.{AreFresh}
 use Rattle.slirp_core.proofs.Bounding.{from_is, until_is, some_time_is}
 use Rattle.slirp_core.specs.Pumps.{WantsOf, is_settled, listeners_of}
 use Rattle.slirp_core.specs.State.{SlirpState}
-use Rattle.slirp_core.proofs.Given.{HasGiven, given_kind}
-use Rattle.slirp_core.proofs.Merging.{AtLeast, Climbs, climbs}
+use Rattle.slirp_core.proofs.Given.{over_rises, port_open}
+use Rattle.slirp_core.proofs.Merging.{rising_climbs, AtLeast, Climbs, climbs}
 use Rattle.slirp_core.proofs.Names.{IsKnown, among_both, known_of, two_apart}
 use Rattle.slirp_core.proofs.Open.{are_open}
-use Rattle.slirp_core.proofs.Parts.{carried_by, given_in}
+use Rattle.slirp_core.proofs.Parts.{carried_by}
 use Rattle.flow_splice.specs.Wants.{HasTime}
 use Rattle.tcp_flows.proofs.Awaiting.{closed_at_none}
 use Rattle.tcp_flows.proofs.Timely.{shut_has_time}
@@ -199,20 +199,15 @@ unfolding IsDistinct
 rise_of [] climb apart = tt
 rise_of (n ∷ ns) climb apart = (over_all n ns climb.0 apart.0, rise_of ns climb.1 apart.1)
 
-over_by : (n : ℕ) (ns : List ℕ) → ((m : ℕ) → is_among m ns ≡ true → n < m) → AreOver n ns
-over_by n [] each = tt
-over_by n (m ∷ ns) each = (each m (at_front m ns), over_by n ns (λ k among. each k (behind_it k m ns among)))
-
-over_both : (n : ℕ) (xs ys : List ℕ) → AreOver n xs → AreOver n ys → AreOver n (xs ++ ys)
-over_both n [] ys one two = two
-over_both n (x ∷ xs) ys one two = (one.0, over_both n xs ys one.1 two)
-
-rise_both : (xs ys : List ℕ) → DoRise xs → DoRise ys → ((n m : ℕ) → is_among n xs ≡ true → is_among m ys ≡ true → n < m) → DoRise (xs ++ ys)
-rise_both [] ys one two first = two
-rise_both (x ∷ xs) ys one two first = (
-  over_both x xs ys one.0 (over_by x ys (λ m among. first x m (at_front x xs) among)),
-  rise_both xs ys one.1 two (λ n m among. first n m (behind_it n x xs among)),
-)
+-- so do numbers that rise under a bound
+rising_differ : (bound : ℕ) (ns : List ℕ) → IsRising bound ns → IsDistinct same_number ns
+unfolding IsDistinct
+rising_differ bound [] rising = tt
+rising_differ bound (n ∷ ns) rising = (above_differ n ns rising.1, rising_differ bound ns rising.2)
+  where
+    above_differ : (n : ℕ) (ns : List ℕ) → AllAbove n ns → AllByRecursion (λ m. same_number n m ≡ false) ns
+    above_differ n [] up = tt
+    above_differ n (m ∷ ns) up = ((let less = up.0 in grind (arith, nat_tests, less)), above_differ n ns up.1)
 
 any_is : (n : ℕ) (ns : List ℕ) → is_among n ns ≡ list_any (λ m. n == m) ns
 any_is n [] = refl
@@ -223,59 +218,14 @@ among_moved n xs ys moved = any_is n xs ∙ list_any-IsPermutation (λ m. n == m
 
 -- ---- ports of the host that are given to guests
 
-over_given : (p : Proto) (fs : List Forward) (n k : ℕ) → n < k → AreOver n (sockets_over p (with_numbers k fs))
-over_given p [] n k less = tt
-over_given p (f ∷ fs) n k less = by (same_proto p f.proto) (over_given p fs n (k + 1) (omega (arith, less)))
-  where
-    by : (b : Bool) → AreOver n (sockets_over p (with_numbers (k + 1) fs)) → AreOver n
-        (forward_sockets (if b then (f, k) ∷ filter (is_over p) (with_numbers (k + 1) fs) else filter (is_over p) (with_numbers (k + 1) fs)))
-    by true rest = (less, rest)
-    by false rest = rest
+-- numbers that rise under a bound rise
+over_above_all : (n : ℕ) (ns : List ℕ) → AllAbove n ns → AreOver n ns
+over_above_all n [] up = tt
+over_above_all n (m ∷ ns) up = (up.0, over_above_all n ns up.1)
 
-rise_given : (p : Proto) (fs : List Forward) (k : ℕ) → DoRise (sockets_over p (with_numbers k fs))
-rise_given p [] k = tt
-rise_given p (f ∷ fs) k = by (same_proto p f.proto) (rise_given p fs (k + 1))
-  where
-    by : (b : Bool) → DoRise (sockets_over p (with_numbers (k + 1) fs)) → DoRise
-        (forward_sockets (if b then (f, k) ∷ filter (is_over p) (with_numbers (k + 1) fs) else filter (is_over p) (with_numbers (k + 1) fs)))
-    by true rest = (over_given p fs k (k + 1) (omega arith), rest)
-    by false rest = rest
-
--- the number of a place is among those of a protocol where the forward at that place is of it
-abbrev pub is_at : Proto → Option Forward → Bool
-is_at p None = false
-is_at p (Some f) = same_proto p f.proto
-
-not_over : (n : ℕ) (ns : List ℕ) → AreOver n ns → is_among n ns ≡ false
-not_over n [] over = refl
-not_over n (m ∷ ns) over = by (n == m) refl (not_over n ns over.1)
-  where
-    by : (b : Bool) → (n == m) ≡ b → is_among n ns ≡ false → (b || is_among n ns) ≡ false
-    by true here rest = let it = equal n m here in let less = over.0 in absurd (omega (arith, it, less))
-    by false other rest = rest
-
-among_over : (p : Proto) (fs : List Forward) (n k : ℕ) → is_among (k + n) (sockets_over p (with_numbers k fs)) ≡ is_at p (slice_get fs n)
-among_over p [] n k = refl
-among_over p (f ∷ fs) zero k = by (same_proto p f.proto)
-  where
-    here : k + 0 ≡ k
-    here = omega arith
-
-    by : (b : Bool) → is_among (k + 0) (forward_sockets (if b then (f, k) ∷ filter (is_over p) (with_numbers (k + 1) fs) else filter (is_over p) (with_numbers (k + 1) fs))) ≡ b
-    by true = ap (λ b. b || is_among (k + 0) (sockets_over p (with_numbers (k + 1) fs))) (ap (λ x. x == k) here ∙ same k)
-    by false = not_over (k + 0) (sockets_over p (with_numbers (k + 1) fs)) (over_given p fs (k + 0) (k + 1) (omega arith))
-among_over p (f ∷ fs) (suc n) k = by (same_proto p f.proto) ∙ subst (λ m. is_among m (sockets_over p (with_numbers (k + 1) fs)) ≡ is_at p (slice_get fs n)) next (among_over p fs n (k + 1))
-  where
-    next : (k + 1) + n ≡ k + suc n
-    next = omega arith
-
-    by : (b : Bool) → is_among (k + suc n) (forward_sockets (if b then (f, k) ∷ filter (is_over p) (with_numbers (k + 1) fs) else filter (is_over p) (with_numbers (k + 1) fs))) ≡
-        is_among (k + suc n) (sockets_over p (with_numbers (k + 1) fs))
-    by true = let other : ((k + suc n) == k) ≡ false = grind (arith, nat_tests) in ap (λ b. b || is_among (k + suc n) (sockets_over p (with_numbers (k + 1) fs))) other
-    by false = refl
-
-pub among_given_over : (p : Proto) (fs : List Forward) (n : ℕ) → is_among n (sockets_over p (with_numbers 0 fs)) ≡ is_at p (slice_get fs n)
-among_given_over p fs n = let it : 0 + n ≡ n = omega arith in subst (λ m. is_among m (sockets_over p (with_numbers 0 fs)) ≡ is_at p (slice_get fs n)) it (among_over p fs n 0)
+do_rise : (bound : ℕ) (ns : List ℕ) → IsRising bound ns → DoRise ns
+do_rise bound [] rising = tt
+do_rise bound (n ∷ ns) rising = (over_above_all n ns rising.1, do_rise bound ns rising.2)
 
 -- those of a protocol are among all
 among_all : (p : Proto) (os : List Opened) (n : ℕ) → is_among n (sockets_over p os) ≡ true → is_among n (forward_sockets os) ≡ true
@@ -292,16 +242,6 @@ among_all p ((f, k) ∷ os) n is = by (same_proto p f.proto) is (among_all p os 
             (t || is_among n (forward_sockets os)) ≡ true
         head true two others = refl
         head false two others = others two
-
-within : (fs : List Forward) (n : ℕ) (f : Forward) → slice_get fs n ≡ Some f → n < length fs
-within [] n f at = cc
-within (x ∷ fs) zero f at = omega arith
-within (x ∷ fs) (suc n) f at = let less = within fs n f at in omega (arith, less)
-
-beyond : (fs : List Forward) (n : ℕ) → slice_get fs n ≡ None → length fs ≤ n
-beyond [] n at = omega arith
-beyond (x ∷ fs) zero at = cc
-beyond (x ∷ fs) (suc n) at = let more = beyond fs n at in omega (arith, more)
 
 -- ---- what flows wait for
 
@@ -344,46 +284,29 @@ unquestioned config n past (inl (is, none)) = none
 unquestioned config n past (inr (is, was)) = ap is_for_question was
 
 module _ (config : Config) (at : Standing) (slirp : SlirpState) (f : Flowing) (link : LinkState) (past : List Entry) (holds : Holds config at slirp f link past) where
-  abbrev has : HasGiven config (length config.forwards) past
-  has = given_in config at NeedsNothing None slirp f link past holds
-
-  -- a port of the host with this protocol is open where the settings have it
-  module _ (p : Proto) (test : Option Kind → Bool) (tells : (q : Proto) → test (Some (given_kind q)) ≡ same_proto p q)
-      (only : (k : Option Kind) → test k ≡ true → (is_listener k || is_forward k) ≡ true) where
-    at_place : (n : ℕ) (o : Option Forward) → slice_get config.forwards n ≡ o → (is_among n (open_sockets past) && test (kind_of n past)) ≡ is_at p o
-    at_place n None none = by (is_among n (open_sockets past)) (test (kind_of n past)) refl refl
-      where
-        by : (a b : Bool) → is_among n (open_sockets past) ≡ a → test (kind_of n past) ≡ b → (a && b) ≡ false
-        by true true open_yet listens =
-            let less = has.others n open_yet (only (kind_of n past) listens) in let most = beyond config.forwards n none in absurd (omega (arith, less, most))
-        by true false open_yet listens = refl
-        by false b open_yet listens = refl
-    at_place n (Some g) here =
-        let less = within config.forwards n g here in
-        ap (λ b. b && test (kind_of n past)) (has.stay holds.open_yet n less) ∙ ap test (has.kinds n g less here) ∙ tells g.proto
-
-    port_open : (n : ℕ) → (is_among n (open_sockets past) && test (kind_of n past)) ≡ is_among n (sockets_over p slirp.forwards)
-    port_open n = at_place n (slice_get config.forwards n) refl ∙ sym (among_given_over p config.forwards n) ∙ ap (λ l. is_among n (sockets_over p l)) (sym holds.forwards)
-
   for_datagrams : (n : ℕ) → (is_among n (open_sockets past) && is_forward (kind_of n past)) ≡ is_among n (sockets_over Udp slirp.forwards)
-  for_datagrams = port_open Udp is_forward tells is_given_kind
+  for_datagrams = port_open config slirp.forwards past holds.forwards Udp is_forward tells is_given_kind
     where
       tells : (q : Proto) → is_forward (Some (given_kind q)) ≡ same_proto Udp q
       tells Tcp = refl
       tells Udp = refl
 
   for_peers : (n : ℕ) → (is_among n (open_sockets past) && is_listener (kind_of n past)) ≡ is_among n (sockets_over Tcp slirp.forwards)
-  for_peers = port_open Tcp is_listener tells is_listening_kind
+  for_peers = port_open config slirp.forwards past holds.forwards Tcp is_listener tells is_listening_kind
     where
       tells : (q : Proto) → is_listener (Some (given_kind q)) ≡ same_proto Tcp q
       tells Tcp = refl
       tells Udp = refl
 
-  pub sockets_are : (sockets : List ℕ) → IsPermutation (carriers (holders_of slirp)) sockets → (n : ℕ) → takes_datagrams past n ≡ is_among n (sockets_over Udp slirp.forwards ++ sockets)
+  abbrev all_carriers : List ℕ
+  all_carriers = sockets_over Udp slirp.forwards ++ carriers (holders_of slirp)
+
+  pub sockets_are : (sockets : List ℕ) → IsPermutation all_carriers sockets → (n : ℕ) → takes_datagrams past n ≡ is_among n sockets
   sockets_are sockets moved n =
       two_kinds (is_among n (open_sockets past)) (kind_of n past) (unquestioned config n past (known_of config past holds.lawful n))
-      ∙ (λ i. for_datagrams n i || (carried_by config at NeedsNothing None slirp f link past holds n ∙ among_moved n (carriers (holders_of slirp)) sockets moved) i)
-      ∙ sym (among_both n (sockets_over Udp slirp.forwards) sockets)
+      ∙ (λ i. for_datagrams n i || carried_by config at NeedsNothing None slirp f link past holds n i)
+      ∙ sym (among_both n (sockets_over Udp slirp.forwards) (carriers (holders_of slirp)))
+      ∙ among_moved n all_carriers sockets moved
 
   room_is : has_room_for_peer config.flows (book config past).flows ≡ fits_peer f.kept.flows
   room_is = room_recorded config slirp.moment f.aged None f.kept.flows past holds.flows.holds holds.flows.asked
@@ -407,14 +330,19 @@ module _ (config : Config) (at : Standing) (slirp : SlirpState) (f : Flowing) (l
       by false = none_and (is_among n (sockets_over Tcp slirp.forwards))
 
   -- each row of sockets rises
-  rise_sockets : (sockets : List ℕ) → IsPermutation (carriers (holders_of slirp)) sockets → IsNonDecreasing sockets → DoRise (sockets_over Udp slirp.forwards ++ sockets)
-  rise_sockets sockets moved rising =
-      rise_both (sockets_over Udp slirp.forwards) sockets
-      (subst (λ l. DoRise (sockets_over Udp l)) (sym holds.forwards) (rise_given Udp config.forwards 0))
-      (rise_of sockets (climbs sockets rising) (IsDistinct-IsPermutation same_number flips (carriers (holders_of slirp)) sockets moved all_differ))
-      (λ n m one other. (are_open config at NeedsNothing None slirp f link past holds).first n m (among_all Udp slirp.forwards n one)
-      (inl (among_moved m (carriers (holders_of slirp)) sockets moved ∙ other)))
+  over_rise : IsRising (next_number past) (sockets_over Udp slirp.forwards)
+  over_rise = over_rises Udp (next_number past) slirp.forwards holds.forwards.rising
+
+  rise_sockets : (sockets : List ℕ) → IsPermutation all_carriers sockets → (IsNonDecreasing (sockets_over Udp slirp.forwards) → IsNonDecreasing sockets) → DoRise sockets
+  rise_sockets sockets moved rising = rise_of sockets (climbs sockets (rising (rising_climbs (next_number past) (sockets_over Udp slirp.forwards) over_rise)))
+      (IsDistinct-IsPermutation same_number flips all_carriers sockets moved
+      (differ_both (sockets_over Udp slirp.forwards) (carriers (holders_of slirp)) (rising_differ (next_number past) (sockets_over Udp slirp.forwards) over_rise) all_differ
+      (λ n one. uncarried n (among_all Udp slirp.forwards n one) (is_among n (carriers (holders_of slirp))) refl)))
     where
+      uncarried : (n : ℕ) → is_among n (forward_sockets slirp.forwards) ≡ true → (b : Bool) → is_among n (carriers (holders_of slirp)) ≡ b → b ≡ false
+      uncarried n among true carried = absurd ((are_open config at NeedsNothing None slirp f link past holds).others n among (inl carried))
+      uncarried n among false carried = refl
+
       all_differ : IsDistinct same_number (carriers (holders_of slirp))
       all_differ =
           subst (λ l. IsDistinct same_number (l ++ question_numbers slirp.questions)) (ap numbers holds.relayed.list)
@@ -427,7 +355,7 @@ module _ (config : Config) (at : Standing) (slirp : SlirpState) (f : Flowing) (l
   rise_listeners = by (fits_peer slirp.flows.flows)
     where
       by : (b : Bool) → DoRise (if b then sockets_over Tcp slirp.forwards else [])
-      by true = subst (λ l. DoRise (sockets_over Tcp l)) (sym holds.forwards) (rise_given Tcp config.forwards 0)
+      by true = do_rise (next_number past) (sockets_over Tcp slirp.forwards) (over_rises Tcp (next_number past) slirp.forwards holds.forwards.rising)
       by false = tt
 
 -- flows of which both ends passed are closed, and those whose host had its time to connect
@@ -482,7 +410,7 @@ pub must_wait : (config : Config) (at : Standing) (slirp : SlirpState) (link : L
     AllServed config past → MustWait config past wants timeout
 must_wait config at slirp link past wants timeout holds none_again quiet young recent fresh early calm times of are served = record {
   waits_for = subst (λ (ws : List Want). WaitsFor config past ws) (sym of.is)
-      (all_waited_for config past (is_settled slirp link) link.blocked (listeners_of slirp) (sockets_over Udp slirp.forwards ++ of.sockets) of.flows holds.keeps.blocked sent_is quiet
+      (all_waited_for config past (is_settled slirp link) link.blocked (listeners_of slirp) of.sockets of.flows holds.keeps.blocked sent_is quiet
       (listeners_are config at slirp (flowing true slirp.flows) link past holds refl) (sockets_are config at slirp (flowing true slirp.flows) link past holds of.sockets of.all)
       (each_of_flows slirp.flows.flows.slots of.flows of.of_flows) are.to_read are.to_write are.only_to_write (rise_listeners config at slirp (flowing true slirp.flows) link past holds)
       (rise_sockets config at slirp (flowing true slirp.flows) link past holds of.sockets of.all of.rising) (rise_by of.flows of.of_flows.rising));

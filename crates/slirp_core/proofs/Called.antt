@@ -9,15 +9,14 @@ use Rattle.world_face.proofs.Telling.{allowed_then}
 use Rattle.host_policy.specs.Addresses.{Config}
 use Rattle.ipv4_head.specs.Sets.{young}
 use Rattle.run_laws.specs.Moments.{moment, waits}
-use Rattle.run_laws.specs.Shape.{By, Over, is_ended, is_over}
+use Rattle.run_laws.specs.Shape.{is_ended, is_over}
 use Rattle.run_laws.specs.Sockets.{is_among, kind_of, next_number, open_sockets}
 use Rattle.slirp_laws.specs.Agenda.{agenda, all_wanted, wanted_of}
 use Rattle.slirp_laws.specs.Errands.{errand_left}
 use Rattle.slirp_laws.specs.Datagrams.{NeedsNothing}
 use Rattle.slirp_laws.specs.Laws.{Lawful}
 use Rattle.stream_netdev.specs.State.{LinkState}
-use Rattle.slirp_core.specs.Forwards.{forward_sockets}
-use Rattle.slirp_core.specs.Holds.{AreOpenWith, carriers, holders_with, Stands, Begins, Standing, InTurn, IsLast, OfGuests, after, standing, AfterPump, Ended, Flowing, Holds, Turns, flowing, is_ours}
+use Rattle.slirp_core.specs.Holds.{holders_with, Stands, Begins, Standing, InTurn, IsLast, OfGuests, after, standing, AfterPump, Ended, Flowing, Holds, Turns, flowing, is_ours}
 use Rattle.slirp_core.specs.State.{SlirpState}
 use Rattle.slirp_core.specs.Waiting.{OfFragments}
 use Rattle.slirp_core.proofs.Parts.{asks_nothing, errand_for, in_turn, two_in}
@@ -38,7 +37,7 @@ use Rattle.record_flows.specs.Book.{book, is_young}
 use Rattle.record_flows.specs.Flows.{Rest}
 use Rattle.tcp_flows.specs.Runs.{Between, Broken, ClosesRising, IsIdle, IsIdlePump, Leaves, Learns, LeavesOthers, Pumps, Reports, Sendable, Ticks, Tells}
 use Rattle.tcp_flows.specs.Told.{ServesOnce}
-use Rattle.slirp_core.proofs.Given.{all_given}
+use Rattle.slirp_core.proofs.Given.{left_in_force}
 use Rattle.slirp_core.proofs.Open.{open_by}
 
 -- each call was one that a link may get
@@ -76,7 +75,6 @@ pub guests_left : (config : Config) (slirp : SlirpState) (past made : List Entry
     OfGuests config slirp past → OfGuests config slirp (made ++ past)
 guests_left config slirp past made same others guests = record {
   settings = guests.settings;
-  once = guests.once;
   known = others.known ∙ guests.known;
   fragments = fragments_left config slirp past made same others guests.fragments;
 }
@@ -106,7 +104,7 @@ after_flows config at later slirp f link past made aged new transfers same allow
         blocked = leaves.blocked ∙ holds.keeps.blocked;
       };
       answers = record { sent = leaves.counted ∙ holds.answers.sent; owed = owed (same_beside config past made leaves.left leaves.counted moments others) };
-      guests = record { settings = guests.settings; once = guests.once; known = guests.known; fragments = record { held = fragments.held; is_held = fragments.is_held; wait = fragments.wait } };
+      guests = record { settings = guests.settings; known = guests.known; fragments = record { held = fragments.held; is_held = fragments.is_held; wait = fragments.wait } };
       relayed = record {
         list = others.list ∙ holds.relayed.list;
         questions = others.questions ∙ holds.relayed.questions;
@@ -115,7 +113,7 @@ after_flows config at later slirp f link past made aged new transfers same allow
         heard = unheard config (made ++ past) then_is.work.services;
       };
       services = record { leases = others.leases ∙ holds.services.leases; quest = ap (λ (k : Files). k.quest) others.files ∙ holds.services.quest };
-      forwards = holds.forwards;
+      forwards = left_in_force config slirp.forwards past made others (let same_next = leaves.next in omega (arith, same_next)) holds.forwards;
       flows = record { holds = then_is.holds; asked = then_is.asked; settings = then_is.settings; unit = holds.flows.unit };
       sockets = record { number = leaves.next ∙ holds.sockets.number; kinds = sockets_left config past made others holds.sockets.kinds };
       clock = record { moment = then_is.at; counted = others.waits ∙ holds.clock.counted ∙ sym same };
@@ -222,7 +220,6 @@ unticked config at slirp kept link past unrested holds = record {
   answers = record { sent = holds.answers.sent; owed = owed_aged config slirp past holds.clock.moment holds.answers.owed };
   guests = record {
     settings = holds.guests.settings;
-    once = holds.guests.once;
     known = holds.guests.known;
     fragments = record {
       held = holds.guests.fragments.held;
@@ -277,7 +274,6 @@ flows_put config at slirp k f link past holds = record {
   answers = record { sent = holds.answers.sent; owed = owed_as config f.aged slirp (record slirp { flows = k }) past refl refl holds.answers.owed };
   guests = record {
     settings = holds.guests.settings;
-    once = holds.guests.once;
     known = holds.guests.known;
     fragments = record {
       held = holds.guests.fragments.held;
@@ -404,7 +400,7 @@ module _ (config : Config) (at : Standing) (slirp : SlirpState) (f : Flowing) (l
                 ∙ sym (λ i. kept_by f.aged false ((now_is config (made ++ past) ∙ then_is.between.at ∙ sym holds.clock.moment ∙ sym (now_is config past)) i) (others.files i).transfers);
           });
         };
-        guests = record { settings = guests.settings; once = guests.once; known = guests.known; fragments = record { held = fragments.held; is_held = fragments.is_held; wait = fragments.wait } };
+        guests = record { settings = guests.settings; known = guests.known; fragments = record { held = fragments.held; is_held = fragments.is_held; wait = fragments.wait } };
         relayed = record {
           list = others.list ∙ holds.relayed.list;
           questions = others.questions ∙ holds.relayed.questions;
@@ -413,7 +409,7 @@ module _ (config : Config) (at : Standing) (slirp : SlirpState) (f : Flowing) (l
           heard = unheard config (made ++ past) then_is.between.work.services;
         };
         services = record { leases = others.leases ∙ holds.services.leases; quest = ap (λ (k : Files). k.quest) others.files ∙ holds.services.quest };
-        forwards = holds.forwards;
+        forwards = left_in_force config slirp.forwards past made others (omega (arith, same)) holds.forwards;
         flows = record { holds = then_is.between.holds; asked = then_is.between.asked; settings = then_is.between.settings; unit = holds.flows.unit };
         sockets = record { number = same ∙ holds.sockets.number; kinds = sockets_left config past made others holds.sockets.kinds };
         clock = record { moment = then_is.between.at; counted = others.waits ∙ holds.clock.counted };
@@ -423,8 +419,8 @@ module _ (config : Config) (at : Standing) (slirp : SlirpState) (f : Flowing) (l
       }
 
   -- the link failed
-  broke : Broken config slirp.moment f.aged new (made ++ past) → LeavesOthers config past made → Ended config at.count LinkFailed slirp.forwards (holders_with slirp new) (made ++ past)
-  broke then_is others = record {
+  broke : Broken config slirp.moment f.aged new (made ++ past) → next_number (made ++ past) ≡ next_number past → LeavesOthers config past made → Ended config at.count LinkFailed slirp.forwards (holders_with slirp new) (made ++ past)
+  broke then_is same others = record {
     lawful = then_is.lawful;
     over = then_is.over;
     waited = others.waits ∙ holds.clock.counted;
@@ -432,10 +428,9 @@ module _ (config : Config) (at : Standing) (slirp : SlirpState) (f : Flowing) (l
     served = then_is.served;
     idle = then_is.asks;
     stay = core_stays config slirp.moment f.aged None new.flows (made ++ past) then_is.holds;
-    sockets = subst (λ l. AreOpenWith (forward_sockets l) (carriers (holders_with slirp new)) new.flows.slots (made ++ past)) (sym holds.forwards)
-        (open_by config slirp (flowing f.aged new) slirp.moment (made ++ past) then_is.lawful (others.list ∙ holds.relayed.list)
+    sockets = open_by config slirp (flowing f.aged new) slirp.moment (made ++ past) then_is.lawful (others.list ∙ holds.relayed.list)
         (others.questions ∙ holds.relayed.questions) then_is.holds (sockets_left config past made others holds.sockets.kinds)
-        (all_given config (made ++ past) holds.guests.once then_is.lawful (Over (By LinkFailed)) then_is.over refl) then_is.open_yet);
+        (left_in_force config slirp.forwards past made others (omega (arith, same)) holds.forwards);
     two = two_in config slirp (made ++ past) then_is.lawful (others.list ∙ holds.relayed.list) (others.questions ∙ holds.relayed.questions);
   }
 
@@ -444,7 +439,7 @@ module _ (config : Config) (at : Standing) (slirp : SlirpState) (f : Flowing) (l
       (flowing f.aged new) next (made ++ past)
   pumped Clear pumps = let then_is = pumps config f.aged past (sendable config at slirp f link past none turn holds) in went_on then_is.0 then_is.1 then_is.2 then_is.3
   pumped Blocked pumps = let then_is = pumps config f.aged past (sendable config at slirp f link past none turn holds) in went_on then_is.0 then_is.1 then_is.2 then_is.3
-  pumped Failed pumps = let then_is = pumps config f.aged past (sendable config at slirp f link past none turn holds) in broke then_is.0 then_is.2
+  pumped Failed pumps = let then_is = pumps config f.aged past (sendable config at slirp f link past none turn holds) in broke then_is.0 then_is.1 then_is.2
 
 -- the flows of a turn were pumped, or of none
 pub pumped_so : (config : Config) (at : Standing) (slirp : SlirpState) (aged : Bool) (kept new : Kept) (link next : LinkState) (past made : List Entry) (last : ℕ)

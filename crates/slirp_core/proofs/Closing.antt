@@ -38,7 +38,7 @@ use Rattle.slirp_laws.proofs.Longest.{same_port}
 use Rattle.slirp_laws.proofs.Joining.{numbers_without}
 use Rattle.slirp_core.specs.Forwards.{ClosesForward, forward_sockets}
 use Rattle.slirp_core.specs.Firsts.{IsLeastOf}
-use Rattle.slirp_core.specs.Holds.{AreOpen, AreOpenWith, AreTwo, Closing, ClosingBy, ClosingWith, ClosesAll, ClosesForwards, ClosesNext, ClosesOn, Holders, IsOf, Ran, carriers, Rests}
+use Rattle.slirp_core.specs.Holds.{AfterClosing, AreOpen, AreTwo, Closing, ClosesAll, ClosesNext, ClosesOther, Holders, IsForwardFirst, IsOf, NoForwardFirst, Ran, carriers, Rests}
 use Rattle.slirp_core.specs.Holds.{OverFor, AllWaited}
 use Rattle.slirp_core.proofs.Parts.{due_in_phase, due_is}
 use Rattle.slirp_core.proofs.Rising.{open_rise}
@@ -82,7 +82,7 @@ pub record IsFlows (n k : ℕ) (carriers : List ℕ) (parts : List (Option Splic
   pub next : IsNextOpen None n k parts
   pub below : (m : ℕ) → is_among m carriers ≡ true → n ≤ m
 
-module _ (Open : List Entry → Type 0) (o : Holders) (config : Config) (over : Phase) (past : List Entry) (closing : ClosingBy Open o config over past) (n : ℕ)
+module _ (forwards : List ℕ) (o : Holders) (config : Config) (over : Phase) (past : List Entry) (closing : Closing config over forwards o past) (n : ℕ)
     (among : is_among n (open_sockets past) ≡ true)
     (least : (m : ℕ) → is_among m (open_sockets past) ≡ true → n ≤ m) where
   first_is : first (open_sockets past) ≡ Some n
@@ -105,8 +105,8 @@ module _ (Open : List Entry → Type 0) (o : Holders) (config : Config) (over : 
   rests_on (OverFor cause is) = OverFor cause is
   rests_on (AllWaited working) = AllWaited working
 
-  closed : (Left : List Entry → Type 0) (new : Holders) → AreTwo new → Left (Close n ∷ past) → ClosingBy Left new config over (Close n ∷ past)
-  closed Left new two left = record {
+  closed : (left : List ℕ) (new : Holders) → AreTwo new → AreOpen left (carriers new) new.slots (Close n ∷ past) → Closing config over left new (Close n ∷ past)
+  closed left new two open_now = record {
     lawful = (may_close, closing.lawful);
     ended = closing.ended;
     is = closing.is;
@@ -115,7 +115,7 @@ module _ (Open : List Entry → Type 0) (o : Holders) (config : Config) (over : 
     served = quest_none config past closing.served;
     idle = refl;
     stay = stays_closed config past n (differ_in config past closing.lawful) closing.stay;
-    sockets = left;
+    sockets = open_now;
     two = two;
   }
 
@@ -155,38 +155,48 @@ was_among m n past among = both_of (not (m == n)) (is_among m (open_sockets past
 left_among : (m n : ℕ) (list : List Association) → is_among m (numbers (without n list)) ≡ (not (m == n) && is_among m (numbers list))
 left_among m n list = ap (is_among m) (numbers_without n list) ∙ among_without m n (numbers list)
 
-module _ (config : Config) (over : Phase) (o : Holders) (past : List Entry) (closing : Closing config over o past) where
-  abbrev now_open : AreOpen (carriers o) o.slots past
+module _ (config : Config) (over : Phase) (forwards : List ℕ) (o : Holders) (past : List Entry) (closing : Closing config over forwards o past) where
+  abbrev now_open : AreOpen forwards (carriers o) o.slots past
   now_open = closing.sockets
 
-  -- one that carries datagrams was closed, and the others are left
-  module _ (n : ℕ) (is : IsCarrier n (carriers o) o.slots) (associations : List Association) (questions : List Question)
+  -- one that carries datagrams was closed, which is under all of forwards, and the others are left
+  module _ (n : ℕ) (is : IsCarrier n (carriers o) o.slots) (beyond : (k : ℕ) → is_among k forwards ≡ true → n ≤ k) (associations : List Association) (questions : List Question)
       (left : (m : ℕ) → is_among m (numbers associations ++ question_numbers questions) ≡ (not (m == n) && is_among m (carriers o)))
       (two : AreTwo (record { associations = associations; questions = questions; slots = o.slots })) where
     abbrev others : List ℕ
     others = numbers associations ++ question_numbers questions
 
-    least_of : (m : ℕ) → IsOf (carriers o) o.slots m → n ≤ m
-    least_of m (inl among) = is.least.1 m among
-    least_of m (inr (k, p, at, number, u)) = subst (λ x. n ≤ x) number (is.below k p at)
+    least_of : (m : ℕ) → (is_among m forwards ≡ true) ⊎ IsOf (carriers o) o.slots m → n ≤ m
+    least_of m (inl forward) = beyond m forward
+    least_of m (inr (inl among)) = is.least.1 m among
+    least_of m (inr (inr (k, p, at, number, u))) = subst (λ x. n ≤ x) number (is.below k p at)
 
-    each_left : (m : ℕ) → (not (m == n) ≡ true) → IsOf (carriers o) o.slots m → IsOf others o.slots m
-    each_left m apart (inl among) = inl (left m ∙ both_are (not (m == n)) (is_among m (carriers o)) apart among)
-    each_left m apart (inr has) = inr has
+    each_left : (m : ℕ) → (not (m == n) ≡ true) → (is_among m forwards ≡ true) ⊎ IsOf (carriers o) o.slots m → (is_among m forwards ≡ true) ⊎ IsOf others o.slots m
+    each_left m apart (inl forward) = inl forward
+    each_left m apart (inr (inl among)) = inr (inl (left m ∙ both_are (not (m == n)) (is_among m (carriers o)) apart among))
+    each_left m apart (inr (inr has)) = inr (inr has)
 
-    pub carrier_closed : Closing config over (record { associations = associations; questions = questions; slots = o.slots }) (Close n ∷ past)
-    carrier_closed = closed (AreOpen (carriers o) o.slots) o config over past closing n (now_open.carry n is.least.0) (λ m among. least_of m (now_open.each m among))
-        (AreOpen others o.slots) (record { associations = associations; questions = questions; slots = o.slots }) two (record {
+    was_of : (m : ℕ) → IsOf others o.slots m → IsOf (carriers o) o.slots m
+    was_of m (inl among) = inl (both_of (not (m == n)) (is_among m (carriers o)) (sym (left m) ∙ among)).1
+    was_of m (inr has) = inr has
+
+    pub carrier_closed : Closing config over forwards (record { associations = associations; questions = questions; slots = o.slots }) (Close n ∷ past)
+    carrier_closed = closed forwards o config over past closing n (now_open.carry n is.least.0) (λ m among. least_of m (now_open.each m among))
+        forwards (record { associations = associations; questions = questions; slots = o.slots }) two (record {
           each = λ m among. let was = was_among m n past among in each_left m was.0 (now_open.each m was.1);
+          forward = λ m among. still_among m n past (now_open.forward m among)
+              (λ same_one. now_open.others m among (inl (ap (λ x. is_among x (carriers o)) same_one ∙ is.least.0)));
           carry = λ m among. let was = both_of (not (m == n)) (is_among m (carriers o)) (sym (left m) ∙ among) in still_among m n past (now_open.carry m was.1) (apart_from m n was.0);
           flow = λ k p at. still_among (number_of p) n past (now_open.flow k p at) (λ same_one. true_false (sym is.least.0 ∙ ap (λ x. is_among x (carriers o)) (sym same_one) ∙ now_open.apart k p at));
           apart = λ k p at. left (number_of p) ∙ none_left (not (number_of p == n)) (is_among (number_of p) (carriers o)) (now_open.apart k p at);
+          rising = now_open.rising;
+          others = λ m among of. now_open.others m among (was_of m of);
         })
 
   -- an association's, which is no question's
-  pub association_closed : (n : ℕ) → is_among n (numbers o.associations) ≡ true → IsCarrier n (carriers o) o.slots → Closing config over
-      (record o { associations = without n o.associations }) (Close n ∷ past)
-  association_closed n among is = carrier_closed n is (without n o.associations) o.questions left two
+  pub association_closed : (n : ℕ) → is_among n (numbers o.associations) ≡ true → IsCarrier n (carriers o) o.slots → ((k : ℕ) → is_among k forwards ≡ true → n ≤ k)
+      → Closing config over forwards (record o { associations = without n o.associations }) (Close n ∷ past)
+  association_closed n among is beyond = carrier_closed n is beyond (without n o.associations) o.questions left two
     where
       both : (a e q : Bool) → (e ≡ true → q ≡ false) → ((not e && a) || q) ≡ (not e && (a || q))
       both a true q none = none refl
@@ -203,9 +213,9 @@ module _ (config : Config) (over : Phase) (o : Holders) (past : List Entry) (clo
       two m here = closing.two m (both_of (not (m == n)) (is_among m (numbers o.associations)) (sym (left_among m n o.associations) ∙ here)).1
 
   -- a question's, which is no association's
-  pub question_closed : (n : ℕ) → is_among n (question_numbers o.questions) ≡ true → IsCarrier n (carriers o) o.slots → Closing config over
-      (record o { questions = without_question n o.questions }) (Close n ∷ past)
-  question_closed n among is = carrier_closed n is o.associations (without_question n o.questions) left two
+  pub question_closed : (n : ℕ) → is_among n (question_numbers o.questions) ≡ true → IsCarrier n (carriers o) o.slots → ((k : ℕ) → is_among k forwards ≡ true → n ≤ k)
+      → Closing config over forwards (record o { questions = without_question n o.questions }) (Close n ∷ past)
+  question_closed n among is beyond = carrier_closed n is beyond o.associations (without_question n o.questions) left two
     where
       both : (a e q : Bool) → (e ≡ true → a ≡ false) → (a || (not e && q)) ≡ (not e && (a || q))
       both true true q none = none refl
@@ -228,7 +238,7 @@ module _ (config : Config) (over : Phase) (o : Holders) (past : List Entry) (clo
       two m here = asked_without m n o.questions ∙ none_left (not (m == n)) (is_among m (question_numbers o.questions)) (closing.two m here)
 
   -- a flow's was closed
-  module _ (n k : ℕ) (is : IsFlows n k (carriers o) o.slots) where
+  module _ (n k : ℕ) (is : IsFlows n k (carriers o) o.slots) (beyond : (j : ℕ) → is_among j forwards ≡ true → n ≤ j) where
     abbrev new_parts : List (Option Splice)
     new_parts = set o.slots k None
 
@@ -238,9 +248,10 @@ module _ (config : Config) (over : Phase) (o : Holders) (past : List Entry) (clo
     unlisted : is_among n (carriers o) ≡ false
     unlisted = subst (λ m. is_among m (carriers o) ≡ false) is.next.number (now_open.apart k is.next.part is.next.at)
 
-    least_with : (m : ℕ) → IsOf (carriers o) o.slots m → n ≤ m
-    least_with m (inl among) = is.below m among
-    least_with m (inr (j, p, at, number, u)) = subst (λ x. n ≤ x) number (is.next.least j p at tt)
+    least_with : (m : ℕ) → (is_among m forwards ≡ true) ⊎ IsOf (carriers o) o.slots m → n ≤ m
+    least_with m (inl forward) = beyond m forward
+    least_with m (inr (inl among)) = is.below m among
+    least_with m (inr (inr (j, p, at, number, u))) = subst (λ x. n ≤ x) number (is.next.least j p at tt)
 
     -- another slot than this one is as it was
     stays_at : (j : ℕ) (p : Splice) → IsOpenAt o.slots j p → (number_of p ≡ n → ⊥) → IsOpenAt new_parts j p
@@ -264,28 +275,37 @@ module _ (config : Config) (over : Phase) (o : Holders) (past : List Entry) (clo
             let before : IsOpenAt o.slots j p = record { here = sym (get_set_other o.slots k j None (differ j k apart)) ∙ at.here; open_yet = at.open_yet } in
             (before, λ number. differ j k apart (is.next.only j p before number))
 
-    each_but : (m : ℕ) → (not (m == n) ≡ true) → IsOf (carriers o) o.slots m → IsOf (carriers o) new_parts m
-    each_but m apart (inl among) = inl among
-    each_but m apart (inr (j, p, at, number, u)) = inr (j, p, stays_at j p at (λ is_n. apart_from m n apart (sym number ∙ is_n)), number, u)
+    each_but : (m : ℕ) → (not (m == n) ≡ true) → (is_among m forwards ≡ true) ⊎ IsOf (carriers o) o.slots m → (is_among m forwards ≡ true) ⊎ IsOf (carriers o) new_parts m
+    each_but m apart (inl forward) = inl forward
+    each_but m apart (inr (inl among)) = inr (inl among)
+    each_but m apart (inr (inr (j, p, at, number, u))) = inr (inr (j, p, stays_at j p at (λ is_n. apart_from m n apart (sym number ∙ is_n)), number, u))
 
-    pub flow_closed : Closing config over (record o { slots = new_parts }) (Close n ∷ past)
-    flow_closed = closed (AreOpen (carriers o) o.slots) o config over past closing n here (λ m among. least_with m (now_open.each m among)) (AreOpen (carriers o) new_parts)
-        (record o { slots = new_parts }) closing.two (record {
-          each = λ m among. let was = was_among m n past among in each_but m was.0 (now_open.each m was.1);
-          carry = λ m among. still_among m n past (now_open.carry m among) (λ same_one. true_false (sym among ∙ ap (λ x. is_among x (carriers o)) same_one ∙ unlisted));
-          flow = λ j p at. let was = was_at j p at in still_among (number_of p) n past (now_open.flow j p was.0) was.1;
-          apart = λ j p at. now_open.apart j p (was_at j p at).0;
-        })
+    was_one : (m : ℕ) → IsOf (carriers o) new_parts m → IsOf (carriers o) o.slots m
+    was_one m (inl among) = inl among
+    was_one m (inr (j, p, at, number, u)) = inr (j, p, (was_at j p at).0, number, u)
+
+    pub flow_closed : Closing config over forwards (record o { slots = new_parts }) (Close n ∷ past)
+    flow_closed = closed forwards o config over past closing n here (λ m among. least_with m (now_open.each m among)) forwards (record o { slots = new_parts }) closing.two (record {
+      each = λ m among. let was = was_among m n past among in each_but m was.0 (now_open.each m was.1);
+      forward = λ m among. still_among m n past (now_open.forward m among)
+          (λ same_one. now_open.others m among (inr (k, is.next.part, is.next.at, is.next.number ∙ sym same_one, tt)));
+      carry = λ m among. still_among m n past (now_open.carry m among) (λ same_one. true_false (sym among ∙ ap (λ x. is_among x (carriers o)) same_one ∙ unlisted));
+      flow = λ j p at. let was = was_at j p at in still_among (number_of p) n past (now_open.flow j p was.0) was.1;
+      apart = λ j p at. now_open.apart j p (was_at j p at).0;
+      rising = now_open.rising;
+      others = λ m among of. now_open.others m among (was_one m of);
+    })
 
   -- ---- none is left
 
-  module _ (none : carriers o ≡ []) (none_above : NoneIsAbove None o.slots) where
+  module _ (none : carriers o ≡ []) (none_above : NoneIsAbove None o.slots) (no_forwards : forwards ≡ []) where
     shut : open_sockets past ≡ []
     shut = empty (open_sockets past) refl
       where
-        no_one : (m : ℕ) → IsOf (carriers o) o.slots m → ⊥
-        no_one m (inl among) = true_false (sym among ∙ ap (is_among m) none)
-        no_one m (inr (k, p, at, number, u)) = none_above k p at tt
+        no_one : (m : ℕ) → (is_among m forwards ≡ true) ⊎ IsOf (carriers o) o.slots m → ⊥
+        no_one m (inl forward) = true_false (sym forward ∙ ap (is_among m) no_forwards)
+        no_one m (inr (inl among)) = true_false (sym among ∙ ap (is_among m) none)
+        no_one m (inr (inr (k, p, at, number, u))) = none_above k p at tt
 
         empty : (sockets : List ℕ) → open_sockets past ≡ sockets → open_sockets past ≡ []
         empty [] is = is
@@ -301,10 +321,11 @@ module _ (config : Config) (over : Phase) (o : Holders) (past : List Entry) (clo
     pub all_closed : Ran config over past
     all_closed = (closing.lawful, record { ended = closing.ended; none_due = none_due closing.rests; closed = shut }, closing.is)
 
--- ---- the sockets of forwards are closed before
+-- ---- the socket of a forward is closed
 
-module _ (config : Config) (over : Phase) (n : ℕ) (forwards : List ℕ) (o : Holders) (past : List Entry) (closing : ClosingWith config over (n ∷ forwards) o past) where
-  abbrev are_open_now : AreOpenWith (n ∷ forwards) (carriers o) o.slots past
+module _ (config : Config) (over : Phase) (n : ℕ) (forwards : List ℕ) (o : Holders) (past : List Entry) (closing : Closing config over (n ∷ forwards) o past)
+    (below : (m : ℕ) → IsOf (carriers o) o.slots m → n ≤ m) where
+  abbrev are_open_now : AreOpen (n ∷ forwards) (carriers o) o.slots past
   are_open_now = closing.sockets
 
   least_here : (m : ℕ) → (is_among m (n ∷ forwards) ≡ true) ⊎ IsOf (carriers o) o.slots m → n ≤ m
@@ -313,10 +334,10 @@ module _ (config : Config) (over : Phase) (n : ℕ) (forwards : List ℕ) (o : H
       by : (b : Bool) → (m == n) ≡ b → (b || is_among m forwards) ≡ true → n ≤ m
       by true is among = let it = equal m n is in omega (arith, it)
       by false is among = let above = above_all n m forwards are_open_now.rising.1.1 among in omega (arith, above)
-  least_here m (inr of) = let less = are_open_now.first n m (ap (λ b. b || is_among n forwards) (same n)) of in omega (arith, less)
+  least_here m (inr of) = below m of
 
   other_than : (m : ℕ) → IsOf (carriers o) o.slots m → m ≡ n → ⊥
-  other_than m of is = let less = are_open_now.first n m (ap (λ b. b || is_among n forwards) (same n)) of in omega (arith, less, is)
+  other_than m of is = are_open_now.others n (ap (λ b. b || is_among n forwards) (same n)) (subst (IsOf (carriers o) o.slots) is of)
 
   each_behind : (m : ℕ) → not (m == n) ≡ true → (is_among m (n ∷ forwards) ≡ true) ⊎ IsOf (carriers o) o.slots m → (is_among m forwards ≡ true) ⊎ IsOf (carriers o) o.slots m
   each_behind m apart (inl among) = inl (by (m == n) apart among)
@@ -326,9 +347,9 @@ module _ (config : Config) (over : Phase) (n : ℕ) (forwards : List ℕ) (o : H
       by false apart among = among
   each_behind m apart (inr of) = inr of
 
-  pub forward_closed : ClosingWith config over forwards o (Close n ∷ past)
-  forward_closed = closed (AreOpenWith (n ∷ forwards) (carriers o) o.slots) o config over past closing n (are_open_now.forward n (ap (λ b. b || is_among n forwards) (same n)))
-      (λ m among. least_here m (are_open_now.each m among)) (AreOpenWith forwards (carriers o) o.slots) o closing.two (record {
+  pub forward_closed : Closing config over forwards o (Close n ∷ past)
+  forward_closed = closed (n ∷ forwards) o config over past closing n (are_open_now.forward n (ap (λ b. b || is_among n forwards) (same n)))
+      (λ m among. least_here m (are_open_now.each m among)) forwards o closing.two (record {
         each = λ m among. let was = was_among m n past among in each_behind m was.0 (are_open_now.each m was.1);
         forward = λ m among. still_among m n past (are_open_now.forward m (or_second (m == n) (is_among m forwards) among))
             (λ is. let above = above_all n m forwards are_open_now.rising.1.1 among in omega (arith, above, is));
@@ -336,32 +357,8 @@ module _ (config : Config) (over : Phase) (n : ℕ) (forwards : List ℕ) (o : H
         flow = λ k p at. still_among (number_of p) n past (are_open_now.flow k p at) (other_than (number_of p) (inr (k, p, at, refl, tt)));
         apart = are_open_now.apart;
         rising = (are_open_now.rising.0, are_open_now.rising.1.2);
-        first = λ m j among of. are_open_now.first m j (or_second (m == n) (is_among m forwards) among) of;
+        others = λ m among of. are_open_now.others m (or_second (m == n) (is_among m forwards) among) of;
       })
-
--- once none is left the others are
-pub no_forwards : (config : Config) (over : Phase) (o : Holders) (past : List Entry) → ClosingWith config over [] o past → Closing config over o past
-no_forwards config over o past closing = record {
-  lawful = closing.lawful;
-  ended = closing.ended;
-  is = closing.is;
-  rests = closing.rests;
-  errand = closing.errand;
-  served = closing.served;
-  idle = closing.idle;
-  stay = closing.stay;
-  sockets = record {
-    each = λ n among. others n (closing.sockets.each n among);
-    carry = closing.sockets.carry;
-    flow = closing.sockets.flow;
-    apart = closing.sockets.apart;
-  };
-  two = closing.two;
-}
-  where
-    others : (n : ℕ) → (false ≡ true) ⊎ IsOf (carriers o) o.slots n → IsOf (carriers o) o.slots n
-    others n (inl never) = cc
-    others n (inr of) = of
 
 -- ---- the forwards of the list
 
@@ -391,21 +388,30 @@ all_left p (x ∷ list) many = by (p x) many (no_more p list) (all_left p list)
     by true many most more = ap (λ l. x ∷ l) (more (omega (arith, many)))
     by false many most more = absurd (omega (arith, many, most))
 
--- the first of them is closed next
-pub closes_forward : (first : List ℕ) (n : ℕ) (rest : List ℕ) (o : Holders) (made : List Entry) → ClosesForwards first (n ∷ rest) o made → ClosesForwards first rest o (Close n ∷ made)
-closes_forward first n rest o made closes config over past closing = forward_closed config over n rest o (made ++ past) (closes config over past closing)
+-- the first of them is closed next, where it is under all others
+pub forward_first : (before after : List Opened) (o : Holders) (made : List Entry) → IsForwardFirst (forward_sockets before) (carriers o) o.slots → ClosesForward true before after made
+    → ClosesNext true before after o o made
+forward_first before after o made first (forward, number, was, one) config over past closing =
+    subst (λ es. Closing config over (forward_sockets after) o (es ++ past)) (sym one)
+    (forward_closed config over number (forward_sockets after) o past (subst (λ (l : List Opened). Closing config over (forward_sockets l) o past) was closing)
+    (λ m of. subst (λ n. n ≤ m) (head_of first.0 number first.1 (forward_sockets after) (sym first.2 ∙ ap forward_sockets was)) (first.3 m of)))
+  where
+    head_of : (n m : ℕ) (ns ms : List ℕ) → n ∷ ns ≡ m ∷ ms → n ≡ m
+    head_of n m ns ms is = cc
 
-pub closes_next_forward : (first : List ℕ) (old new : List Opened) (o : Holders) (made more : List Entry) → ClosesForwards first (forward_sockets old) o made → ClosesForward true old new more
-    → ClosesForwards first (forward_sockets new) o (more ++ made)
-closes_next_forward first old new o made more closes (forward, n, was, one) =
-    subst (λ es. ClosesForwards first (forward_sockets new) o (es ++ made)) (sym one)
-    (closes_forward first n (forward_sockets new) o made (subst (λ (l : List Opened). ClosesForwards first (forward_sockets l) o made) was closes))
+-- so is one that stands first, and where none of them is the least one of the others is closed
+pub next_forward : (b : Bool) (before after : List Opened) (o : Holders) (made : List Entry) → IsForwardFirst (forward_sockets before) (carriers o) o.slots → ClosesForward b before after made
+    → ClosesNext b before after o o made
+next_forward true before after o made first closes = forward_first before after o made first closes
+next_forward false before after o made first (none, now, no_call) = absurd (never first.0 first.1 (sym (ap forward_sockets none) ∙ first.2))
+  where
+    never : (n : ℕ) (rest : List ℕ) → [] ≡ n ∷ rest → ⊥
+    never n rest is = cc
 
-pub closes_no_forward : (first : List ℕ) (old new : List Opened) (o : Holders) (made more : List Entry) → ClosesForwards first (forward_sockets old) o made → ClosesForward false old new more
-    → ClosesForwards first [] o (more ++ made)
-closes_no_forward first old new o made more closes (was, now, none) =
-    subst (λ es. ClosesForwards first [] o (es ++ made)) (sym none)
-    (subst (λ (l : List Opened). ClosesForwards first (forward_sockets l) o made) was closes)
+pub next_other : (b : Bool) (before after : List Opened) (old new : Holders) (made : List Entry) → after ≡ before → NoForwardFirst (forward_sockets before) (carriers old) old.slots
+    → ClosesOther b (forward_sockets before) old new made → ClosesNext b before after old new made
+next_other b before after old new made same none closes config over past closing =
+    subst (λ (l : List Opened). AfterClosing b config over (forward_sockets l) new (made ++ past)) (sym same) (closes config over past none closing)
 
 -- the first forward of the list is the first with its port
 pub first_forward : (list : List Opened) (f : Forward) (n : ℕ) → slice_get list 0 ≡ Some (f, n) → socket_at f.proto f.host list ≡ Some n
@@ -430,21 +436,25 @@ first_closed (x ∷ list) new f n at is many =
     the_same : Some x ≡ Some (f, n) → x ≡ (f, n)
     the_same is = cc
 
+pub first_of_list : (list : List Opened) (f : Forward) (n : ℕ) → slice_get list 0 ≡ Some (f, n) → (rest : List Opened) × (list ≡ (f, n) ∷ rest)
+first_of_list [] f n at = cc
+first_of_list (x ∷ list) f n at = (list, ap (λ y. y ∷ list) (the_same at))
+  where
+    the_same : Some x ≡ Some (f, n) → x ≡ (f, n)
+    the_same is = cc
+
 pub none_first_forward : (list : List Opened) → slice_get list 0 ≡ None → list ≡ []
 none_first_forward [] at = refl
 none_first_forward (x ∷ list) at = cc
 
 -- ---- one after another
 
-pub closes_first : (forwards : List Opened) (o : Holders) (made : List Entry) → ClosesForwards (forward_sockets forwards) [] o made → ClosesOn forwards o o made
-closes_first forwards o made closes config over past closing = no_forwards config over o (made ++ past) (closes config over past closing)
+pub closes_on : (first before after : List Opened) (o old new : Holders) (made more : List Entry) → ClosesNext true first before o old made → ClosesNext true before after old new more
+    → ClosesNext true first after o new (more ++ made)
+closes_on first before after o old new made more closes later config over past closing =
+    subst (Closing config over (forward_sockets after) new) (sym (append_assoc more made past)) (later config over (made ++ past) (closes config over past closing))
 
-pub closes_on : (forwards : List Opened) (first old new : Holders) (made more : List Entry) → ClosesOn forwards first old made → ClosesNext true old new more →
-    ClosesOn forwards first new (more ++ made)
-closes_on forwards first old new made more closes later config over past closing =
-    subst (Closing config over new) (sym (append_assoc more made past)) (later config over (made ++ past) (closes config over past closing))
-
-pub closes_last : (forwards : List Opened) (first old new : Holders) (made more : List Entry) → ClosesOn forwards first old made → ClosesNext false old new more →
-    ClosesAll forwards first (more ++ made)
-closes_last forwards first old new made more closes later config over past closing =
+pub closes_last : (first before after : List Opened) (o old new : Holders) (made more : List Entry) → ClosesNext true first before o old made → ClosesNext false before after old new more
+    → ClosesAll first o (more ++ made)
+closes_last first before after o old new made more closes later config over past closing =
     subst (Ran config over) (sym (append_assoc more made past)) (later config over (made ++ past) (closes config over past closing))

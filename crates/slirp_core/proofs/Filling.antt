@@ -25,20 +25,20 @@ use Rattle.slirp_core.specs.State.{SlirpState}
 use Rattle.slirp_core.proofs.Merging.{length_merged}
 
 -- the link, then the sockets where they are wanted, and what flows wait for
-pub wants_of : (slirp : SlirpState) (link : LinkState) (wants flows : List Want) (read write : Bool) (listeners forwards sockets : List ℕ) → read ≡ is_settled slirp link → write ≡ link.blocked
-    → listeners ≡ listeners_of slirp → forwards ≡ sockets_over OverUdp slirp.forwards → IsPermutation (carriers (holders_of slirp)) sockets → IsNonDecreasing sockets
-    → AreWantsOf slirp.flows.flows.slots flows → wants ≡ ((link_want read write ++ map listener_want listeners) ++ socket_wants read (forwards ++ sockets)) ++ flows → WantsOf slirp link wants
-wants_of slirp link wants flows read write listeners forwards sockets settled blocked listen given all rising of_flows is = record {
+pub wants_of : (slirp : SlirpState) (link : LinkState) (wants flows : List Want) (read write : Bool) (listeners sockets : List ℕ) → read ≡ is_settled slirp link → write ≡ link.blocked
+    → listeners ≡ listeners_of slirp → IsPermutation (sockets_over OverUdp slirp.forwards ++ carriers (holders_of slirp)) sockets
+    → (IsNonDecreasing (sockets_over OverUdp slirp.forwards) → IsNonDecreasing sockets)
+    → AreWantsOf slirp.flows.flows.slots flows → wants ≡ ((link_want read write ++ map listener_want listeners) ++ socket_wants read sockets) ++ flows → WantsOf slirp link wants
+wants_of slirp link wants flows read write listeners sockets settled blocked listen all rising of_flows is = record {
   sockets = sockets;
   all = all;
   rising = rising;
   flows = flows;
   of_flows = of_flows;
   is =
-      is ∙ ap (λ (b : Bool). ((link_want b write ++ map listener_want listeners) ++ socket_wants b (forwards ++ sockets)) ++ flows) settled
-      ∙ ap (λ (b : Bool). ((link_want (is_settled slirp link) b ++ map listener_want listeners) ++ socket_wants (is_settled slirp link) (forwards ++ sockets)) ++ flows) blocked
-      ∙ ap (λ l. ((link_want (is_settled slirp link) link.blocked ++ map listener_want l) ++ socket_wants (is_settled slirp link) (forwards ++ sockets)) ++ flows) listen
-      ∙ ap (λ (l : List ℕ). ((link_want (is_settled slirp link) link.blocked ++ map listener_want (listeners_of slirp)) ++ socket_wants (is_settled slirp link) (l ++ sockets)) ++ flows) given;
+      is ∙ ap (λ (b : Bool). ((link_want b write ++ map listener_want listeners) ++ socket_wants b sockets) ++ flows) settled
+      ∙ ap (λ (b : Bool). ((link_want (is_settled slirp link) b ++ map listener_want listeners) ++ socket_wants (is_settled slirp link) sockets) ++ flows) blocked
+      ∙ ap (λ l. ((link_want (is_settled slirp link) link.blocked ++ map listener_want l) ++ socket_wants (is_settled slirp link) sockets) ++ flows) listen;
 }
 
 -- all is wanted for reading
@@ -62,27 +62,27 @@ few_wants false true = omega arith
 few_wants false false = omega arith
 
 -- how many are wanted for reading
-pub few_read : (wants : List Want) (listeners forwards some others : List ℕ) → wants ≡ (link_want true false ++ map listener_want listeners) ++ map udp_want (forwards ++ merged some others)
+pub few_read : (wants : List Want) (listeners forwards some others : List ℕ) → wants ≡ (link_want true false ++ map listener_want listeners) ++ map udp_want (merged (merged forwards some) others)
     → length listeners + length forwards ≤ 32 → length some ≤ 512 → length others ≤ 512 → length wants ≤ 1057
 few_read wants listeners forwards some others is few one two =
     let long = ap length is in
-    let all = length-append (link_want true false ++ map listener_want listeners) (map udp_want (forwards ++ merged some others)) in
-    let given = length-map (forwards ++ merged some others) udp_want in
-    let behind = length-append forwards (merged some others) in
-    let both = length_merged some others in
+    let all = length-append (link_want true false ++ map listener_want listeners) (map udp_want (merged (merged forwards some) others)) in
+    let given = length-map (merged (merged forwards some) others) udp_want in
+    let behind = length_merged forwards some in
+    let both = length_merged (merged forwards some) others in
     let before = length-map listeners listener_want in
     omega (arith, long, all, given, behind, both, before)
 
 -- the same listeners and sockets, all for reading
 pub same_rows : (listeners forwards some others their_listeners their_forwards their_some their_others : List ℕ) → listeners ≡ their_listeners → forwards ≡ their_forwards →
     some ≡ their_some → others ≡ their_others
-    → (link_want true false ++ map listener_want listeners) ++ map udp_want (forwards ++ merged some others) ≡ (link_want true false ++ map listener_want their_listeners)
-    ++ map udp_want (their_forwards ++ merged their_some their_others)
+    → (link_want true false ++ map listener_want listeners) ++ map udp_want (merged (merged forwards some) others) ≡ (link_want true false ++ map listener_want their_listeners)
+    ++ map udp_want (merged (merged their_forwards their_some) their_others)
 same_rows listeners forwards some others their_listeners their_forwards their_some their_others one two three four =
-    ap (λ l. (link_want true false ++ map listener_want l) ++ map udp_want (forwards ++ merged some others)) one
-    ∙ ap (λ l. (link_want true false ++ map listener_want their_listeners) ++ map udp_want (l ++ merged some others)) two
-    ∙ ap (λ l. (link_want true false ++ map listener_want their_listeners) ++ map udp_want (their_forwards ++ merged l others)) three
-    ∙ ap (λ l. (link_want true false ++ map listener_want their_listeners) ++ map udp_want (their_forwards ++ merged their_some l)) four
+    ap (λ l. (link_want true false ++ map listener_want l) ++ map udp_want (merged (merged forwards some) others)) one
+    ∙ ap (λ l. (link_want true false ++ map listener_want their_listeners) ++ map udp_want (merged (merged l some) others)) two
+    ∙ ap (λ l. (link_want true false ++ map listener_want their_listeners) ++ map udp_want (merged (merged their_forwards l) others)) three
+    ∙ ap (λ l. (link_want true false ++ map listener_want their_listeners) ++ map udp_want (merged (merged their_forwards their_some) l)) four
 
 more_of : (wants : List Want) (w : Want) → (w.read || w.write) ≡ true → is_who w.of ≡ true → AreWants wants → AreWants (wants ++ (w ∷ []))
 more_of [] w some who are = both (w.read || w.write) (is_who w.of) some who

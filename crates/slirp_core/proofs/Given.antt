@@ -1,11 +1,10 @@
--- The ports of the host that are given to guests, in a lawful run: they are opened first, in order, and stay open until the closing.
-use Rattle.std.proofs.Common.{◌≡◌, ℕ, zero, suc, ◌+◌, ◌<◌, ◌≤◌, ◌==◌, ◌&&◌, ◌||◌, ◌⊎◌, not, nat_lt, Bool, true, false, List, [], ◌∷◌, ◌++◌, drop, filter, find, length, slice_get, Option}
-use Rattle.std.proofs.Common.{Some, None, MatchOption, is_some, option_map, if◌then◌else◌, inl, inr, refl, sym, ◌∙◌, ap, subst, arith}
+-- The ports of the host that are given to guests: which calls leave them in force, and what the list of those that are says of the record.
+use Rattle.std.proofs.Common.{◌≡◌, ℕ, zero, suc, ◌+◌, ◌<◌, ◌≤◌, ◌==◌, ◌&&◌, ◌||◌, ◌⊎◌, not, nat_lt, Bool, true, false, List, [], ◌∷◌, ◌++◌, filter, find, slice_get, Option}
+use Rattle.std.proofs.Common.{Some, None, option_map, if◌then◌else◌, inl, inr, refl, sym, ◌∙◌, ap, subst, arith}
 use Rattle.std.proofs.lemmas.Bool.Decides.{nat_tests}
-use Rattle.std.specs.Option.{option_and_then, option_or}
+use Rattle.std.specs.Option.{option_and_then, option_map_or}
 use Rattle.net_octets.specs.declared.Endpoint.{Endpoint}
-use Rattle.world_face.specs.Journal.{Entry, Call, Connect, Listen, Accept, Close, UdpOpen, Now, Wait, CallClose, CallNow, CallListen, CallUdpOpen, call_of}
-use Rattle.world_face.specs.Frames.{Ending, ending, partial}
+use Rattle.world_face.specs.Journal.{Entry, Connect, Listen, Accept, Close, UdpOpen, call_of}
 use Rattle.world_face.specs.declared.Accepted.TheVariants.{From, NotYet as NotYetAccepted, Failed as AcceptFailed}
 use Rattle.world_face.specs.declared.Made.{Made}
 use Rattle.world_face.specs.declared.Made.TheVariants.{Done, Failed}
@@ -15,540 +14,30 @@ use Rattle.host_policy.specs.declared.Proto.{Proto}
 use Rattle.host_policy.specs.declared.Proto.TheVariants.{Tcp, Udp}
 use Rattle.host_policy.specs.Ranges.{same_proto}
 use Rattle.host_policy.specs.Targets.{same_endpoint}
-use Rattle.port_forward.specs.Opened.{leads_to, socket_for, socket_of}
-use Rattle.host_policy.specs.Addresses.{Config}
-use Rattle.record_flows.specs.Book.{book, port_of}
-use Rattle.record_flows.specs.Lots.{due_for_flows}
+use Rattle.port_forward.specs.Opened.{Opened, forward_with, is_on, leads_to, socket_for, socket_of}
+use Rattle.host_policy.specs.Addresses.{Config, forward_on}
 use Rattle.run_laws.specs.Moments.{waits}
-use Rattle.run_laws.specs.Shape.{Phase, Opening, Started, Woken, Working, Over, By, Refused, due_in, is_working, may_turn, opened, opening_of, phase, phase_after, phase_by}
-use Rattle.run_laws.specs.Sockets.{Kind, Association as OfAssociation, DnsSocket, Forward as OfForward, Listener, Flow as OfFlow, datagram_kind, is_among, is_forward, kind_of, next_number}
+use Rattle.run_laws.specs.Sockets.{Kind, Association as OfAssociation, DnsSocket, Forward as OfForward, Listener, Flow as OfFlow, datagram_kind, is_among, is_flow, is_forward, kind_of, next_number}
 use Rattle.run_laws.specs.Sockets.{open_sockets, with_made}
-use Rattle.slirp_laws.specs.Laws.{Lawful, May, due, due_for_services, is_closing, may_part, parts}
-use Rattle.slirp_laws.proofs.Bools.{among_last, among_without, and_both, equal, first_of, or_second, same, second_of, turned}
+use Rattle.slirp_laws.specs.Laws.{Lawful, May, is_closing}
+use Rattle.slirp_laws.proofs.Bools.{among_last, among_without, and_both, equal, or_second, same, second_of, turned}
 use Rattle.slirp_laws.proofs.OpenSockets.{open_below, peer_next}
-use Rattle.slirp_laws.proofs.Given.{by_settings, led_by_settings}
 use Rattle.slirp_laws.proofs.Giving.{leads}
-use Rattle.slirp_laws.proofs.Joining.{waited_for}
-use Rattle.slirp_laws.proofs.Phases.{IsForOther, IsGivenNow, OpensNone, for_others, given_forward, given_turn, opening_call, opens}
-use Rattle.slirp_laws.proofs.Steps.{errand_is}
-use Rattle.slirp_laws.specs.Asking.{step}
-use Rattle.slirp_laws.specs.Datagrams.{Step, NeedsNothing, NeedsRoom, NeedsSocket, NeedsSending, due_for}
-use Rattle.run_laws.specs.Sockets.{first}
-use Rattle.slirp_laws.specs.Ports.{forward_for, given_by, given_port, is_port, opened_for}
-use Rattle.slirp_core.specs.Forwards.{forward_sockets, given, guest_on, with_numbers}
-use Rattle.slirp_core.specs.Holds.{GivesOnce, is_given}
+use Rattle.slirp_laws.specs.Ports.{forward_for, given_by, is_port, opened_for}
+use Rattle.tcp_flows.specs.Runs.{LeavesOthers}
+use Rattle.slirp_core.specs.Forwards.{AreInForce, IsInForce, forward_sockets, given_kind, guest_on, is_given, is_over, sockets_over}
 use Rattle.slirp_core.specs.Sockets.{AllAbove, IsRising}
 use Rattle.flows_follow.proofs.Seats.{same_or_not}
 use Rattle.flows_follow.proofs.Options.{true_false}
 use Rattle.slirp_core.proofs.Rising.{open_rise}
-use Rattle.slirp_core.proofs.Names.{known_of}
-use Rattle.slirp_laws.specs.Names.{kind_for}
-use Rattle.slirp_laws.specs.Questions.{is_for_question}
 
--- ---- a port of the host is opened where it is due alone
+-- ---- numbers that rise
 
-abbrev others_due : Config → List Entry → Option Call
-others_due config past = option_or (due_for_services config past) (due_for_flows config (book config past) (next_number past))
+up_to : (a b : ℕ) (ns : List ℕ) → a ≤ b → IsRising a ns → IsRising b ns
+up_to a b [] more rising = tt
+up_to a b (n ∷ ns) more rising = let less = rising.0 in (omega (arith, less, more), rising.1, up_to a b ns more rising.2)
 
-no_listen : (o : Option Call) (socket : ℕ) (at : Endpoint) → IsForOther o → o ≡ Some (CallListen socket at) → ⊥
-no_listen o socket at is call = subst IsForOther call is
-
-no_step_listens : (config : Config) (s : Step) (other : Option Call) (number socket : ℕ) (at : Endpoint) → IsForOther other → option_or (due_for config s number) other ≡ Some
-    (CallListen socket at) → ⊥
-no_step_listens config NeedsNothing other number socket at flow is = no_listen other socket at flow is
-no_step_listens config (NeedsRoom oldest errand) other number socket at flow is = cc
-no_step_listens config (NeedsSocket errand) other number socket at flow is = cc
-no_step_listens config (NeedsSending s errand) other number socket at flow is = cc
-
--- all ports of the settings are open, or one was refused
-abbrev pub is_opening : Phase → Bool
-is_opening (Opening count forwards) = true
-is_opening _ = false
-
-none_listens : (p : Phase) (past : List Entry) (other : Option Call) (socket : ℕ) (at : Endpoint) → is_opening p ≡ false → (other ≡ Some (CallListen socket at) → ⊥) → option_or
-    (due_in p past) other ≡ Some (CallListen socket at) → ⊥
-none_listens (Opening count forwards) past other socket at later never is = cc
-none_listens Started past other socket at later never is = never is
-none_listens Woken past other socket at later never is = cc
-none_listens Working past other socket at later never is = never is
-none_listens (Over cause) past other socket at later never is = by (first (open_sockets past)) is
-  where
-    by : (o : Option ℕ) → option_or (option_map CallClose o) other ≡ Some (CallListen socket at) → ⊥
-    by None is = never is
-    by (Some s) is = cc
-
--- nor is one that was asked for, where the settings alone give them: the number of its socket would be that of a place of theirs
-given_first : (config : Config) (past : List Entry) (socket : ℕ) (at : Endpoint) (guest : Option Endpoint) → GivesOnce config → (is_working (phase config past) ≡ true
-    → length config.forwards ≤ next_number past) → (socket == next_number past) ≡ true → IsGivenNow config past socket at guest → ⊥
-given_first config past socket at guest once all next given =
-    let g = given_forward config past socket at guest given.is in
-    let less = within config.forwards socket (sym (by_settings config socket once.added) ∙ g.on) in
-    let most = all (given_turn config past socket at guest given.is) in
-    let same_number = equal socket (next_number past) next in
-    absurd (omega (arith, less, most, same_number))
-  where
-    within : (fs : List Forward) (k : ℕ) {f : Forward} → slice_get fs k ≡ Some f → k < length fs
-    within [] k at = cc
-    within (x ∷ fs) zero at = omega arith
-    within (x ∷ fs) (suc k) at = let less = within fs k at in omega (arith, less)
-
-listens_first : (config : Config) (past : List Entry) (socket : ℕ) (at : Endpoint) → GivesOnce config → (is_working (phase config past) ≡ true → length config.forwards ≤ next_number past)
-    → is_opening (phase config past) ≡ false → May config past (CallListen socket at) → ⊥
-listens_first config past socket at once all later may = elim (opening_call config past socket at (port_of config socket) (CallListen socket at) may.place may.due) [
-  | inl is ↦
-      none_listens (phase config past) past (option_or (due_for config (step config past) (next_number past)) (others_due config past)) socket at later
-      (no_step_listens config (step config past) (others_due config past) (next_number past) socket at (for_others config past)) is
-  | inr given ↦ given_first config past socket at (port_of config socket) once all may.socket given
-]
-
--- ---- what is so of them
-
--- to the socket of one peers come, or datagrams
-abbrev pub given_kind : Proto → Kind
-given_kind Tcp = Listener
-given_kind Udp = OfForward
-
-module _ (config : Config) where
-  -- The first so many sockets are those of forwards, each of its kind, and they stay open until the closing; no other open socket is such a one.
-  pub record HasGiven (count : ℕ) (past : List Entry) : Type 0 where
-    pub drawn : count ≤ next_number past
-    pub given : (n : ℕ) → n < count → is_given (kind_of n past) ≡ true
-    pub kinds : (n : ℕ) (f : Forward) → n < count → slice_get config.forwards n ≡ Some f → kind_of n past ≡ Some (given_kind f.proto)
-    pub others : (n : ℕ) → is_among n (open_sockets past) ≡ true → is_given (kind_of n past) ≡ true → n < count
-    pub stay : is_closing config past ≡ false → (n : ℕ) → n < count → is_among n (open_sockets past) ≡ true
-
-  -- an entry that opens no such socket
-  other_kind : (b : Bool) (k : Kind) (before : Option Kind) → is_given (Some k) ≡ false → is_given (if b then Some k else before) ≡ true → (b ≡ false) × (is_given before ≡ true)
-  other_kind true k before other is = cc
-  other_kind false k before other is = (refl, is)
-
-  kept_kind : (b : Bool) (k : Kind) (before : Option Kind) → b ≡ false → (if b then Some k else before) ≡ before
-  kept_kind true k before is = cc
-  kept_kind false k before is = refl
-
-  apart : (socket next count n : ℕ) → (socket == next) ≡ true → count ≤ next → n < count → (socket == n) ≡ false
-  apart socket next count n is drawn less = grind (arith, nat_tests, is, drawn, less)
-
-  or_of : (a b : Bool) → (a || b) ≡ true → b ≡ false → a ≡ true
-  or_of true b is off = refl
-  or_of false true is off = cc
-  or_of false false is off = cc
-
-  or_more : (a b : Bool) → a ≡ true → (a || b) ≡ true
-  or_more true b is = refl
-  or_more false b is = cc
-
-  was_among : (answer : Made) (n socket : ℕ) (sockets : List ℕ) → (socket == n) ≡ false → is_among n (with_made answer socket sockets) ≡ true → is_among n sockets ≡ true
-  was_among Done n socket sockets other is = or_of (is_among n sockets) (n == socket) (sym (among_last n socket sockets) ∙ is) (grind (arith, nat_tests, other))
-  was_among Failed n socket sockets other is = is
-
-  still_among : (answer : Made) (n socket : ℕ) (sockets : List ℕ) → is_among n sockets ≡ true → is_among n (with_made answer socket sockets) ≡ true
-  still_among Done n socket sockets is = among_last n socket sockets ∙ or_more (is_among n sockets) (n == socket) is
-  still_among Failed n socket sockets is = is
-
-  -- one that isn't closed while a run goes on
-  given_stays : (past : List Entry) (m : ℕ) → GivesOnce config → Lawful config past → parts config past m ≡ true → is_given (kind_of m past) ≡ true → ⊥
-  given_stays past m once lawful parted kind = by (known_of config past lawful m)
-    where
-      never : (k : Option Kind) → is_given k ≡ true → may_part config past m k ≡ true → ⊥
-      never None is parts = cc
-      never (Some OfAssociation) is parts = cc
-      never (Some DnsSocket) is parts = cc
-      never (Some OfForward) is parts = true_false (sym parts ∙ ap is_some once.control)
-      never (Some Listener) is parts = true_false (sym parts ∙ ap is_some once.control)
-      never (Some OfFlow) is parts = cc
-
-      by : ((kind_for config m past ≡ kind_of m past) × (is_for_question (kind_of m past) ≡ false)) ⊎ ((kind_for config m past ≡ Some DnsSocket) × (kind_of m past ≡ Some OfAssociation)) → ⊥
-      by (inl (is, none)) = never (kind_of m past) kind (sym (ap (may_part config past m) is) ∙ parted)
-      by (inr (is, was)) = cc (sym (ap is_given was) ∙ kind)
-
-  -- a socket gets the next number, and is none of these
-  module _ (e : Entry) (past : List Entry) (count socket : ℕ) (k : Kind) (made : Made) (next : (socket == next_number past) ≡ true) (is_other : is_given (Some k) ≡ false) (has : HasGiven count past)
-      (kind : (n : ℕ) → kind_of n (e ∷ past) ≡ (if socket == n then Some k else kind_of n past)) (opened : open_sockets (e ∷ past) ≡ with_made made socket (open_sockets past))
-      (more : next_number past ≤ next_number (e ∷ past)) (closing : is_closing config (e ∷ past) ≡ is_closing config past) where
-    grows : HasGiven count (e ∷ past)
-    grows = record {
-      drawn = (let was = has.drawn in omega (arith, was, more));
-      given = λ n less. ap is_given (kind n ∙ kept_kind (socket == n) k (kind_of n past) (apart socket (next_number past) count n next has.drawn less)) ∙ has.given n less;
-      kinds = λ n f less at. kind n ∙ kept_kind (socket == n) k (kind_of n past) (apart socket (next_number past) count n next has.drawn less) ∙ has.kinds n f less at;
-      others = λ n among listens.
-          let was = other_kind (socket == n) k (kind_of n past) is_other (sym (ap is_given (kind n)) ∙ listens) in
-          has.others n (was_among made n socket (open_sockets past) was.0 (sym (ap (is_among n) opened) ∙ among)) was.1;
-      stay = λ open_yet n less. ap (is_among n) opened ∙ still_among made n socket (open_sockets past) (has.stay (sym closing ∙ open_yet) n less);
-    }
-
-  -- a socket is closed
-  closes : (past : List Entry) (count m : ℕ) → GivesOnce config → Lawful config past → HasGiven count past → HasGiven count (Close m ∷ past)
-  closes past count m once lawful has = record {
-    drawn = has.drawn;
-    given = has.given;
-    kinds = has.kinds;
-    others = λ n among listens. has.others n (second_of (not (n == m)) (is_among n (open_sockets past)) (sym (among_without n m (open_sockets past)) ∙ among)) listens;
-    stay = λ open_yet n less. among_without n m (open_sockets past) ∙ by (parts config past m) refl n less open_yet;
-  }
-    where
-      apart_from : (n : ℕ) → parts config past m ≡ true → is_given (kind_of n past) ≡ true → not (n == m) ≡ true
-      apart_from n parted kind = elim (same_or_not n m) [
-        | inl is ↦ absurd (given_stays past m once lawful parted (ap (λ x. is_given (kind_of x past)) (sym is) ∙ kind))
-        | inr other ↦ ap not other
-      ]
-
-      by : (b : Bool) → parts config past m ≡ b → (n : ℕ) → n < count → (if not b then true else is_closing config past) ≡ false → (not (n == m) && is_among n (open_sockets past)) ≡ true
-      by true parted n less open_yet = and_both (not (n == m)) (is_among n (open_sockets past)) (apart_from n parted (has.given n less)) (has.stay open_yet n less)
-      by false parted n less open_yet = cc
-
-  -- one after another, where the ports are open or one was refused
-  none_left : (p : Phase) → is_opening p ≡ false → OpensNone p
-  none_left (Opening count forwards) is = cc
-  none_left Started is = tt
-  none_left Woken is = tt
-  none_left Working is = tt
-  none_left (Over cause) is = tt
-
-  most : (past : List Entry) (count : ℕ) → (is_working (phase config past) ≡ true → count ≡ length config.forwards) → HasGiven count past
-      → is_working (phase config past) ≡ true → length config.forwards ≤ next_number past
-  most past count full has working = let all = full working in let drawn = has.drawn in omega (arith, all, drawn)
-
-  goes_on : (e : Entry) (past : List Entry) (count : ℕ) → GivesOnce config → (is_working (phase config past) ≡ true → count ≡ length config.forwards) → is_opening (phase config past) ≡ false
-      → May config past (call_of e) → Lawful config past → HasGiven count past → HasGiven count (e ∷ past)
-  goes_on (Connect socket to answer) past count once full later may lawful has = grows (Connect socket to answer) past count socket OfFlow answer may.socket refl has (λ n. refl) refl (omega arith) refl
-  goes_on (Listen socket at answer) past count once full later may lawful has = absurd (listens_first config past socket at once (most past count full has) later may)
-  goes_on (UdpOpen socket at answer) past count once full later may lawful has =
-      grows (UdpOpen socket at answer) past count socket (datagram_kind (nat_lt 0 (waits past)) at.port) answer may.socket
-      (ap (λ (b : Bool). is_given (Some (datagram_kind b at.port))) waited ∙ ap (λ port. is_given (Some (datagram_kind true port))) asked.1) has
-      (λ n. refl) refl (omega arith) refl
-    where
-      asked : (nat_lt 0 (waits past) ≡ true) × (at.port ≡ 0)
-      asked = elim (opens config past socket at may) [
-        | inl early ↦ absurd (early.1 (none_left (phase config past) later))
-        | inr open_later ↦ elim open_later [
-          | inl o ↦ (waited_for config past o.errand (errand_is config past (NeedsSocket o.errand) o.asked) lawful, ap (λ (e : Endpoint). e.port) o.at_address)
-          | inr given ↦ absurd (given_first config past socket at (given_port config socket) once (most past count full has) may.socket given)
-        ]
-      ]
-
-      waited : nat_lt 0 (waits past) ≡ true
-      waited = asked.0
-  goes_on (Accept listener socket (From peer)) past count once full later may lawful has =
-      grows (Accept listener socket (From peer)) past count socket OfFlow Done (peer_next config past listener socket (From peer) may) refl has (λ n. refl) refl (omega arith) refl
-  goes_on (Accept listener socket NotYetAccepted) past count once full later may lawful has =
-      grows (Accept listener socket NotYetAccepted) past count socket OfFlow Failed (peer_next config past listener socket NotYetAccepted may) refl has (λ n. refl) refl (omega arith) refl
-  goes_on (Accept listener socket AcceptFailed) past count once full later may lawful has =
-      grows (Accept listener socket AcceptFailed) past count socket OfFlow Failed (peer_next config past listener socket AcceptFailed may) refl has (λ n. refl) refl (omega arith) refl
-  goes_on (Close m) past count once full later may lawful has = closes past count m once lawful has
-  goes_on _ past count once full later may lawful has = record { drawn = has.drawn; given = has.given; kinds = has.kinds; others = has.others; stay = has.stay }
-
-  -- ---- where a run stands
-
-  abbrev Stage : Phase → List Entry → Type 0
-  Stage (Opening count forwards) past = (next_number past ≡ count) × (drop count config.forwards ≡ forwards) × (count ≤ length config.forwards) × (waits past ≡ 0) × HasGiven count past
-  Stage Started past = HasGiven (length config.forwards) past
-  Stage Woken past = HasGiven (length config.forwards) past
-  Stage Working past = HasGiven (length config.forwards) past
-  Stage (Over (By why)) past = HasGiven (length config.forwards) past
-  Stage (Over (Refused count)) past = HasGiven count past
-
-  first_dropped : (k : ℕ) (fs : List Forward) (f : Forward) (rest : List Forward) → drop k fs ≡ f ∷ rest → (slice_get fs k ≡ Some f) × (drop (k + 1) fs ≡ rest) × (k + 1 ≤ length fs)
-  first_dropped zero [] f rest is = cc
-  first_dropped zero (x ∷ fs) f rest is = (cc, cc, omega arith)
-  first_dropped (suc k) [] f rest is = cc
-  first_dropped (suc k) (x ∷ fs) f rest is =
-      let more = first_dropped k fs f rest is in
-      let next : suc (k + 1) ≡ suc k + 1 = omega arith in
-      (more.0, subst (λ n. drop n (x ∷ fs) ≡ rest) next more.1, (let less = more.2 in omega (arith, less)))
-
-  all_dropped : (k : ℕ) (fs : List Forward) → drop k fs ≡ [] → k ≤ length fs → k ≡ length fs
-  all_dropped zero [] is fits = refl
-  all_dropped zero (x ∷ fs) is fits = cc
-  all_dropped (suc k) [] is fits = omega (arith, fits)
-  all_dropped (suc k) (x ∷ fs) is fits = ap suc (all_dropped k fs is (omega (arith, fits)))
-
-  -- the next port is open
-  pub opening_kind : (p : Proto) (count : ℕ) (at : Endpoint) (answer : Made) (past : List Entry) → waits past ≡ 0 → (n : ℕ) → kind_of n (port_opening p count at answer ∷ past) ≡
-      (if count == n then Some (given_kind p) else kind_of n past)
-  opening_kind Tcp count at answer past unwaited n = refl
-  opening_kind Udp count at answer past unwaited n = ap (λ w. if count == n then Some (datagram_kind (nat_lt 0 w) at.port) else kind_of n past) unwaited
-
-  pub opening_made : (p : Proto) (count : ℕ) (at : Endpoint) (answer : Made) (past : List Entry) → open_sockets (port_opening p count at answer ∷ past) ≡ with_made answer count (open_sockets past)
-  opening_made Tcp count at answer past = refl
-  opening_made Udp count at answer past = refl
-
-  pub opening_next : (p : Proto) (count : ℕ) (at : Endpoint) (answer : Made) (past : List Entry) → next_number (port_opening p count at answer ∷ past) ≡ next_number past + 1
-  opening_next Tcp count at answer past = refl
-  opening_next Udp count at answer past = refl
-
-  pub opening_open : (p : Proto) (count : ℕ) (at : Endpoint) (answer : Made) (past : List Entry) → is_closing config (port_opening p count at answer ∷ past) ≡ is_closing config past
-  opening_open Tcp count at answer past = refl
-  opening_open Udp count at answer past = refl
-
-  pub opening_waits : (p : Proto) (count : ℕ) (at : Endpoint) (answer : Made) (past : List Entry) → waits (port_opening p count at answer ∷ past) ≡ waits past
-  opening_waits Tcp count at answer past = refl
-  opening_waits Udp count at answer past = refl
-
-  is_kind : (p : Proto) → is_given (Some (given_kind p)) ≡ true
-  is_kind Tcp = refl
-  is_kind Udp = refl
-
-  module _ (f : Forward) (past : List Entry) (count : ℕ) (at : Endpoint) (here : slice_get config.forwards count ≡ Some f) (unwaited : waits past ≡ 0)
-      (next : next_number past ≡ count) (has : HasGiven count past) where
-    abbrev opened_port : Made → Entry
-    opened_port answer = port_opening f.proto count at answer
-
-    below : (n : ℕ) → n < count + 1 → (count == n) ≡ false → n < count
-    below n less other = grind (arith, nat_tests, less, other)
-
-    its_kind : (n : ℕ) (g : Forward) → slice_get config.forwards n ≡ Some g → (count ≡ n) → Some (given_kind f.proto) ≡ Some (given_kind g.proto)
-    its_kind n g at_n is = ap (λ (h : Forward). Some (given_kind h.proto)) (the_same (sym here ∙ ap (slice_get config.forwards) is ∙ at_n))
-      where
-        the_same : Some f ≡ Some g → f ≡ g
-        the_same same_one = cc
-
-    more_open : HasGiven (count + 1) (opened_port Done ∷ past)
-    more_open = record {
-      drawn = let grown = opening_next f.proto count at Done past in omega (arith, next, grown);
-      given = λ n less. ap is_given (opening_kind f.proto count at Done past unwaited n) ∙ by n (same_or_not count n) less;
-      kinds = λ n g less at_n. opening_kind f.proto count at Done past unwaited n ∙ by_kind n g (same_or_not count n) less at_n;
-      others = λ n among listens. others_by n (same_or_not n count) (sym (ap (is_among n) (opening_made f.proto count at Done past)) ∙ among)
-          (sym (ap is_given (opening_kind f.proto count at Done past unwaited n)) ∙ listens);
-      stay = λ open_yet n less. ap (is_among n) (opening_made f.proto count at Done past) ∙ among_last n count (open_sockets past) ∙ stays n (same_or_not n count)
-          (sym (opening_open f.proto count at Done past) ∙ open_yet) less;
-    }
-      where
-        by : (n : ℕ) → (count ≡ n) ⊎ ((count == n) ≡ false) → n < count + 1 → is_given (if count == n then Some (given_kind f.proto) else kind_of n past) ≡ true
-        by n (inl is) less = ap (λ b. is_given (if b then Some (given_kind f.proto) else kind_of n past)) (ap (λ x. x == n) is ∙ same n) ∙ is_kind f.proto
-        by n (inr other) less = ap (λ b. is_given (if b then Some (given_kind f.proto) else kind_of n past)) other ∙ has.given n (below n less other)
-
-        by_kind : (n : ℕ) (g : Forward) → (count ≡ n) ⊎ ((count == n) ≡ false) → n < count + 1 → slice_get config.forwards n ≡ Some g →
-            (if count == n then Some (given_kind f.proto) else kind_of n past) ≡ Some (given_kind g.proto)
-        by_kind n g (inl is) less at_n = ap (λ b. if b then Some (given_kind f.proto) else kind_of n past) (ap (λ x. x == n) is ∙ same n) ∙ its_kind n g at_n is
-        by_kind n g (inr other) less at_n = ap (λ b. if b then Some (given_kind f.proto) else kind_of n past) other ∙ has.kinds n g (below n less other) at_n
-
-        others_by : (n : ℕ) → (n ≡ count) ⊎ ((n == count) ≡ false) → is_among n (open_sockets past ++ (count ∷ [])) ≡ true → is_given
-            (if count == n then Some (given_kind f.proto) else kind_of n past) ≡ true → n < count + 1
-        others_by n (inl is) among listens = omega (arith, is)
-        others_by n (inr other) among listens =
-            let apart_is : (count == n) ≡ false = turned n count false other in
-            let less = has.others n (or_of (is_among n (open_sockets past)) (n == count) (sym (among_last n count (open_sockets past)) ∙ among) other)
-            (sym (ap (λ b. is_given (if b then Some (given_kind f.proto) else kind_of n past)) apart_is) ∙ listens) in
-            omega (arith, less)
-
-        stays : (n : ℕ) → (n ≡ count) ⊎ ((n == count) ≡ false) → is_closing config past ≡ false → n < count + 1 → (is_among n (open_sockets past) || (n == count)) ≡ true
-        stays n (inl is) open_yet less = or_second (is_among n (open_sockets past)) (n == count) (ap (λ x. x == count) is ∙ same count)
-        stays n (inr other) open_yet less = or_more (is_among n (open_sockets past)) (n == count) (has.stay open_yet n (below n less (turned n count false other)))
-
-    -- or it was refused
-    none_more : Lawful config past → HasGiven count (opened_port Failed ∷ past)
-    none_more lawful = record {
-      drawn = let grown = opening_next f.proto count at Failed past in omega (arith, next, grown);
-      given = λ n less. ap is_given (opening_kind f.proto count at Failed past unwaited n) ∙ ap (λ b. is_given (if b then Some (given_kind f.proto) else kind_of n past))
-          (differs n less) ∙ has.given n less;
-      kinds = λ n g less at_n. opening_kind f.proto count at Failed past unwaited n ∙ ap (λ b. if b then Some (given_kind f.proto) else kind_of n past) (differs n less) ∙ has.kinds n g less at_n;
-      others = λ n among listens. by n (same_or_not n count) (sym (ap (is_among n) (opening_made f.proto count at Failed past)) ∙ among)
-          (sym (ap is_given (opening_kind f.proto count at Failed past unwaited n)) ∙ listens);
-      stay = λ open_yet n less. ap (is_among n) (opening_made f.proto count at Failed past) ∙ has.stay (sym (opening_open f.proto count at Failed past) ∙ open_yet) n less;
-    }
-      where
-        differs : (n : ℕ) → n < count → (count == n) ≡ false
-        differs n less = grind (arith, nat_tests, less)
-
-        by : (n : ℕ) → (n ≡ count) ⊎ ((n == count) ≡ false) → is_among n (open_sockets past) ≡ true → is_given (if count == n then Some (given_kind f.proto) else kind_of n past) ≡ true → n < count
-        by n (inl is) among listens = let under = open_below config past lawful n among in omega (arith, under, is, next)
-        by n (inr other) among listens = has.others n among (sym (ap (λ b. is_given (if b then Some (given_kind f.proto) else kind_of n past)) (turned n count false other)) ∙ listens)
-
-  -- the call that is due is that which comes
-  due_opens : (past : List Entry) (count : ℕ) (f : Forward) (fs : List Forward) → phase config past ≡ Opening count (f ∷ fs) → (call : Call) → MatchOption (due config past)
-      (Unit {0}) (λ d. call ≡ d) → call ≡ opening_of f.proto (next_number past) f
-  due_opens past count f fs is call may = subst (λ o. MatchOption o (Unit {0}) (λ d. call ≡ d))
-      (ap (λ p. option_or (due_in p past) (option_or (due_for config (step config past) (next_number past)) (others_due config past))) is) may
-
-  due_asks : (past : List Entry) (count : ℕ) → phase config past ≡ Opening count [] → (call : Call) → MatchOption (due config past) (Unit {0}) (λ d. call ≡ d) → call ≡ CallNow
-  due_asks past count is call may = subst (λ o. MatchOption o (Unit {0}) (λ d. call ≡ d))
-      (ap (λ p. option_or (due_in p past) (option_or (due_for config (step config past) (next_number past)) (others_due config past))) is) may
-
-  -- an entry with that call
-  is_opened : (e : Entry) (p : Proto) (number : ℕ) (f : Forward) → call_of e ≡ opening_of p number f → (answer : Made) × (e ≡ port_opening p number f.host answer)
-  is_opened (Listen socket at answer) Tcp number f call = (answer, by call)
-    where
-      by : CallListen socket at ≡ CallListen number f.host → Listen socket at answer ≡ Listen number f.host answer
-      by is = cc
-  is_opened (UdpOpen socket at answer) Udp number f call = (answer, by call)
-    where
-      by : CallUdpOpen socket at ≡ CallUdpOpen number f.host → UdpOpen socket at answer ≡ UdpOpen number f.host answer
-      by is = cc
-  is_opened (Listen socket at answer) Udp number f call = cc
-  is_opened (UdpOpen socket at answer) Tcp number f call = cc
-  is_opened _ Tcp number f call = cc
-  is_opened _ Udp number f call = cc
-
-  opened_phase : (p : Proto) (number : ℕ) (at : Endpoint) (answer : Made) (past : List Entry) (q : Phase) → phase_after (port_opening p number at answer)
-      (ending (port_opening p number at answer) (partial past)) q ≡ opened answer q
-  opened_phase Tcp number at answer past q = refl
-  opened_phase Udp number at answer past q = refl
-
-  listened : (e : Entry) (past : List Entry) (count : ℕ) (f : Forward) (fs : List Forward) → Lawful config past → call_of e ≡ opening_of f.proto (next_number past) f → Stage
-      (Opening count (f ∷ fs)) past
-      → Stage (phase_after e (ending e (partial past)) (Opening count (f ∷ fs))) (e ∷ past)
-  listened e past count f fs lawful call (next, rest, fits, unwaited, has) =
-      let more = first_dropped count config.forwards f fs rest in
-      let it = is_opened e f.proto (next_number past) f call in
-      let e_is : e ≡ port_opening f.proto count f.host it.0 = it.1 ∙ ap (λ n. port_opening f.proto n f.host it.0) next in
-      subst (λ d. Stage (phase_after d (ending d (partial past)) (Opening count (f ∷ fs))) (d ∷ past)) (sym e_is)
-      (subst (λ q. Stage q (port_opening f.proto count f.host it.0 ∷ past)) (sym (opened_phase f.proto count f.host it.0 past (Opening count (f ∷ fs)))) (by it.0 more))
-    where
-      by : (answer : Made) → (slice_get config.forwards count ≡ Some f) × (drop (count + 1) config.forwards ≡ fs) × (count + 1 ≤ length config.forwards) → Stage
-          (opened answer (Opening count (f ∷ fs))) (port_opening f.proto count f.host answer ∷ past)
-      by Done more = (
-        opening_next f.proto count f.host Done past ∙ ap (λ n. n + 1) next,
-        more.1,
-        more.2,
-        opening_waits f.proto count f.host Done past ∙ unwaited,
-        more_open f past count f.host more.0 unwaited next has,
-      )
-      by Failed more = none_more f past count f.host more.0 unwaited next has lawful
-
-  asked : (e : Entry) (past : List Entry) (count : ℕ) → call_of e ≡ CallNow → Stage (Opening count []) past → Stage (phase_after e (ending e (partial past)) (Opening count [])) (e ∷ past)
-  asked (Now told) past count call (next, rest, fits, unwaited, has) = subst (λ n. HasGiven n (Now told ∷ past)) (all_dropped count config.forwards rest fits)
-      (record { drawn = has.drawn; given = has.given; kinds = has.kinds; others = has.others; stay = has.stay })
-  asked _ past count call stage = cc
-
-  -- later the phase is one in which all ports are open yet, or one was refused
-  by_phase : (p : Phase) (e : Entry) (past : List Entry) → phase config past ≡ p → is_opening p ≡ false → May config past (call_of e) → Stage p past →
-      ((count : ℕ) → (is_working p ≡ true → count ≡ length config.forwards) → HasGiven count past → HasGiven count (e ∷ past)) → (o : Option Ending)
-      → Stage (phase_after e o p) (e ∷ past)
-  by_phase (Opening count forwards) e past is later may stage more o = cc
-  by_phase Started e past is later may stage more (Some why) = more (length config.forwards) (λ working. refl) stage
-  by_phase Woken e past is later may stage more (Some why) = more (length config.forwards) (λ working. refl) stage
-  by_phase Working e past is later may stage more (Some why) = more (length config.forwards) (λ working. refl) stage
-  by_phase (Over (By cause)) e past is later may stage more (Some why) = more (length config.forwards) (λ working. refl) stage
-  by_phase (Over (Refused count)) e past is later may stage more (Some why) = more count (λ working. cc) stage
-  by_phase Started e past is later may stage more None = by_entry e (more (length config.forwards) (λ working. refl) stage)
-    where
-      by_entry : (e : Entry) → HasGiven (length config.forwards) (e ∷ past) → Stage (phase_by e Started) (e ∷ past)
-      by_entry (Now told) has = has
-      by_entry (Wait wants timeout answer ready) has = has
-      by_entry (Listen socket at Done) has = has
-      by_entry (Listen socket at Failed) has = has
-      by_entry (UdpOpen socket at Done) has = has
-      by_entry (UdpOpen socket at Failed) has = has
-      by_entry _ has = has
-  by_phase Woken e past is later may stage more None = by_entry e (more (length config.forwards) (λ working. refl) stage)
-    where
-      by_entry : (e : Entry) → HasGiven (length config.forwards) (e ∷ past) → Stage (phase_by e Woken) (e ∷ past)
-      by_entry (Now told) has = has
-      by_entry (Wait wants timeout answer ready) has = has
-      by_entry (Listen socket at Done) has = has
-      by_entry (Listen socket at Failed) has = has
-      by_entry (UdpOpen socket at Done) has = has
-      by_entry (UdpOpen socket at Failed) has = has
-      by_entry _ has = has
-  by_phase Working e past is later may stage more None = by_entry e (more (length config.forwards) (λ working. refl) stage)
-    where
-      by_entry : (e : Entry) → HasGiven (length config.forwards) (e ∷ past) → Stage (phase_by e Working) (e ∷ past)
-      by_entry (Now told) has = has
-      by_entry (Wait wants timeout answer ready) has = has
-      by_entry (Listen socket at Done) has = has
-      by_entry (Listen socket at Failed) has = has
-      by_entry (UdpOpen socket at Done) has = has
-      by_entry (UdpOpen socket at Failed) has = has
-      by_entry _ has = has
-  by_phase (Over (By cause)) e past is later may stage more None = by_entry e may (more (length config.forwards) (λ working. refl) stage)
-    where
-      by_entry : (e : Entry) → May config past (call_of e) → HasGiven (length config.forwards) (e ∷ past) → Stage (phase_by e (Over (By cause))) (e ∷ past)
-      by_entry (Now told) may has = has
-      by_entry (Wait wants timeout answer ready) may has = has
-      by_entry (Listen socket at Done) may has = has
-      by_entry (Listen socket at Failed) may has = has
-      by_entry (UdpOpen socket at Done) may has = has
-      by_entry (UdpOpen socket at Failed) may has = has
-      by_entry _ may has = has
-  by_phase (Over (Refused count)) e past is later may stage more None = by_entry e may (more count (λ working. cc) stage)
-    where
-      no_wait : (b : Bool) → (may_turn (phase config past) && b) ≡ true → ⊥
-      no_wait b place = true_false (sym (first_of (may_turn (phase config past)) b place) ∙ ap may_turn is)
-
-      by_entry : (e : Entry) → May config past (call_of e) → HasGiven count (e ∷ past) → Stage (phase_by e (Over (Refused count))) (e ∷ past)
-      by_entry (Now told) may has = has
-      by_entry (Wait wants timeout answer ready) may has = absurd (no_wait (nat_lt (waits past) config.turns) may.place)
-      by_entry (Listen socket at Done) may has = has
-      by_entry (Listen socket at Failed) may has = has
-      by_entry (UdpOpen socket at Done) may has = has
-      by_entry (UdpOpen socket at Failed) may has = has
-      by_entry _ may has = has
-
-  pub staged : (past : List Entry) → GivesOnce config → Lawful config past → Stage (phase config past) past
-  staged [] once lawful = (
-    refl,
-    refl,
-    omega arith,
-    refl,
-    record {
-      drawn = omega arith;
-      given = λ n less. absurd (omega (arith, less));
-      kinds = λ n f less. absurd (omega (arith, less));
-      others = λ n among. cc;
-      stay = λ open_yet n less. absurd (omega (arith, less));
-    },
-  )
-  staged (e ∷ past) once lawful = by (phase config past) refl (staged past once lawful.1)
-    where
-      by : (p : Phase) → phase config past ≡ p → Stage p past → Stage (phase_after e (ending e (partial past)) p) (e ∷ past)
-      by (Opening count []) is stage = asked e past count (due_asks past count is (call_of e) lawful.0.due) stage
-      by (Opening count (f ∷ fs)) is stage =
-          listened e past count f fs lawful.1 (due_opens past count f fs is (call_of e) lawful.0.due) stage
-      by Started is stage = by_phase Started e past is refl lawful.0 stage (λ count full has. goes_on e past count once (λ working. full (sym (ap is_working is) ∙ working)) (ap is_opening is) lawful.0 lawful.1 has) (ending e (partial past))
-      by Woken is stage = by_phase Woken e past is refl lawful.0 stage (λ count full has. goes_on e past count once (λ working. full (sym (ap is_working is) ∙ working)) (ap is_opening is) lawful.0 lawful.1 has) (ending e (partial past))
-      by Working is stage = by_phase Working e past is refl lawful.0 stage (λ count full has. goes_on e past count once (λ working. full (sym (ap is_working is) ∙ working)) (ap is_opening is) lawful.0 lawful.1 has) (ending e (partial past))
-      by (Over cause) is stage = by_phase (Over cause) e past is refl lawful.0 stage (λ count full has. goes_on e past count once (λ working. full (sym (ap is_working is) ∙ working)) (ap is_opening is) lawful.0 lawful.1 has) (ending e (partial past))
-
-  -- all are open from the clock's first moment on, unless one was refused
-  abbrev pub has_all : Phase → Bool
-  has_all (Opening count forwards) = false
-  has_all (Over (Refused count)) = false
-  has_all _ = true
-
-  pub all_given : (past : List Entry) → GivesOnce config → Lawful config past → (p : Phase) → phase config past ≡ p → has_all p ≡ true → HasGiven (length config.forwards) past
-  all_given past once lawful p is has = by p has (subst (λ q. Stage q past) is (staged past once lawful))
-    where
-      by : (p : Phase) → has_all p ≡ true → Stage p past → HasGiven (length config.forwards) past
-      by (Opening count forwards) has stage = cc
-      by Started has stage = stage
-      by Woken has stage = stage
-      by Working has stage = stage
-      by (Over (By why)) has stage = stage
-      by (Over (Refused count)) has stage = cc
-
--- ---- the list of the core
-
--- a number is among those of the settings where it is the number of a place
-pub among_given : (fs : List Forward) (n k : ℕ) → is_among n (forward_sockets (with_numbers k fs)) ≡ true → (k ≤ n) × (n < k + length fs)
-among_given [] n k is = cc
-among_given (f ∷ fs) n k is = by (n == k) refl is (λ more. among_given fs n (k + 1) more)
-  where
-    by : (b : Bool) → (n == k) ≡ b → (b || is_among n (forward_sockets (with_numbers (k + 1) fs))) ≡ true → (is_among n (forward_sockets (with_numbers (k + 1) fs)) ≡ true →
-        (k + 1 ≤ n) × (n < (k + 1) + length fs)) → (k ≤ n) × (n < k + suc (length fs))
-    by true here is more = let it = equal n k here in (omega (arith, it), omega (arith, it))
-    by false other is more = let then_is = more is in let low = then_is.0 in let high = then_is.1 in (omega (arith, low), omega (arith, high))
-
-pub given_among : (fs : List Forward) (n k : ℕ) → k ≤ n → n < k + length fs → is_among n (forward_sockets (with_numbers k fs)) ≡ true
-given_among [] n k low high = absurd (omega (arith, low, high))
-given_among (f ∷ fs) n k low high = by (same_or_not n k) (λ above below. given_among fs n (k + 1) above below)
-  where
-    by : (n ≡ k) ⊎ ((n == k) ≡ false) → (k + 1 ≤ n → n < (k + 1) + length fs → is_among n (forward_sockets (with_numbers (k + 1) fs)) ≡ true) →
-        ((n == k) || is_among n (forward_sockets (with_numbers (k + 1) fs))) ≡ true
-    by (inl is) more = ap (λ b. b || is_among n (forward_sockets (with_numbers (k + 1) fs))) (ap (λ x. x == k) is ∙ same k)
-    by (inr other) more = or_second (n == k) (is_among n (forward_sockets (with_numbers (k + 1) fs))) (more (grind (arith, nat_tests, low, other)) (omega (arith, high)))
-
-above_given : (fs : List Forward) (n k : ℕ) → n < k → AllAbove n (forward_sockets (with_numbers k fs))
-above_given [] n k less = tt
-above_given (f ∷ fs) n k less = (less, above_given fs n (k + 1) (omega (arith, less)))
-
-pub given_rise : (fs : List Forward) (k bound : ℕ) → k + length fs ≤ bound → IsRising bound (forward_sockets (with_numbers k fs))
-given_rise [] k bound fits = tt
-given_rise (f ∷ fs) k bound fits = (omega (arith, fits), above_given fs k (k + 1) (omega arith), given_rise fs (k + 1) bound (omega (arith, fits)))
-
--- ---- the first forward of a port
-
-above : (n m : ℕ) (ms : List ℕ) → AllAbove n ms → is_among m ms ≡ true → n < m
+pub above : (n m : ℕ) (ms : List ℕ) → AllAbove n ms → is_among m ms ≡ true → n < m
 above n m [] up is = cc
 above n m (y ∷ ms) up is = by (m == y) refl is (above n m ms up.1)
   where
@@ -556,160 +45,449 @@ above n m (y ∷ ms) up is = by (m == y) refl is (above n m ms up.1)
     by true one is rest = let here = equal m y one in let less = up.0 in omega (arith, here, less)
     by false other is rest = rest is
 
--- numbers that rise, with all of these and none before: they stand in front
-pub stand_first : (fs : List Forward) (k bound : ℕ) (ns : List ℕ) → IsRising bound ns → ((n : ℕ) → is_among n ns ≡ true → k ≤ n) → ((n : ℕ) → k ≤ n → n < k + length fs → is_among n ns ≡ true)
-    → (rest : List ℕ) × (ns ≡ forward_sockets (with_numbers k fs) ++ rest) × ((n : ℕ) → is_among n rest ≡ true → k + length fs ≤ n)
-stand_first [] k bound ns rising low all = (ns, refl, λ n among. let up = low n among in omega (arith, up))
-stand_first (f ∷ fs) k bound [] rising low all = let never : false ≡ true = all k (omega arith) (omega arith) in cc
-stand_first (f ∷ fs) k bound (x ∷ ns) rising low all =
-    let first : x ≡ k = head_is in
-    let rest = stand_first fs (k + 1) bound ns rising.2 (λ n among. let up = above x n ns rising.1 among in omega (arith, up, first))
-    (λ n from to. behind n from (all n (omega (arith, from)) (omega (arith, to)))) in
-    (rest.0, ap (λ y. y ∷ ns) first ∙ ap (λ l. k ∷ l) rest.1, λ n among. let up = rest.2 n among in omega (arith, up))
+-- one that is under the first of them is none of them
+none_above : (n : ℕ) (ms : List ℕ) → AllAbove n ms → is_among n ms ≡ false
+none_above n ms up = by (is_among n ms) refl
   where
-    head_is : x ≡ k
-    head_is = by (k == x) refl (all k (omega arith) (omega arith))
-      where
-        by : (t : Bool) → (k == x) ≡ t → (t || is_among k ns) ≡ true → x ≡ k
-        by true one is = sym (equal k x one)
-        by false other is = let less = above x k ns rising.1 is in let up = low x (ap (λ b. b || is_among x ns) (same x)) in absurd (omega (arith, less, up))
+    by : (b : Bool) → is_among n ms ≡ b → b ≡ false
+    by true is = let less = above n n ms up is in absurd (omega (arith, less))
+    by false is = refl
 
-    behind : (n : ℕ) → k + 1 ≤ n → ((n == x) || is_among n ns) ≡ true → is_among n ns ≡ true
-    behind n from is = by (n == x) refl is
-      where
-        by : (t : Bool) → (n == x) ≡ t → (t || is_among n ns) ≡ true → is_among n ns ≡ true
-        by true one is = let here = equal n x one in let it = head_is in absurd (omega (arith, here, it, from))
-        by false other is = is
+all_above_both : (n bound : ℕ) (ms : List ℕ) → AllAbove n ms → n < bound → IsRising bound ms → IsRising bound (n ∷ ms)
+all_above_both n bound ms up less rising = (less, up, rising)
 
-filter_both : (q : ℕ → Bool) (xs ys : List ℕ) → filter q (xs ++ ys) ≡ filter q xs ++ filter q ys
-filter_both q [] ys = refl
-filter_both q (x ∷ xs) ys = by (q x) (filter_both q xs ys)
+-- two rows that rise, with the same numbers, are one
+pub same_rising : (a b : ℕ) (xs ys : List ℕ) → IsRising a xs → IsRising b ys → ((n : ℕ) → is_among n xs ≡ is_among n ys) → xs ≡ ys
+same_rising a b [] [] one two agree = refl
+same_rising a b [] (y ∷ ys) one two agree = let never : false ≡ true = agree y ∙ ap (λ b. b || is_among y ys) (same y) in cc
+same_rising a b (x ∷ xs) [] one two agree = let never : false ≡ true = sym (agree x) ∙ ap (λ b. b || is_among x xs) (same x) in cc
+same_rising a b (x ∷ xs) (y ∷ ys) one two agree = ap (λ n. n ∷ xs) first ∙ ap (λ l. y ∷ l) (same_rising a b xs ys one.2 two.2 rest)
   where
-    by : (b : Bool) → filter q (xs ++ ys) ≡ filter q xs ++ filter q ys → (if b then x ∷ filter q (xs ++ ys) else filter q (xs ++ ys)) ≡ (if b then x ∷ filter q xs else filter q xs) ++ filter q ys
-    by true rest = ap (λ l. x ∷ l) rest
+    least : (n m : ℕ) (ns : List ℕ) → AllAbove m ns → is_among n (m ∷ ns) ≡ true → m ≤ n
+    least n m ns up is = by (n == m) refl is
+      where
+        by : (t : Bool) → (n == m) ≡ t → (t || is_among n ns) ≡ true → m ≤ n
+        by true here is = let it = equal n m here in omega (arith, it)
+        by false other is = let less = above m n ns up is in omega (arith, less)
+
+    first : x ≡ y
+    first =
+        let low = least y x xs one.1 (agree y ∙ ap (λ b. b || is_among y ys) (same y)) in
+        let high = least x y ys two.1 (sym (agree x) ∙ ap (λ b. b || is_among x xs) (same x)) in
+        omega (arith, low, high)
+
+    rest : (n : ℕ) → is_among n xs ≡ is_among n ys
+    rest n = by (n == x) refl (agree n)
+      where
+        by : (t : Bool) → (n == x) ≡ t → (t || is_among n xs) ≡ ((n == y) || is_among n ys) → is_among n xs ≡ is_among n ys
+        by true here both =
+            let it = equal n x here in
+            ap (λ m. is_among m xs) it ∙ none_above x xs one.1 ∙ sym (none_above y ys two.1) ∙ ap (λ m. is_among m ys) (sym (it ∙ first))
+        by false other both = both ∙ ap (λ b. b || is_among n ys) (ap (λ m. n == m) (sym first) ∙ other)
+
+-- ---- which open socket is one of theirs
+
+pub is_kind : (p : Proto) → is_given (Some (given_kind p)) ≡ true
+is_kind Tcp = refl
+is_kind Udp = refl
+
+no_flow : (k : Option Kind) → is_given k ≡ true → is_flow k ≡ false
+no_flow None is = cc
+no_flow (Some OfAssociation) is = cc
+no_flow (Some DnsSocket) is = cc
+no_flow (Some OfForward) is = refl
+no_flow (Some Listener) is = refl
+no_flow (Some OfFlow) is = cc
+
+-- where the sockets that are open stay of their kind, those of ports of the host stay open, and no other is one, all stays in force
+pub unmoved : (config : Config) (forwards : List Opened) (now past : List Entry) → ((n : ℕ) → is_among n (open_sockets past) ≡ true → kind_of n now ≡ kind_of n past)
+    → ((n : ℕ) → is_among n (open_sockets past) ≡ true → is_given (kind_of n past) ≡ true → is_among n (open_sockets now) ≡ true)
+    → ((n : ℕ) → is_among n (open_sockets now) ≡ true → is_given (kind_of n now) ≡ true → (is_among n (open_sockets past) ≡ true) × (is_given (kind_of n past) ≡ true))
+    → next_number past ≤ next_number now → AreInForce config forwards past → AreInForce config forwards now
+unmoved config forwards now past kinds stay were more has = record {
+  each = λ k o at.
+      let was = has.each k o at in
+      record { open_yet = stay (socket_of o) was.open_yet (ap is_given was.kind ∙ is_kind o.0.proto); kind = kinds (socket_of o) was.open_yet ∙ was.kind; is = was.is };
+  all = λ n among given. let was = were n among given in has.all n was.0 was.1;
+  rising = up_to (next_number past) (next_number now) (forward_sockets forwards) more has.rising;
+}
+
+-- ---- one entry
+
+-- it opens no port of the host, and closes none
+abbrev pub IsOther : Entry → List Entry → Type 0
+IsOther (Listen socket at answer) past = ⊥
+IsOther (UdpOpen socket at answer) past = (nat_lt 0 (waits past) ≡ true) × (at.port ≡ 0)
+IsOther (Close n) past = is_given (kind_of n past) ≡ false
+IsOther _ past = Unit {0}
+
+other_kind : (b : Bool) (k : Kind) (before : Option Kind) → is_given (Some k) ≡ false → is_given (if b then Some k else before) ≡ true → (b ≡ false) × (is_given before ≡ true)
+other_kind true k before other is = cc
+other_kind false k before other is = (refl, is)
+
+kept_kind : (b : Bool) (k : Kind) (before : Option Kind) → b ≡ false → (if b then Some k else before) ≡ before
+kept_kind true k before is = cc
+kept_kind false k before is = refl
+
+or_of : (a b : Bool) → (a || b) ≡ true → b ≡ false → a ≡ true
+or_of true b is off = refl
+or_of false true is off = cc
+or_of false false is off = cc
+
+or_more : (a b : Bool) → a ≡ true → (a || b) ≡ true
+or_more true b is = refl
+or_more false b is = cc
+
+was_among : (answer : Made) (n socket : ℕ) (sockets : List ℕ) → (socket == n) ≡ false → is_among n (with_made answer socket sockets) ≡ true → is_among n sockets ≡ true
+was_among Done n socket sockets other is = or_of (is_among n sockets) (n == socket) (sym (among_last n socket sockets) ∙ is) (grind (arith, nat_tests, other))
+was_among Failed n socket sockets other is = is
+
+still_among : (answer : Made) (n socket : ℕ) (sockets : List ℕ) → is_among n sockets ≡ true → is_among n (with_made answer socket sockets) ≡ true
+still_among Done n socket sockets is = among_last n socket sockets ∙ or_more (is_among n sockets) (n == socket) is
+still_among Failed n socket sockets is = is
+
+-- the next number is that of no open socket
+apart : (config : Config) (past : List Entry) (socket n : ℕ) → Lawful config past → (socket == next_number past) ≡ true → is_among n (open_sockets past) ≡ true → (socket == n) ≡ false
+apart config past socket n lawful next among =
+    let less = open_below config past lawful n among in
+    let it = equal socket (next_number past) next in
+    grind (arith, nat_tests, less, it)
+
+module _ (config : Config) (forwards : List Opened) (past : List Entry) (lawful : Lawful config past) (has : AreInForce config forwards past) where
+  -- a socket of another kind gets the next number
+  grows : (e : Entry) (socket : ℕ) (k : Kind) (made : Made) → (socket == next_number past) ≡ true → is_given (Some k) ≡ false
+      → ((n : ℕ) → kind_of n (e ∷ past) ≡ (if socket == n then Some k else kind_of n past)) → open_sockets (e ∷ past) ≡ with_made made socket (open_sockets past)
+      → next_number past ≤ next_number (e ∷ past) → AreInForce config forwards (e ∷ past)
+  grows e socket k made next is_other kind opened more = unmoved config forwards (e ∷ past) past
+      (λ n among. kind n ∙ kept_kind (socket == n) k (kind_of n past) (apart config past socket n lawful next among))
+      (λ n among given. ap (is_among n) opened ∙ still_among made n socket (open_sockets past) among)
+      (λ n among given.
+      let was = other_kind (socket == n) k (kind_of n past) is_other (sym (ap is_given (kind n)) ∙ given) in
+      (was_among made n socket (open_sockets past) was.0 (sym (ap (is_among n) opened) ∙ among), was.1))
+      more has
+
+  pub stays_in_force : (e : Entry) → May config past (call_of e) → IsOther e past → AreInForce config forwards (e ∷ past)
+  stays_in_force (Connect socket to answer) may other = grows (Connect socket to answer) socket OfFlow answer may.socket refl (λ n. refl) refl (omega arith)
+  stays_in_force (Listen socket at answer) may other = absurd other
+  stays_in_force (UdpOpen socket at answer) may other = grows (UdpOpen socket at answer) socket (datagram_kind (nat_lt 0 (waits past)) at.port) answer may.socket
+      (ap (λ (b : Bool). is_given (Some (datagram_kind b at.port))) other.0 ∙ ap (λ port. is_given (Some (datagram_kind true port))) other.1) (λ n. refl) refl (omega arith)
+  stays_in_force (Accept listener socket (From peer)) may other =
+      grows (Accept listener socket (From peer)) socket OfFlow Done (peer_next config past listener socket (From peer) may) refl (λ n. refl) refl (omega arith)
+  stays_in_force (Accept listener socket NotYetAccepted) may other =
+      grows (Accept listener socket NotYetAccepted) socket OfFlow Failed (peer_next config past listener socket NotYetAccepted may) refl (λ n. refl) refl (omega arith)
+  stays_in_force (Accept listener socket AcceptFailed) may other =
+      grows (Accept listener socket AcceptFailed) socket OfFlow Failed (peer_next config past listener socket AcceptFailed may) refl (λ n. refl) refl (omega arith)
+  stays_in_force (Close m) may other = unmoved config forwards (Close m ∷ past) past (λ n among. refl)
+      (λ n among given. among_without n m (open_sockets past) ∙ and_both (not (n == m)) (is_among n (open_sockets past)) (by n given (same_or_not n m)) among)
+      (λ n among given. (second_of (not (n == m)) (is_among n (open_sockets past)) (sym (among_without n m (open_sockets past)) ∙ among), given)) (omega arith) has
+    where
+      by : (n : ℕ) → is_given (kind_of n past) ≡ true → (n ≡ m) ⊎ ((n == m) ≡ false) → not (n == m) ≡ true
+      by n given (inl is) = absurd (true_false (sym given ∙ ap (λ x. is_given (kind_of x past)) is ∙ other))
+      by n given (inr differ) = ap not differ
+  stays_in_force _ may other = unmoved config forwards _ past (λ n among. refl) (λ n among given. among) (λ n among given. (among, given)) (omega arith) has
+
+-- the calls of flows leave them in force
+pub left_in_force : (config : Config) (forwards : List Opened) (past made : List Entry) → LeavesOthers config past made → next_number past ≤ next_number (made ++ past)
+    → AreInForce config forwards past → AreInForce config forwards (made ++ past)
+left_in_force config forwards past made others more has = unmoved config forwards (made ++ past) past (λ n among. others.kinds n)
+    (λ n among given. others.stay n among (no_flow (kind_of n past) given)) (λ n among given. (others.opens n among, sym (ap is_given (others.kinds n)) ∙ given)) more has
+
+-- ---- a port of the host is opened
+
+pub none_in_force : (config : Config) → AreInForce config [] []
+none_in_force config = record { each = λ k o at. cc; all = λ n among given. cc; rising = tt }
+
+pub opening_kind : (p : Proto) (count : ℕ) (at : Endpoint) (answer : Made) (past : List Entry) → datagram_kind (nat_lt 0 (waits past)) at.port ≡ OfForward → (n : ℕ)
+    → kind_of n (port_opening p count at answer ∷ past) ≡ (if count == n then Some (given_kind p) else kind_of n past)
+opening_kind Tcp count at answer past named n = refl
+opening_kind Udp count at answer past named n = ap (λ k. if count == n then Some k else kind_of n past) named
+
+-- before the first wait all are
+pub named_first : (past : List Entry) (at : Endpoint) → waits past ≡ 0 → datagram_kind (nat_lt 0 (waits past)) at.port ≡ OfForward
+named_first past at unwaited = ap (λ n. datagram_kind (nat_lt 0 n) at.port) unwaited
+
+pub opening_made : (p : Proto) (count : ℕ) (at : Endpoint) (answer : Made) (past : List Entry) → open_sockets (port_opening p count at answer ∷ past) ≡ with_made answer count (open_sockets past)
+opening_made Tcp count at answer past = refl
+opening_made Udp count at answer past = refl
+
+pub opening_next : (p : Proto) (count : ℕ) (at : Endpoint) (answer : Made) (past : List Entry) → next_number (port_opening p count at answer ∷ past) ≡ next_number past + 1
+opening_next Tcp count at answer past = refl
+opening_next Udp count at answer past = refl
+
+pub opening_open : (config : Config) (p : Proto) (count : ℕ) (at : Endpoint) (answer : Made) (past : List Entry) → is_closing config (port_opening p count at answer ∷ past) ≡ is_closing config past
+opening_open config Tcp count at answer past = refl
+opening_open config Udp count at answer past = refl
+
+pub opening_waits : (p : Proto) (count : ℕ) (at : Endpoint) (answer : Made) (past : List Entry) → waits (port_opening p count at answer ∷ past) ≡ waits past
+opening_waits Tcp count at answer past = refl
+opening_waits Udp count at answer past = refl
+
+sockets_more : (list : List Opened) (f : Forward) (n : ℕ) → forward_sockets (list ++ (f, n) ∷ []) ≡ forward_sockets list ++ n ∷ []
+sockets_more [] f n = refl
+sockets_more (x ∷ list) f n = ap (λ l. x.1 ∷ l) (sockets_more list f n)
+
+-- the last of a list, or one before it
+at_last : {A : Type 0} (list : List A) (x : A) (k : ℕ) (y : A) → slice_get (list ++ x ∷ []) k ≡ Some y → (slice_get list k ≡ Some y) ⊎ (y ≡ x)
+at_last [] x zero y at = inr (the_same at)
+  where
+    the_same : Some x ≡ Some y → y ≡ x
+    the_same is = cc
+at_last [] x (suc k) y at = cc
+at_last (z ∷ list) x zero y at = inl at
+at_last (z ∷ list) x (suc k) y at = at_last list x k y at
+
+rises_last : (next : ℕ) (ns : List ℕ) → IsRising next ns → IsRising (next + 1) (ns ++ next ∷ [])
+rises_last next [] rising = (omega arith, tt, tt)
+rises_last next (n ∷ ns) rising = let less = rising.0 in (omega (arith, less), above_last n next ns less rising.1, rises_last next ns rising.2)
+  where
+    above_last : (n next : ℕ) (ns : List ℕ) → n < next → AllAbove n ns → AllAbove n (ns ++ next ∷ [])
+    above_last n next [] less up = (less, tt)
+    above_last n next (m ∷ ns) less up = (up.0, above_last n next ns less up.1)
+
+module _ (config : Config) (forwards : List Opened) (past : List Entry) (lawful : Lawful config past) (has : AreInForce config forwards past)
+    (f : Forward) (at : Endpoint) (named : datagram_kind (nat_lt 0 (waits past)) at.port ≡ OfForward) where
+  abbrev opens : ℕ → Made → Entry
+  opens number answer = port_opening f.proto number at answer
+
+  -- a number under the next one keeps its kind
+  kind_stays : (number : ℕ) (answer : Made) → (number == next_number past) ≡ true → (n : ℕ) → is_among n (open_sockets past) ≡ true → kind_of n (opens number answer ∷ past) ≡ kind_of n past
+  kind_stays number answer next n among =
+      opening_kind f.proto number at answer past named n ∙ kept_kind (number == n) (given_kind f.proto) (kind_of n past) (apart config past number n lawful next among)
+
+  -- it is the last of those in force
+  pub given_last : (number : ℕ) → (number == next_number past) ≡ true → forward_on config number ≡ Some f → AreInForce config (forwards ++ (f, number) ∷ []) (opens number Done ∷ past)
+  given_last number next is = record {
+    each = λ k o here. by k o (at_last forwards (f, number) k o here);
+    all = λ n among given. ap (is_among n) (sockets_more forwards f number) ∙ among_last n number (forward_sockets forwards) ∙ every n (same_or_not n number)
+        (sym (among_last n number (open_sockets past)) ∙ sym (ap (is_among n) (opening_made f.proto number at Done past)) ∙ among)
+        (sym (ap is_given (opening_kind f.proto number at Done past named n)) ∙ given);
+    rising = subst (λ l. IsRising (next_number (opens number Done ∷ past)) l) (sym (sockets_more forwards f number))
+        (subst (λ m. IsRising m (forward_sockets forwards ++ number ∷ [])) (sym (opening_next f.proto number at Done past))
+        (subst (λ m. IsRising (next_number past + 1) (forward_sockets forwards ++ m ∷ [])) (sym (equal number (next_number past) next))
+        (rises_last (next_number past) (forward_sockets forwards) has.rising)));
+  }
+    where
+      by : (k : ℕ) (o : Opened) → (slice_get forwards k ≡ Some o) ⊎ (o ≡ (f, number)) → IsInForce config (opens number Done ∷ past) o
+      by k o (inl before) =
+          let was = has.each k o before in
+          record {
+            open_yet = ap (is_among (socket_of o)) (opening_made f.proto number at Done past) ∙ among_last (socket_of o) number (open_sockets past)
+                ∙ or_more (is_among (socket_of o) (open_sockets past)) (socket_of o == number) was.open_yet;
+            kind = kind_stays number Done next (socket_of o) was.open_yet ∙ was.kind;
+            is = was.is;
+          }
+      by k o (inr last) = subst (IsInForce config (opens number Done ∷ past)) (sym last) (record {
+        open_yet = ap (is_among number) (opening_made f.proto number at Done past) ∙ among_last number number (open_sockets past)
+            ∙ or_second (is_among number (open_sockets past)) (number == number) (same number);
+        kind = opening_kind f.proto number at Done past named number ∙ ap (λ b. if b then Some (given_kind f.proto) else kind_of number past) (same number);
+        is = is;
+      })
+
+      every : (n : ℕ) → (n ≡ number) ⊎ ((n == number) ≡ false) → (is_among n (open_sockets past) || (n == number)) ≡ true
+          → is_given (if number == n then Some (given_kind f.proto) else kind_of n past) ≡ true → (is_among n (forward_sockets forwards) || (n == number)) ≡ true
+      every n (inl here) among given = or_second (is_among n (forward_sockets forwards)) (n == number) (ap (λ m. m == number) here ∙ same number)
+      every n (inr other) among given = or_more (is_among n (forward_sockets forwards)) (n == number)
+          (has.all n (or_of (is_among n (open_sockets past)) (n == number) among other)
+          (sym (ap (λ b. is_given (if b then Some (given_kind f.proto) else kind_of n past)) (turned n number false other)) ∙ given))
+
+  -- or the host refused it
+  pub given_none : (number : ℕ) → (number == next_number past) ≡ true → AreInForce config forwards (opens number Failed ∷ past)
+  given_none number next = unmoved config forwards (opens number Failed ∷ past) past (kind_stays number Failed next)
+      (λ n among given. ap (is_among n) (opening_made f.proto number at Failed past) ∙ among)
+      (λ n among given.
+      let was = sym (ap (is_among n) (opening_made f.proto number at Failed past)) ∙ among in
+      (was, sym (ap is_given (kind_stays number Failed next n was)) ∙ given))
+      (let up = opening_next f.proto number at Failed past in omega (arith, up)) has
+
+-- ---- by its socket
+
+-- the socket of one that stands in the list is among theirs
+among_at : (list : List Opened) (k : ℕ) (o : Opened) → slice_get list k ≡ Some o → is_among (socket_of o) (forward_sockets list) ≡ true
+among_at [] k o at = cc
+among_at (x ∷ list) zero o at = ap (λ (y : Opened). is_among (socket_of o) (socket_of y ∷ forward_sockets list)) (the_same at) ∙ ap (λ b. b || is_among (socket_of o) (forward_sockets list)) (same (socket_of o))
+  where
+    the_same : Some x ≡ Some o → x ≡ o
+    the_same is = cc
+among_at (x ∷ list) (suc k) o at = or_second (socket_of o == socket_of x) (is_among (socket_of o) (forward_sockets list)) (among_at list k o at)
+
+-- and the other way round
+place_of : (list : List Opened) (n : ℕ) → is_among n (forward_sockets list) ≡ true → (k : ℕ) × (o : Opened) × (slice_get list k ≡ Some o) × (socket_of o ≡ n)
+place_of [] n is = cc
+place_of (x ∷ list) n is = by (n == socket_of x) refl is (place_of list n)
+  where
+    by : (b : Bool) → (n == socket_of x) ≡ b → (b || is_among n (forward_sockets list)) ≡ true
+        → (is_among n (forward_sockets list) ≡ true → (k : ℕ) × (o : Opened) × (slice_get list k ≡ Some o) × (socket_of o ≡ n))
+        → (k : ℕ) × (o : Opened) × (slice_get (x ∷ list) k ≡ Some o) × (socket_of o ≡ n)
+    by true here is rest = (0, x, refl, sym (equal n (socket_of x) here))
+    by false other is rest = let more = rest is in (suc more.0, more.1, more.2, more.3)
+
+-- the forward of a socket stands in the list, with it
+with_place : (list : List Opened) (n : ℕ) (f : Forward) → forward_with n list ≡ Some f → (k : ℕ) × (slice_get list k ≡ Some (f, n))
+with_place [] n f is = cc
+with_place (x ∷ list) n f is = by (socket_of x == n) refl is (with_place list n f)
+  where
+    forward_same : Some x.0 ≡ Some f → x.0 ≡ f
+    forward_same same_one = cc
+
+    by : (b : Bool) → (socket_of x == n) ≡ b → option_map (λ (o : Opened). o.0) (if b then Some x else find (is_on n) list) ≡ Some f
+        → (forward_with n list ≡ Some f → (k : ℕ) × (slice_get list k ≡ Some (f, n))) → (k : ℕ) × (slice_get (x ∷ list) k ≡ Some (f, n))
+    by true here is rest = (0, λ i. Some (forward_same is i, equal (socket_of x) n here i))
+    by false other is rest = let more = rest is in (suc more.0, more.1)
+
+without_place : (list : List Opened) (n : ℕ) → forward_with n list ≡ None → is_among n (forward_sockets list) ≡ false
+without_place [] n is = refl
+without_place (x ∷ list) n is = by (socket_of x == n) refl is (without_place list n)
+  where
+    by : (b : Bool) → (socket_of x == n) ≡ b → option_map (λ (o : Opened). o.0) (if b then Some x else find (is_on n) list) ≡ None
+        → (forward_with n list ≡ None → is_among n (forward_sockets list) ≡ false) → ((n == socket_of x) || is_among n (forward_sockets list)) ≡ false
+    by true here is rest = cc
+    by false other is rest = ap (λ b. b || is_among n (forward_sockets list)) (turned (socket_of x) n false other) ∙ rest is
+
+-- of a protocol
+abbrev pub is_at : Proto → Option Forward → Bool
+is_at p o = option_map_or (λ (f : Forward). same_proto p f.proto) o false
+
+over_above : (p : Proto) (n : ℕ) (list : List Opened) → AllAbove n (forward_sockets list) → AllAbove n (sockets_over p list)
+over_above p n [] up = tt
+over_above p n (x ∷ list) up = by (is_over p x) (over_above p n list up.1)
+  where
+    by : (b : Bool) → AllAbove n (sockets_over p list) → AllAbove n (forward_sockets (if b then x ∷ filter (is_over p) list else filter (is_over p) list))
+    by true rest = (up.0, rest)
     by false rest = rest
 
-filter_none : (q : ℕ → Bool) (ns : List ℕ) → ((n : ℕ) → is_among n ns ≡ true → q n ≡ false) → filter q ns ≡ []
-filter_none q [] never = refl
-filter_none q (n ∷ ns) never =
-    ap (λ b. if b then n ∷ filter q ns else filter q ns) (never n (ap (λ b. b || is_among n ns) (same n))) ∙ filter_none q ns (λ m among. never m (or_second (m == n) (is_among m ns) among))
-
-all_of : (xs : List ℕ) → xs ++ [] ≡ xs
-all_of [] = refl
-all_of (x ∷ xs) = ap (λ l. x ∷ l) (all_of xs)
-
--- where two tests say of each number what its forward says, they find the first for datagrams to this port
-finds_first : (guest : Endpoint) (p q : ℕ → Bool) (fs : List Forward) (k : ℕ)
-    → ((j : ℕ) (f : Forward) → slice_get fs j ≡ Some f → (q (k + j) ≡ same_proto f.proto Udp) × (f.proto ≡ Udp → p (k + j) ≡ same_endpoint f.guest guest))
-    → find p (filter q (forward_sockets (with_numbers k fs))) ≡ socket_for guest (with_numbers k fs)
-finds_first guest p q [] k agree = refl
-finds_first guest p q (f ∷ fs) k agree =
-    ap (λ n. find p (if q n then k ∷ filter q (forward_sockets (with_numbers (k + 1) fs)) else filter q (forward_sockets (with_numbers (k + 1) fs)))) (sym front)
-    ∙ ap (λ b. find p (if b then k ∷ filter q (forward_sockets (with_numbers (k + 1) fs)) else filter q (forward_sockets (with_numbers (k + 1) fs)))) (agree 0 f refl).0
-    ∙ by f.proto refl (finds_first guest p q fs (k + 1) later)
+pub over_rises : (p : Proto) (bound : ℕ) (list : List Opened) → IsRising bound (forward_sockets list) → IsRising bound (sockets_over p list)
+over_rises p bound [] rising = tt
+over_rises p bound (x ∷ list) rising = by (is_over p x) (over_rises p bound list rising.2)
   where
-    front : k + 0 ≡ k
-    front = omega arith
+    by : (b : Bool) → IsRising bound (sockets_over p list) → IsRising bound (forward_sockets (if b then x ∷ filter (is_over p) list else filter (is_over p) list))
+    by true rest = (rising.0, over_above p (socket_of x) list rising.1, rest)
+    by false rest = rest
 
-    later : (j : ℕ) (g : Forward) → slice_get fs j ≡ Some g → (q ((k + 1) + j) ≡ same_proto g.proto Udp) × (g.proto ≡ Udp → p ((k + 1) + j) ≡ same_endpoint g.guest guest)
-    later j g at =
-        let it : (k + 1) + j ≡ k + suc j = omega arith in
-        let says = agree (suc j) g at in
-        (ap q it ∙ says.0, λ udp. ap p it ∙ says.1 udp)
+pub over_with : (p : Proto) (bound : ℕ) (list : List Opened) (n : ℕ) → IsRising bound (forward_sockets list) → is_among n (sockets_over p list) ≡ is_at p (forward_with n list)
+over_with p bound [] n rising = refl
+over_with p bound (x ∷ list) n rising = by (is_over p x) refl (socket_of x == n) refl (over_with p bound list n rising.2)
+  where
+    by : (b : Bool) → is_over p x ≡ b → (t : Bool) → (socket_of x == n) ≡ t → is_among n (sockets_over p list) ≡ is_at p (forward_with n list)
+        → is_among n (forward_sockets (if b then x ∷ filter (is_over p) list else filter (is_over p) list))
+        ≡ is_at p (option_map (λ (o : Opened). o.0) (if t then Some x else find (is_on n) list))
+    by true of true here rest = ap (λ t. t || is_among n (sockets_over p list)) (turned (socket_of x) n true here) ∙ sym of
+    by false of true here rest =
+        let it = equal (socket_of x) n here in
+        ap (λ m. is_among m (sockets_over p list)) (sym it) ∙ none_above (socket_of x) (sockets_over p list) (over_above p (socket_of x) list rising.1) ∙ sym of
+    by true of false other rest = ap (λ t. t || is_among n (sockets_over p list)) (turned (socket_of x) n false other) ∙ rest
+    by false of false other rest = rest
 
-    by : (proto : Proto) → f.proto ≡ proto → find p (filter q (forward_sockets (with_numbers (k + 1) fs))) ≡ socket_for guest (with_numbers (k + 1) fs)
-        → find p (if same_proto f.proto Udp then k ∷ filter q (forward_sockets (with_numbers (k + 1) fs)) else filter q (forward_sockets (with_numbers (k + 1) fs))) ≡ option_map
-        socket_of (if leads_to guest (f, k) then Some (f, k) else find (leads_to guest) (with_numbers (k + 1) fs))
-    by Tcp is rest =
-        ap (λ proto. find p (if same_proto proto Udp then k ∷ filter q (forward_sockets (with_numbers (k + 1) fs)) else filter q (forward_sockets (with_numbers (k + 1) fs)))) is ∙ rest
-        ∙ sym (ap (λ proto. option_map socket_of (if same_proto proto Udp && same_endpoint f.guest guest then Some (f, k) else find (leads_to guest) (with_numbers (k + 1) fs))) is)
-    by Udp is rest =
-        ap (λ proto. find p (if same_proto proto Udp then k ∷ filter q (forward_sockets (with_numbers (k + 1) fs)) else filter q (forward_sockets (with_numbers (k + 1) fs)))) is
-        ∙ ap (λ b. if b then Some k else find p (filter q (forward_sockets (with_numbers (k + 1) fs)))) (ap p (sym front) ∙ (agree 0 f refl).1 is)
-        ∙ found (same_endpoint f.guest guest)
-        ∙ sym (ap (λ proto. option_map socket_of (if same_proto proto Udp && same_endpoint f.guest guest then Some (f, k) else find (leads_to guest) (with_numbers (k + 1) fs))) is)
+module _ (config : Config) (forwards : List Opened) (past : List Entry) (has : AreInForce config forwards past) where
+  -- the forward with a number is in force
+  pub in_force_with : (n : ℕ) (f : Forward) → forward_with n forwards ≡ Some f → IsInForce config past (f, n)
+  in_force_with n f is = let at = with_place forwards n f is in has.each at.0 (f, n) at.1
+
+  -- and so is one whose socket is among theirs
+  pub in_force_among : (n : ℕ) → is_among n (forward_sockets forwards) ≡ true → (is_among n (open_sockets past) ≡ true) × (is_given (kind_of n past) ≡ true)
+  in_force_among n among =
+      let at = place_of forwards n among in
+      let one = has.each at.0 at.1 at.2 in
+      (ap (λ m. is_among m (open_sockets past)) (sym at.3) ∙ one.open_yet, ap (λ m. is_given (kind_of m past)) (sym at.3) ∙ ap is_given one.kind ∙ is_kind at.1.0.proto)
+
+  -- an open port of the host with this protocol is one of the list's
+  module _ (p : Proto) (test : Option Kind → Bool) (tells : (q : Proto) → test (Some (given_kind q)) ≡ same_proto p q) (only : (k : Option Kind) → test k ≡ true → is_given k ≡ true) where
+    at_socket : (n : ℕ) (o : Option Forward) → forward_with n forwards ≡ o → (is_among n (open_sockets past) && test (kind_of n past)) ≡ is_at p o
+    at_socket n None none = by (is_among n (open_sockets past)) (test (kind_of n past)) refl refl
       where
-        found : (b : Bool) → (if b then Some k else find p (filter q (forward_sockets (with_numbers (k + 1) fs)))) ≡ option_map socket_of
-            (if b then Some (f, k) else find (leads_to guest) (with_numbers (k + 1) fs))
+        by : (a b : Bool) → is_among n (open_sockets past) ≡ a → test (kind_of n past) ≡ b → (a && b) ≡ false
+        by true true among listens = absurd (true_false (sym (has.all n among (only (kind_of n past) listens)) ∙ without_place forwards n none))
+        by true false among listens = refl
+        by false b among listens = refl
+    at_socket n (Some f) here =
+        let one = in_force_with n f here in
+        ap (λ b. b && test (kind_of n past)) one.open_yet ∙ ap test one.kind ∙ tells f.proto
+
+    pub port_open : (n : ℕ) → (is_among n (open_sockets past) && test (kind_of n past)) ≡ is_among n (sockets_over p forwards)
+    port_open n = at_socket n (forward_with n forwards) refl ∙ sym (over_with p (next_number past) forwards n has.rising)
+
+-- ---- the first forward of datagrams to a port of a guest
+
+is_one : (k : Option Kind) → is_forward k ≡ true → is_given k ≡ true
+is_one None is = cc
+is_one (Some OfAssociation) is = cc
+is_one (Some DnsSocket) is = cc
+is_one (Some OfForward) is = refl
+is_one (Some Listener) is = cc
+is_one (Some OfFlow) is = cc
+
+of_datagrams : (q : Proto) → is_forward (Some (given_kind q)) ≡ same_proto Udp q
+of_datagrams Tcp = refl
+of_datagrams Udp = refl
+
+among_filter : (q : ℕ → Bool) (n : ℕ) (ns : List ℕ) → is_among n (filter q ns) ≡ (is_among n ns && q n)
+among_filter q n [] = refl
+among_filter q n (m ∷ ns) = by (q m) refl (n == m) refl (among_filter q n ns)
+  where
+    never : (b : Bool) → (b && false) ≡ false
+    never true = refl
+    never false = refl
+
+    by : (b : Bool) → q m ≡ b → (t : Bool) → (n == m) ≡ t → is_among n (filter q ns) ≡ (is_among n ns && q n)
+        → is_among n (if b then m ∷ filter q ns else filter q ns) ≡ ((t || is_among n ns) && q n)
+    by true is true here rest = ap (λ t. t || is_among n (filter q ns)) here ∙ sym (ap q (equal n m here) ∙ is)
+    by true is false other rest = ap (λ t. t || is_among n (filter q ns)) other ∙ rest
+    by false is true here rest = rest ∙ ap (λ b. is_among n ns && b) (ap q (equal n m here) ∙ is) ∙ never (is_among n ns) ∙ sym (ap q (equal n m here) ∙ is)
+    by false is false other rest = rest
+
+filter_above : (q : ℕ → Bool) (n : ℕ) (ns : List ℕ) → AllAbove n ns → AllAbove n (filter q ns)
+filter_above q n [] up = tt
+filter_above q n (m ∷ ns) up = by (q m) (filter_above q n ns up.1)
+  where
+    by : (b : Bool) → AllAbove n (filter q ns) → AllAbove n (if b then m ∷ filter q ns else filter q ns)
+    by true rest = (up.0, rest)
+    by false rest = rest
+
+filter_rises : (q : ℕ → Bool) (bound : ℕ) (ns : List ℕ) → IsRising bound ns → IsRising bound (filter q ns)
+filter_rises q bound [] rising = tt
+filter_rises q bound (m ∷ ns) rising = by (q m) (filter_rises q bound ns rising.2)
+  where
+    by : (b : Bool) → IsRising bound (filter q ns) → IsRising bound (if b then m ∷ filter q ns else filter q ns)
+    by true rest = (rising.0, filter_above q m ns rising.1, rest)
+    by false rest = rest
+
+-- a test that says of each number for datagrams what its forward says finds the first that leads to this port
+finds_first : (guest : Endpoint) (p : ℕ → Bool) (list : List Opened) → ((k : ℕ) (o : Opened) → slice_get list k ≡ Some o → o.0.proto ≡ Udp → p o.1 ≡ same_endpoint o.0.guest guest)
+    → find p (sockets_over Udp list) ≡ socket_for guest list
+finds_first guest p [] agree = refl
+finds_first guest p (x ∷ list) agree = by x.0.proto refl (finds_first guest p list (λ k o at. agree (suc k) o at))
+  where
+    by : (q : Proto) → x.0.proto ≡ q → find p (sockets_over Udp list) ≡ socket_for guest list → find p (sockets_over Udp (x ∷ list)) ≡ socket_for guest (x ∷ list)
+    by Tcp is rest =
+        ap (λ q. find p (forward_sockets (if same_proto Udp q then x ∷ filter (is_over Udp) list else filter (is_over Udp) list))) is ∙ rest
+        ∙ sym (ap (λ q. option_map socket_of (if same_proto q Udp && same_endpoint x.0.guest guest then Some x else find (leads_to guest) list)) is)
+    by Udp is rest =
+        ap (λ q. find p (forward_sockets (if same_proto Udp q then x ∷ filter (is_over Udp) list else filter (is_over Udp) list))) is
+        ∙ ap (λ b. if b then Some x.1 else find p (sockets_over Udp list)) (agree 0 x refl is) ∙ found (same_endpoint x.0.guest guest)
+        ∙ sym (ap (λ q. option_map socket_of (if same_proto q Udp && same_endpoint x.0.guest guest then Some x else find (leads_to guest) list)) is)
+      where
+        found : (b : Bool) → (if b then Some x.1 else find p (sockets_over Udp list)) ≡ option_map socket_of (if b then Some x else find (leads_to guest) list)
         found true = refl
         found false = rest
 
-module _ (config : Config) (past : List Entry) (lawful : Lawful config past) (has : HasGiven config (length config.forwards) past) (open_yet : is_closing config past ≡ false) where
-  kind_at : (n : ℕ) (f : Forward) → slice_get config.forwards n ≡ Some f → kind_of n past ≡ Some (given_kind f.proto)
-  kind_at n f at = has.kinds n f (within config.forwards n at) at
-    where
-      within : (fs : List Forward) (k : ℕ) → slice_get fs k ≡ Some f → k < length fs
-      within [] k at = cc
-      within (x ∷ fs) zero at = omega arith
-      within (x ∷ fs) (suc k) at = let less = within fs k at in omega (arith, less)
+module _ (config : Config) (forwards : List Opened) (past : List Entry) (lawful : Lawful config past) (has : AreInForce config forwards past) where
+  -- one for datagrams leads to the port of its guest
+  pub leads_at : (n : ℕ) (f : Forward) → IsInForce config past (f, n) → f.proto ≡ Udp → (kind_of n past ≡ Some OfForward) × (opened_for config n past ≡ Some f.guest)
+  leads_at n f one udp =
+      let kind = one.kind ∙ ap (λ p. Some (given_kind p)) udp in
+      (kind, leads config n past kind ∙ ap (option_and_then (λ (g : Forward). given_by g.proto g.guest)) one.is ∙ ap (λ p. given_by p f.guest) udp)
 
-  -- one for datagrams is open, is of the kind of forwards, and leads to its port
-  pub leads_at : (n : ℕ) (f : Forward) → slice_get config.forwards n ≡ Some f → f.proto ≡ Udp → (kind_of n past ≡ Some OfForward) × (opened_for config n past ≡ Some f.guest)
-  leads_at n f at udp =
-      let kind = kind_at n f at ∙ ap (λ proto. Some (given_kind proto)) udp in
-      (kind, leads config n past kind ∙ ap (option_and_then (λ (g : Forward). given_by g.proto g.guest)) (led_by_settings config n f at) ∙ ap (λ proto. given_by proto f.guest) udp)
-
-  agrees : (guest : Endpoint) (n : ℕ) (f : Forward) → slice_get config.forwards n ≡ Some f
-      → (is_forward (kind_of n past) ≡ same_proto f.proto Udp) × (f.proto ≡ Udp → is_port guest (opened_for config n past) ≡ same_endpoint f.guest guest)
-  agrees guest n f at = (ap is_forward (kind_at n f at) ∙ by f.proto, λ udp. ap (is_port guest) (leads_at n f at udp).1)
-    where
-      by : (p : Proto) → is_forward (Some (given_kind p)) ≡ same_proto p Udp
-      by Tcp = refl
-      by Udp = refl
-
-  from_first : (guest : Endpoint) (j : ℕ) (f : Forward) → slice_get config.forwards j ≡ Some f
-      → (is_forward (kind_of (0 + j) past) ≡ same_proto f.proto Udp) × (f.proto ≡ Udp → is_port guest (opened_for config (0 + j) past) ≡ same_endpoint f.guest guest)
-  from_first guest j f at =
-      let it : j ≡ 0 + j = omega arith in
-      subst (λ n. (is_forward (kind_of n past) ≡ same_proto f.proto Udp) × (f.proto ≡ Udp → is_port guest (opened_for config n past) ≡ same_endpoint f.guest guest)) it (agrees guest j f at)
-
-  pub forward_is : (guest : Endpoint) → forward_for config guest past ≡ socket_for guest (given config)
+  pub forward_is : (guest : Endpoint) → forward_for config guest past ≡ socket_for guest forwards
   forward_is guest =
-      ap (λ l. find (λ s. is_port guest (opened_for config s past)) (filter (λ s. is_forward (kind_of s past)) l)) stands.1
-      ∙ ap (λ l. find (λ s. is_port guest (opened_for config s past)) l)
-      (filter_both (λ s. is_forward (kind_of s past)) (forward_sockets (given config)) stands.0
-      ∙ ap (λ l. filter (λ s. is_forward (kind_of s past)) (forward_sockets (given config)) ++ l) (filter_none (λ s. is_forward (kind_of s past)) stands.0 none_behind)
-      ∙ all_of (filter (λ s. is_forward (kind_of s past)) (forward_sockets (given config))))
-      ∙ finds_first guest (λ s. is_port guest (opened_for config s past)) (λ s. is_forward (kind_of s past)) config.forwards 0 (λ j f at. from_first guest j f at)
-    where
-      stands : (rest : List ℕ) × (open_sockets past ≡ forward_sockets (given config) ++ rest) × ((n : ℕ) → is_among n rest ≡ true → 0 + length config.forwards ≤ n)
-      stands = stand_first config.forwards 0 (next_number past) (open_sockets past) (open_rise config past lawful) (λ n among. omega arith) (λ n from to. has.stay open_yet n (omega (arith, to)))
+      ap (find (λ s. is_port guest (opened_for config s past))) (same_rising (next_number past) (next_number past) (filter (λ s. is_forward (kind_of s past)) (open_sockets past))
+      (sockets_over Udp forwards) (filter_rises (λ s. is_forward (kind_of s past)) (next_number past) (open_sockets past) (open_rise config past lawful))
+      (over_rises Udp (next_number past) forwards has.rising)
+      (λ n. among_filter (λ s. is_forward (kind_of s past)) n (open_sockets past) ∙ port_open config forwards past has Udp is_forward of_datagrams is_one n))
+      ∙ finds_first guest (λ s. is_port guest (opened_for config s past)) forwards
+      (λ k o at udp. ap (is_port guest) (leads_at o.1 o.0 (has.each k o at) udp).1)
 
-      still : (n : ℕ) → is_among n stands.0 ≡ true → is_among n (open_sockets past) ≡ true
-      still n among = ap (is_among n) stands.1 ∙ later (forward_sockets (given config))
-        where
-          later : (xs : List ℕ) → is_among n (xs ++ stands.0) ≡ true
-          later [] = among
-          later (x ∷ xs) = or_second (n == x) (is_among n (xs ++ stands.0)) (later xs)
-
-      is_one : (k : Option Kind) → is_forward k ≡ true → is_given k ≡ true
-      is_one None is = cc
-      is_one (Some OfAssociation) is = cc
-      is_one (Some DnsSocket) is = cc
-      is_one (Some OfForward) is = refl
-      is_one (Some Listener) is = cc
-      is_one (Some OfFlow) is = cc
-
-      none_behind : (n : ℕ) → is_among n stands.0 ≡ true → is_forward (kind_of n past) ≡ false
-      none_behind n among = by (is_forward (kind_of n past)) refl
-        where
-          by : (b : Bool) → is_forward (kind_of n past) ≡ b → b ≡ false
-          by true is = let low = has.others n (still n among) (is_one (kind_of n past) is) in let high = stands.2 n among in absurd (omega (arith, low, high))
-          by false is = refl
-
--- the guest's port of the list's forward at a place is that of the settings
-pub guest_given : (config : Config) (n : ℕ) → guest_on (given config) n ≡ option_and_then (λ (f : Forward). given_by f.proto f.guest) (slice_get config.forwards n)
-guest_given config n = by config.forwards n 0
-  where
-    by : (fs : List Forward) (n k : ℕ) → guest_on (with_numbers k fs) n ≡ option_and_then (λ (f : Forward). given_by f.proto f.guest) (slice_get fs n)
-    by [] n k = refl
-    by (f ∷ fs) zero k = refl
-    by (f ∷ fs) (suc n) k = by fs n (k + 1)
-
--- and such a forward is there
-pub forward_of : (fs : List Forward) (n : ℕ) (guest : Endpoint) → option_and_then (λ (f : Forward). given_by f.proto f.guest) (slice_get fs n) ≡ Some guest → (f : Forward) ×
-    (slice_get fs n ≡ Some f) × (f.proto ≡ Udp) × (f.guest ≡ guest)
-forward_of fs n guest is = by (slice_get fs n) refl is
+-- the forward for datagrams with a socket, where one leads to this port of a guest
+pub guest_found : (forwards : List Opened) (n : ℕ) (guest : Endpoint) → guest_on forwards n ≡ Some guest → (f : Forward) × (forward_with n forwards ≡ Some f) × (f.proto ≡ Udp) × (f.guest ≡ guest)
+guest_found forwards n guest is = by (forward_with n forwards) refl is
   where
     by_proto : (p : Proto) (g : Endpoint) → given_by p g ≡ Some guest → (p ≡ Udp) × (g ≡ guest)
     by_proto Tcp g is = cc
@@ -718,7 +496,7 @@ forward_of fs n guest is = by (slice_get fs n) refl is
         the_same : Some g ≡ Some guest → g ≡ guest
         the_same same_one = cc
 
-    by : (o : Option Forward) → slice_get fs n ≡ o → option_and_then (λ (f : Forward). given_by f.proto f.guest) o ≡ Some guest → (f : Forward) × (slice_get fs n ≡ Some f) ×
-        (f.proto ≡ Udp) × (f.guest ≡ guest)
+    by : (o : Option Forward) → forward_with n forwards ≡ o → option_and_then (λ (f : Forward). given_by f.proto f.guest) o ≡ Some guest
+        → (f : Forward) × (forward_with n forwards ≡ Some f) × (f.proto ≡ Udp) × (f.guest ≡ guest)
     by None at is = cc
     by (Some f) at is = let here = by_proto f.proto f.guest is in (f, at, here.0, here.1)

@@ -7,7 +7,7 @@ use Rattle.host_policy.specs.Addresses.{Config}
 use Rattle.ipv4_reasm.specs.Areas.{Gathered}
 use Rattle.run_laws.specs.Guests.{known, with_arrival}
 use Rattle.run_laws.specs.Happenings.{happens}
-use Rattle.slirp_core.specs.Holds.{GivesOnce, OfGuests}
+use Rattle.slirp_core.specs.Holds.{OfGuests}
 use Rattle.slirp_core.specs.Packets.{with_frame}
 use Rattle.slirp_core.specs.State.{SlirpState}
 use Rattle.slirp_core.specs.Waiting.{OfFragments}
@@ -22,17 +22,15 @@ pub guests_stay : (config : Config) (slirp new : SlirpState) (e : Entry) (past :
     OfGuests config slirp past → OfGuests config new (e ∷ past)
 guests_stay config slirp new e past nothing same is = record {
   settings = ap (λ (p : Config × List (Ip4 × Mac) × List Gathered). p.0) same ∙ is.settings;
-  once = is.once;
   known = ap (λ o. with_arrival o (known config past)) nothing ∙ is.known ∙ sym (ap (λ (p : Config × List (Ip4 × Mac) × List Gathered). p.1) same);
   fragments = fragments_stay config slirp new e past (none_arrived config past e nothing) (ap (λ (p : Config × List (Ip4 × Mac) × List Gathered). p.2) same) is.fragments;
 }
 
 -- one by which one came, or none
-pub guests_learn : (config : Config) (slirp new : SlirpState) (frame : Option (List ℕ)) (past : List Entry) → slirp.config ≡ config → GivesOnce config → known config past ≡ with_frame config frame slirp.known
+pub guests_learn : (config : Config) (slirp new : SlirpState) (frame : Option (List ℕ)) (past : List Entry) → slirp.config ≡ config → known config past ≡ with_frame config frame slirp.known
     → new.config ≡ slirp.config → new.known ≡ with_frame config frame slirp.known → OfFragments config new past → OfGuests config new past
-guests_learn config slirp new frame past settings once learnt same_config same_known fragments = record {
+guests_learn config slirp new frame past settings learnt same_config same_known fragments = record {
   settings = same_config ∙ settings;
-  once = once;
   known = learnt ∙ sym same_known;
   fragments = fragments;
 }
@@ -40,4 +38,4 @@ guests_learn config slirp new frame past settings once learnt same_config same_k
 -- no entry, but that old fragments are given up
 pub guests_forget : (config : Config) (slirp new : SlirpState) (past : List Entry) → new.config ≡ slirp.config → new.known ≡ slirp.known → OfFragments config new past →
     OfGuests config slirp past → OfGuests config new past
-guests_forget config slirp new past same_config same_known fragments is = record { settings = same_config ∙ is.settings; once = is.once; known = is.known ∙ sym same_known; fragments = fragments }
+guests_forget config slirp new past same_config same_known fragments is = record { settings = same_config ∙ is.settings; known = is.known ∙ sym same_known; fragments = fragments }

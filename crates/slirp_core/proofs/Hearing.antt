@@ -1,4 +1,5 @@
 -- A segment is heard: its flow takes it, or it strays, or the host connects for it.
+use Rattle.slirp_core.proofs.Given.{left_in_force, stays_in_force}
 use Rattle.std.proofs.Common.{◌≡◌, ℕ, ◌<◌, ◌+◌, ◌==◌, ◌&&◌, ◌||◌, not, option_map, nat_lt, Bool, true, false, List, [], ◌∷◌, ◌++◌, length, Some, None, inl, refl, sym, ◌∙◌, ap, subst, arith, if◌then◌else◌}
 use Rattle.std.proofs.lemmas.Bool.Decides.{nat_tests}
 use Rattle.std.specs.Prelude.{Contains}
@@ -158,7 +159,7 @@ module _ (config : Config) (at : Standing) (slirp : SlirpState) (kept : Kept) (l
           sent = leaves.counted ∙ comes.sent;
           owed = inl (record { left = leaves.left ∙ owed; again = others.again ∙ comes.again; files = comes.files ∙ sym (ap (λ (k : Files). k.transfers) others.files) });
         };
-        guests = record { settings = guests.settings; once = guests.once; known = guests.known; fragments = record { held = fragments.held; is_held = fragments.is_held; wait = fragments.wait } };
+        guests = record { settings = guests.settings; known = guests.known; fragments = record { held = fragments.held; is_held = fragments.is_held; wait = fragments.wait } };
         relayed = record {
           list = others.list ∙ comes.relayed.list;
           questions = others.questions ∙ comes.relayed.questions;
@@ -167,7 +168,7 @@ module _ (config : Config) (at : Standing) (slirp : SlirpState) (kept : Kept) (l
           heard = unheard config (made ++ past) then_is.work.services;
         };
         services = record { leases = others.leases ∙ comes.services.leases; quest = ap (λ (k : Files). k.quest) others.files ∙ comes.services.quest };
-        forwards = comes.forwards;
+        forwards = left_in_force config slirp.forwards past made others (let same_next = leaves.next in omega (arith, same_next)) comes.forwards;
         flows = record { holds = then_is.holds; asked = then_is.asked; settings = then_is.settings; unit = comes.unit };
         sockets = record { number = leaves.next ∙ comes.sockets.number; kinds = sockets_left config past made others comes.sockets.kinds };
         clock = record { moment = then_is.at; counted = others.waits ∙ comes.clock.counted };
@@ -252,7 +253,7 @@ module _ (config : Config) (at : Standing) (slirp : SlirpState) (kept : Kept) (l
               guests = guests_stay config slirp (record slirp { number = slirp.number + 1; pending = pending }) e past refl refl comes.guests;
               relayed = record { list = comes.relayed.list; questions = comes.relayed.questions; asks = comes.relayed.asks; heard = refl };
               services = record { leases = comes.services.leases; quest = comes.services.quest };
-              forwards = comes.forwards;
+              forwards = stays_in_force config slirp.forwards past lawful.1 comes.forwards e lawful.0 tt;
               flows = record { holds = then_is.holds; asked = then_is.asked; settings = then_is.settings; unit = comes.unit };
               sockets = record { number = ap (λ n. n + 1) comes.sockets.number; kinds = kinds_joined slirp.number to answer past comes.sockets.kinds };
               clock = record { moment = comes.clock.moment; counted = comes.clock.counted };

@@ -1,6 +1,6 @@
 -- Which open socket has the least number, and how many flows are open.
 use Rattle.std.proofs.Common.{◌≡◌, ℕ, zero, suc, ◌+◌, ◌<◌, ◌≤◌, ◌==◌, ◌||◌, Bool, true, false, List, [], ◌∷◌, ◌++◌, length, nat_lt, set, get_or, slice_get, Option, Some, None}
-use Rattle.std.proofs.Common.{IsPermutation, refl, sym, ◌∙◌, ap, subst, arith, if◌then◌else◌}
+use Rattle.std.proofs.Common.{IsPermutation, inl, inr, refl, sym, ◌∙◌, ap, subst, arith, if◌then◌else◌}
 use Rattle.std.specs.Prelude.{Contains}
 use Rattle.std.specs.List.Sorted.{IsNonDecreasing}
 use Rattle.std.proofs.lemmas.Bool.Decides.{nat_tests}
@@ -22,7 +22,10 @@ use Rattle.dns_relay.specs.Questions.{numbers as question_numbers}
 use Rattle.dns_relay.specs.Relaying.{ClosesLeast as ClosesLeastAsked}
 use Rattle.dns_relay.specs.declared.Question.{Question}
 use Rattle.slirp_core.specs.Firsts.{IsFlowFirst, IsLeastOf, IsQuestionFirst, NoFlowFirst, NoQuestionFirst}
-use Rattle.slirp_core.specs.Holds.{AfterClosing, Closing, Holders, Ran, carriers}
+use Rattle.slirp_core.specs.Holds.{AfterClosing, Closing, Holders, IsForwardFirst, IsOf, NoForwardFirst, Ran, carriers}
+use Rattle.slirp_core.specs.Sockets.{AllAbove}
+use Rattle.flows_follow.specs.Core.{number_of}
+use Rattle.slirp_core.proofs.Given.{above}
 use Rattle.slirp_core.specs.Numbers.{count_open, open_flows}
 use Rattle.slirp_core.proofs.Askers.{among_first, among_second, asked_at_most, asked_least, least_asked, no_question, none_asked}
 use Rattle.slirp_core.proofs.Names.{among_both}
@@ -99,6 +102,9 @@ under_all n rising rise first is_first less m among =
   where
     less_than : (n first m : ℕ) → nat_lt n first ≡ true → first ≤ m → n ≤ m
     less_than n first m less under = grind (arith, nat_tests, less, under)
+
+pub less_is : (n m : ℕ) → nat_lt n m ≡ true → n ≤ m
+less_is n m is = grind (arith, nat_tests, is)
 
 pub not_under : (n first : ℕ) → nat_lt n first ≡ false → first ≤ n
 not_under n first not_less = grind (arith, nat_tests, not_less)
@@ -207,22 +213,63 @@ no_question_first list asked rising all none = record {
 
 -- ---- the socket with the least number is closed
 
-module _ (config : Config) (over : Phase) (made past : List Entry) where
-  pub flow_first : (b : Bool) (o : Holders) (new : List (Option Splice)) → IsFlowFirst (carriers o) o.slots → ClosesFirst b o.slots new made → Closing config over o past →
-      AfterClosing b config over (record o { slots = new }) (made ++ past)
-  flow_first true o new first closes closing =
-      subst (λ (m : List Entry). Closing config over (record o { slots = new }) (m ++ past)) (sym closes.4)
-      (subst (λ (l : List (Option Splice)). Closing config over (record o { slots = l }) (Close closes.0 ∷ past)) (sym closes.3)
-      (flow_closed config over o past closing closes.0 closes.1 (next_flow first.0 o.slots first.1 closes.0 closes.1 (carriers o) closes.2 first.2)))
-  flow_first false o new first closes closing = absurd (one_open first.0 o.slots first.1 closes.0)
+-- one that carries datagrams and is under all others of these, and under all flows', is the least
+least_of : (n : ℕ) (o : Holders) → IsLeastOf n (carriers o) → ((k : ℕ) (p : Splice) → IsOpenAt o.slots k p → n ≤ number_of p) → (m : ℕ) → IsOf (carriers o) o.slots m → n ≤ m
+least_of n o least below m (inl among) = least.1 m among
+least_of n o least below m (inr (k, p, at, number, u)) = subst (λ x. n ≤ x) number (below k p at)
 
-  pub question_first : (b : Bool) (o : Holders) (new : List Question) → NoFlowFirst (carriers o) o.slots → IsQuestionFirst o.associations o.questions → ClosesLeastAsked
-      (λ q. true) b o.questions new made → Closing config over o past
-      → AfterClosing b config over (record o { questions = new }) (made ++ past)
-  question_first true o new no_flow first closes closing =
-      subst (λ (m : List Entry). Closing config over (record o { questions = new }) (m ++ past)) (sym closes.1)
-      (subst (λ (l : List Question). Closing config over (record o { questions = l }) (Close closes.0 ∷ past)) (sym closes.3)
-      (question_closed config over o past closing closes.0 listed (record { least = least; below = no_flow.below closes.0 least })))
+-- a forward's isn't the least, where another is under it, or there is none
+pub no_forward : (o : Holders) → NoForwardFirst [] (carriers o) o.slots
+no_forward o = record { below = λ bound rising n of least k among. cc; none = λ none. refl }
+
+pub forward_isnt_first : (number : ℕ) (rest : List ℕ) (o : Holders) (first : ℕ) → IsOf (carriers o) o.slots first → first ≤ number → NoForwardFirst (number ∷ rest) (carriers o) o.slots
+forward_isnt_first number rest o first of most = record {
+  below = λ bound rising n own least k among. let low = least first of in let high = at_least rising.1 k among in omega (arith, low, high, most);
+  none = λ none. absurd (none first of);
+}
+  where
+    at_least : AllAbove number rest → (k : ℕ) → is_among k (number ∷ rest) ≡ true → number ≤ k
+    at_least rises k among = by (k == number) refl among
+      where
+        by : (b : Bool) → (k == number) ≡ b → (b || is_among k rest) ≡ true → number ≤ k
+        by true here among = let it = equal k number here in omega (arith, it)
+        by false other among = let up = above number k rest rises among in omega (arith, up)
+
+-- where it is under all of these it is the first
+pub forward_is_first : (number : ℕ) (rest : List ℕ) (o : Holders) → ((m : ℕ) → is_among m (carriers o) ≡ true → number ≤ m) → ((k : ℕ) (p : Splice) → IsOpenAt o.slots k p → number ≤ number_of p)
+    → IsForwardFirst (number ∷ rest) (carriers o) o.slots
+forward_is_first number rest o under below = (number, rest, refl, each)
+  where
+    each : (m : ℕ) → IsOf (carriers o) o.slots m → number ≤ m
+    each m (inl among) = under m among
+    each m (inr (k, p, at, is, u)) = subst (λ x. number ≤ x) is (below k p at)
+
+module _ (config : Config) (over : Phase) (forwards : List ℕ) (made past : List Entry) where
+  pub flow_first : (b : Bool) (o : Holders) (new : List (Option Splice)) → IsFlowFirst (carriers o) o.slots → NoForwardFirst forwards (carriers o) o.slots → ClosesFirst b o.slots new made
+      → Closing config over forwards o past → AfterClosing b config over forwards (record o { slots = new }) (made ++ past)
+  flow_first true o new first no_forward closes closing =
+      subst (λ (m : List Entry). Closing config over forwards (record o { slots = new }) (m ++ past)) (sym closes.4)
+      (subst (λ (l : List (Option Splice)). Closing config over forwards (record o { slots = l }) (Close closes.0 ∷ past)) (sym closes.3)
+      (flow_closed config over forwards o past closing closes.0 closes.1 is_next (no_forward.below closing.sockets.rising.0 closing.sockets.rising.1 closes.0 its_own least)))
+    where
+      is_next : IsFlows closes.0 closes.1 (carriers o) o.slots
+      is_next = next_flow first.0 o.slots first.1 closes.0 closes.1 (carriers o) closes.2 first.2
+
+      its_own : IsOf (carriers o) o.slots closes.0
+      its_own = inr (closes.1, closes.2.part, closes.2.at, closes.2.number, tt)
+
+      least : (m : ℕ) → IsOf (carriers o) o.slots m → closes.0 ≤ m
+      least m (inl among) = is_next.below m among
+      least m (inr (j, p, at, number, u)) = subst (λ x. closes.0 ≤ x) number (closes.2.least j p at tt)
+  flow_first false o new first no_forward closes closing = absurd (one_open first.0 o.slots first.1 closes.0)
+
+  pub question_first : (b : Bool) (o : Holders) (new : List Question) → NoFlowFirst (carriers o) o.slots → IsQuestionFirst o.associations o.questions → NoForwardFirst forwards (carriers o) o.slots
+      → ClosesLeastAsked (λ q. true) b o.questions new made → Closing config over forwards o past → AfterClosing b config over forwards (record o { questions = new }) (made ++ past)
+  question_first true o new no_flow first no_forward closes closing =
+      subst (λ (m : List Entry). Closing config over forwards (record o { questions = new }) (m ++ past)) (sym closes.1)
+      (subst (λ (l : List Question). Closing config over forwards (record o { questions = l }) (Close closes.0 ∷ past)) (sym closes.3)
+      (question_closed config over forwards o past closing closes.0 listed (record { least = least; below = no_flow.below closes.0 least })
+      (no_forward.below closing.sockets.rising.0 closing.sockets.rising.1 closes.0 (inl least.0) (least_of closes.0 o least (no_flow.below closes.0 least)))))
     where
       listed : is_among closes.0 (question_numbers o.questions) ≡ true
       listed = least_asked closes.0 o.questions closes.2
@@ -235,16 +282,16 @@ module _ (config : Config) (over : Phase) (made past : List Entry) where
         among_second closes.0 (numbers o.associations) (question_numbers o.questions) listed,
         flow_is_under closes.0 o (λ m among. let above = first.2 m among in omega (arith, under, above)) (λ m among. asked_at_most closes.0 m o.questions closes.2.1 among),
       )
-  question_first false o new no_flow first closes closing = absurd
+  question_first false o new no_flow first no_forward closes closing = absurd
       (true_false (sym (least_asked first.0 o.questions first.1) ∙ ap (λ (l : List Question). is_among first.0 (question_numbers l)) (no_question o.questions closes.1)))
 
-  pub association_first : (b : Bool) (o : Holders) (new : List Association) → NoFlowFirst (carriers o) o.slots → NoQuestionFirst o.associations o.questions → ClosesLeast
-      (λ a. true) b o.associations new made → Closing config over o past
-      → AfterClosing b config over (record o { associations = new }) (made ++ past)
-  association_first true o new no_flow no_question closes closing =
-      subst (λ (m : List Entry). Closing config over (record o { associations = new }) (m ++ past)) (sym closes.1)
-      (subst (λ (l : List Association). Closing config over (record o { associations = l }) (Close closes.0 ∷ past)) (sym closes.3)
-      (association_closed config over o past closing closes.0 listed (record { least = least; below = no_flow.below closes.0 least })))
+  pub association_first : (b : Bool) (o : Holders) (new : List Association) → NoFlowFirst (carriers o) o.slots → NoQuestionFirst o.associations o.questions → NoForwardFirst forwards (carriers o) o.slots
+      → ClosesLeast (λ a. true) b o.associations new made → Closing config over forwards o past → AfterClosing b config over forwards (record o { associations = new }) (made ++ past)
+  association_first true o new no_flow no_question no_forward closes closing =
+      subst (λ (m : List Entry). Closing config over forwards (record o { associations = new }) (m ++ past)) (sym closes.1)
+      (subst (λ (l : List Association). Closing config over forwards (record o { associations = l }) (Close closes.0 ∷ past)) (sym closes.3)
+      (association_closed config over forwards o past closing closes.0 listed (record { least = least; below = no_flow.below closes.0 least })
+      (no_forward.below closing.sockets.rising.0 closing.sockets.rising.1 closes.0 (inl least.0) (least_of closes.0 o least (no_flow.below closes.0 least)))))
     where
       listed : is_among closes.0 (numbers o.associations) ≡ true
       listed = least_among closes.0 o.associations closes.2
@@ -254,14 +301,18 @@ module _ (config : Config) (over : Phase) (made past : List Entry) where
         among_first closes.0 (numbers o.associations) (question_numbers o.questions) listed,
         flow_is_under closes.0 o (λ m among. at_most closes.0 m o.associations closes.2.1 among) (no_question.below closes.0 closes.2),
       )
-  association_first false o new no_flow no_question closes closing =
-      subst (λ (m : List Entry). Ran config over (m ++ past)) (sym closes.0) (all_closed config over o past closing none (no_flow.none none))
+  association_first false o new no_flow no_question no_forward closes closing =
+      subst (λ (m : List Entry). Ran config over (m ++ past)) (sym closes.0) (all_closed config over forwards o past closing none (no_flow.none none) (no_forward.none no_one))
     where
       alone : o.associations ≡ []
       alone = no_association o.associations closes.1
 
       none : carriers o ≡ []
       none = ap (λ (l : List Association). numbers l ++ question_numbers o.questions) alone ∙ ap question_numbers (no_question.none alone)
+
+      no_one : (m : ℕ) → IsOf (carriers o) o.slots m → ⊥
+      no_one m (inl among) = true_false (sym among ∙ ap (is_among m) none)
+      no_one m (inr (k, p, at, number, u)) = no_flow.none none k p at tt
 
 -- ---- whether there was one
 

@@ -1,10 +1,11 @@
 -- Two rows of numbers that rise, as one.
 use Rattle.std.proofs.Common.{◌≡◌, ℕ, zero, suc, ◌+◌, ◌<◌, ◌≤◌, ◌++◌, Bool, true, false, List, [], ◌∷◌, length, drop, take, get_or, nat_lt, if◌then◌else◌, IsPermutation, refl, sym, ◌∙◌}
-use Rattle.std.proofs.Common.{ap, subst, arith}
+use Rattle.std.proofs.Common.{ap, append_assoc, subst, arith}
 use Rattle.std.specs.List.Sorted.{IsNonDecreasing}
 use Rattle.std.proofs.lemmas.Bool.Decides.{nat_tests}
 use Rattle.std.proofs.lemmas.List.Sorted.{IsPermutation-append, IsPermutation-cons, IsPermutation-middle, IsPermutation-refl, IsPermutation-trans, length_permutation}
 use Rattle.slirp_core.specs.Pumps.{into, merged}
+use Rattle.slirp_core.specs.Sockets.{AllAbove, IsRising}
 
 -- ---- it has the numbers of both
 
@@ -23,6 +24,12 @@ merged_both (n ∷ ns) ms = into_all n (merged ns) ns (λ more. merged_both ns m
 
 pub merged_all : (xs ys some others : List ℕ) → IsPermutation xs some → IsPermutation ys others → IsPermutation (xs ++ ys) (merged some others)
 merged_all xs ys some others one two = IsPermutation-trans (xs ++ ys) (some ++ others) (merged some others) (IsPermutation-append xs some ys others one two) (merged_both some others)
+
+-- and so of three
+pub merged_three : (given xs ys some others : List ℕ) → IsPermutation xs some → IsPermutation ys others → IsPermutation (given ++ (xs ++ ys)) (merged (merged given some) others)
+merged_three given xs ys some others one two =
+    subst (λ l. IsPermutation l (merged (merged given some) others)) (append_assoc given xs ys)
+    (merged_all (given ++ xs) ys (merged given some) others (merged_all given xs given some (IsPermutation-refl given) one) two)
 
 -- ---- and rises as they do
 
@@ -87,6 +94,18 @@ climbs_into n ns least all (m ∷ ms) up = by (nat_lt n m) refl (climbs_into n n
 climbs_merged : (ns ms : List ℕ) → Climbs ns → Climbs ms → Climbs (merged ns ms)
 climbs_merged [] ms one two = two
 climbs_merged (n ∷ ns) ms one two = climbs_into n ns one.0 (λ more up. climbs_merged ns more one.1 up) ms two
+
+-- numbers that rise under a bound don't fall
+pub rising_climbs : (bound : ℕ) (ns : List ℕ) → IsRising bound ns → IsNonDecreasing ns
+rising_climbs bound ns rising = never_falls ns (climb bound ns rising)
+  where
+    over : (n : ℕ) (ns : List ℕ) → AllAbove n ns → AtLeast n ns
+    over n [] up = tt
+    over n (m ∷ ns) up = let less = up.0 in (omega (arith, less), over n ns up.1)
+
+    climb : (bound : ℕ) (ns : List ℕ) → IsRising bound ns → Climbs ns
+    climb bound [] rising = tt
+    climb bound (n ∷ ns) rising = (over n ns rising.1, climb bound ns rising.2)
 
 pub merged_rises : (some others : List ℕ) → IsNonDecreasing some → IsNonDecreasing others → IsNonDecreasing (merged some others)
 merged_rises some others one two = never_falls (merged some others) (climbs_merged some others (climbs some one) (climbs others two))

@@ -1,5 +1,7 @@
 -- What the core has, part by part, after a call on a socket that isn't a flow's.
-use Rattle.std.proofs.Common.{◌≡◌, ℕ, ◌&&◌, ◌||◌, Bool, true, false, List, [], ◌∷◌, Option, Some, None, refl, sym, ◌∙◌, ap, subst, arith, nat_le, ◌++◌, length, if◌then◌else◌}
+use Rattle.std.proofs.lemmas.Bool.Decides.{nat_tests}
+use Rattle.slirp_laws.proofs.Bools.{second_of}
+use Rattle.std.proofs.Common.{◌<◌, ◌≡◌, ℕ, ◌&&◌, ◌||◌, Bool, true, false, List, [], ◌∷◌, Option, Some, None, refl, sym, ◌∙◌, ap, subst, arith, nat_le, ◌++◌, length, if◌then◌else◌}
 use Rattle.std.specs.Option.{option_or}
 use Rattle.net_octets.specs.declared.Endpoint.{Endpoint}
 use Rattle.poll_list.specs.declared.Want.{Want}
@@ -14,8 +16,9 @@ use Rattle.port_forward.specs.Opened.{socket_for as port_for}
 use Rattle.record_flows.specs.Book.{book}
 use Rattle.record_flows.specs.Lots.{due_for_flows}
 use Rattle.run_laws.specs.Happenings.{happens}
-use Rattle.run_laws.specs.Shape.{Phase, Started, Working, phase, due_in, opened}
-use Rattle.run_laws.specs.Sockets.{is_among, next_number}
+use Rattle.run_laws.specs.Shape.{Phase, Working, phase, due_in, opened}
+use Rattle.run_laws.specs.Moments.{waits}
+use Rattle.run_laws.specs.Sockets.{Kind, Association as OfAssociation, DnsSocket, Forward as OfForward, Listener as OfListener, Flow as OfFlow, is_among, is_association, kind_of, next_number, open_sockets}
 use Rattle.slirp_laws.specs.Agenda.{agenda, all_wanted, behind, from, is_to_read}
 use Rattle.slirp_laws.specs.Asking.{step}
 use Rattle.slirp_laws.specs.Errands.{errand_left}
@@ -28,11 +31,12 @@ use Rattle.slirp_laws.proofs.Joining.{joined_step}
 use Rattle.stream_netdev.specs.Keeps.{Keeps}
 use Rattle.stream_netdev.specs.State.{LinkState}
 use Rattle.slirp_core.specs.Holds.{Standing, InTurn, AreTwo, asked_by, carriers, holders_of, IsLast, OfAnswers, OfClock, OfRelay, Unbegun, Flowing, HoldsOn, OfFlows, OfSockets, Stands, Turns, Begins}
+use Rattle.slirp_core.specs.Forwards.{AreInForce, is_given}
 use Rattle.slirp_core.specs.State.{SlirpState}
 use Rattle.slirp_core.proofs.Guests.{guests_stay, of_guests}
 use Rattle.slirp_laws.specs.Answers.{serving}
 use Rattle.slirp_core.proofs.Services.{services_stay}
-use Rattle.slirp_core.proofs.Given.{HasGiven, all_given, forward_is}
+use Rattle.slirp_core.proofs.Given.{IsOther, forward_is, stays_in_force}
 use Rattle.slirp_core.proofs.Names.{carried as carried_names, two_apart}
 use Rattle.tcp_flows.specs.Kept.{Kept}
 use Rattle.slirp_core.proofs.Flows.{close_same, flows_same, flows_stay, no_flow}
@@ -109,21 +113,12 @@ pub or_second : (a b : Bool) → b ≡ true → (a || b) ≡ true
 or_second true b is = refl
 or_second false b is = is
 
--- all ports of the settings are open in a turn, and before the first
-pub given_in : (config : Config) (at : Standing) (step : Step) (heard : Option ℕ) (slirp : SlirpState) (f : Flowing) (link : LinkState) (past : List Entry) →
-    HoldsOn config at step heard slirp f link past → HasGiven config (length config.forwards) past
-given_in config at step heard slirp f link past holds = by holds.stands
-  where
-    by : Stands config step slirp f.kept link past → HasGiven config (length config.forwards) past
-    by (Turns turn) = all_given config past holds.guests.once holds.lawful Working turn.working refl
-    by (Begins unbegun free unrested) = all_given config past holds.guests.once holds.lawful Started unbegun.started refl
-
--- the first of them for datagrams to a port of a guest is that of the list
+-- the first port of the host that is given to a port of a guest for datagrams is that of the list
 pub forward_in : (config : Config) (at : Standing) (step : Step) (heard : Option ℕ) (slirp : SlirpState) (f : Flowing) (link : LinkState) (past : List Entry) →
     HoldsOn config at step heard slirp f link past
     → (guest : Endpoint) → forward_for config guest past ≡ port_for guest slirp.forwards
 forward_in config at step heard slirp f link past holds guest =
-    forward_is config past holds.lawful (given_in config at step heard slirp f link past holds) holds.open_yet guest ∙ sym (ap (port_for guest) holds.forwards)
+    forward_is config slirp.forwards past holds.lawful holds.forwards guest
 
 -- what the lists ask for is what the record says
 pub asked_for : (config : Config) (at : Standing) (s : Step) (heard : Option ℕ) (slirp : SlirpState) (f : Flowing) (link : LinkState) (past : List Entry) →
@@ -209,12 +204,29 @@ clock_stays at after slirp new (UdpSend socket to octets answer) past on same co
 clock_stays at after slirp new (UdpRecv socket asked answer octets) past on same count clock = record { moment = clock.moment ∙ sym same; counted = clock.counted ∙ sym count }
 clock_stays at after slirp new _ past on same count clock = absurd on
 
--- the socket of a close carries a guest's datagrams
-abbrev pub ClosesOwn : Entry → List Entry → Type 0
-ClosesOwn (Close socket) past = carries past socket ≡ true
-ClosesOwn _ past = Unit {0}
+-- the socket of a close carries a guest's datagrams, and one that is opened has the port that the host chooses
+abbrev pub IsOwn : Entry → List Entry → Type 0
+IsOwn (Close socket) past = carries past socket ≡ true
+IsOwn (UdpOpen socket at answer) past = at.port ≡ 0
+IsOwn _ past = Unit {0}
 
-flows_on : (config : Config) (f : Flowing) (now : ℕ) (e : Entry) (past : List Entry) → IsOnSocket e → ClosesOwn e past → Lawful config past → OfFlows config f now past →
+-- so it is none of a port of the host that is given to a guest
+no_carrier : (k : Option Kind) → is_association k ≡ true → is_given k ≡ false
+no_carrier None is = refl
+no_carrier (Some OfAssociation) is = refl
+no_carrier (Some DnsSocket) is = refl
+no_carrier (Some OfForward) is = cc
+no_carrier (Some OfListener) is = cc
+no_carrier (Some OfFlow) is = refl
+
+is_other : (e : Entry) (past : List Entry) → IsOnSocket e → IsOwn e past → 0 < waits past → IsOther e past
+is_other (Close socket) past on own waited = no_carrier (kind_of socket past) (second_of (is_among socket (open_sockets past)) (is_association (kind_of socket past)) own)
+is_other (UdpOpen socket at answer) past on own waited = (grind (arith, nat_tests, waited), own)
+is_other (UdpSend socket to octets answer) past on own waited = tt
+is_other (UdpRecv socket asked answer octets) past on own waited = tt
+is_other _ past on own waited = absurd on
+
+flows_on : (config : Config) (f : Flowing) (now : ℕ) (e : Entry) (past : List Entry) → IsOnSocket e → IsOwn e past → Lawful config past → OfFlows config f now past →
     OfFlows config f now (e ∷ past)
 flows_on config f now (Close socket) past on own lawful flows = flows_same config f now (Close socket) past
     (close_same config past socket (no_flow config past socket lawful own)) refl (omega arith) refl flows
@@ -227,7 +239,7 @@ flows_on config f now _ past on own lawful flows = absurd on
 pub record Changes (config : Config) (aged : Bool) (after : Standing) (step : Step) (heard : Option ℕ) (new : SlirpState) (e : Entry) (past : List Entry) : Type 0 where
   pub may : May config past (call_of e)
   pub allowed : Allowed e
-  pub own : ClosesOwn e past
+  pub own : IsOwn e past
   pub answers : OfAnswers config step aged new (e ∷ past)
   pub relayed : OfRelay config step heard new (e ∷ past)
   pub sockets : OfSockets new.number (e ∷ past)
@@ -247,7 +259,8 @@ after_socket config at after step new_step heard new_heard slirp new f link e pa
   guests = guests_stay config slirp new e past (brings_none config e past on) same_guests holds.guests;
   relayed = changes.relayed;
   services = services_stay config slirp new e past (brings_none config e past on) (seeks_none config e past on) same_leases holds.services;
-  forwards = same_forwards ∙ holds.forwards;
+  forwards = subst (λ l. AreInForce config l (e ∷ past)) (sym same_forwards)
+      (stays_in_force config slirp.forwards past holds.lawful holds.forwards e changes.may (is_other e past on changes.own turn.waited));
   flows = subst (λ m. OfFlows config f m (e ∷ past)) (sym same_moment) (flows_on config f slirp.moment e past on changes.own holds.lawful holds.flows);
   sockets = changes.sockets;
   clock = clock_stays at after slirp new e past on same_moment same_count holds.clock;

@@ -1,4 +1,6 @@
 -- Writes of a pump that sends what is owed for the frame or datagram that came last.
+use Rattle.slirp_core.specs.Forwards.{AreInForce}
+use Rattle.slirp_core.proofs.Given.{stays_in_force}
 use Rattle.std.proofs.Common.{◌≡◌, ℕ, ◌+◌, ◌%◌, ◌^◌, ◌<◌, ◌==◌, ◌&&◌, Bool, true, false, List, [], ◌∷◌, ◌++◌, drop, length, bytes_eq, Some, None, inl, inr, if◌then◌else◌, sym, ◌∙◌, ap}
 use Rattle.std.proofs.Common.{subst, arith, refl}
 use Rattle.std.proofs.lemmas.Bool.Decides.{nat_tests}
@@ -22,7 +24,7 @@ use Rattle.stream_netdev.specs.Offers.{offered}
 use Rattle.stream_netdev.specs.State.{LinkState}
 use Rattle.stream_netdev.specs.declared.Offered.{Offered}
 use Rattle.slirp_core.specs.Forwards.{forward_sockets}
-use Rattle.slirp_core.specs.Holds.{Standing, InTurn, AfterPump, AreOpenWith, AreTwo, carriers, holders_with, Flowing, Holds, OfFlows, Turns, LeavesBehind, LeavesRest}
+use Rattle.slirp_core.specs.Holds.{Standing, InTurn, AfterPump, AreOpen, AreTwo, carriers, holders_with, Flowing, Holds, OfFlows, Turns, LeavesBehind, LeavesRest}
 use Rattle.slirp_core.specs.Outgoing.{sent_after}
 use Rattle.slirp_core.specs.Pumps.{keep}
 use Rattle.stream_netdev.specs.Offers.{pumped_of}
@@ -77,7 +79,8 @@ after_write config at slirp new_slirp f old new past octets answer blocked holds
         heard = refl;
       };
       services = record { leases = holds.services.leases ∙ sym (ap (λ (s : SlirpState). s.leases) same); quest = quest_written config octets a past holds.services.quest };
-      forwards = ap (λ (s : SlirpState). s.forwards) same ∙ holds.forwards;
+      forwards = subst (λ l. AreInForce config l (LinkWrite octets a ∷ past)) (sym (ap (λ (s : SlirpState). s.forwards) same))
+          (stays_in_force config slirp.forwards past holds.lawful holds.forwards (LinkWrite octets a) (lawful a k).0 tt);
       flows = subst (λ m. OfFlows config f m (LinkWrite octets a ∷ past)) (sym (ap (λ (s : SlirpState). s.moment) same)) (flows a);
       sockets = record { number = holds.sockets.number ∙ sym (ap (λ (s : SlirpState). s.number) same); kinds = holds.sockets.kinds };
       clock = record { moment = holds.clock.moment ∙ sym (ap (λ (s : SlirpState). s.moment) same); counted = holds.clock.counted };
@@ -86,7 +89,7 @@ after_write config at slirp new_slirp f old new past octets answer blocked holds
       open_yet = holds.open_yet;
     }
 
-    now_open : AreOpenWith (forward_sockets slirp.forwards) (carriers (holders_with slirp f.kept)) f.kept.flows.slots past
+    now_open : AreOpen (forward_sockets slirp.forwards) (carriers (holders_with slirp f.kept)) f.kept.flows.slots past
     now_open = are_open config at NeedsNothing None slirp f old past holds
 
     by_answer : (a : Io) (b : Bool) → Keeps new (LinkWrite octets a ∷ past) → Allowed (LinkWrite octets a) → Left config f.aged past octets a new_slirp → AfterPump
@@ -105,7 +108,7 @@ after_write config at slirp new_slirp f old new past octets answer blocked holds
       served = none_due_for_services config (LinkWrite octets Failed ∷ past) refl (quest_written config octets Failed past holds.services.quest);
       idle = (flows Failed).holds.asked;
       stay = flows_stay_open config f slirp.moment (LinkWrite octets Failed ∷ past) (flows Failed);
-      sockets = subst (λ (s : SlirpState). AreOpenWith (forward_sockets s.forwards) (carriers (holders_with s f.kept)) f.kept.flows.slots (LinkWrite octets Failed ∷ past))
+      sockets = subst (λ (s : SlirpState). AreOpen (forward_sockets s.forwards) (carriers (holders_with s f.kept)) f.kept.flows.slots (LinkWrite octets Failed ∷ past))
           (sym same) (record {
             each = now_open.each;
             forward = now_open.forward;
@@ -113,7 +116,7 @@ after_write config at slirp new_slirp f old new past octets answer blocked holds
             flow = now_open.flow;
             apart = now_open.apart;
             rising = now_open.rising;
-            first = now_open.first;
+            others = now_open.others;
           });
       two = subst (λ (s : SlirpState). AreTwo (holders_with s f.kept)) (sym same) (two_in config slirp past holds.lawful holds.relayed.list holds.relayed.questions);
     }

@@ -1,4 +1,6 @@
 -- Reads of the link, and what a frame brings.
+use Rattle.slirp_core.specs.Forwards.{AreInForce}
+use Rattle.port_forward.specs.Opened.{Opened}
 use Rattle.std.proofs.Common.{◌≡◌, ℕ, ◌<◌, ◌&&◌, not, Bool, true, false, List, [], ◌∷◌, ◌++◌, drop, Option, Some, None, option_map, if◌then◌else◌, refl, sym, ◌∙◌, ap, subst, arith}
 use Rattle.flow_laws.specs.Guest.{is_empty}
 use Rattle.poll_list.specs.declared.Want.{Want}
@@ -41,8 +43,7 @@ use Rattle.stream_netdev.specs.Keeps.{Keeps, ReadsFrame, hands, ending_of}
 use Rattle.stream_netdev.specs.State.{LinkState}
 use Rattle.stream_netdev.specs.declared.Arrived.{Arrived}
 use Rattle.slirp_core.specs.Fragments.{IsHeld}
-use Rattle.slirp_core.specs.Forwards.{forward_sockets}
-use Rattle.slirp_core.specs.Holds.{AreOpenWith, AsksFile, carriers, holders_with, asked_by, InTurn, IsLast, standing, Comes, Ended, Holds, HoldsAt, OfFlows, OfSockets, Turns, flowing}
+use Rattle.slirp_core.specs.Holds.{AsksFile, holders_with, asked_by, InTurn, IsLast, standing, Comes, Ended, Holds, HoldsAt, OfFlows, OfSockets, Turns, flowing}
 use Rattle.slirp_core.specs.Packets.{errand_in, file_in, owed_at_once_by, owed_with, request_by, request_by_packet, with_frame}
 use Rattle.slirp_core.specs.Services.{OfServices}
 use Rattle.slirp_core.specs.State.{SlirpState, serving_of}
@@ -60,7 +61,7 @@ use Rattle.slirp_core.proofs.Flows.{flows_stay, flows_stay_open}
 use Rattle.slirp_core.proofs.Owing.{nothing_left, of_left, owed_at}
 use Rattle.slirp_core.proofs.Services.{none_due_for_services, serving_is}
 use Rattle.slirp_laws.specs.Names.{answered, questions}
-use Rattle.slirp_core.proofs.Given.{all_given}
+use Rattle.slirp_core.proofs.Given.{unmoved}
 use Rattle.slirp_core.proofs.Open.{open_by}
 
 -- reads of a frame, before the last
@@ -236,6 +237,21 @@ for_files config d (Segment mac ip tcp) is = cc
 abbrev pub KeepsParts : Config → SlirpState → SlirpState → Option (List ℕ) → Type 0
 KeepsParts config slirp new None = new.fragments ≡ slirp.fragments
 KeepsParts config slirp new (Some frame) = (held : List PartSet) → IsHeld slirp.fragments held → IsHeld new.fragments (with_fragment slirp.moment (fragment_in config frame) held)
+
+-- reads of the link leave the ports of the host in force
+pieces_in_force : (config : Config) (forwards : List Opened) (made past : List Entry) → Pieces made past → AreInForce config forwards past → AreInForce config forwards (made ++ past)
+pieces_in_force config forwards [] past pieces has = has
+pieces_in_force config forwards (LinkRead asked answer octets ∷ made) past pieces has =
+    let before = pieces_in_force config forwards made past pieces.3 has in
+    unmoved config forwards (LinkRead asked answer octets ∷ made ++ past) (made ++ past) (λ n among. refl) (λ n among given. among) (λ n among given. (among, given)) (omega arith) before
+pieces_in_force config forwards (_ ∷ made) past pieces has = absurd pieces.0
+
+read_in_force : (config : Config) (forwards : List Opened) (made past : List Entry) → Reads made past → AreInForce config forwards past → AreInForce config forwards (made ++ past)
+read_in_force config forwards [] past reads has = absurd reads
+read_in_force config forwards (LinkRead asked answer octets ∷ made) past reads has =
+    let before = pieces_in_force config forwards made past reads.1 has in
+    unmoved config forwards (LinkRead asked answer octets ∷ made ++ past) (made ++ past) (λ n among. refl) (λ n among given. among) (λ n among given. (among, given)) (omega arith) before
+read_in_force config forwards (_ ∷ made) past reads has = absurd reads.0
 
 -- the newest read, and what came before it
 record Newest (config : Config) (count : ℕ) (wants : List Want) (item : Want) (items : List Want) (slirp : SlirpState) (kept : Kept) (wait : List PartSet) (all : List Entry) : Type 0 where
@@ -427,6 +443,10 @@ module _ (config : Config) (count : ℕ) (wants : List Want) (item : Want) (item
         sockets = holds.sockets;
       }) holds.lawful
 
+  -- the ports of the host that are given to guests are as they were
+  forwards_then : AreInForce config slirp.forwards (made ++ past)
+  forwards_then = read_in_force config slirp.forwards made past (read past holds.keeps).1.reads holds.forwards
+
   -- the packet that came, if one did
   abbrev pub packet : Packet
   packet = packet_of config slirp.moment wait (hands answer new)
@@ -457,12 +477,12 @@ module _ (config : Config) (count : ℕ) (wants : List Want) (item : Want) (item
             files = sym (ap (λ (k : Files). k.transfers) unsought);
           });
         };
-        guests = guests_learn config slirp then_is (hands answer new) (made ++ past) holds.guests.settings holds.guests.once
+        guests = guests_learn config slirp then_is (hands answer new) (made ++ past) holds.guests.settings
             (all.known_is ∙ ap (λ o. with_frame config o slirp.known) r.1.frame) refl refl
             (all.fragments then_is (subst (λ o. KeepsParts config slirp then_is o) (sym r.1.frame) (kept_as (hands answer new) new_slirp keeps)));
         relayed = record { list = all.list; questions = all.named; asks = ap (asked_by config slirp) (all.asks ∙ ap (errand_by_packet config) arrived_is); heard = all.heard };
         services = record { leases = all.lent ∙ ap (λ p. leases_by_packet config slirp.moment p slirp.leases) arrived_is; quest = ap (λ (k : Files). k.quest) unsought };
-        forwards = holds.forwards;
+        forwards = forwards_then;
         flows = record { holds = was.holds; asked = was.asked; settings = was.settings; unit = was.unit };
         sockets = all.sockets;
         clock = record { moment = all.clock; counted = all.counted };
@@ -521,12 +541,12 @@ module _ (config : Config) (count : ℕ) (wants : List Want) (item : Want) (item
         none = no_packet;
         again = all.idle;
         files = sym (ap (λ (k : Files). k.transfers) unsought);
-        guests = guests_learn config slirp then_is (hands answer new) (made ++ past) holds.guests.settings holds.guests.once
+        guests = guests_learn config slirp then_is (hands answer new) (made ++ past) holds.guests.settings
             (all.known_is ∙ ap (λ o. with_frame config o slirp.known) r.1.frame) refl refl
             (all.fragments then_is (subst (λ o. KeepsParts config slirp then_is o) (sym r.1.frame) (kept_as (hands answer new) new_slirp keeps)));
         relayed = record { list = all.list; questions = all.named; asks = ap (asked_by config slirp) unasked; heard = all.heard };
         services = record { leases = all.lent ∙ ap (λ p. leases_by_packet config slirp.moment p slirp.leases) (arrived_is ∙ seg); quest = ap (λ (k : Files). k.quest) unsought };
-        forwards = holds.forwards;
+        forwards = forwards_then;
         learnt = all.taught_it mac ip tcp (arrived_is ∙ seg);
         unit = holds.flows.unit;
         sockets = all.sockets;
@@ -561,12 +581,12 @@ module _ (config : Config) (count : ℕ) (wants : List Want) (item : Want) (item
         none = ap (λ p. frames_of config slirp.sent (owed_with config (serving_of slirp) p)) its.packet ∙ ap
             (λ f. frames_of config slirp.sent (owed_at_once_by config (serving_of slirp) d f)) its.fate;
         again = all.idle;
-        guests = guests_learn config slirp then_is (hands answer new) (made ++ past) holds.guests.settings holds.guests.once
+        guests = guests_learn config slirp then_is (hands answer new) (made ++ past) holds.guests.settings
             (all.known_is ∙ ap (λ o. with_frame config o slirp.known) r.1.frame) refl refl
             (all.fragments then_is (subst (λ o. KeepsParts config slirp then_is o) (sym r.1.frame) (kept_as (hands answer new) new_slirp keeps)));
         relayed = record { list = all.list; questions = all.named; asks = ap (asked_by config slirp) unasked; heard = all.heard };
         leases = all.lent ∙ ap (λ p. leases_by_packet config slirp.moment p slirp.leases) arrived_is;
-        forwards = holds.forwards;
+        forwards = forwards_then;
         flows = record { holds = was.holds; asked = was.asked; settings = was.settings; unit = was.unit };
         sockets = all.sockets;
         clock = record { moment = all.clock; counted = all.counted };
@@ -594,8 +614,6 @@ module _ (config : Config) (count : ℕ) (wants : List Want) (item : Want) (item
         served = none_due_for_services config (made ++ past) all.heard (ap (λ (k : Files). k.quest) (all.files_is ∙ ap (files_by_packet config (serving_of slirp)) nothing));
         idle = flows.holds.asked;
         stay = flows_stay_open config (flowing false kept) slirp.moment (made ++ past) flows;
-        sockets = subst (λ l. AreOpenWith (forward_sockets l) (carriers (holders_with slirp kept)) kept.flows.slots (made ++ past)) (sym holds.forwards)
-            (open_by config slirp (flowing false kept) slirp.moment (made ++ past) all.lawful all.list all.named flows.holds all.sockets.kinds
-            (all_given config (made ++ past) holds.guests.once all.lawful (Over (By why)) (all.phase_is ∙ ap over_by (r.1.last ∙ is)) refl) all.open_yet);
+        sockets = open_by config slirp (flowing false kept) slirp.moment (made ++ past) all.lawful all.list all.named flows.holds all.sockets.kinds forwards_then;
         two = two_in config slirp (made ++ past) all.lawful all.list all.named;
       }

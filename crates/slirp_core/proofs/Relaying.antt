@@ -1,5 +1,5 @@
 -- Calls on the sockets of datagrams: those of associations, of questions, and of ports of the host that are given to guests.
-use Rattle.std.proofs.Common.{◌≡◌, ℕ, ◌+◌, ◌<◌, ◌==◌, ◌&&◌, ◌||◌, not, Bool, true, false, nat_le, nat_lt, zero, suc, List, [], ◌∷◌, ◌++◌, length, find, slice_get, Option, Some, None}
+use Rattle.std.proofs.Common.{◌≡◌, ℕ, ◌+◌, ◌<◌, ◌==◌, ◌&&◌, ◌||◌, not, Bool, true, false, nat_le, nat_lt, List, [], ◌∷◌, ◌++◌, length, find, Option, Some, None}
 use Rattle.flow_laws.specs.Guest.{is_empty}
 use Rattle.std.specs.Option.{option_or}
 use Rattle.std.proofs.Common.{option_map, unwrap_or, if◌then◌else◌, inl, refl, sym, ◌∙◌, ap, arith}
@@ -58,9 +58,10 @@ use Rattle.stream_netdev.specs.State.{LinkState}
 use Rattle.slirp_core.specs.Holds.{asked_by, Standing, standing, InTurn, IsLast, Flowing, HoldsAt, HoldsOn, Holds, OfRelay, is_ours}
 use Rattle.slirp_core.specs.Replies.{owed_at}
 use Rattle.slirp_core.specs.State.{SlirpState}
+use Rattle.slirp_core.specs.Forwards.{IsInForce}
 use Rattle.slirp_core.proofs.Given.{leads_at}
 use Rattle.slirp_core.proofs.Names.{association_unmoved, carried as carried_names, kind_carried, kind_named, named_apart, neither, none_moved, none_numbered, none_without, one_numbered, two_apart}
-use Rattle.slirp_core.proofs.Parts.{asks_nothing, behind_of, errand_for, forward_in, given_in, or_first, or_second, reads_of, still_open, after_socket, asked_for, due_is, in_turn}
+use Rattle.slirp_core.proofs.Parts.{asks_nothing, behind_of, errand_for, forward_in, or_first, or_second, reads_of, still_open, after_socket, asked_for, due_is, in_turn}
 use Rattle.slirp_core.specs.Owed.{IsOwedAt}
 use Rattle.tftp_server.specs.Transfers.{Settled as SeeksNothing}
 use Rattle.slirp_core.proofs.Owing.{left_stays, left_then, nothing_left as none_left, of_left, owed_stays}
@@ -303,7 +304,7 @@ module _ (config : Config) (at : Standing) (slirp : SlirpState) (f : Flowing) (l
           (record slirp { number = slirp.number + 1; associations = list; questions = named }) f link (UdpOpen slirp.number port MadeDone) past tt refl refl refl refl refl turn holds (record {
             may = may_open;
             allowed = allowed;
-            own = tt;
+            own = any;
             answers = record {
               sent = holds.answers.sent;
               owed = left_stays config f.aged slirp (record slirp { number = slirp.number + 1; associations = list; questions = named })
@@ -323,7 +324,7 @@ module _ (config : Config) (at : Standing) (slirp : SlirpState) (f : Flowing) (l
           (UdpOpen slirp.number port MadeFailed) past tt refl refl refl refl refl turn holds (record {
             may = may_open;
             allowed = allowed;
-            own = tt;
+            own = any;
             answers = record {
               sent = holds.answers.sent;
               owed = inl (left_then config f.aged slirp (record slirp { number = slirp.number + 1; pending = frames_of slirp.config slirp.sent (told_about slirp.config no_network errand.datagram) })
@@ -765,20 +766,12 @@ module _ (config : Config) (count : ℕ) (wants : List Want) (item : Want) (item
 
   -- ---- on the socket of a port of the host that is given to a guest
 
-  module _ (forward : AForward) (at_place : slice_get config.forwards socket ≡ Some forward) (udp : forward.proto ≡ ByUdp) where
+  module _ (forward : AForward) (one : IsInForce config past (forward, socket)) (udp : forward.proto ≡ ByUdp) where
     leads : (kind_of socket past ≡ Some Forward) × (opened_for config socket past ≡ Some forward.guest)
-    leads = leads_at config past holds.lawful (given_in config before NeedsNothing None slirp f link past holds) holds.open_yet socket forward at_place udp
+    leads = leads_at config slirp.forwards past holds.lawful holds.forwards socket forward one udp
 
     pub relays_forward : relays past socket ≡ true
-    relays_forward =
-        and_both (is_among socket (open_sockets past)) (is_for_datagrams (kind_of socket past))
-        ((given_in config before NeedsNothing None slirp f link past holds).stay holds.open_yet socket (within config.forwards socket at_place))
-        (ap is_for_datagrams leads.0)
-      where
-        within : (fs : List AForward) (k : ℕ) → slice_get fs k ≡ Some forward → k < length fs
-        within [] k at = cc
-        within (x ∷ fs) zero at = omega arith
-        within (x ∷ fs) (suc k) at = let less = within fs k at in omega (arith, less)
+    relays_forward = and_both (is_among socket (open_sockets past)) (is_for_datagrams (kind_of socket past)) one.open_yet (ap is_for_datagrams leads.0)
 
     uncarried : carries past socket ≡ false
     uncarried = forward_no_carrier (is_among socket (open_sockets past)) (kind_of socket past) (ap is_forward leads.0)

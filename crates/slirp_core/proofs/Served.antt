@@ -1,6 +1,7 @@
 -- What a receipt and an accept leave of the report by which they came: nothing.
-use Rattle.std.proofs.Common.{◌≡◌, ℕ, zero, suc, ◌+◌, ◌&&◌, ◌||◌, Bool, true, false, is_some, List, [], ◌∷◌, ◌++◌, slice_get, Option, None, Some, refl, sym, ap, ◌∙◌, if◌then◌else◌}
-use Rattle.std.specs.Option.{option_and_then, option_map_or}
+use Rattle.run_laws.specs.Sockets.{next_number}
+use Rattle.std.proofs.Common.{◌≡◌, ℕ, ◌&&◌, ◌||◌, Bool, true, false, is_some, List, [], ◌∷◌, ◌++◌, Option, None, Some, refl, sym, ap, ◌∙◌, if◌then◌else◌}
+use Rattle.std.specs.Option.{option_and_then}
 use Rattle.std.proofs.lemmas.List.Sorted.{IsPermutation-refl}
 use Rattle.poll_list.specs.declared.Want.{Want}
 use Rattle.poll_list.specs.declared.Who.TheVariants.{Listener as AListener, Udp as ASocket}
@@ -11,7 +12,6 @@ use Rattle.host_policy.specs.Addresses.{Config}
 use Rattle.host_policy.specs.declared.Forward.{Forward}
 use Rattle.host_policy.specs.declared.Proto.{Proto}
 use Rattle.host_policy.specs.declared.Proto.TheVariants.{Tcp, Udp}
-use Rattle.port_forward.specs.Opened.{Opened}
 use Rattle.flows_follow.specs.Peers.{fits_peer}
 use Rattle.run_laws.specs.Moments.{waits}
 use Rattle.run_laws.specs.Sockets.{is_among}
@@ -23,13 +23,14 @@ use Rattle.run_duties.specs.Said.{some_reads}
 use Rattle.run_duties.specs.Serving.{is_left_to_read, serves_reading}
 use Rattle.run_duties.specs.Waiting.{takes_datagrams, takes_in}
 use Rattle.run_duties.proofs.Serving.{read_since, reading_on, unread}
-use Rattle.slirp_core.specs.Forwards.{guest_on, is_over, sockets_over, with_numbers}
+use Rattle.port_forward.specs.Opened.{forward_with}
+use Rattle.slirp_core.specs.Forwards.{sockets_over}
 use Rattle.slirp_core.specs.Hearing.{Receives, is_heard}
 use Rattle.slirp_core.specs.Holds.{Flowing, Holds, Standing, carriers, holders_of, standing}
 use Rattle.slirp_core.specs.State.{SlirpState}
 use Rattle.slirp_core.specs.Visits.{is_awaited}
-use Rattle.slirp_core.proofs.Awaiting.{among_given_over, is_at, listeners_are, sockets_are}
-use Rattle.slirp_core.proofs.Given.{guest_given}
+use Rattle.slirp_core.proofs.Awaiting.{listeners_are, sockets_are}
+use Rattle.slirp_core.proofs.Given.{is_at, over_with}
 use Rattle.slirp_core.proofs.Names.{among_both}
 
 -- ---- calls that serve a report
@@ -51,7 +52,7 @@ asks_reads listener number answer past (e ∷ later) =
 
 -- ---- what the record takes is what the core hears
 
--- a port of the host is given to a guest for datagrams where the settings say so
+-- a port of the host is given to a guest for datagrams where its forward is for these
 given_for_datagrams : (o : Option Forward) → is_at Udp o ≡ is_some (option_and_then (λ (f : Forward). given_by f.proto f.guest) o)
 given_for_datagrams None = refl
 given_for_datagrams (Some f) = by f.proto
@@ -60,27 +61,19 @@ given_for_datagrams (Some f) = by f.proto
     by Tcp = refl
     by Udp = refl
 
-given_for_peers : (fs : List Forward) (n k : ℕ) → is_at Tcp (slice_get fs n) ≡ option_map_or (is_over Tcp) (slice_get (with_numbers k fs) n) false
-given_for_peers [] n k = refl
-given_for_peers (f ∷ fs) zero k = refl
-given_for_peers (f ∷ fs) (suc n) k = given_for_peers fs n (k + 1)
-
 module _ (config : Config) (at : Standing) (slirp : SlirpState) (f : Flowing) (link : LinkState) (past : List Entry) (holds : Holds config at slirp f link past) where
   pub hears_what_is_taken : (n : ℕ) → takes_datagrams past n ≡ is_heard n slirp
   hears_what_is_taken n =
-      sockets_are config at slirp f link past holds (carriers (holders_of slirp)) (IsPermutation-refl (carriers (holders_of slirp))) n
+      sockets_are config at slirp f link past holds (sockets_over Udp slirp.forwards ++ carriers (holders_of slirp)) (IsPermutation-refl (sockets_over Udp slirp.forwards ++ carriers (holders_of slirp))) n
       ∙ among_both n (sockets_over Udp slirp.forwards) (carriers (holders_of slirp))
       ∙ ap (λ b. b || is_among n (carriers (holders_of slirp)))
-      (ap (λ (l : List Opened). is_among n (sockets_over Udp l)) holds.forwards ∙ among_given_over Udp config.forwards n ∙ given_for_datagrams (slice_get config.forwards n)
-      ∙ ap is_some (sym (guest_given config n)) ∙ ap (λ (l : List Opened). is_some (guest_on l n)) (sym holds.forwards))
+      (over_with Udp (next_number past) slirp.forwards n holds.forwards.rising ∙ given_for_datagrams (forward_with n slirp.forwards))
 
   pub awaits_who_is_taken : f.kept ≡ slirp.flows → (n : ℕ) → takes_peers config past n ≡ is_awaited n slirp
   awaits_who_is_taken same_flows n = listeners_are config at slirp f link past holds same_flows n ∙ by (fits_peer slirp.flows.flows)
     where
-      by : (b : Bool) → is_among n (if b then sockets_over Tcp slirp.forwards else []) ≡ (b && option_map_or (is_over Tcp) (slice_get slirp.forwards n) false)
-      by true =
-          ap (λ (l : List Opened). is_among n (sockets_over Tcp l)) holds.forwards ∙ among_given_over Tcp config.forwards n ∙ given_for_peers config.forwards n 0
-          ∙ ap (λ (l : List Opened). option_map_or (is_over Tcp) (slice_get l n) false) (sym holds.forwards)
+      by : (b : Bool) → is_among n (if b then sockets_over Tcp slirp.forwards else []) ≡ (b && is_at Tcp (forward_with n slirp.forwards))
+      by true = over_with Tcp (next_number past) slirp.forwards n holds.forwards.rising
       by false = refl
 
   -- of what isn't waited for nothing is left

@@ -1,4 +1,6 @@
 -- A datagram for the server of files is served: its calls on files leave all else, and what comes of them is kept and told.
+use Rattle.slirp_core.specs.Forwards.{AreInForce}
+use Rattle.slirp_core.proofs.Given.{unmoved}
 use Rattle.std.proofs.Common.{◌≡◌, ℕ, ◌+◌, ◌-◌, length, false, List, [], ◌∷◌, ◌++◌, Option, Some, None, inl, refl, sym, ◌∙◌, ap, subst, arith}
 use Rattle.world_face.specs.Journal.{AreAllowed, Call, CallFileLen, CallFileRead, Entry, FileLen, FileRead, call_of}
 use Rattle.world_face.proofs.Telling.{allowed_then}
@@ -68,6 +70,7 @@ module _ (config : Config) (at : Standing) (slirp : SlirpState) (kept : Kept) (l
     clock : OfClock at slirp past
     turn : InTurn config past
     agenda : IsLast (all_wanted at.wants at.left) (agenda past)
+    forwards : AreInForce config slirp.forwards past
 
   still_one : (e : Entry) (past : List Entry) → IsOfFile e → Still past → Still (e ∷ past)
   still_one (FileLen name answer) past is s =
@@ -83,6 +86,7 @@ module _ (config : Config) (at : Standing) (slirp : SlirpState) (kept : Kept) (l
         clock = record { moment = s.clock.moment; counted = s.clock.counted };
         turn = record { working = s.turn.working; waited = s.turn.waited };
         agenda = s.agenda;
+        forwards = unmoved config slirp.forwards (e ∷ past) past (λ n among. refl) (λ n among given. among) (λ n among given. (among, given)) (omega arith) s.forwards;
       }
   still_one (FileRead name place asked answer octets) past is s =
       let e = FileRead name place asked answer octets in
@@ -97,6 +101,7 @@ module _ (config : Config) (at : Standing) (slirp : SlirpState) (kept : Kept) (l
         clock = record { moment = s.clock.moment; counted = s.clock.counted };
         turn = record { working = s.turn.working; waited = s.turn.waited };
         agenda = s.agenda;
+        forwards = unmoved config slirp.forwards (e ∷ past) past (λ n among. refl) (λ n among given. among) (λ n among given. (among, given)) (omega arith) s.forwards;
       }
   still_one _ past is s = absurd is
 
@@ -136,6 +141,7 @@ module _ (config : Config) (at : Standing) (slirp : SlirpState) (kept : Kept) (l
         clock = a.clock;
         turn = a.turn;
         agenda = a.agenda;
+        forwards = a.forwards;
       }) in
       record {
         lawful = calls.lawful;
@@ -154,7 +160,6 @@ module _ (config : Config) (at : Standing) (slirp : SlirpState) (kept : Kept) (l
         };
         guests = record {
           settings = s.guests.settings;
-          once = s.guests.once;
           known = s.guests.known;
           fragments = record {
             held = s.guests.fragments.held;
@@ -164,7 +169,7 @@ module _ (config : Config) (at : Standing) (slirp : SlirpState) (kept : Kept) (l
         };
         relayed = record { list = s.list; questions = s.questions; asks = asks_nothing config slirp (errand_left config (made ++ past)) calls.may.settled; heard = calls.may.unheard };
         services = record { leases = s.leases; quest = ap (λ (f : Files). f.quest) files ∙ is.settled };
-        forwards = a.forwards;
+        forwards = s.forwards;
         flows = s.flows;
         sockets = s.sockets;
         clock = record { moment = s.clock.moment; counted = s.clock.counted };

@@ -9,7 +9,8 @@ use Rattle.world_face.specs.Journal.{Entry, Allowed, CallNow, Now, call_of}
 use Rattle.world_face.specs.Frames.{Ending, MayFrame, is_blocked, partial, tail}
 use Rattle.world_face.specs.declared.Made.{Made}
 use Rattle.world_face.specs.declared.Made.TheVariants.{Done, Failed}
-use Rattle.host_policy.specs.Addresses.{Config}
+use Rattle.host_policy.specs.Addresses.{Config, forward_on}
+use Rattle.slirp_laws.proofs.Given.{led_by_settings}
 use Rattle.host_policy.specs.declared.Forward.{Forward}
 use Rattle.host_policy.specs.declared.Proto.{Proto}
 use Rattle.host_policy.specs.declared.Proto.TheVariants.{Tcp, Udp}
@@ -39,11 +40,10 @@ use Rattle.slirp_laws.specs.Laws.{May, due, due_for_services}
 use Rattle.slirp_laws.proofs.Bools.{among_last, same}
 use Rattle.slirp_laws.proofs.Deeds.{asks, listens, opens as opens_socket}
 use Rattle.stream_netdev.specs.State.{LinkState, under_way}
-use Rattle.slirp_core.specs.Forwards.{forward_sockets, with_numbers}
+use Rattle.slirp_core.specs.Forwards.{AreInForce, forward_sockets, given_kind, with_numbers}
 use Rattle.slirp_core.specs.Fragments.{IsHeld}
-use Rattle.slirp_core.specs.Holds.{Standing, after, Begins, Holders, ClosingWith, asked_by, carriers, holders_of, holders_with, Ended, Flowing, Holds, IsOf, OfFlows, Opens, Rests, OverFor}
-use Rattle.slirp_core.specs.Holds.{AllWaited, GivesOnce, Stands, Turns, flowing, is_ours}
-use Rattle.slirp_core.specs.Sockets.{IsRising}
+use Rattle.slirp_core.specs.Holds.{Standing, after, Begins, Holders, Closing, asked_by, carriers, holders_of, holders_with, Ended, Flowing, Holds, IsOf, OfFlows, Opens, Rests, OverFor}
+use Rattle.slirp_core.specs.Holds.{AllWaited, Stands, Turns, flowing, is_ours}
 use Rattle.slirp_core.specs.State.{SlirpState}
 use Rattle.slirp_core.proofs.Guests.{guests_forget, guests_stay}
 use Rattle.dhcp_server.specs.declared.leases.Lease.TheVariants.{Free as LeaseFree}
@@ -61,7 +61,7 @@ use Rattle.flows_follow.proofs.Options.{true_false}
 use Rattle.tcp_flows.specs.Kept.{IsFor, Kept}
 use Rattle.tcp_flows.specs.Reading.{NoneInSlots}
 use Rattle.slirp_core.proofs.Flows.{flows_ask_nothing, flows_stay, flows_stay_open, flows_told}
-use Rattle.slirp_core.proofs.Given.{given_kind, given_rise, opening_kind, opening_made, opening_next, opening_open, opening_waits}
+use Rattle.slirp_core.proofs.Given.{given_last, named_first, none_in_force, opening_kind, opening_made, opening_next, opening_open, opening_waits, stays_in_force}
 use Rattle.slirp_core.proofs.Open.{are_open}
 
 -- ---- fragments are dropped
@@ -117,7 +117,6 @@ pub record IsUnused (config : Config) (kept : Kept) : Type 0 where
 pub record IsUnbegun (config : Config) (slirp : SlirpState) (link : LinkState) : Type 0 where
   pub forwards : slirp.forwards ≡ []
   pub settings : slirp.config ≡ config
-  pub once : GivesOnce config
   pub flows : IsUnused config slirp.flows
   pub known : slirp.known ≡ []
   pub sent : slirp.sent ≡ 0
@@ -167,7 +166,6 @@ begun config slirp link new = record {
   answers = record { sent = sym new.sent; owed = inl (record { left = sym new.pending; again = refl; files = new.transfers }) };
   guests = record {
     settings = new.settings;
-    once = new.once;
     known = sym new.known;
     fragments = record { held = []; is_held = subst (λ (areas : List Gathered). IsHeld areas []) (sym new.fragments) (record { stand = tt; carry = tt }); wait = refl };
   };
@@ -178,6 +176,7 @@ begun config slirp link new = record {
   all = refl;
   many = refl;
   forwards = new.forwards;
+  given = subst (λ l. AreInForce config l []) (sym new.forwards) (none_in_force config);
   opening = refl;
   are_open = sym (ap forward_sockets new.forwards);
   flows = unused_holds config slirp.flows slirp.moment new.flows;
@@ -200,7 +199,7 @@ begun config slirp link new = record {
 kinds_opened : (config : Config) (p : Proto) (number : ℕ) (at : Endpoint) (answer : Made) (past : List Entry) → waits past ≡ 0 → ((n : ℕ) → is_among n (open_sockets past) ≡ true →
     is_ours (kind_of n past) ≡ true)
     → (n : ℕ) → is_among n (open_sockets (port_opening p number at answer ∷ past)) ≡ true → is_ours (kind_of n (port_opening p number at answer ∷ past)) ≡ true
-kinds_opened config p number at answer past unwaited kinds n among = ap is_ours (opening_kind config p number at answer past unwaited n) ∙ by (number == n) refl
+kinds_opened config p number at answer past unwaited kinds n among = ap is_ours (opening_kind p number at answer past (named_first past at unwaited) n) ∙ by (number == n) refl
   where
     turned : (number == n) ≡ false → (n == number) ≡ false
     turned is = grind (arith, nat_tests, is)
@@ -219,7 +218,7 @@ kinds_opened config p number at answer past unwaited kinds n among = ap is_ours 
 
     by : (b : Bool) → (number == n) ≡ b → is_ours (if b then Some (given_kind p) else kind_of n past) ≡ true
     by true is = ours p
-    by false is = kinds n (before answer (turned is) (sym (ap (is_among n) (opening_made config p number at answer past)) ∙ among))
+    by false is = kinds n (before answer (turned is) (sym (ap (is_among n) (opening_made p number at answer past)) ∙ among))
 
 numbers_more : (n : ℕ) (fs : List Forward) (f : Forward) → with_numbers n (fs ++ f ∷ []) ≡ with_numbers n fs ++ (f, n + length fs) ∷ []
 numbers_more n [] f = ap (λ m. (f, m) ∷ []) (omega arith)
@@ -350,6 +349,18 @@ module _ (config : Config) (slirp : SlirpState) (link : LinkState) (past : List 
   phase_then Tcp answer = refl
   phase_then Udp answer = refl
 
+  -- its number is the next one, and that of its place in the settings
+  drawn : (slirp.number == next_number past) ≡ true
+  drawn = ap (λ n. slirp.number == n) opens.sockets.number ∙ same slirp.number
+
+  own_place : forward_on config slirp.number ≡ Some f
+  own_place = led_by_settings config slirp.number f (ap (slice_get config.forwards) opens.many ∙ ap (λ l. slice_get l (length opens.done)) (opens.all ∙ ap (λ l. opens.done ++ l) next)
+      ∙ behind_all opens.done)
+    where
+      behind_all : (done : List Forward) → slice_get (done ++ f ∷ rest) (length done) ≡ Some f
+      behind_all [] = refl
+      behind_all (x ∷ done) = behind_all done
+
   -- it is open
   module _ (fine : Allowed (opened_port Done)) where
     abbrev pub with_one : SlirpState
@@ -380,16 +391,17 @@ module _ (config : Config) (slirp : SlirpState) (link : LinkState) (past : List 
       left = rest;
       all = opens.all ∙ ap (λ l. opens.done ++ l) next ∙ one_of opens.done f rest;
       many = ap (λ n. n + 1) opens.many ∙ sym (length_more opens.done f);
+      given = given_last config slirp.forwards past opens.lawful opens.given f f.host (named_first past f.host opens.clock.counted) slirp.number drawn own_place;
       forwards = ap (λ l. l ++ (f, slirp.number) ∷ []) opens.forwards ∙ ap (λ n. with_numbers 0 opens.done ++ (f, n) ∷ []) opens.many ∙ numbers_last opens.done f;
       opening = phase_then f.proto Done ∙ ap (λ p. opened Done p) (opens.opening ∙ ap (Opening slirp.number) next);
-      are_open = opening_made config f.proto slirp.number f.host Done past ∙ ap (λ l. l ++ slirp.number ∷ []) opens.are_open ∙ sym (sockets_more slirp.forwards f slirp.number);
+      are_open = opening_made f.proto slirp.number f.host Done past ∙ ap (λ l. l ++ slirp.number ∷ []) opens.are_open ∙ sym (sockets_more slirp.forwards f slirp.number);
       flows = flows_stay config (flowing false slirp.flows) slirp.moment (opened_port Done) past q.silent q.unasked
-          (let up = opening_next config f.proto slirp.number f.host Done past in omega (arith, up)) q.moment opens.flows;
+          (let up = opening_next f.proto slirp.number f.host Done past in omega (arith, up)) q.moment opens.flows;
       sockets = record {
-        number = opening_next config f.proto slirp.number f.host Done past ∙ ap (λ n. n + 1) opens.sockets.number;
+        number = opening_next f.proto slirp.number f.host Done past ∙ ap (λ n. n + 1) opens.sockets.number;
         kinds = kinds_opened config f.proto slirp.number f.host Done past opens.clock.counted opens.sockets.kinds;
       };
-      clock = record { moment = q.moment ∙ opens.clock.moment; counted = opening_waits config f.proto slirp.number f.host Done past ∙ opens.clock.counted };
+      clock = record { moment = q.moment ∙ opens.clock.moment; counted = opening_waits f.proto slirp.number f.host Done past ∙ opens.clock.counted };
       number = refl;
       unreported = q.unreported ∙ opens.unreported;
       none = opens.none;
@@ -403,7 +415,7 @@ module _ (config : Config) (slirp : SlirpState) (link : LinkState) (past : List 
     }
 
   -- the host refused it
-  pub refused : Allowed (opened_port Failed) → ClosingWith config (Over (Refused slirp.number)) (forward_sockets slirp.forwards) (holders_of slirp) (opened_port Failed ∷ past)
+  pub refused : Allowed (opened_port Failed) → Closing config (Over (Refused slirp.number)) (forward_sockets slirp.forwards) (holders_of slirp) (opened_port Failed ∷ past)
   refused fine = record {
     lawful = (may_open_it Failed, opens.lawful);
     ended = ap (λ p. is_over p || nat_le config.turns (waits (opened_port Failed ∷ past))) phase_is;
@@ -412,17 +424,17 @@ module _ (config : Config) (slirp : SlirpState) (link : LinkState) (past : List 
     errand = errand_then f.proto Failed;
     served = none_due_for_services config (opened_port Failed ∷ past) q.unheard (ap (λ (k : Files). k.quest) q.files ∙ opens.services.quest);
     idle = (flows_stay config (flowing false slirp.flows) slirp.moment (opened_port Failed) past q.silent q.unasked
-        (let up = opening_next config f.proto slirp.number f.host Failed past in omega (arith, up)) q.moment opens.flows).holds.asked;
+        (let up = opening_next f.proto slirp.number f.host Failed past in omega (arith, up)) q.moment opens.flows).holds.asked;
     stay = flows_stay_open config (flowing false slirp.flows) slirp.moment (opened_port Failed ∷ past) (flows_stay config (flowing false slirp.flows) slirp.moment
-        (opened_port Failed) past q.silent q.unasked (let up = opening_next config f.proto slirp.number f.host Failed past in omega (arith, up)) q.moment opens.flows);
+        (opened_port Failed) past q.silent q.unasked (let up = opening_next f.proto slirp.number f.host Failed past in omega (arith, up)) q.moment opens.flows);
     sockets = record {
       each = λ n among. inl (sym (ap (is_among n) (are_same n)) ∙ among);
       forward = λ n among. ap (is_among n) (are_same n) ∙ among;
       carry = λ n among. absurd (unlisted n among);
       flow = λ k p at. absurd (opens.none k p at.here);
       apart = λ k p at. absurd (opens.none k p at.here);
-      rising = (length opens.done, subst (λ l. IsRising (length opens.done) (forward_sockets l)) (sym opens.forwards) (given_rise opens.done 0 (length opens.done) (omega arith)));
-      first = λ n m among of. absurd (not_of m of);
+      rising = (next_number past, opens.given.rising);
+      others = λ n among of. not_of n of;
     };
     two = λ n among. absurd (true_false (sym among ∙ ap (λ l. is_among n (numbers l)) opens.alone));
   }
@@ -434,7 +446,7 @@ module _ (config : Config) (slirp : SlirpState) (link : LinkState) (past : List 
       phase_is = phase_then f.proto Failed ∙ ap (λ p. opened Failed p) (opens.opening ∙ ap (Opening slirp.number) next)
 
       are_same : (n : ℕ) → open_sockets (opened_port Failed ∷ past) ≡ forward_sockets slirp.forwards
-      are_same n = opening_made config f.proto slirp.number f.host Failed past ∙ opens.are_open
+      are_same n = opening_made f.proto slirp.number f.host Failed past ∙ opens.are_open
 
       none_carried : carriers (holders_of slirp) ≡ []
       none_carried = λ i. numbers (opens.alone i) ++ question_numbers (opens.unnamed i)
@@ -462,7 +474,8 @@ started config slirp link told past fine opens = record {
   guests = guests_stay config slirp (record slirp { moment = max (min told (2 ^ 62)) slirp.moment }) (Now told) past refl refl opens.guests;
   relayed = record { list = opens.relayed.list; questions = opens.relayed.questions; asks = opens.relayed.asks; heard = refl };
   services = services_stay config slirp (record slirp { moment = max (min told (2 ^ 62)) slirp.moment }) (Now told) past refl refl refl opens.services;
-  forwards = opens.forwards ∙ ap (with_numbers 0) (sym all_open);
+  forwards = stays_in_force config slirp.forwards past opens.lawful opens.given (Now told)
+      (asks config past asks_due (flows_ask_nothing config (flowing false slirp.flows) slirp.moment past opens.flows) opens.open_yet) tt;
   flows = flows_told config slirp.flows slirp.moment (max (min told (2 ^ 62)) slirp.moment) told past (omega arith) opens.flows;
   sockets = record { number = opens.sockets.number; kinds = opens.sockets.kinds };
   clock = record { moment = ap (max (min told (2 ^ 62))) opens.clock.moment; counted = opens.clock.counted };
@@ -493,13 +506,6 @@ started config slirp link told past fine opens = record {
     nothing_left : opens.left ≡ []
     nothing_left = none_left opens.done opens.left config.forwards opens.all opens.many
 
-    all_open : config.forwards ≡ opens.done
-    all_open = opens.all ∙ ap (λ l. opens.done ++ l) nothing_left ∙ behind_none opens.done
-      where
-        behind_none : (xs : List Forward) → xs ++ [] ≡ xs
-        behind_none [] = refl
-        behind_none (x ∷ xs) = ap (λ l. x ∷ l) (behind_none xs)
-
     opening : phase config past ≡ Opening (length config.forwards) []
     opening = opens.opening ∙ ap (Opening (length config.forwards)) nothing_left
 
@@ -513,7 +519,7 @@ started config slirp link told past fine opens = record {
 -- ---- the end of the turns
 
 -- a run that an entry ended
-pub ran : (config : Config) (count : ℕ) (why : Ending) (forwards : List Opened) (o : Holders) (made : List Entry) → Ended config count why forwards o made → ClosingWith config
+pub ran : (config : Config) (count : ℕ) (why : Ending) (forwards : List Opened) (o : Holders) (made : List Entry) → Ended config count why forwards o made → Closing config
     (phase config made) (forward_sockets forwards) o made
 ran config count why forwards o made ended = record {
   lawful = ended.lawful;
@@ -535,7 +541,7 @@ either false = refl
 -- after as many waits as there may be
 pub spent : (config : Config) (count : ℕ) (slirp : SlirpState) (f : Flowing) (link : LinkState) (made : List Entry) → 1 ≤ config.turns → config.turns ≤ count → Holds config
     (after count) slirp f link made
-    → ClosingWith config (phase config made) (forward_sockets slirp.forwards) (holders_with slirp f.kept) made
+    → Closing config (phase config made) (forward_sockets slirp.forwards) (holders_with slirp f.kept) made
 spent config count slirp f link made some all holds = record {
   lawful = holds.lawful;
   ended = ap (λ b. is_over (phase config made) || b) none_left ∙ either (is_over (phase config made));

@@ -1,6 +1,6 @@
 -- A peer comes to a port of the host that is given to a guest: its flow begins, or it is refused and its socket closed, or none has come.
-use Rattle.std.proofs.Common.{◌≡◌, ℕ, zero, suc, ◌<◌, ◌+◌, ◌==◌, ◌&&◌, ◌||◌, not, ◌⊎◌, inl, inr, Bool, true, false, List, [], ◌∷◌, ◌++◌, length, slice_get, MatchOption, Option}
-use Rattle.std.proofs.Common.{Some, None, option_map, refl, sym, ◌∙◌, ap, subst, arith, if◌then◌else◌}
+use Rattle.std.proofs.Common.{◌≡◌, ℕ, ◌+◌, ◌==◌, ◌&&◌, ◌||◌, not, ◌⊎◌, inl, inr, Bool, true, false, List, [], ◌∷◌, ◌++◌, length, MatchOption, Option}
+use Rattle.std.proofs.Common.{Some, None, refl, sym, ◌∙◌, ap, subst, arith, if◌then◌else◌}
 use Rattle.std.proofs.lemmas.Bool.Decides.{nat_tests}
 use Rattle.net_octets.specs.declared.Endpoint.{Endpoint}
 use Rattle.net_octets.specs.declared.Mac.{Mac}
@@ -42,14 +42,13 @@ use Rattle.flows_follow.proofs.Calling.{due_is as due_for_a_flow}
 use Rattle.flows_follow.proofs.Known.{known_was_taught}
 use Rattle.tcp_flows.specs.Kept.{Kept}
 use Rattle.tcp_flows.specs.Runs.{Between, Welcomes}
-use Rattle.port_forward.specs.Opened.{Opened}
 use Rattle.slirp_laws.specs.Datagrams.{NeedsNothing}
 use Rattle.udp_assoc.specs.Associations.{numbers, without}
-use Rattle.slirp_laws.proofs.Given.{led_by_settings}
 use Rattle.slirp_laws.proofs.OpenSockets.{next_is_new}
-use Rattle.slirp_core.proofs.Given.{HasGiven, given_kind}
+use Rattle.slirp_core.proofs.Given.{in_force_with, stays_in_force}
 use Rattle.run_duties.specs.Serving.{is_left_to_read}
-use Rattle.slirp_core.specs.Forwards.{with_numbers}
+use Rattle.port_forward.specs.Opened.{forward_with}
+use Rattle.slirp_core.specs.Forwards.{IsInForce, given_kind, is_given}
 use Rattle.slirp_core.specs.Visits.{Treats}
 use Rattle.slirp_core.specs.Holds.{Begins, Holds, InTurn, OfFlows, Stands, Turns, flowing, is_ours, standing}
 use Rattle.slirp_core.specs.State.{SlirpState}
@@ -57,7 +56,7 @@ use Rattle.slirp_core.proofs.Called.{between, flows_put}
 use Rattle.slirp_core.proofs.Flows.{close_same, flows_since, flows_stay, flows_stay_open}
 use Rattle.slirp_core.proofs.Guests.{guests_stay}
 use Rattle.slirp_core.proofs.Names.{none_without}
-use Rattle.slirp_core.proofs.Parts.{asks_nothing, asked_for, behind_of, due_is, errand_for, given_in, keeps_by, reads_of, still_open}
+use Rattle.slirp_core.proofs.Parts.{asks_nothing, asked_for, behind_of, due_is, errand_for, keeps_by, reads_of, still_open}
 use Rattle.slirp_core.proofs.Relaying.{not_carried, unclosed}
 use Rattle.slirp_core.proofs.Owing.{owed_stays}
 use Rattle.slirp_core.proofs.Served.{peer_is_read}
@@ -86,7 +85,7 @@ kinds_visited listener number answer past kinds n among = by (number == n) refl
 
 module _ (config : Config) (count : ℕ) (wants : List Want) (item : Want) (items : List Want) (listener : ℕ)
     (reads_it : is_to_read (AListener listener) (wanted_of wants item) ≡ true) (slirp : SlirpState) (link : LinkState) (past : List Entry)
-    (holds : Holds config (standing count wants (item ∷ items)) slirp (flowing false slirp.flows) link past) (is_open : (listener < length config.forwards) ×
+    (holds : Holds config (standing count wants (item ∷ items)) slirp (flowing false slirp.flows) link past) (is_open : (is_among listener (open_sockets past) ≡ true) ×
     (kind_of listener past ≡ Some OfListener)) (room : fits_peer slirp.flows.flows ≡ true) where
   -- something was reported, so the first wait has been
   turn : InTurn config past
@@ -100,13 +99,10 @@ module _ (config : Config) (count : ℕ) (wants : List Want) (item : Want) (item
       by (Turns t) = t
       by (Begins unbegun free unrested) = absurd (no_last holds.agenda.0 (wanted_of wants item) (all_wanted wants items) (sym unbegun.unreported ∙ holds.agenda.1))
 
-  has : HasGiven config (length config.forwards) past
-  has = given_in config (standing count wants (item ∷ items)) NeedsNothing None slirp (flowing false slirp.flows) link past holds
-
   takes : takes_peers config past listener ≡ true
   takes =
       and_both (is_among listener (open_sockets past) && is_listener (kind_of listener past)) (has_room_for_peer config.flows (book config past).flows)
-      (and_both (is_among listener (open_sockets past)) (is_listener (kind_of listener past)) (has.stay holds.open_yet listener is_open.0) (ap is_listener is_open.1))
+      (and_both (is_among listener (open_sockets past)) (is_listener (kind_of listener past)) is_open.0 (ap is_listener is_open.1))
       (room_recorded config slirp.moment false None slirp.flows.flows past holds.flows.holds holds.flows.asked ∙ room)
 
   may_accept : May config past (CallAccept listener slirp.number)
@@ -133,7 +129,7 @@ module _ (config : Config) (count : ℕ) (wants : List Want) (item : Want) (item
       guests = guests_stay config slirp (record slirp { number = number }) e past refl refl holds.guests;
       relayed = record { list = holds.relayed.list; questions = holds.relayed.questions; asks = asks_nothing config slirp (errand_left config (e ∷ past)) then_is.work.errand; heard = refl };
       services = services_stay config slirp (record slirp { number = number }) e past refl refl refl holds.services;
-      forwards = holds.forwards;
+      forwards = stays_in_force config slirp.forwards past holds.lawful holds.forwards e then_is.lawful.0 tt;
       flows = record { holds = then_is.holds; settings = then_is.settings; asked = then_is.asked; unit = holds.flows.unit };
       sockets = record { number = next; kinds = kinds };
       clock = record { moment = holds.clock.moment; counted = holds.clock.counted };
@@ -294,7 +290,8 @@ module _ (config : Config) (count : ℕ) (wants : List Want) (item : Want) (item
         };
         services = services_stay config (record slirp { number = slirp.number + 1 }) (record slirp { number = slirp.number + 1 }) (Close slirp.number) (visit ∷ past) refl refl refl
             (services_stay config slirp (record slirp { number = slirp.number + 1 }) visit past refl refl refl holds.services);
-        forwards = holds.forwards;
+        forwards = stays_in_force config slirp.forwards (visit ∷ past) (may_accept, holds.lawful) (stays_in_force config slirp.forwards past holds.lawful holds.forwards visit may_accept tt)
+            (Close slirp.number) may_shut (ap (λ b. is_given (if b then Some OfFlow else kind_of slirp.number past)) (same slirp.number));
         flows = flows_then;
         sockets = record { number = ap (λ n. n + 1) holds.sockets.number; kinds = kinds_then };
         clock = record { moment = holds.clock.moment; counted = holds.clock.counted };
@@ -305,29 +302,19 @@ module _ (config : Config) (count : ℕ) (wants : List Want) (item : Want) (item
 
 -- ---- by what the core found
 
--- the forward at a place of the list is that of the settings, and its number is the place
-at_given : (fs : List Forward) (n k : ℕ) (f : Forward) (number : ℕ) → slice_get (with_numbers n fs) k ≡ Some (f, number) → (slice_get fs k ≡ Some f) × (k < length fs)
-at_given [] n k f number at = cc
-at_given (x ∷ fs) n zero f number at = (ap (option_map (λ (o : Opened). o.0)) at, omega arith)
-at_given (x ∷ fs) n (suc k) f number at = let more = at_given fs (n + 1) k f number at in (more.0, (let less = more.1 in omega (arith, less)))
-
 module _ (config : Config) (count : ℕ) (wants : List Want) (item : Want) (items : List Want) (listener : ℕ)
     (reads_it : is_to_read (AListener listener) (wanted_of wants item) ≡ true) (slirp : SlirpState) (link : LinkState) (past : List Entry)
     (holds : Holds config (standing count wants (item ∷ items)) slirp (flowing false slirp.flows) link past) (room : fits_peer slirp.flows.flows ≡ true)
-    (forward : Forward) (number : ℕ) (at : slice_get slirp.forwards listener ≡ Some (forward, number)) (tcp : forward.proto ≡ Tcp) where
-  place : (slice_get config.forwards listener ≡ Some forward) × (listener < length config.forwards)
-  place = at_given config.forwards 0 listener forward number (sym (ap (λ l. slice_get l listener) holds.forwards) ∙ at)
+    (forward : Forward) (at : forward_with listener slirp.forwards ≡ Some forward) (tcp : forward.proto ≡ Tcp) where
+  one : IsInForce config past (forward, listener)
+  one = in_force_with config slirp.forwards past holds.forwards listener forward at
 
   -- it is one to which peers connect
-  is_open : (listener < length config.forwards) × (kind_of listener past ≡ Some OfListener)
-  is_open = (
-    place.1,
-    (given_in config (standing count wants (item ∷ items)) NeedsNothing None slirp (flowing false slirp.flows) link past holds).kinds listener forward place.1 place.0
-        ∙ ap (λ p. Some (given_kind p)) tcp,
-  )
+  is_open : (is_among listener (open_sockets past) ≡ true) × (kind_of listener past ≡ Some OfListener)
+  is_open = (one.open_yet, one.kind ∙ ap (λ p. Some (given_kind p)) tcp)
 
   leads : port_of config listener ≡ Some forward.guest
-  leads = ap (option_and_then (λ (f : Forward). port_by f.proto f.guest)) (led_by_settings config listener forward place.0) ∙ ap (λ p. port_by p forward.guest) tcp
+  leads = ap (option_and_then (λ (f : Forward). port_by f.proto f.guest)) one.is ∙ ap (λ p. port_by p forward.guest) tcp
 
   pub nobody_came : Allowed (Accept listener slirp.number NotYetAccepted) → Holds config (standing count wants items) slirp (flowing false slirp.flows) link
       (Accept listener slirp.number NotYetAccepted ∷ past)
@@ -374,21 +361,20 @@ module _ (config : Config) (count : ℕ) (wants : List Want) (item : Want) (item
 -- nobody came, or the host failed: nothing is left of the report
 pub passed_by : (a b : Telling) (config : Config) (count : ℕ) (wants : List Want) (item : Want) (items : List Want) (listener : ℕ) → is_to_read (AListener listener)
     (wanted_of wants item) ≡ true → (slirp : SlirpState) (link : LinkState)
-    → fits_peer slirp.flows.flows ≡ true → (forward : Forward) (number : ℕ) → slice_get slirp.forwards listener ≡ Some
-    (forward, number) → forward.proto ≡ Tcp
+    → fits_peer slirp.flows.flows ≡ true → (forward : Forward) → forward_with listener slirp.forwards ≡ Some forward → forward.proto ≡ Tcp
     → (answer : Accepted) → (answer ≡ NotYetAccepted) ⊎ (answer ≡ AcceptFailed) → Answers a b (Accept listener slirp.number answer)
     → Brings a b (Holds config (standing count wants (item ∷ items)) slirp (flowing false slirp.flows) link)
     (λ past. Holds config (standing count wants items) slirp (flowing false slirp.flows) link past × (is_left_to_read config past (AListener listener) ≡ false))
-passed_by a b config count wants item items listener reads_it slirp link room forward number at tcp answer (inl is) answers =
+passed_by a b config count wants item items listener reads_it slirp link room forward at tcp answer (inl is) answers =
     brings_one (subst (λ (r : Accepted). Answers a b (Accept listener slirp.number r)) is answers)
-    (λ fine past holds. let then_is = nobody_came config count wants item items listener reads_it slirp link past holds room forward number at tcp fine in (
+    (λ fine past holds. let then_is = nobody_came config count wants item items listener reads_it slirp link past holds room forward at tcp fine in (
       then_is,
       peer_is_read config count wants item items slirp slirp (flowing false slirp.flows) (flowing false slirp.flows) link link past
           (Accept listener slirp.number NotYetAccepted ∷ []) holds then_is listener slirp.number NotYetAccepted [] refl,
     ))
-passed_by a b config count wants item items listener reads_it slirp link room forward number at tcp answer (inr is) answers =
+passed_by a b config count wants item items listener reads_it slirp link room forward at tcp answer (inr is) answers =
     brings_one (subst (λ (r : Accepted). Answers a b (Accept listener slirp.number r)) is answers)
-    (λ fine past holds. let then_is = none_accepted config count wants item items listener reads_it slirp link past holds room forward number at tcp fine in (
+    (λ fine past holds. let then_is = none_accepted config count wants item items listener reads_it slirp link past holds room forward at tcp fine in (
       then_is,
       peer_is_read config count wants item items slirp slirp (flowing false slirp.flows) (flowing false slirp.flows) link link past
           (Accept listener slirp.number AcceptFailed ∷ []) holds then_is listener slirp.number AcceptFailed [] refl,

@@ -1,4 +1,5 @@
 -- Waits, and the moment that is asked for after one.
+use Rattle.slirp_core.proofs.Given.{stays_in_force}
 use Rattle.std.proofs.Common.{◌≡◌, ℕ, ◌+◌, ◌^◌, ◌<◌, ◌≤◌, nat_lt, min, max, true, false, List, [], ◌∷◌, Option, Some, None, refl, sym, ◌∙◌, ap, arith, if◌then◌else◌}
 use Rattle.std.proofs.lemmas.Bool.Decides.{nat_tests}
 use Rattle.poll_list.specs.Listing.{writes}
@@ -17,7 +18,7 @@ use Rattle.slirp_laws.specs.Laws.{Lawful, due}
 use Rattle.slirp_laws.proofs.Deeds.{asks, waits_now}
 use Rattle.stream_netdev.specs.State.{LinkState, under_way}
 use Rattle.slirp_core.specs.Forwards.{forward_sockets}
-use Rattle.slirp_core.specs.Holds.{after, standing, AreOpenWith, carriers, holders_with, Begins, Ended, Holds, OfFlows, Stands, Turns, flowing}
+use Rattle.slirp_core.specs.Holds.{after, standing, AreOpen, carriers, holders_with, Begins, Ended, Holds, OfFlows, Stands, Turns, flowing}
 use Rattle.slirp_core.specs.State.{SlirpState}
 use Rattle.slirp_core.proofs.Guests.{guests_stay}
 use Rattle.slirp_core.proofs.Parts.{errand_for, asked_for, due_in_phase, due_is, two_in}
@@ -61,7 +62,7 @@ module _ (config : Config) (count : ℕ) (slirp : SlirpState) (kept : Kept) (old
   flows_then : (answer : Waited) (ready : List Want) → OfFlows config (flowing false kept) slirp.moment (Wait wants timeout answer ready ∷ past)
   flows_then answer ready = flows_paused config kept slirp.moment wants timeout answer ready past holds.flows
 
-  now_open : AreOpenWith (forward_sockets slirp.forwards) (carriers (holders_with slirp kept)) kept.flows.slots past
+  now_open : AreOpen (forward_sockets slirp.forwards) (carriers (holders_with slirp kept)) kept.flows.slots past
   now_open = are_open config (after count) NeedsNothing None slirp (flowing true kept) old past holds
 
   pub wait_ends_it : (answer : Waited) (ready : List Want) (why : Ending) → wait_ending answer ≡ Some why → Ended config (count + 1) why slirp.forwards (holders_with slirp kept)
@@ -74,7 +75,7 @@ module _ (config : Config) (count : ℕ) (slirp : SlirpState) (kept : Kept) (old
     served = none_due_for_services config (Wait wants timeout answer ready ∷ past) refl holds.services.quest;
     idle = (flows_then answer ready).holds.asked;
     stay = flows_stay_open config (flowing false kept) slirp.moment (Wait wants timeout answer ready ∷ past) (flows_then answer ready);
-    sockets = record { each = now_open.each; forward = now_open.forward; carry = now_open.carry; flow = now_open.flow; apart = now_open.apart; rising = now_open.rising; first = now_open.first };
+    sockets = record { each = now_open.each; forward = now_open.forward; carry = now_open.carry; flow = now_open.flow; apart = now_open.apart; rising = now_open.rising; others = now_open.others };
     two = two_in config slirp past holds.lawful holds.relayed.list holds.relayed.questions;
   }
 
@@ -104,7 +105,10 @@ module _ (config : Config) (count : ℕ) (slirp : SlirpState) (kept : Kept) (old
         (guests_stay config slirp slirp (Wait wants timeout Ready ready) past refl refl holds.guests);
     relayed = record { list = holds.relayed.list; questions = holds.relayed.questions; asks = holds.relayed.asks; heard = refl };
     services = record { leases = holds.services.leases; quest = holds.services.quest };
-    forwards = holds.forwards;
+    forwards = stays_in_force config slirp.forwards (Wait wants timeout Ready ready ∷ past) (waited Ready ready)
+        (stays_in_force config slirp.forwards past holds.lawful holds.forwards (Wait wants timeout Ready ready) (waited Ready ready).0 tt) (Now told)
+        (asks config (Wait wants timeout Ready ready ∷ past) refl (flows_ask_nothing config (flowing false kept) slirp.moment (Wait wants timeout Ready ready ∷ past)
+        (flows_then Ready ready)) holds.open_yet) tt;
     flows = flows_told config kept slirp.moment (max (min told (2 ^ 62)) slirp.moment) told (Wait wants timeout Ready ready ∷ past) (not_before told slirp.moment) (flows_then Ready ready);
     sockets = record { number = holds.sockets.number; kinds = holds.sockets.kinds };
     clock = record { moment = ap (max (min told (2 ^ 62))) holds.clock.moment; counted = ap (λ n. n + 1) holds.clock.counted };

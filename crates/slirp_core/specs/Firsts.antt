@@ -31,6 +31,9 @@ pub record NoQuestionFirst (list : List Association) (asked : List Question) : T
   pub below : (n : ℕ) → IsLeast (λ a. true) list (Some n) → (m : ℕ) → is_among m (question_numbers asked) ≡ true → n ≤ m
   pub none : list ≡ [] → asked ≡ []
 
--- so many sockets of associations, of questions and of flows are open
+-- so many sockets of associations, of questions and of flows are open, and with those of forwards
+abbrev pub others_open : SlirpState → ℕ
+others_open slirp = length slirp.associations + length slirp.questions + open_flows slirp.flows.flows.slots
+
 abbrev pub open_count : SlirpState → ℕ
-open_count slirp = length slirp.associations + length slirp.questions + open_flows slirp.flows.flows.slots
+open_count slirp = length slirp.forwards + others_open slirp

@@ -20,7 +20,7 @@ use Rattle.port_forward.specs.Opened.{Opened, socket_for}
 use Rattle.run_laws.specs.Packets.{Datagram}
 use Rattle.slirp_laws.specs.Leasing.{leases}
 use Rattle.run_laws.specs.Shape.{Cause, Refused, Phase, Opening, Started, Working, By, Over, phase, is_ended}
-use Rattle.run_laws.specs.Sockets.{Kind, is_among, is_association, is_flow, is_forward, is_listener, kind_of, next_number, open_sockets}
+use Rattle.run_laws.specs.Sockets.{Kind, is_among, is_association, is_flow, kind_of, next_number, open_sockets}
 use Rattle.slirp_laws.specs.Agenda.{agenda, all_wanted}
 use Rattle.slirp_laws.specs.Answers.{frames_of, identification, left, owed_for_segment, serving, served_file, told_of_files}
 use Rattle.slirp_laws.specs.Errands.{errand_left}
@@ -30,7 +30,7 @@ use Rattle.slirp_laws.specs.Laws.{Finished, Lawful, due_for_services, is_closing
 use Rattle.slirp_laws.specs.Names.{answered, questions}
 use Rattle.stream_netdev.specs.Keeps.{Keeps}
 use Rattle.stream_netdev.specs.State.{LinkState}
-use Rattle.slirp_core.specs.Forwards.{forward_sockets, given, with_numbers}
+use Rattle.slirp_core.specs.Forwards.{AreInForce, forward_sockets, is_given, with_numbers}
 use Rattle.slirp_core.specs.Owed.{IsOwedAt}
 use Rattle.slirp_core.specs.Segments.{Coming}
 use Rattle.slirp_core.specs.Services.{OfServices}
@@ -89,15 +89,9 @@ pub record OfClock (at : Standing) (slirp : SlirpState) (past : List Entry) : Ty
   pub moment : moment past ≡ slirp.moment
   pub counted : waits past ≡ at.count
 
--- The settings alone give ports of the host to guests: none is asked for while the run goes on, and there is no control that could take one back.
-pub record GivesOnce (config : Config) : Type 0 where
-  pub added : config.added ≡ []
-  pub control : config.control ≡ None
-
 -- what only a frame of the guests changes, and time, the settings aside, which nothing does: whose addresses are known, and which fragments wait
 pub record OfGuests (config : Config) (slirp : SlirpState) (past : List Entry) : Type 0 where
   pub settings : slirp.config ≡ config
-  pub once : GivesOnce config
   pub known : known config past ≡ slirp.known
   pub fragments : OfFragments config slirp past
 
@@ -129,9 +123,6 @@ pub record OfFlows (config : Config) (f : Flowing) (now : ℕ) (past : List Entr
   pub unit : 28 ≤ config.mtu
 
 -- the next number; and each open socket carries a guest's datagrams, is a flow's, or that of a port of the host that is given to a guest
-abbrev pub is_given : Option Kind → Bool
-is_given kind = is_listener kind || is_forward kind
-
 abbrev pub is_ours : Option Kind → Bool
 is_ours kind = is_association kind || is_flow kind || is_given kind
 
@@ -158,6 +149,7 @@ pub record Opens (config : Config) (count : ℕ) (slirp : SlirpState) (link : Li
   pub all : config.forwards ≡ done ++ left
   pub many : count ≡ length done
   pub forwards : slirp.forwards ≡ with_numbers 0 done
+  pub given : AreInForce config slirp.forwards past
   pub opening : phase config past ≡ Opening count left
   pub are_open : open_sockets past ≡ forward_sockets slirp.forwards
   pub flows : OfFlows config (flowing false slirp.flows) slirp.moment past
@@ -184,7 +176,7 @@ pub record HoldsOn (config : Config) (at : Standing) (step : Step) (heard : Opti
   pub guests : OfGuests config slirp past
   pub relayed : OfRelay config step heard slirp past
   pub services : OfServices config slirp past
-  pub forwards : slirp.forwards ≡ given config
+  pub forwards : AreInForce config slirp.forwards past
   pub flows : OfFlows config f slirp.moment past
   pub sockets : OfSockets slirp.number past
   pub clock : OfClock at slirp past
@@ -217,7 +209,7 @@ pub record Comes (config : Config) (at : Standing) (slirp : SlirpState) (kept : 
   pub guests : OfGuests config slirp past
   pub relayed : OfRelay config NeedsNothing None slirp past
   pub services : OfServices config slirp past
-  pub forwards : slirp.forwards ≡ given config
+  pub forwards : AreInForce config slirp.forwards past
   pub learnt : Contains (taught config past) (c.on.tuple.guest.addr, record { 0 = c.on.mac })
   pub unit : 28 ≤ config.mtu
   pub sockets : OfSockets slirp.number past
@@ -240,7 +232,7 @@ pub record AsksFile (config : Config) (at : Standing) (slirp : SlirpState) (kept
   pub guests : OfGuests config slirp past
   pub relayed : OfRelay config NeedsNothing None slirp past
   pub leases : leases config past ≡ slirp.leases
-  pub forwards : slirp.forwards ≡ given config
+  pub forwards : AreInForce config slirp.forwards past
   pub flows : OfFlows config (flowing false kept) slirp.moment past
   pub sockets : OfSockets slirp.number past
   pub clock : OfClock at slirp past
@@ -273,22 +265,23 @@ AreTwo o = (n : ℕ) → is_among n (numbers o.associations) ≡ true → is_amo
 abbrev pub IsOf : List ℕ → List (Option Splice) → ℕ → Type 0
 IsOf carriers parts n = (is_among n carriers ≡ true) ⊎ HasSocket n parts (λ p. Unit {0})
 
--- the open sockets are these, which carry datagrams, and those of these flows; before them in number those of these forwards
-pub record AreOpenWith (forwards carriers : List ℕ) (parts : List (Option Splice)) (past : List Entry) : Type 0 where
+-- the least of them all is a forward's, or it isn't
+abbrev pub IsForwardFirst : List ℕ → List ℕ → List (Option Splice) → Type 0
+IsForwardFirst forwards carriers parts = (n : ℕ) × (rest : List ℕ) × (forwards ≡ n ∷ rest) × ((m : ℕ) → IsOf carriers parts m → n ≤ m)
+
+pub record NoForwardFirst (forwards carriers : List ℕ) (parts : List (Option Splice)) : Type 0 where
+  pub below : (bound : ℕ) → IsRising bound forwards → (n : ℕ) → IsOf carriers parts n → ((m : ℕ) → IsOf carriers parts m → n ≤ m) → (k : ℕ) → is_among k forwards ≡ true → n ≤ k
+  pub none : ((n : ℕ) → IsOf carriers parts n → ⊥) → forwards ≡ []
+
+-- the open sockets are those of these forwards, by rising number; these, which carry datagrams; and those of these flows; and none of them is two of these
+pub record AreOpen (forwards carriers : List ℕ) (parts : List (Option Splice)) (past : List Entry) : Type 0 where
   pub each : (n : ℕ) → is_among n (open_sockets past) ≡ true → (is_among n forwards ≡ true) ⊎ IsOf carriers parts n
   pub forward : (n : ℕ) → is_among n forwards ≡ true → is_among n (open_sockets past) ≡ true
   pub carry : (n : ℕ) → is_among n carriers ≡ true → is_among n (open_sockets past) ≡ true
   pub flow : (k : ℕ) (p : Splice) → IsOpenAt parts k p → is_among (number_of p) (open_sockets past) ≡ true
   pub apart : (k : ℕ) (p : Splice) → IsOpenAt parts k p → is_among (number_of p) carriers ≡ false
   pub rising : (bound : ℕ) × IsRising bound forwards
-  pub first : (n m : ℕ) → is_among n forwards ≡ true → IsOf carriers parts m → n < m
-
--- the open sockets are these, which carry datagrams, and those of these flows
-pub record AreOpen (carriers : List ℕ) (parts : List (Option Splice)) (past : List Entry) : Type 0 where
-  pub each : (n : ℕ) → is_among n (open_sockets past) ≡ true → IsOf carriers parts n
-  pub carry : (n : ℕ) → is_among n carriers ≡ true → is_among n (open_sockets past) ≡ true
-  pub flow : (k : ℕ) (p : Splice) → IsOpenAt parts k p → is_among (number_of p) (open_sockets past) ≡ true
-  pub apart : (k : ℕ) (p : Splice) → IsOpenAt parts k p → is_among (number_of p) carriers ≡ false
+  pub others : (n : ℕ) → is_among n forwards ≡ true → IsOf carriers parts n → ⊥
 
 -- after an entry that ended the run in this way, after so many waits
 pub record Ended (config : Config) (count : ℕ) (why : Ending) (forwards : List Opened) (o : Holders) (past : List Entry) : Type 0 where
@@ -299,7 +292,7 @@ pub record Ended (config : Config) (count : ℕ) (why : Ending) (forwards : List
   pub served : due_for_services config past ≡ None
   pub idle : due_for_flows config (book config past) (next_number past) ≡ None
   pub stay : NoneMustClose config past
-  pub sockets : AreOpenWith (forward_sockets forwards) (carriers o) o.slots past
+  pub sockets : AreOpen (forward_sockets forwards) (carriers o) o.slots past
   pub two : AreTwo o
 
 -- after a pump
@@ -337,8 +330,8 @@ pub data Rests (config : Config) (past : List Entry) : Type 0 where
   OverFor : (cause : Cause) → phase config past ≡ Over cause → Rests config past
   AllWaited : phase config past ≡ Working → Rests config past
 
--- A run that has ended in this phase; only its sockets are to be closed, which are these.
-pub record ClosingBy (Left : List Entry → Type 0) (o : Holders) (config : Config) (over : Phase) (past : List Entry) : Type 0 where
+-- A run that has ended in this phase; only its sockets are to be closed, which are those of these forwards, those that carry datagrams, and those of flows.
+pub record Closing (config : Config) (over : Phase) (forwards : List ℕ) (o : Holders) (past : List Entry) : Type 0 where
   pub lawful : Lawful config past
   pub ended : is_ended config past ≡ true
   pub is : over ≡ phase config past
@@ -347,46 +340,36 @@ pub record ClosingBy (Left : List Entry → Type 0) (o : Holders) (config : Conf
   pub served : due_for_services config past ≡ None
   pub idle : due_for_flows config (book config past) (next_number past) ≡ None
   pub stay : NoneMustClose config past
-  pub sockets : Left past
+  pub sockets : AreOpen forwards (carriers o) o.slots past
   pub two : AreTwo o
-
--- those that carry datagrams, and of flows; or those of forwards, too
-abbrev pub Closing : Config → Phase → Holders → List Entry → Type 0
-Closing config over o past = ClosingBy (AreOpen (carriers o) o.slots) o config over past
-
-abbrev pub ClosingWith : Config → Phase → List ℕ → Holders → List Entry → Type 0
-ClosingWith config over forwards o past = ClosingBy (AreOpenWith forwards (carriers o) o.slots) o config over past
 
 -- a run that is over: it is lawful and finished, and this is the phase in which it ended
 abbrev pub Ran : Config → Phase → List Entry → Type 0
 Ran config over made = Lawful config made × Finished config made × (over ≡ phase config made)
 
 -- after a socket was closed, or none was left
-abbrev pub AfterClosing : Bool → Config → Phase → Holders → List Entry → Type 0
-AfterClosing true config over o past = Closing config over o past
-AfterClosing false config over o past = Ran config over past
+abbrev pub AfterClosing : Bool → Config → Phase → List ℕ → Holders → List Entry → Type 0
+AfterClosing true config over forwards o past = Closing config over forwards o past
+AfterClosing false config over forwards o past = Ran config over past
 
--- one socket of these was closed, if there was one
-abbrev pub ClosesNext : Bool → (old new : Holders) → List Entry → Type 0
-ClosesNext more old new made =
-    (config : Config) (over : Phase) (past : List Entry) → Closing config over old past → AfterClosing more config over new (made ++ past)
+-- where the socket with the least number is none of these forwards', one of the others was closed, if there was one
+abbrev pub ClosesOther : Bool → List ℕ → (old new : Holders) → List Entry → Type 0
+ClosesOther more forwards old new made =
+    (config : Config) (over : Phase) (past : List Entry) → NoForwardFirst forwards (carriers old) old.slots → Closing config over forwards old past
+    → AfterClosing more config over forwards new (made ++ past)
 
--- those of forwards were closed, but for these
-abbrev pub ClosesForwards : (old new : List ℕ) → Holders → List Entry → Type 0
-ClosesForwards old new o made =
-    (config : Config) (over : Phase) (past : List Entry) → ClosingWith config over old o past → ClosingWith config over new o (made ++ past)
-
--- those of forwards were closed, and others but for these
-abbrev pub ClosesOn : List Opened → (old new : Holders) → List Entry → Type 0
-ClosesOn forwards old new made =
-    (config : Config) (over : Phase) (past : List Entry) → ClosingWith config over (forward_sockets forwards) old past → Closing config over new (made ++ past)
+-- the socket with the least number was closed, if there was one
+abbrev pub ClosesNext : Bool → (before after : List Opened) → (old new : Holders) → List Entry → Type 0
+ClosesNext more before after old new made =
+    (config : Config) (over : Phase) (past : List Entry) → Closing config over (forward_sockets before) old past
+    → AfterClosing more config over (forward_sockets after) new (made ++ past)
 
 -- all of these sockets were closed: whatever run had them, and had ended, is finished
 abbrev pub ClosesAll : List Opened → Holders → List Entry → Type 0
 ClosesAll forwards o made =
-    (config : Config) (over : Phase) (past : List Entry) → ClosingWith config over (forward_sockets forwards) o past → Ran config over (made ++ past)
+    (config : Config) (over : Phase) (past : List Entry) → Closing config over (forward_sockets forwards) o past → Ran config over (made ++ past)
 
 -- after the ports of the host were opened; or one was refused, and the others are to be closed
 abbrev pub AfterListening : Option ℕ → Config → SlirpState → LinkState → List Entry → Type 0
 AfterListening None config slirp link past = Opens config (length config.forwards) slirp link past
-AfterListening (Some place) config slirp link past = ClosingWith config (Over (Refused place)) (forward_sockets slirp.forwards) (holders_of slirp) past
+AfterListening (Some place) config slirp link past = Closing config (Over (Refused place)) (forward_sockets slirp.forwards) (holders_of slirp) past

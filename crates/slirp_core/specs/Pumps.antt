@@ -42,15 +42,14 @@ abbrev pub merged : List ℕ → List ℕ → List ℕ
 merged [] ms = ms
 merged (n ∷ ns) ms = into n (merged ns) ms
 
--- the link and the listeners; each port of the host for datagrams, and behind them each socket of an association or a question, once, by rising number; and behind them what flows wait for
+-- the link and the listeners; each socket of a port of the host for datagrams, of an association or a question, once, by rising number; and behind them what flows wait for
 pub record WantsOf (slirp : SlirpState) (link : LinkState) (wants : List Want) : Type 0 where
   pub sockets : List ℕ
-  pub all : IsPermutation (carriers (holders_of slirp)) sockets
-  pub rising : IsNonDecreasing sockets
+  pub all : IsPermutation (sockets_over OverUdp slirp.forwards ++ carriers (holders_of slirp)) sockets
+  pub rising : IsNonDecreasing (sockets_over OverUdp slirp.forwards) → IsNonDecreasing sockets
   pub flows : List Want
   pub of_flows : AreWantsOf slirp.flows.flows.slots flows
-  pub is : wants ≡ ((link_want (is_settled slirp link) link.blocked ++ map listener_want (listeners_of slirp)) ++ socket_wants (is_settled slirp link)
-      (sockets_over OverUdp slirp.forwards ++ sockets)) ++ flows
+  pub is : wants ≡ ((link_want (is_settled slirp link) link.blocked ++ map listener_want (listeners_of slirp)) ++ socket_wants (is_settled slirp link) sockets) ++ flows
 
 -- no flow's socket stands twice
 abbrev pub TcpOnce : List Want → Type 0

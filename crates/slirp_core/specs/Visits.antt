@@ -1,15 +1,17 @@
 -- What becomes of a peer whose connection was accepted for a guest.
-use Rattle.std.specs.Prelude.{◌≡◌, ℕ, ◌++◌, ◌&&◌, Bool, true, false, List, [], ◌∷◌, slice_get, if◌then◌else◌}
+use Rattle.std.specs.Prelude.{◌≡◌, ℕ, ◌++◌, ◌&&◌, Bool, true, false, List, [], ◌∷◌, if◌then◌else◌}
 use Rattle.std.specs.Option.{option_map_or}
 use Rattle.net_octets.specs.declared.Endpoint.{Endpoint}
 use Rattle.arp_table.specs.Table.{mac_of as learnt_for}
 use Rattle.world_face.specs.Journal.{Accept, Close, Entry}
 use Rattle.world_face.specs.declared.Accepted.{Accepted}
 use Rattle.host_policy.specs.declared.Proto.TheVariants.{Tcp}
+use Rattle.host_policy.specs.declared.Forward.{Forward}
+use Rattle.host_policy.specs.Ranges.{same_proto}
+use Rattle.port_forward.specs.Opened.{forward_with}
 use Rattle.flows_follow.specs.Peers.{fits_peer}
 use Rattle.record_flows.specs.Book.{tuple_for}
 use Rattle.tcp_flows.specs.Runs.{Welcomes}
-use Rattle.slirp_core.specs.Forwards.{is_over}
 use Rattle.slirp_core.specs.State.{SlirpState}
 
 -- Its flow begins with the number of its socket; or it is refused, and that is closed at once.
@@ -21,9 +23,9 @@ Treats true guest peer old new made = (made ≡ Close old.number ∷ []) × (new
 abbrev pub ClosesOne : ℕ → List Entry → Type 0
 ClosesOne number made = (closed : Bool) × (made ≡ (if closed then Close number ∷ [] else []))
 
--- there is room for the flow of a peer more, and peers come to the port of the host at this place
+-- there is room for the flow of a peer more, and peers come to the port of the host with this socket
 abbrev pub is_awaited : ℕ → SlirpState → Bool
-is_awaited place slirp = fits_peer slirp.flows.flows && option_map_or (is_over Tcp) (slice_get slirp.forwards place) false
+is_awaited socket slirp = fits_peer slirp.flows.flows && option_map_or (λ (f : Forward). same_proto Tcp f.proto) (forward_with socket slirp.forwards) false
 
 -- a peer is asked for there as this socket, once; it is closed at once where the peer may not come in
 abbrev pub AsksForPeer : (listener number : ℕ) → List Entry → Type 0

@@ -10,8 +10,8 @@ use world_face::{Accepted, World};
 impl Slirp {
     ghost use Rattle.host_policy.specs.Addresses.{Config};
     ghost use Rattle.host_policy.specs.Ranges.{IsSound};
-    ghost use Rattle.slirp_core.specs.Forwards.{ClosesForward, forward_sockets};
-    ghost use Rattle.slirp_core.specs.Holds.{AfterListening, ClosesForwards, Opens, holders_of};
+    ghost use Rattle.slirp_core.specs.Forwards.{ClosesForward};
+    ghost use Rattle.slirp_core.specs.Holds.{AfterListening, Opens};
     ghost use Rattle.stream_netdev.specs.State.{LinkState};
     ghost use Rattle.world_face.specs.Tells.{Brings, Makes, Rose};
     ghost use Rattle.world_face.specs.Journal.{Entry};
@@ -92,7 +92,7 @@ impl Slirp {
         if !self.flows.has_room_for_peer() {
             return;
         }
-        let Some((forward, _)) = self.forwards.at(listener as usize) else {
+        let Some(forward) = self.forwards.with_socket(listener) else {
             return;
         };
         match forward.proto {
@@ -143,17 +143,8 @@ impl Slirp {
         Some(ends)
     }
 
-    // Closes the sockets of all forwards, by rising number.
-    pub(crate) fn close_forwards<W: World>(&mut self, world: &mut W)
-        ensures makes { Makes (W.tells world.old) (W.tells world.new)
-            (ClosesForwards (forward_sockets self.old.forwards) [] (holders_of self.old)) }
-        ensures others { self.new ≡ record self.old { forwards = [] } }
-    {
-        while self.close_forward(world) {}
-    }
-
     // Closes the socket of the first forward, and answers whether there was one.
-    fn close_forward<W: World>(&mut self, world: &mut W) -> bool
+    pub(crate) fn close_forward<W: World>(&mut self, world: &mut W) -> bool
         ensures makes { Makes (W.tells world.old) (W.tells world.new) (ClosesForward result self.old.forwards self.new.forwards) }
         ensures fewer { result ≡ true → length self.new.forwards < length self.old.forwards }
         ensures others { self.new ≡ record self.old { forwards = self.new.forwards } }

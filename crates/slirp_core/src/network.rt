@@ -116,7 +116,7 @@ impl Slirp {
     ghost use Rattle.udp_assoc.specs.Associations.{IsLeast, numbers};
     ghost use Rattle.dns_relay.specs.Relaying.{IsLeast as IsLeastAsked};
     ghost use Rattle.run_laws.specs.Sockets.{is_among};
-    ghost use Rattle.slirp_core.specs.Firsts.{IsFlowFirst, IsQuestionFirst, NoFlowFirst, NoQuestionFirst, open_count};
+    ghost use Rattle.slirp_core.specs.Firsts.{IsFlowFirst, IsQuestionFirst, NoFlowFirst, NoQuestionFirst, open_count, others_open};
     ghost use Rattle.stream_netdev.specs.State.{LinkState};
     ghost use Rattle.slirp_core.specs.Datagrams.{errand_of, FitsErrand, Lies};
     ghost use Rattle.poll_list.specs.declared.Want.{Want as AnItem};
@@ -126,7 +126,8 @@ impl Slirp {
     ghost use Rattle.slirp_core.specs.Counts.{AreGrown};
     ghost use Rattle.slirp_core.specs.Marks.{KeepsMarks};
     ghost use Rattle.tftp_server.specs.Transfers.{are_left};
-    ghost use Rattle.slirp_core.specs.Holds.{Standing, after, carriers, flowing, Holds, holders_of, standing, ClosesAll, ClosesNext};
+    ghost use Rattle.slirp_core.specs.Forwards.{forward_sockets};
+    ghost use Rattle.slirp_core.specs.Holds.{Standing, after, carriers, flowing, Holds, holders_of, standing, ClosesAll, ClosesNext, ClosesOther, IsForwardFirst, NoForwardFirst};
 
     /// A network in which no guest is known, no socket is open and nothing is owed, with room for as many flows of TCP as the settings say. It takes all the memory that it will ever need.
     pub fn new(alloc: Global, c: &SlirpConfig) -> Result<Slirp, NoMemory>
@@ -428,7 +429,7 @@ impl Slirp {
         self.questions.tick(world, self.moment);
     }
 
-    /// Closes all sockets, by rising number: those of forwards first, which were opened before all others.
+    /// Closes all sockets, by rising number.
     pub fn close_all<W: World>(&mut self, world: &mut W)
         ensures makes { Makes (W.tells world.old) (W.tells world.new) (ClosesAll self.old.forwards (holders_of self.old)) }
         ensures config { self.new.config ≡ self.old.config }
@@ -437,14 +438,31 @@ impl Slirp {
         ensures none { self.new.associations ≡ [] }
         ensures unasked { self.new.questions ≡ [] }
     {
-        self.close_forwards(world);
         while self.close_next(world) {}
     }
 
-    // Closes the socket with the least number, of a flow, an association or a question, and answers whether there was one.
+    // Closes the socket with the least number, and answers whether there was one.
     fn close_next<W: World>(&mut self, world: &mut W) -> bool
-        ensures makes { Makes (W.tells world.old) (W.tells world.new) (ClosesNext result (holders_of self.old) (holders_of self.new)) }
+        ensures makes { Makes (W.tells world.old) (W.tells world.new) (ClosesNext result self.old.forwards self.new.forwards (holders_of self.old) (holders_of self.new)) }
         ensures fewer { result ≡ true → open_count self.new < open_count self.old }
+        ensures config { self.new.config ≡ self.old.config }
+        ensures number { self.new.number ≡ self.old.number }
+        ensures turn { self.new.flows.turn ≡ self.old.flows.turn }
+        ensures none { result ≡ false → self.new.associations ≡ [] }
+        ensures unasked { result ≡ false → self.new.questions ≡ [] }
+    {
+        if self.forward_is_first() {
+            self.close_forward(world)
+        } else {
+            self.close_other(world)
+        }
+    }
+
+    // Closes the socket with the least number, of a flow, an association or a question, and answers whether there was one.
+    fn close_other<W: World>(&mut self, world: &mut W) -> bool
+        ensures makes { Makes (W.tells world.old) (W.tells world.new) (ClosesOther result (forward_sockets self.old.forwards) (holders_of self.old) (holders_of self.new)) }
+        ensures fewer { result ≡ true → others_open self.new < others_open self.old }
+        ensures forwards { self.new.forwards ≡ self.old.forwards }
         ensures config { self.new.config ≡ self.old.config }
         ensures number { self.new.number ≡ self.old.number }
         ensures turn { self.new.flows.turn ≡ self.old.flows.turn }
@@ -457,6 +475,31 @@ impl Slirp {
             self.questions.close_first(world)
         } else {
             self.associations.close_first(world)
+        }
+    }
+
+    // Whether the open socket with the least number is that of a port of the host that is given to a guest.
+    fn forward_is_first(&self) -> bool
+        ensures yes { result ≡ true → IsForwardFirst (forward_sockets self.now.forwards) (carriers (holders_of self.now)) self.now.flows.flows.slots }
+        ensures no { result ≡ false → NoForwardFirst (forward_sockets self.now.forwards) (carriers (holders_of self.now)) self.now.flows.flows.slots }
+    {
+        let Some((_, number)) = self.forwards.at(0) else {
+            return false;
+        };
+        if !self.is_under_flows(number) {
+            return false;
+        }
+        is_under(number, self.associations.rising()) && is_under(number, self.questions.rising())
+    }
+
+    // Whether a number is less than those of all open flows.
+    fn is_under_flows(&self, number: u64) -> bool
+        ensures yes { result ≡ true → (k : ℕ) (p : Splice) → IsOpenAt self.now.flows.flows.slots k p → number ≤ number_of p }
+        ensures no { result ≡ false → (n : ℕ) × IsFirst n self.now.flows.flows.slots × (n ≤ number) }
+    {
+        match self.flows.first() {
+            Some(flow) => number < flow,
+            None => true,
         }
     }
 

@@ -6,7 +6,7 @@ ghost use Rattle.world_face.specs.Tells.{Makes, Rose};
 ghost use Rattle.host_policy.specs.Ranges.{same_proto};
 ghost use Rattle.port_forward.specs.declared.FwdFault.TheVariants.{Refused};
 ghost use Rattle.port_forward.specs.Adding.{Adds, fault_of};
-ghost use Rattle.port_forward.specs.Opened.{socket_at, socket_for, without};
+ghost use Rattle.port_forward.specs.Opened.{forward_with, socket_at, socket_for, without};
 ghost use Rattle.slirp_core.specs.Forwards.{sockets_over};
 
 use arrayvec::ArrayVec;
@@ -70,6 +70,13 @@ impl Ports {
         ensures { result ≡ slice_get self.now place }
     {
         self.list.at(place)
+    }
+
+    /// The forward whose socket has this number.
+    pub(crate) fn with_socket(&self, number: u64) -> Option<Forward>
+        ensures { result ≡ forward_with number self.now }
+    {
+        self.list.with_socket(number)
     }
 
     /// The socket of the first forward of datagrams to this port of a guest.

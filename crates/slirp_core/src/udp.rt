@@ -253,7 +253,7 @@ impl Slirp {
     fn guest_on(&self, number: u64) -> Option<Endpoint>
         ensures { result ≡ guest_on self.now.forwards number }
     {
-        let (forward, _) = self.forwards.at(number as usize)?;
+        let forward = self.forwards.with_socket(number)?;
         match forward.proto {
             Proto::Udp => Some(forward.guest),
             Proto::Tcp => None,

@@ -64,7 +64,7 @@ impl Model for TurnWants {
 
     ghost invariant = { λ w. AreWants w.list.items × (w.front ≤ w.before) × (w.before ≤ length w.list.items)
         × (w.reads ≡ true → take w.before w.list.items ≡ (link_want true false ++ map listener_want w.listeners.items) ++ map udp_want
-        (w.forwards.items ++ merged w.associations.items w.questions.items))
+        (merged (merged w.forwards.items w.associations.items) w.questions.items))
         × InThreeParts w.front w.before w.list.items };
 }
 
@@ -360,7 +360,7 @@ fn add_wanted(wanted: bool, carriers: Carriers<'_>, wants: &mut Wants)
     }
 }
 
-// Puts these sockets at the end, for reading: those of ports of the host, then the others by rising number.
+// Puts these sockets at the end, for reading, by rising number.
 fn add_carriers(carriers: Carriers<'_>, wants: &mut Wants)
     requires wants { AreWants wants.old.items }
     requires room { length wants.old.items + length carriers.forwards.now + 1024 ≤ wants.old.capacity }
@@ -370,59 +370,43 @@ fn add_carriers(carriers: Carriers<'_>, wants: &mut Wants)
     ensures room { length wants.new.items ≤ length wants.old.items + length carriers.entry.forwards.now + 1024 }
     ensures capacity { wants.new.capacity ≡ wants.old.capacity }
 {
-    add_sockets(carriers.forwards, wants);
-    merge_sockets(carriers.associations, carriers.questions, wants);
+    let mut peers: ArrayVec<u64, 544> = ArrayVec::new();
+    merge(carriers.forwards, carriers.associations, &mut peers);
+    let mut all: ArrayVec<u64, 1056> = ArrayVec::new();
+    merge(peers.as_slice(), carriers.questions, &mut all);
+    add_sockets(all.as_slice(), wants);
 }
 
-// Puts the sockets of two rows, each of which rises, at the end, for reading, by rising number.
-fn merge_sockets(some: &[u64], others: &[u64], wants: &mut Wants)
-    requires wants { AreWants wants.old.items }
-    requires room { length wants.old.items + length some.now + length others.now ≤ wants.old.capacity }
-    ensures items { wants.new.items ≡ wants.old.items ++ map udp_want (merged some.now others.now) }
-    ensures wants { AreWants wants.new.items }
-    ensures room { length wants.new.items ≡ length wants.old.items + length some.now + length others.now }
-    ensures capacity { wants.new.capacity ≡ wants.old.capacity }
+// Puts the numbers of two rows, each of which rises, at the end of a third, by rising number.
+fn merge<const N: usize>(some: &[u64], others: &[u64], row: &mut ArrayVec<u64, N>)
+    requires { length row.old.items + length some.now + length others.now ≤ N }
+    ensures items { row.new.items ≡ row.old.items ++ merged some.now others.now }
 {
     let mut left = others;
     for &number in some {
-        left = add_up_to(number, left, wants);
-        add_socket(number, wants);
+        left = put_up_to(number, left, row);
+        row.push(number);
     }
-    add_sockets(left, wants);
+    let _ = row.try_extend_from_slice(left);
 }
 
-// Puts the sockets of a row up to this number at the end, for reading, and answers the others.
-fn add_up_to<'a>(number: u64, row: &'a [u64], wants: &mut Wants) -> &'a [u64]
-    requires wants { AreWants wants.old.items }
-    requires room { length wants.old.items + length row.now ≤ wants.old.capacity }
-    ensures items { (rest : List ℕ → List ℕ) → wants.new.items ++ map udp_want (number ∷ rest result.now)
-        ≡ wants.old.items ++ map udp_want (into number rest row.now) }
-    ensures wants { AreWants wants.new.items }
-    ensures room { length wants.new.items + length result.now ≡ length wants.old.items + length row.now }
-    ensures capacity { wants.new.capacity ≡ wants.old.capacity }
+// Puts the numbers of a row that aren't greater than this one at the end of another, and answers those behind them.
+fn put_up_to<'a, const N: usize>(
+    number: u64,
+    others: &'a [u64],
+    row: &mut ArrayVec<u64, N>,
+) -> &'a [u64]
+    requires { length row.old.items + length others.now ≤ N }
+    ensures items { (rest : List ℕ → List ℕ) → row.new.items ++ number ∷ rest result.now ≡ row.old.items ++ into number rest others.now }
+    ensures room { length row.new.items + length result.now ≡ length row.old.items + length others.now }
 {
-    for place in 0..row.len() {
-        if number < row[place] {
-            return &row[place..];
+    for place in 0..others.len() {
+        if number < others[place] {
+            return &others[place..];
         }
-        add_socket(row[place], wants);
+        row.push(others[place]);
     }
-    &row[row.len()..]
-}
-
-// Puts the socket of this number at the end, for reading.
-fn add_socket(number: u64, wants: &mut Wants)
-    requires wants { AreWants wants.old.items }
-    requires room { length wants.old.items + 1 ≤ wants.old.capacity }
-    ensures items { wants.new.items ≡ wants.old.items ++ udp_want number ∷ [] }
-    ensures wants { AreWants wants.new.items }
-    ensures capacity { wants.new.capacity ≡ wants.old.capacity }
-{
-    wants.add(Want {
-        of: Who::Udp(number),
-        read: true,
-        write: false,
-    });
+    &others[others.len()..]
 }
 
 // Puts the listeners of these numbers at the end, for reading.

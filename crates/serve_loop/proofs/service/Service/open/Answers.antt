@@ -1,7 +1,6 @@
 use Rattle.std.proofs.Common.{rules, ◌++◌, length, refl, sym, ◌∙◌, ap, subst, arith}
 use Rattle.host_policy.specs.Addresses.{Config}
 use Rattle.host_policy.specs.Ranges.{IsSound}
-use Rattle.slirp_core.specs.Holds.{GivesOnce}
 use Rattle.slirp_core.specs.Numbers.{flows_for}
 use Rattle.slirp_core.specs.Pumps.{TcpOnce}
 use Rattle.slirp_core.proofs.Forwarding.{at_ok}
@@ -32,7 +31,6 @@ returns-clause-new c =
     let sound = subst IsSound (sym config) c.requires.sound in
     record {
       sound = sound;
-      once = subst GivesOnce (sym config) (record { added = refl; control = c.requires.built.control });
       forwards = fresh.forwards;
       flows = fresh.flows ∙ ap flows_for (sym config);
       unit = has_room_for_a_unit c.in_ok-slirp.slirp.config sound;

@@ -1,8 +1,9 @@
-use Rattle.std.proofs.Common.{[], ◌∷◌, ◌++◌, ◌≡◌, ◌<◌, ◌&&◌, nat_lt, ℕ, Bool, true, false, List, Some, None, length, slice_get, refl, sym, ◌∙◌, ap, subst, arith}
+use Rattle.std.proofs.Common.{[], ◌∷◌, ◌++◌, ◌≡◌, ◌<◌, ◌&&◌, nat_lt, ℕ, Bool, true, false, List, Some, None, length, refl, sym, ◌∙◌, ap, subst, arith}
 use Rattle.std.specs.Option.{option_map_or}
 use Rattle.host_policy.specs.Ranges.{same_proto}
 use Rattle.host_policy.specs.declared.Proto.TheVariants.{Tcp}
-use Rattle.slirp_core.specs.Forwards.{is_over}
+use Rattle.host_policy.specs.declared.Forward.{Forward}
+use Rattle.port_forward.specs.Opened.{forward_with}
 use Rattle.std.proofs.lemmas.Bool.Decides.{nat_tests}
 use Rattle.net_octets.specs.declared.Endpoint.{Endpoint}
 use Rattle.poll_list.specs.declared.Who.TheVariants.{Listener as AListener}
@@ -28,6 +29,9 @@ use Rattle.slirp_core.proofs.Visiting.{passed_by, treated}
 use Rattle.slirp_core.proofs.Marking.{marks_same}
 use Rattle.slirp_core.proofs.network.Slirp.accept.Goals as goal
 
+abbrev is_for_peers : Forward → Bool
+is_for_peers f = same_proto Tcp f.proto
+
 -- where a test fails none is awaited
 no_room : (a b : Bool) → a ≡ false → (a && b) ≡ false
 no_room true b is = cc
@@ -44,18 +48,18 @@ returns-then-not-has_room_for_peer-clause-makes g c config count wants item item
       passes_over config count wants item items c.args.self.now (flowing false c.args.self.now.flows) link past holds,
       unawaited_is_unread config (standing count wants (item ∷ items)) c.args.self.now (flowing false c.args.self.now.flows) link past holds refl c.args.listener
           (no_room (fits_peer c.args.self.now.flows.flows)
-          (option_map_or (is_over Tcp) (slice_get c.args.self.now.forwards c.args.listener) false)
+          (option_map_or is_for_peers (forward_with c.args.listener c.args.self.now.forwards) false)
           (subst (λ (s : SlirpState). fits_peer s.flows.flows ≡ false) c.self.view_is (sym full))),
     ))
 
 pub returns-in_default-clause-makes : goal.returns-in_default-clause-makes
 returns-in_default-clause-makes g c config count wants item items link reads_it =
-    let none = subst (λ (s : SlirpState). slice_get s.forwards c.args.listener ≡ None) c.self.view_is (sym c.at.ensures ∙ c.in_default.is) in
+    let none = subst (λ (s : SlirpState). forward_with c.args.listener s.forwards ≡ None) c.self.view_is (sym c.with_socket.ensures ∙ c.in_default.is) in
     brings_none (λ past holds. (
       passes_over config count wants item items c.args.self.now (flowing false c.args.self.now.flows) link past holds,
       unawaited_is_unread config (standing count wants (item ∷ items)) c.args.self.now (flowing false c.args.self.now.flows) link past holds refl c.args.listener
           (none_there (fits_peer c.args.self.now.flows.flows)
-          (option_map_or (is_over Tcp) (slice_get c.args.self.now.forwards c.args.listener) false) (ap (λ o. option_map_or (is_over Tcp) o false) none)),
+          (option_map_or is_for_peers (forward_with c.args.listener c.args.self.now.forwards) false) (ap (λ o. option_map_or is_for_peers o false) none)),
     ))
 
 -- where a peer's flow fits not every slot is in use
@@ -97,8 +101,8 @@ returns-in-NotYet g c =
       makes = λ config count wants item items link reads_it.
           subst (λ (s : SlirpState). Brings (g.W.World.tells c.args.world.now) (g.W.World.tells c.accept.new.self) (Holds config (standing count wants (item ∷ items)) s (flowing false s.flows) link)
           (λ past. Holds config (standing count wants items) s (flowing false s.flows) link past × (is_left_to_read config past (AListener c.args.listener) ≡ false))) c.self.view_is
-          (passed_by _ _ config count wants item items c.args.listener reads_it slirp link room c.in-Some.forward c.in-Some.field-0-1
-          (sym c.at.ensures ∙ c.in-Some.is) c.in-Tcp.is c.accept.result c.in-NotYet.is c.accept.ensures);
+          (passed_by _ _ config count wants item items c.args.listener reads_it slirp link room c.in-Some.forward
+          (sym c.with_socket.ensures ∙ c.in-Some.is) c.in-Tcp.is c.accept.result c.in-NotYet.is c.accept.ensures);
       asks = λ awaited. makes_one _ _ _ _ (subst (λ (s : SlirpState). Answers (g.W.World.tells c.args.world.now) (g.W.World.tells c.accept.new.self)
           (Accept c.args.listener s.number c.accept.result)) c.self.view_is c.accept.ensures) (λ allowed. (c.accept.result, false, refl));
       counts = grown _ _ _ c.accept.ensures.counted;
@@ -134,8 +138,8 @@ returns-in-From-clause-makes g c config count wants item items link reads_it =
     subst (λ l. Holds config (standing count wants items) new (flowing false new.flows) link (l ++ past)) (sym is)
     (treated config count wants item items c.args.listener reads_it slirp link past holds
     (subst (λ (s : SlirpState). fits_peer s.flows.flows ≡ true) c.self.view_is room)
-    forward c.in-Some.field-0-1 (subst (λ (s : SlirpState). slice_get s.forwards c.args.listener ≡ Some (forward, c.in-Some.field-0-1)) c.self.view_is
-    (sym c.at.ensures ∙ c.in-Some.is)) c.in-Tcp.is peer new made (subst AreAllowed is allowed) c.welcome.ensures.others
+    forward (subst (λ (s : SlirpState). forward_with c.args.listener s.forwards ≡ Some forward) c.self.view_is
+    (sym c.with_socket.ensures ∙ c.in-Some.is)) c.in-Tcp.is peer new made (subst AreAllowed is allowed) c.welcome.ensures.others
     (treats config slirp.moment false past holds.flows.holds holds.guests.settings)) in (
       then_is,
       peer_is_read config count wants item items slirp new (flowing false slirp.flows) (flowing false new.flows) link link past es holds then_is c.args.listener slirp.number (From peer) made is,
@@ -149,36 +153,36 @@ returns-in-From-clause-counts g c =
 
 pub returns-in-Udp-clause-makes : goal.returns-in-Udp-clause-makes
 returns-in-Udp-clause-makes g c config count wants item items link reads_it =
-    let some = subst (λ (s : SlirpState). slice_get s.forwards c.args.listener ≡ Some (c.in-Some.forward, c.in-Some.field-0-1)) c.self.view_is (sym c.at.ensures ∙ c.in-Some.is) in
+    let some = subst (λ (s : SlirpState). forward_with c.args.listener s.forwards ≡ Some c.in-Some.forward) c.self.view_is (sym c.with_socket.ensures ∙ c.in-Some.is) in
     brings_none (λ past holds. (
       passes_over config count wants item items c.args.self.now (flowing false c.args.self.now.flows) link past holds,
       unawaited_is_unread config (standing count wants (item ∷ items)) c.args.self.now (flowing false c.args.self.now.flows) link past holds refl c.args.listener
           (none_there (fits_peer c.args.self.now.flows.flows)
-          (option_map_or (is_over Tcp) (slice_get c.args.self.now.forwards c.args.listener) false) (ap (λ o. option_map_or (is_over Tcp) o false) some ∙ ap (same_proto Tcp) c.in-Udp.is)),
+          (option_map_or is_for_peers (forward_with c.args.listener c.args.self.now.forwards) false) (ap (λ o. option_map_or is_for_peers o false) some ∙ ap (same_proto Tcp) c.in-Udp.is)),
     ))
 
 pub returns-then-not-has_room_for_peer-clause-asks : goal.returns-then-not-has_room_for_peer-clause-asks
 returns-then-not-has_room_for_peer-clause-asks g c awaited =
     let full = c.if-not-has_room_for_peer.ensures.room in
     let never : false ≡ true = sym (no_room (fits_peer c.args.self.now.flows.flows)
-    (option_map_or (is_over Tcp) (slice_get c.args.self.now.forwards c.args.listener) false)
+    (option_map_or is_for_peers (forward_with c.args.listener c.args.self.now.forwards) false)
     (subst (λ (s : SlirpState). fits_peer s.flows.flows ≡ false) c.self.view_is (sym full))) ∙ awaited in
     absurd cc
 
 pub returns-in_default-clause-asks : goal.returns-in_default-clause-asks
 returns-in_default-clause-asks g c awaited =
-    let none = subst (λ (s : SlirpState). slice_get s.forwards c.args.listener ≡ None) c.self.view_is (sym c.at.ensures ∙ c.in_default.is) in
+    let none = subst (λ (s : SlirpState). forward_with c.args.listener s.forwards ≡ None) c.self.view_is (sym c.with_socket.ensures ∙ c.in_default.is) in
     let never : false ≡ true = sym (none_there (fits_peer c.args.self.now.flows.flows)
-    (option_map_or (is_over Tcp) (slice_get c.args.self.now.forwards c.args.listener) false)
-    (ap (λ o. option_map_or (is_over Tcp) o false) none)) ∙ awaited in
+    (option_map_or is_for_peers (forward_with c.args.listener c.args.self.now.forwards) false)
+    (ap (λ o. option_map_or is_for_peers o false) none)) ∙ awaited in
     absurd cc
 
 pub returns-in-Udp-clause-asks : goal.returns-in-Udp-clause-asks
 returns-in-Udp-clause-asks g c awaited =
-    let some = subst (λ (s : SlirpState). slice_get s.forwards c.args.listener ≡ Some (c.in-Some.forward, c.in-Some.field-0-1)) c.self.view_is (sym c.at.ensures ∙ c.in-Some.is) in
+    let some = subst (λ (s : SlirpState). forward_with c.args.listener s.forwards ≡ Some c.in-Some.forward) c.self.view_is (sym c.with_socket.ensures ∙ c.in-Some.is) in
     let never : false ≡ true = sym (none_there (fits_peer c.args.self.now.flows.flows)
-    (option_map_or (is_over Tcp) (slice_get c.args.self.now.forwards c.args.listener) false)
-    (ap (λ o. option_map_or (is_over Tcp) o false) some ∙ ap (same_proto Tcp) c.in-Udp.is)) ∙ awaited in
+    (option_map_or is_for_peers (forward_with c.args.listener c.args.self.now.forwards) false)
+    (ap (λ o. option_map_or is_for_peers o false) some ∙ ap (same_proto Tcp) c.in-Udp.is)) ∙ awaited in
     absurd cc
 
 pub returns-in-From-clause-asks : goal.returns-in-From-clause-asks

@@ -1,22 +1,12 @@
-use Rattle.std.proofs.Common.{Bool, sym, ◌∙◌, ap, subst}
+use Rattle.std.proofs.Common.{Bool, refl, ◌∙◌, subst}
 use Rattle.world_face.specs.Tells.{Makes}
-use Rattle.world_face.proofs.Telling.{makes_as, makes_then}
-use Rattle.slirp_core.specs.Holds.{ClosesNext, ClosesOn, holders_of}
-use Rattle.slirp_core.specs.State.{SlirpState}
-use Rattle.slirp_core.proofs.Closing.{closes_first, closes_last, closes_on}
+use Rattle.world_face.proofs.Telling.{makes_none, makes_then}
+use Rattle.slirp_core.specs.Holds.{ClosesNext, holders_of}
+use Rattle.slirp_core.proofs.Closing.{closes_last, closes_on}
 use Rattle.slirp_core.proofs.network.Slirp.close_all.Goals as goal
 
 pub loop-init : goal.loop-init
-loop-init g c =
-    let first = c.args.self.now in
-    let same = c.close_forwards.ensures.others in
-    record {
-      makes = subst (λ (s : SlirpState). Makes (g.W.World.tells c.args.world.now) (g.W.World.tells c.close_forwards.new.world) (ClosesOn first.forwards (holders_of first) (holders_of s))) (sym same)
-          (makes_as _ _ _ _ c.close_forwards.ensures.makes (λ made closes. closes_first first.forwards (holders_of first) made closes));
-      config = ap (λ (s : SlirpState). s.config) same;
-      number = ap (λ (s : SlirpState). s.number) same;
-      turn = ap (λ (s : SlirpState). s.flows.turn) same;
-    }
+loop-init g c = record { makes = makes_none _ _ (λ config over past closing. closing); config = refl; number = refl; turn = refl }
 
 pub loop-smaller : goal.loop-smaller
 loop-smaller g c = c.close_next.ensures.fewer c.loop-test.true
@@ -28,8 +18,9 @@ loop-preserved g c =
     let new = c.close_next.new in
     record {
       makes = makes_then _ _ _ _ _ _ c.loop.invariant.makes
-          (subst (λ (b : Bool). Makes (g.W.World.tells c.loop.world) (g.W.World.tells new.world) (ClosesNext b (holders_of old) (holders_of new.self))) c.loop-test.true c.close_next.ensures.makes)
-          (λ made more closes later. closes_on first.forwards (holders_of first) (holders_of old) (holders_of new.self) made more closes later);
+          (subst (λ (b : Bool). Makes (g.W.World.tells c.loop.world) (g.W.World.tells new.world) (ClosesNext b old.forwards new.self.forwards (holders_of old) (holders_of new.self))) c.loop-test.true
+          c.close_next.ensures.makes)
+          (λ made more closes later. closes_on first.forwards old.forwards new.self.forwards (holders_of first) (holders_of old) (holders_of new.self) made more closes later);
       config = c.close_next.ensures.config ∙ c.loop.invariant.config;
       number = c.close_next.ensures.number ∙ c.loop.invariant.number;
       turn = c.close_next.ensures.turn ∙ c.loop.invariant.turn;
@@ -41,8 +32,9 @@ returns-clause-makes g c =
     let old = c.loop.self in
     let new = c.close_next.new in
     makes_then _ _ _ _ _ _ c.loop.invariant.makes
-    (subst (λ (b : Bool). Makes (g.W.World.tells c.loop.world) (g.W.World.tells new.world) (ClosesNext b (holders_of old) (holders_of new.self))) c.loop-test.false c.close_next.ensures.makes)
-    (λ made more closes later. closes_last first.forwards (holders_of first) (holders_of old) (holders_of new.self) made more closes later)
+    (subst (λ (b : Bool). Makes (g.W.World.tells c.loop.world) (g.W.World.tells new.world) (ClosesNext b old.forwards new.self.forwards (holders_of old) (holders_of new.self))) c.loop-test.false
+    c.close_next.ensures.makes)
+    (λ made more closes later. closes_last first.forwards old.forwards new.self.forwards (holders_of first) (holders_of old) (holders_of new.self) made more closes later)
 
 pub returns-clause-config : goal.returns-clause-config
 returns-clause-config g c = c.close_next.ensures.config ∙ c.loop.invariant.config

@@ -1,150 +1,24 @@
-use Rattle.std.proofs.Common.{◌+◌, ◌++◌, ◌<◌, length, sym, ◌∙◌, ap, subst, true, arith}
+use Rattle.std.proofs.Common.{sym, subst}
 use Rattle.world_face.specs.Tells.{Makes}
 use Rattle.world_face.proofs.Telling.{makes_as}
-use Rattle.dns_relay.proofs.Below.{below_closed}
-use Rattle.dns_relay.specs.Questions.{numbers as question_numbers}
-use Rattle.dns_relay.specs.State.{RelayState}
-use Rattle.udp_assoc.specs.Associations.{numbers}
-use Rattle.tcp_flows.specs.Kept.{Kept}
-use Rattle.slirp_core.specs.Firsts.{IsFlowFirst, IsQuestionFirst, NoFlowFirst, NoQuestionFirst, open_count}
-use Rattle.slirp_core.specs.Holds.{ClosesNext, Holders, carriers, holders_of}
-use Rattle.slirp_core.specs.Numbers.{open_flows}
-use Rattle.slirp_core.specs.Services.{AreAsked}
+use Rattle.slirp_core.specs.Holds.{ClosesNext, holders_of}
 use Rattle.slirp_core.specs.State.{SlirpState}
-use Rattle.slirp_core.proofs.Associating.{below_first, none_first}
-use Rattle.slirp_core.proofs.Least.{association_first, fewer_flows, flow_first, no_association_left, question_first, some_flow, some_question}
+use Rattle.slirp_core.proofs.Closing.{next_forward, next_other}
 use Rattle.slirp_core.proofs.network.Slirp.close_next.Goals as goal
 
--- ---- a flow's
+pub returns-then-forward_is_first-clause-makes : goal.returns-then-forward_is_first-clause-makes
+returns-then-forward_is_first-clause-makes g c =
+    let old = c.args.self.now in
+    let new = c.close_forward.new in
+    subst (λ (s : SlirpState). Makes (g.W.World.tells c.args.world.now) (g.W.World.tells new.world) (ClosesNext c.close_forward.result old.forwards new.self.forwards (holders_of old) (holders_of s)))
+    (sym c.close_forward.ensures.others)
+    (makes_as _ _ _ _ c.close_forward.ensures.makes
+    (λ made closes. next_forward c.close_forward.result old.forwards new.self.forwards (holders_of old) made (c.forward_is_first.ensures.yes c.if-forward_is_first.true) closes))
 
-pub returns-then-flow_is_first-clause-makes : goal.returns-then-flow_is_first-clause-makes
-returns-then-flow_is_first-clause-makes g c =
-    let i = c.self.inside in
-    let new = c.close_first.new in
-    let o : Holders = record { associations = i.associations.list; questions = i.questions.list; slots = i.flows.flows.slots } in
-    let first = subst (λ (s : SlirpState). IsFlowFirst (carriers (holders_of s)) s.flows.flows.slots) (sym c.self.view_is) (c.flow_is_first.ensures.yes c.if-flow_is_first.true) in
-    subst (λ (s : SlirpState). Makes (g.W.World.tells c.args.world.now) (g.W.World.tells new.world) (ClosesNext c.close_first.result (holders_of s)
-    (record o { slots = new.self.flows.slots }))) c.self.view_is
-    (makes_as _ _ _ _ c.close_first.ensures.closes (λ made closes config over past holds. flow_first config over made past c.close_first.result o new.self.flows.slots first closes holds))
-
-pub returns-then-flow_is_first-clause-fewer : goal.returns-then-flow_is_first-clause-fewer
-returns-then-flow_is_first-clause-fewer g c is =
-    let i = c.self.inside in
-    let new = c.close_first.new in
-    let makes = c.close_first.ensures.closes in
-    let less = fewer_flows c.close_first.result i.flows.flows.slots new.self.flows.slots makes.made makes.holds is in
-    subst (λ (s : SlirpState). length i.associations.list + length i.questions.list + open_flows new.self.flows.slots < open_count s) c.self.view_is (omega (arith, less))
-
-pub returns-then-flow_is_first-clause-none : goal.returns-then-flow_is_first-clause-none
-returns-then-flow_is_first-clause-none g c is =
-    let i = c.self.inside in
-    let makes = c.close_first.ensures.closes in
-    let first = subst (λ (s : SlirpState). IsFlowFirst (carriers (holders_of s)) s.flows.flows.slots) (sym c.self.view_is) (c.flow_is_first.ensures.yes c.if-flow_is_first.true) in
-    absurd (some_flow c.close_first.result (numbers i.associations.list ++ question_numbers i.questions.list) i.flows.flows.slots c.close_first.new.self.flows.slots makes.made first makes.holds is)
-
-pub returns-then-flow_is_first-clause-unasked : goal.returns-then-flow_is_first-clause-unasked
-returns-then-flow_is_first-clause-unasked g c is =
-    let i = c.self.inside in
-    let makes = c.close_first.ensures.closes in
-    let first = subst (λ (s : SlirpState). IsFlowFirst (carriers (holders_of s)) s.flows.flows.slots) (sym c.self.view_is) (c.flow_is_first.ensures.yes c.if-flow_is_first.true) in
-    absurd (some_flow c.close_first.result (numbers i.associations.list ++ question_numbers i.questions.list) i.flows.flows.slots c.close_first.new.self.flows.slots makes.made first makes.holds is)
-
-pub returns-then-flow_is_first-clause-turn : goal.returns-then-flow_is_first-clause-turn
-returns-then-flow_is_first-clause-turn g c = ap (λ (k : Kept). k.turn) c.close_first.ensures.same ∙ ap (λ (s : SlirpState). s.flows.turn) c.self.view_is
-
--- ---- a question's
-
-pub returns-then-question_is_first-clause-makes : goal.returns-then-question_is_first-clause-makes
-returns-then-question_is_first-clause-makes g c =
-    let i = c.self.inside in
-    let closing = c.close_first-then-question_is_first in
-    let o : Holders = record { associations = i.associations.list; questions = i.questions.list; slots = i.flows.flows.slots } in
-    let no_flow = subst (λ (s : SlirpState). NoFlowFirst (carriers (holders_of s)) s.flows.flows.slots) (sym c.self.view_is) (c.flow_is_first.ensures.no c.if-flow_is_first.false) in
-    let first = subst (λ (s : SlirpState). IsQuestionFirst s.associations s.questions) (sym c.self.view_is) (c.question_is_first.ensures.yes c.if-question_is_first.true) in
-    subst (λ (s : SlirpState). Makes (g.W.World.tells c.args.world.now) (g.W.World.tells closing.new.world)
-    (ClosesNext closing.result (holders_of s) (record o { questions = closing.new.self.list }))) c.self.view_is
-    (makes_as _ _ _ _ closing.ensures.closes (λ made closes config over past holds. question_first config over made past closing.result o closing.new.self.list no_flow first closes holds))
-
-pub returns-then-question_is_first-clause-fewer : goal.returns-then-question_is_first-clause-fewer
-returns-then-question_is_first-clause-fewer g c is =
-    let i = c.self.inside in
-    let closing = c.close_first-then-question_is_first in
-    let less = closing.ensures.fewer is in
-    subst (λ (s : SlirpState). length i.associations.list + length closing.new.self.list + open_flows i.flows.flows.slots < open_count s) c.self.view_is (omega (arith, less))
-
-pub returns-then-question_is_first-clause-none : goal.returns-then-question_is_first-clause-none
-returns-then-question_is_first-clause-none g c is =
-    let i = c.self.inside in
-    let closing = c.close_first-then-question_is_first in
-    let makes = closing.ensures.closes in
-    let first = subst (λ (s : SlirpState). IsQuestionFirst s.associations s.questions) (sym c.self.view_is) (c.question_is_first.ensures.yes c.if-question_is_first.true) in
-    absurd (some_question closing.result i.associations.list i.questions.list closing.new.self.list makes.made first makes.holds is)
-
-pub returns-then-question_is_first-clause-unasked : goal.returns-then-question_is_first-clause-unasked
-returns-then-question_is_first-clause-unasked g c is =
-    let i = c.self.inside in
-    let closing = c.close_first-then-question_is_first in
-    let makes = closing.ensures.closes in
-    let first = subst (λ (s : SlirpState). IsQuestionFirst s.associations s.questions) (sym c.self.view_is) (c.question_is_first.ensures.yes c.if-question_is_first.true) in
-    absurd (some_question closing.result i.associations.list i.questions.list closing.new.self.list makes.made first makes.holds is)
-
-pub invariant_of-self-then-question_is_first : goal.invariant_of-self-then-question_is_first
-invariant_of-self-then-question_is_first g c =
-    let i = c.self.inside in
-    let closing = c.close_first-then-question_is_first in
-    let makes = closing.ensures.closes in
-    let asked = c.self.invariant.6 in
-    let now_asked : AreAsked i.number i.policy closing.new.self = record {
-      below = below_closed i.number (λ q. true) closing.result i.questions.list closing.new.self.list makes.made makes.holds asked.below;
-      is = closing.ensures.rest ∙ ap (λ (r : RelayState). record r { list = closing.new.self.list }) asked.is;
-    } in
-    (c.self.invariant.0, c.self.invariant.1, c.self.invariant.2, c.self.invariant.3, c.self.invariant.4, c.self.invariant.5, now_asked, c.self.invariant.7)
-
--- ---- an association's
-
-pub returns-else-question_is_first-clause-makes : goal.returns-else-question_is_first-clause-makes
-returns-else-question_is_first-clause-makes g c =
-    let i = c.self.inside in
-    let closing = c.close_first-else-question_is_first in
-    let o : Holders = record { associations = i.associations.list; questions = i.questions.list; slots = i.flows.flows.slots } in
-    let no_flow = subst (λ (s : SlirpState). NoFlowFirst (carriers (holders_of s)) s.flows.flows.slots) (sym c.self.view_is) (c.flow_is_first.ensures.no c.if-flow_is_first.false) in
-    let no_question = subst (λ (s : SlirpState). NoQuestionFirst s.associations s.questions) (sym c.self.view_is) (c.question_is_first.ensures.no c.if-question_is_first.false) in
-    subst (λ (s : SlirpState). Makes (g.W.World.tells c.args.world.now) (g.W.World.tells closing.new.world)
-    (ClosesNext closing.result (holders_of s) (record o { associations = closing.new.self.list }))) c.self.view_is
-    (makes_as _ _ _ _ closing.ensures.closes (λ made closes config over past holds. association_first config over made past closing.result o closing.new.self.list no_flow no_question closes holds))
-
-pub returns-else-question_is_first-clause-fewer : goal.returns-else-question_is_first-clause-fewer
-returns-else-question_is_first-clause-fewer g c is =
-    let i = c.self.inside in
-    let closing = c.close_first-else-question_is_first in
-    let less = closing.ensures.fewer is in
-    subst (λ (s : SlirpState). length closing.new.self.list + length i.questions.list + open_flows i.flows.flows.slots < open_count s) c.self.view_is (omega (arith, less))
-
-pub returns-else-question_is_first-clause-none : goal.returns-else-question_is_first-clause-none
-returns-else-question_is_first-clause-none g c is =
-    let closing = c.close_first-else-question_is_first in
-    let makes = closing.ensures.closes in
-    none_first closing.result c.self.inside.associations.list closing.new.self.list makes.made makes.holds is
-
-pub returns-else-question_is_first-clause-unasked : goal.returns-else-question_is_first-clause-unasked
-returns-else-question_is_first-clause-unasked g c is =
-    let i = c.self.inside in
-    let closing = c.close_first-else-question_is_first in
-    let makes = closing.ensures.closes in
-    let no_question = subst (λ (s : SlirpState). NoQuestionFirst s.associations s.questions) (sym c.self.view_is) (c.question_is_first.ensures.no c.if-question_is_first.false) in
-    no_association_left closing.result i.associations.list closing.new.self.list i.questions.list makes.made no_question makes.holds is
-
-pub invariant_of-self-else-question_is_first : goal.invariant_of-self-else-question_is_first
-invariant_of-self-else-question_is_first g c =
-    let i = c.self.inside in
-    let closing = c.close_first-else-question_is_first in
-    let makes = closing.ensures.closes in (
-      below_first i.number closing.result i.associations.list closing.new.self.list makes.made makes.holds c.self.invariant.0,
-      c.self.invariant.1,
-      closing.ensures.bind ∙ c.self.invariant.2,
-      c.self.invariant.3,
-      c.self.invariant.4,
-      c.self.invariant.5,
-      c.self.invariant.6,
-      c.self.invariant.7,
-    )
+pub returns-else-forward_is_first-clause-makes : goal.returns-else-forward_is_first-clause-makes
+returns-else-forward_is_first-clause-makes g c =
+    let old = c.args.self.now in
+    let new = c.close_other.new.self in
+    makes_as _ _ _ _ c.close_other.ensures.makes
+    (λ made closes. next_other c.close_other.result old.forwards new.forwards (holders_of old) (holders_of new) made c.close_other.ensures.forwards
+    (c.forward_is_first.ensures.no c.if-forward_is_first.false) closes)

@@ -1,5 +1,5 @@
-use Rattle.std.proofs.Common.{Bool, List, None, Option, ℕ, length, ◌∙◌, ap, subst, arith}
-use Rattle.std.specs.List.Sorted.{IsPermutation}
+use Rattle.std.proofs.Common.{◌≡◌, ◌++◌, Bool, List, None, Option, ℕ, length, sym, ◌∙◌, ap, subst, arith}
+use Rattle.std.specs.List.Sorted.{IsNonDecreasing, IsPermutation}
 use Rattle.dns_relay.specs.Questions.{numbers as question_numbers}
 use Rattle.poll_list.specs.declared.Want.{Want}
 use Rattle.world_face.specs.Journal.{Entry}
@@ -15,7 +15,9 @@ use Rattle.world_face.specs.Moments.{sooner}
 use Rattle.slirp_core.specs.Timeouts.{IsFlowTime, SuitsFlows}
 use Rattle.slirp_core.proofs.Filling.{wants_of}
 use Rattle.slirp_core.proofs.Forwarding.{both_over}
-use Rattle.slirp_core.proofs.Merging.{merged_all, merged_rises}
+use Rattle.host_policy.specs.declared.Proto.TheVariants.{Udp as OverUdp}
+use Rattle.slirp_core.specs.Forwards.{sockets_over}
+use Rattle.slirp_core.proofs.Merging.{merged_rises, merged_three}
 use Rattle.slirp_core.proofs.network.Slirp.pollfds_fill.Goals as goal
 
 pub returns-clause-timeout : goal.returns-clause-timeout
@@ -44,12 +46,14 @@ returns-clause-items c =
     let added = c.fill.ensures.items in
     let some = c.rising.result.now in
     let others = c.rising-2.result.now in
-    wants_of c.args.self.now c.args.link.now c.fill.new.self.items added.0 c.is_settled.result c.blocked.result c.listeners.result.now c.ports_over.result.now
-    (merged some others) c.is_settled.ensures c.blocked.ensures
-    c.listeners.ensures.items c.ports_over.ensures.items
-    (subst (λ (s : SlirpState). IsPermutation (carriers (holders_of s)) (merged some others)) c.self.view_is
-    (merged_all (numbers i.associations.list) (question_numbers i.questions.list) some others c.rising.ensures.all c.rising-2.ensures.all))
-    (merged_rises some others c.rising.ensures.rising c.rising-2.ensures.rising)
+    let forwards = c.ports_over.result.now in
+    let given : forwards ≡ sockets_over OverUdp c.args.self.now.forwards = c.ports_over.ensures.items in
+    wants_of c.args.self.now c.args.link.now c.fill.new.self.items added.0 c.is_settled.result c.blocked.result c.listeners.result.now
+    (merged (merged forwards some) others) c.is_settled.ensures c.blocked.ensures c.listeners.ensures.items
+    (subst (λ l. IsPermutation (l ++ carriers (holders_of c.args.self.now)) (merged (merged forwards some) others)) given
+    (subst (λ (s : SlirpState). IsPermutation (forwards ++ carriers (holders_of s)) (merged (merged forwards some) others)) c.self.view_is
+    (merged_three forwards (numbers i.associations.list) (question_numbers i.questions.list) some others c.rising.ensures.all c.rising-2.ensures.all)))
+    (λ rising. merged_rises (merged forwards some) others (merged_rises forwards some (subst IsNonDecreasing (sym given) rising) c.rising.ensures.rising) c.rising-2.ensures.rising)
     (subst (λ (s : SlirpState). AreWantsOf s.flows.flows.slots added.0) c.self.view_is added.2) added.1
 
 pub fill-requires-clause-numbers : goal.fill-requires-clause-numbers
@@ -63,6 +67,13 @@ fill-requires-clause-few c =
     let few = c.listeners.ensures.few in
     let over = ap length c.ports_over.ensures.items in
     omega (arith, all, most, few, over)
+
+pub fill-requires-clause-most : goal.fill-requires-clause-most
+fill-requires-clause-most c =
+    let all = both_over c.args.self.now.forwards in
+    let most = c.ports_over.ensures.few in
+    let over = ap length c.ports_over.ensures.items in
+    (omega (arith, all, most, over), c.rising.ensures.most, c.rising-2.ensures.most)
 
 pub returns-clause-waited_for : goal.returns-clause-waited_for
 returns-clause-waited_for c =

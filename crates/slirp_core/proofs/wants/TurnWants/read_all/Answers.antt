@@ -27,7 +27,7 @@ returns-then-are_same-4-clause-few c =
     let same = same_rows i.listeners.items i.forwards.items i.associations.items i.questions.items c.args.listeners.now carriers.forwards.now carriers.associations.now
     carriers.questions.now listeners forwards some others in
     few_read c.truncate.new.self.items c.args.listeners.now carriers.forwards.now carriers.associations.now carriers.questions.now
-    (c.truncate.ensures.items ∙ c.self.invariant.3 c.if-self.true ∙ same) c.requires.few c.requires.most.0 c.requires.most.1
+    (c.truncate.ensures.items ∙ c.self.invariant.3 c.if-self.true ∙ same) c.requires.few c.requires.most.1 c.requires.most.2
 
 pub invariant_of-self : goal.invariant_of-self
 invariant_of-self c =
