@@ -4,6 +4,7 @@ use Rattle.std.proofs.Common.{option_and_then, if◌then◌else◌, inl, inr, re
 use Rattle.std.proofs.lemmas.Bool.{cases_lt}
 use Rattle.std.proofs.lemmas.List.{get_or_past}
 use Rattle.std.specs.List.{range_with_len}
+use Rattle.std.specs.Option.{option_map_or}
 use Rattle.std.proofs.lemmas.List.Elements.{All-append, All-drop, All-get_or, All-map, All-take}
 use Rattle.std.proofs.lemmas.Option.{cond_some}
 use Rattle.world_face.specs.Journal.{Entry, LinkRead, AreAllowed, AreOctets}
@@ -14,7 +15,7 @@ use Rattle.net_octets.proofs.Parts.{four_at-fits}
 use Rattle.host_policy.specs.Addresses.{Config, is_guest}
 use Rattle.ether_frame.specs.Ether.{Ether, read_ether}
 use Rattle.ipv4_head.specs.Ip.{Ip, read_ip, head_length, is_unbroken}
-use Rattle.ipv4_head.specs.Sets.{Key, Part, PartSet, Outcome, UnevenPart, LongPart, Clashes, Waits, Joined, has_octet, joined_body, joined_size, octet_in, octet_of, outcome_among}
+use Rattle.ipv4_head.specs.Sets.{Key, Part, PartSet, Outcome, UnevenPart, LongPart, Clashes, Waits, Joined, has_octet, joined_body, joined_size, octet_of, outcome_among}
 use Rattle.ipv4_head.specs.Sets.{parts_for, changed_by, OfParts, OfSets, place_of, set_for, start_of, whole_by}
 use Rattle.ipv4_head.proofs.Members.{found_key, of_changed_by, of_left, of_there, same_key}
 use Rattle.run_laws.specs.Fragments.{Fragment, arrived, fragment_by, fragment_in, fragment_of, joined_by, key_by, part_by, sets, waiting, with_fragment, with_frame}
@@ -123,6 +124,9 @@ range_sets config [] allowed = tt
 range_sets config (e ∷ past) allowed = sets_by config (moment past) (arrives e past) (sets config past) (λ frame is. frame_octets e past frame allowed is) (range_sets config past allowed.1)
 
 -- what is joined of them
+abbrev octet_in : ℕ → Option Part → ℕ
+octet_in k o = option_map_or (λ (p : Part). one_at p.body (k - start_of p)) o 0
+
 octets_of : (key : Key) (parts : List Part) (test : Part → Bool) (k : ℕ) → OfParts RangePart key parts → octet_in k (find test parts) < 2 ^ 8
 octets_of key [] test k all = lit< tt
 octets_of key (p ∷ parts) test k all = octet_if (test p) (in_range p.body all.0.2 (k - start_of p)) (octets_of key parts test k all.1)
