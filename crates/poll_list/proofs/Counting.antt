@@ -1,10 +1,11 @@
 -- How many wants of a list are for writing.
 use Rattle.std.proofs.Common.{◌≡◌, Bool, true, cond, ℕ, suc, zero, ◌+◌, ◌<◌, ◌≤◌, List, [], ◌∷◌, ◌++◌, length, take, drop, get_or, drop-cons, arith, ap, ◌∙◌}
-use Rattle.std.proofs.lemmas.List.{drop_all}
+use Rattle.std.proofs.lemmas.List.{drop_all, take-append-le}
+use Rattle.std.proofs.Math.Seq.{take-length}
 use Rattle.std.proofs.lemmas.List.Sums.{sum_by-append, sum_by-take-drop}
 use Rattle.std.specs.List.{Contains}
 use Rattle.poll_list.specs.declared.Want.{Want}
-use Rattle.poll_list.specs.Listing.{count_to_write}
+use Rattle.poll_list.specs.Writes.{count_to_write}
 
 -- of two lists in a row: of the one and of the other
 pub count_appended : (wants more : List Want) → count_to_write (wants ++ more) ≡ count_to_write wants + count_to_write more
@@ -14,7 +15,20 @@ count_appended wants more = sum_by-append _ wants more
 pub count_parted : (wants : List Want) (n : ℕ) → count_to_write (take n wants) + count_to_write (drop n wants) ≡ count_to_write wants
 count_parted wants n = sum_by-take-drop _ wants n
 
--- of the first and of those behind it
+-- of as many as there are: of all
+pub count_all : (wants : List Want) (n : ℕ) → n ≡ length wants → count_to_write (take n wants) ≡ count_to_write wants
+count_all wants n is = ap (λ (l : List Want). count_to_write l) (ap (λ (m : ℕ). take m wants) is ∙ take-length wants)
+
+-- a first part keeps its count where others are put behind the list
+pub count_kept : (wants more : List Want) (n : ℕ) → n ≤ length wants → count_to_write (take n (wants ++ more)) ≡ count_to_write (take n wants)
+count_kept wants more n fits = ap (λ (l : List Want). count_to_write l) (take-append-le n wants more fits)
+
+-- so does the whole list
+pub count_before : (wants more : List Want) (n : ℕ) → n ≡ length wants → count_to_write (take n (wants ++ more)) ≡ count_to_write wants
+count_before wants more n is =
+    count_kept wants more n (omega (arith, is)) ∙ count_all wants n is
+
+-- of the first of the list and of those behind it
 count_first : (want : Want) (wants : List Want) → count_to_write (want ∷ wants) ≡ cond want.write 1 0 + count_to_write wants
 count_first want wants =
     let both : count_to_write (want ∷ wants) ≡ (0 + cond want.write 1 0) + count_to_write wants = count_appended (want ∷ []) wants in

@@ -1,6 +1,6 @@
 -- Lists of wants and of ready items.
 use Rattle.std.specs.Prelude.{ℕ, ◌==◌, ◌^◌, nat_lt, ◌||◌, ◌&&◌, not, Bool, true, false, List, [], ◌∷◌, Option, Some, None, IsTrue}
-use Rattle.std.specs.List.{count_by, list_any}
+use Rattle.std.specs.List.{list_any}
 use Rattle.poll_list.specs.declared.Who.{Who}
 use Rattle.poll_list.specs.declared.Who.TheVariants.{Link, Listener, Udp, Tcp}
 use Rattle.poll_list.specs.declared.Want.{Want}
@@ -60,7 +60,3 @@ reads who wants = list_any (λ want. same_who who want.of && want.read) wants
 
 abbrev pub writes : Who → List Want → Bool
 writes who wants = list_any (λ want. same_who who want.of && want.write) wants
-
--- how many of them are for writing, the link among them
-abbrev pub count_to_write : List Want → ℕ
-count_to_write wants = count_by (λ want. want.write) wants

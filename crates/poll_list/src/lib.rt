@@ -2,7 +2,7 @@
 #![tactic(auto)]
 
 ghost use Rattle.std.specs.Prelude.{◌≡◌};
-ghost use Rattle.poll_list.specs.Listing.{count_to_write};
+ghost use Rattle.poll_list.specs.Writes.{count_to_write};
 
 use std::alloc::{AllocError, Global};
 use std::marker::Model;
@@ -32,18 +32,23 @@ pub struct Wants {
     room: usize,
     // How many of the list are for writing.
     writes: usize,
+    // How long a first part of the list is, and how many of that part are for writing: what stood before the list that was put last, or was left.
+    base: usize,
+    base_writes: usize,
 }
 
 impl Model for Wants {
-    ghost use Rattle.std.specs.Prelude.{◌≡◌, ◌≤◌, length};
+    ghost use Rattle.std.specs.Prelude.{◌≡◌, ◌≤◌, length, take};
     ghost use Rattle.std.specs.Vec.{vec_capacity};
-    ghost use Rattle.poll_list.specs.Listing.{Listing, count_to_write};
+    ghost use Rattle.poll_list.specs.Listing.{Listing};
+    ghost use Rattle.poll_list.specs.Writes.{count_to_write};
 
     ghost Value = { Listing };
 
     ghost view = { λ w. record { items = w.list.items; capacity = w.room } };
 
-    ghost invariant = { λ w. (length w.list.items ≤ w.room) × (w.room ≤ vec_capacity w.list) × (w.writes ≡ count_to_write w.list.items) };
+    ghost invariant = { λ w. (length w.list.items ≤ w.room) × (w.room ≤ vec_capacity w.list)
+        × (w.writes ≡ count_to_write w.list.items) × (w.base ≤ length w.list.items) × (w.base_writes ≡ count_to_write (take w.base w.list.items)) };
 }
 
 impl Wants {
@@ -59,6 +64,8 @@ impl Wants {
             list,
             room: capacity,
             writes: 0,
+            base: 0,
+            base_writes: 0,
         })
     }
 
@@ -69,9 +76,12 @@ impl Wants {
     {
         self.list.clear();
         self.writes = 0;
+        self.base = 0;
+        self.base_writes = 0;
     }
 
     /// Puts a want at the end.
+    #[tactic(auto, using(crate::proofs::Counting::count_kept))]
     pub fn add(&mut self, w: Want)
         requires { length self.old.items < self.old.capacity }
         ensures items { self.new.items ≡ self.old.items ++ w ∷ [] }
@@ -83,25 +93,28 @@ impl Wants {
         }
     }
 
-    /// Puts all of a list at the end, in its order.
-    #[tactic(auto, using(crate::proofs::Counting::count_appended))]
-    pub fn add_all(&mut self, wants: &[Want])
-        requires { length self.old.items + length wants.now ≤ self.old.capacity }
+    /// Puts all of a list at the end, in its order. `writes` says how many of them are for writing, so that none is looked at.
+    #[tactic(auto, using(crate::proofs::Counting::count_appended, crate::proofs::Counting::count_before))]
+    pub fn add_all(&mut self, wants: &[Want], writes: usize)
+        requires room { length self.old.items + length wants.now ≤ self.old.capacity }
+        requires writes { writes ≡ count_to_write wants.now }
         ensures items { self.new.items ≡ self.old.items ++ wants.now }
         ensures capacity { self.new.capacity ≡ self.old.capacity }
     {
         if wants.is_empty() {
             return;
         }
-        let more = count_writes(wants);
+        let base = self.list.len();
         if self.list.extend_from_slice(wants).is_err() {
             unreachable!();
         }
-        self.writes += more;
+        self.base = base;
+        self.base_writes = self.writes;
+        self.writes += writes;
     }
 
-    /// Takes away all but the first `len`; nothing where there are no more.
-    #[tactic(auto, using(crate::proofs::Counting::count_parted))]
+    /// Takes away all but the first `len`; nothing where there are no more. What was put by the last `add_all` alone is taken away without a look at it.
+    #[tactic(auto, using(crate::proofs::Counting::count_all))]
     pub fn truncate(&mut self, len: usize)
         ensures items { self.new.items ≡ take len self.old.items }
         ensures capacity { self.new.capacity ≡ self.old.capacity }
@@ -109,9 +122,23 @@ impl Wants {
         if len >= self.list.len() {
             return;
         }
-        let fewer = count_writes(&self.list[len..]);
+        let left = self.writes_before(len);
         self.list.truncate(len);
-        self.writes -= fewer;
+        self.writes = left;
+        self.base = self.list.len();
+        self.base_writes = left;
+    }
+
+    // How many of the first `len` wants are for writing.
+    fn writes_before(&self, len: usize) -> usize
+        requires { len ≤ length self.now.items }
+        ensures { result ≡ count_to_write (take len self.now.items) }
+    {
+        if len == self.base {
+            self.base_writes
+        } else {
+            count_writes(&self.list[..len])
+        }
     }
 
     /// The wants, in the order in which they were put.
