@@ -1,5 +1,5 @@
 -- Reads of the link by which no frame is whole, and those that end a run.
-use Rattle.std.proofs.Common.{◌≡◌, ℕ, true, false, List, [], ◌∷◌, ◌++◌, Option, Some, None, refl, sym, ◌∙◌, ap, subst}
+use Rattle.std.proofs.Common.{◌≡◌, ℕ, true, false, List, [], ◌∷◌, ◌++◌, Some, None, refl, sym, ◌∙◌, ap, subst}
 use Rattle.poll_list.specs.declared.Want.{Want}
 use Rattle.poll_list.specs.declared.Who.TheVariants.{Link as TheLink}
 use Rattle.world_face.specs.Journal.{Entry, AreAllowed}
@@ -7,7 +7,7 @@ use Rattle.world_face.specs.Frames.{Ending}
 use Rattle.host_policy.specs.Addresses.{Config}
 use Rattle.record_flows.specs.Segments.{segment_by}
 use Rattle.run_laws.specs.Fragments.{waiting}
-use Rattle.run_laws.specs.Packets.{Packet, Unheard}
+use Rattle.run_laws.specs.Packets.{Unheard}
 use Rattle.slirp_laws.specs.Agenda.{is_to_read, wanted_of}
 use Rattle.slirp_laws.specs.Datagrams.{Step, errand_by_packet}
 use Rattle.stream_netdev.specs.Keeps.{Keeps, ReadsFrame, hands, ending_of}

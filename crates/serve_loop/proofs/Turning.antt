@@ -19,11 +19,9 @@ use Rattle.slirp_laws.specs.Agenda.{agenda, is_to_read, is_to_write, wanted_of}
 use Rattle.stream_netdev.specs.State.{LinkState, under_way}
 use Rattle.slirp_core.specs.Holds.{Standing, after, standing, flowing, Ended, AfterPump, Holders, Leaves, holders_of}
 use Rattle.slirp_core.specs.Calm.{AreClear}
-use Rattle.slirp_core.specs.Forwards.{sockets_over}
 use Rattle.slirp_core.specs.Pumps.{WantsOf, is_settled, listeners_of}
 use Rattle.waiting_flows.specs.Wants.{link_want, listener_want, socket_wants}
 use Rattle.tcp_flows.specs.Reading.{NoneInSlots}
-use Rattle.host_policy.specs.declared.Proto.TheVariants.{Udp as OverUdp}
 use Rattle.slirp_core.specs.State.{SlirpState}
 use Rattle.stream_netdev.specs.declared.Pumped.{Pumped}
 use Rattle.stream_netdev.specs.declared.Pumped.TheVariants.{Clear, Blocked, Failed as PumpFailed}
@@ -275,7 +273,7 @@ pub link_written : (slirp : SlirpState) (link : LinkState) (wants : List Want) �
 link_written slirp link wants of blocked =
     ap (writes TheLink) of.is
     ∙ written_behind (link_want (is_settled slirp link) link.blocked ++ map listener_want (listeners_of slirp))
-    (socket_wants (is_settled slirp link) (sockets_over OverUdp slirp.forwards ++ of.sockets)) of.flows
+    (socket_wants (is_settled slirp link) of.sockets) of.flows
     (ap (λ (b : Bool). writes TheLink (link_want (is_settled slirp link) b ++ map listener_want (listeners_of slirp))) blocked ∙ front_written (is_settled slirp link)
     (map listener_want (listeners_of slirp)))
   where

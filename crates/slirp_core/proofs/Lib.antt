@@ -1,3 +1,4 @@
+pub mod Viewed
 pub mod Again
 pub mod Arriving
 pub mod Askers

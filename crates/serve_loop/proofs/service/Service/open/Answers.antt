@@ -1,4 +1,4 @@
-use Rattle.std.proofs.Common.{rules, ◌++◌, length, refl, sym, ◌∙◌, ap, subst, arith}
+use Rattle.std.proofs.Common.{rules, ◌++◌, length, sym, ◌∙◌, ap, subst, arith}
 use Rattle.host_policy.specs.Addresses.{Config}
 use Rattle.host_policy.specs.Ranges.{IsSound}
 use Rattle.slirp_core.specs.Numbers.{flows_for}

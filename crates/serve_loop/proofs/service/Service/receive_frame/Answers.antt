@@ -1,10 +1,10 @@
-use Rattle.std.proofs.Common.{rules, ◌≡◌, false, [], ◌∷◌, Some, refl, sym, ◌∙◌, ap, subst}
+use Rattle.std.proofs.Common.{rules, ◌≡◌, false, ◌∷◌, Some, refl, sym, ◌∙◌, ap, subst}
 use Rattle.world_face.specs.Frames.{LinkEnded, LinkCut, LongFrame, LinkFailed}
 use Rattle.world_face.specs.Tells.{Brings}
 use Rattle.poll_list.specs.declared.Who.TheVariants.{Link as TheLink}
 use Rattle.world_face.proofs.Telling.{brings_as, brings_none, brings_then}
 use Rattle.run_duties.specs.Serving.{is_left_to_read}
-use Rattle.stream_netdev.specs.declared.Arrived.TheVariants.{Frame, NotYet, End, Cut, TooLong, Failed}
+use Rattle.stream_netdev.specs.declared.Arrived.TheVariants.{NotYet, End, Cut, TooLong, Failed}
 use Rattle.slirp_core.specs.Holds.{flowing, standing, holders_of}
 use Rattle.serve_loop.specs.Turns.{AfterTurn, HoldsNow}
 use Rattle.slirp_core.specs.Pumps.{is_settled}

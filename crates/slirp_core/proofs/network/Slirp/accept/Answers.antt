@@ -27,6 +27,7 @@ use Rattle.slirp_core.proofs.Served.{peer_is_read, unawaited_is_unread}
 use Rattle.slirp_core.proofs.Telling.{brings_allowed}
 use Rattle.slirp_core.proofs.Visiting.{passed_by, treated}
 use Rattle.slirp_core.proofs.Marking.{marks_same}
+use Rattle.slirp_core.proofs.Viewed.{state_of}
 use Rattle.slirp_core.proofs.network.Slirp.accept.Goals as goal
 
 abbrev is_for_peers : Forward → Bool
@@ -80,21 +81,7 @@ welcome-requires-clause-room g c =
 pub returns-in-NotYet : goal.returns-in-NotYet
 returns-in-NotYet g c =
     let i = c.self.inside in
-    let slirp : SlirpState = record {
-      config = i.policy;
-      known = i.guests;
-      sent = i.sent;
-      pending = i.outgoing;
-      moment = i.moment;
-      number = i.number;
-      associations = i.associations.list;
-      questions = i.questions.list;
-      fragments = i.reasm;
-      flows = i.flows;
-      leases = i.leases.leases;
-      forwards = i.forwards;
-      transfers = i.files.transfers;
-    } in
+    let slirp : SlirpState = state_of i in
     let room_is = c.if-not-has_room_for_peer.ensures.room in
     let room : fits_peer i.flows.flows ≡ true = sym room_is in
     record {

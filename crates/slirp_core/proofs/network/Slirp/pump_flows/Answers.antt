@@ -11,26 +11,13 @@ use Rattle.slirp_core.proofs.Drawn.{drawn_stay}
 use Rattle.slirp_core.proofs.Telling.{brings_allowed}
 use Rattle.slirp_core.specs.Marks.{KeepsMarks}
 use Rattle.slirp_core.proofs.Marking.{marks_stay}
+use Rattle.slirp_core.proofs.Viewed.{state_of}
 use Rattle.slirp_core.proofs.network.Slirp.pump_flows.Goals as goal
 
 pub returns-clause-makes : goal.returns-clause-makes
 returns-clause-makes g c config at aged =
     let i = c.self.inside in
-    let slirp : SlirpState = record {
-      config = i.policy;
-      known = i.guests;
-      sent = i.sent;
-      pending = i.outgoing;
-      moment = i.moment;
-      number = i.number;
-      associations = i.associations.list;
-      questions = i.questions.list;
-      fragments = i.reasm;
-      flows = i.flows;
-      leases = i.leases.leases;
-      forwards = i.forwards;
-      transfers = i.files.transfers;
-    } in
+    let slirp : SlirpState = state_of i in
     let new = c.pump.new.self in
     let none = ap (λ (s : SlirpState). s.pending) c.self.view_is ∙ c.requires.out in
     let result = c.pump.result in

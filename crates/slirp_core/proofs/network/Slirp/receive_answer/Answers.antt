@@ -14,6 +14,7 @@ use Rattle.slirp_core.proofs.Asking.{heard, receives_on}
 use Rattle.slirp_core.proofs.Counted.{grown}
 use Rattle.slirp_core.proofs.Drawn.{asked_on}
 use Rattle.slirp_core.proofs.Served.{datagram_is_read}
+use Rattle.slirp_core.proofs.Viewed.{state_of}
 use Rattle.slirp_core.proofs.network.Slirp.receive_answer.Goals as goal
 
 pub returns-clause-receives : goal.returns-clause-receives
@@ -26,21 +27,7 @@ returns-clause-receives g c =
 pub returns-clause-makes : goal.returns-clause-makes
 returns-clause-makes g c config count wants item items aged link reported out =
     let i = c.self.inside in
-    let slirp : SlirpState = record {
-      config = i.policy;
-      known = i.guests;
-      sent = i.sent;
-      pending = i.outgoing;
-      moment = i.moment;
-      number = i.number;
-      associations = i.associations.list;
-      questions = i.questions.list;
-      fragments = i.reasm;
-      flows = i.flows;
-      leases = i.leases.leases;
-      forwards = i.forwards;
-      transfers = i.files.transfers;
-    } in
+    let slirp : SlirpState = state_of i in
     let none = ap (λ (s : SlirpState). s.pending) c.self.view_is ∙ c.requires.none in
     let asked : is_some (numbered c.args.number i.questions.list) ≡ true = ap (λ (s : SlirpState). is_some (numbered c.args.number s.questions)) c.self.view_is ∙ c.requires.asked in
     subst (λ (s : SlirpState). Brings (g.W.World.tells c.args.world.now) (g.W.World.tells c.answer-reply.new.world) (Holds config (standing count wants (item ∷ items)) s (flowing aged s.flows) link)

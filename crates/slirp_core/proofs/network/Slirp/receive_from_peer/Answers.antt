@@ -16,26 +16,13 @@ use Rattle.slirp_core.specs.State.{SlirpState}
 use Rattle.slirp_core.proofs.Associating.{below_heard, heard, heard_by_peer, receives_on}
 use Rattle.slirp_core.proofs.Counted.{grown}
 use Rattle.slirp_core.proofs.Served.{datagram_is_read}
+use Rattle.slirp_core.proofs.Viewed.{state_of}
 use Rattle.slirp_core.proofs.network.Slirp.receive_from_peer.Goals as goal
 
 pub returns-clause-receives : goal.returns-clause-receives
 returns-clause-receives g c open_one =
     let i = c.self.inside in
-    let slirp : SlirpState = record {
-      config = i.policy;
-      known = i.guests;
-      sent = i.sent;
-      pending = i.outgoing;
-      moment = i.moment;
-      number = i.number;
-      associations = i.associations.list;
-      questions = i.questions.list;
-      fragments = i.reasm;
-      flows = i.flows;
-      leases = i.leases.leases;
-      forwards = i.forwards;
-      transfers = i.files.transfers;
-    } in
+    let slirp : SlirpState = state_of i in
     let open_here : is_heard c.args.number slirp ≡ true = ap (is_heard c.args.number) c.self.view_is ∙ open_one in
     let unasked : is_some (numbered c.args.number i.questions.list) ≡ false = ap (λ (s : SlirpState). is_some (numbered c.args.number s.questions)) c.self.view_is ∙ c.requires.unasked in
     let guest : c.guest_on-guest.result ≡ guest_on i.forwards c.args.number = c.guest_on-guest.ensures ∙ sym (ap (λ (s : SlirpState). guest_on s.forwards c.args.number) c.self.view_is) in
@@ -46,21 +33,7 @@ returns-clause-receives g c open_one =
 pub returns-clause-makes : goal.returns-clause-makes
 returns-clause-makes g c config count wants item items aged link reported out =
     let i = c.self.inside in
-    let slirp : SlirpState = record {
-      config = i.policy;
-      known = i.guests;
-      sent = i.sent;
-      pending = i.outgoing;
-      moment = i.moment;
-      number = i.number;
-      associations = i.associations.list;
-      questions = i.questions.list;
-      fragments = i.reasm;
-      flows = i.flows;
-      leases = i.leases.leases;
-      forwards = i.forwards;
-      transfers = i.files.transfers;
-    } in
+    let slirp : SlirpState = state_of i in
     let none = ap (λ (s : SlirpState). s.pending) c.self.view_is ∙ c.requires.none in
     let unasked : is_some (numbered c.args.number i.questions.list) ≡ false = ap (λ (s : SlirpState). is_some (numbered c.args.number s.questions)) c.self.view_is ∙ c.requires.unasked in
     let guest : c.guest_on-guest.result ≡ guest_on i.forwards c.args.number = c.guest_on-guest.ensures ∙ sym (ap (λ (s : SlirpState). guest_on s.forwards c.args.number) c.self.view_is) in

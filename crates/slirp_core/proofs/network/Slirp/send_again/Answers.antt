@@ -10,6 +10,7 @@ use Rattle.slirp_laws.specs.Answers.{frames_of, told_of_files}
 use Rattle.slirp_core.specs.Holds.{Holds, flowing}
 use Rattle.slirp_core.specs.State.{SlirpState}
 use Rattle.slirp_core.proofs.Again.{frames_some, said_fits, sends_it}
+use Rattle.slirp_core.proofs.Viewed.{state_of}
 use Rattle.slirp_core.proofs.network.Slirp.send_again.Goals as goal
 
 none_of : (frames : List (List ℕ)) → nat_lt 0 (length frames) ≡ false → frames ≡ []
@@ -50,21 +51,7 @@ put_packet-requires-clause-from c = subst (λ (n : ℕ). IsFromServer n c.next_a
 pub returns-clause-holds : goal.returns-clause-holds
 returns-clause-holds c config at link past holds =
     let i = c.self.inside in
-    let slirp : SlirpState = record {
-      config = i.policy;
-      known = i.guests;
-      sent = i.sent;
-      pending = i.outgoing;
-      moment = i.moment;
-      number = i.number;
-      associations = i.associations.list;
-      questions = i.questions.list;
-      fragments = i.reasm;
-      flows = i.flows;
-      leases = i.leases.leases;
-      forwards = i.forwards;
-      transfers = i.files.transfers;
-    } in
+    let slirp : SlirpState = state_of i in
     let room = c.next_again-reply.new.into in
     let pending = c.put_packet.new.outgoing in
     let size : length room ≡ i.message.len = c.next_again-reply.auto.into ∙ c.deref_mut.ensures.len in

@@ -14,6 +14,7 @@ use Rattle.slirp_core.proofs.Counted.{grown}
 use Rattle.slirp_core.proofs.Services.{server_on}
 use Rattle.slirp_core.proofs.Serving.{served}
 use Rattle.slirp_core.proofs.Telling.{brings_allowed}
+use Rattle.slirp_core.proofs.Viewed.{state_of}
 use Rattle.slirp_core.proofs.network.Slirp.take_file.Goals as goal
 
 pub put_packet-requires-clause-none : goal.put_packet-requires-clause-none
@@ -25,21 +26,7 @@ put_packet-requires-clause-from g c = subst (λ (n : ℕ). IsFromServer n c.pack
 pub returns-clause-makes : goal.returns-clause-makes
 returns-clause-makes g c config at link =
     let i = c.self.inside in
-    let slirp : SlirpState = record {
-      config = i.policy;
-      known = i.guests;
-      sent = i.sent;
-      pending = i.outgoing;
-      moment = i.moment;
-      number = i.number;
-      associations = i.associations.list;
-      questions = i.questions.list;
-      fragments = i.reasm;
-      flows = i.flows;
-      leases = i.leases.leases;
-      forwards = i.forwards;
-      transfers = i.files.transfers;
-    } in
+    let slirp : SlirpState = state_of i in
     let d = datagram_of c.args.datagram.now in
     let room = c.packet-reply.new.into in
     let told = said_by c.packet-reply.result room in
@@ -59,21 +46,7 @@ returns-clause-makes g c config at link =
 pub returns-clause-serves : goal.returns-clause-serves
 returns-clause-serves g c =
     let i = c.self.inside in
-    let slirp : SlirpState = record {
-      config = i.policy;
-      known = i.guests;
-      sent = i.sent;
-      pending = i.outgoing;
-      moment = i.moment;
-      number = i.number;
-      associations = i.associations.list;
-      questions = i.questions.list;
-      fragments = i.reasm;
-      flows = i.flows;
-      leases = i.leases.leases;
-      forwards = i.forwards;
-      transfers = i.files.transfers;
-    } in
+    let slirp : SlirpState = state_of i in
     let d = datagram_of c.args.datagram.now in
     let room = c.packet-reply.new.into in
     let told = said_by c.packet-reply.result room in

@@ -7,26 +7,13 @@ use Rattle.slirp_core.specs.Packets.{request_for_udp, udp_in}
 use Rattle.slirp_core.specs.Segments.{segment_in}
 use Rattle.slirp_core.specs.State.{SlirpState}
 use Rattle.slirp_core.proofs.Taking.{frame_of_packet, request_of_packet, fragment_of_packet, segment_of_packet}
+use Rattle.slirp_core.proofs.Viewed.{state_of}
 use Rattle.slirp_core.proofs.network.Slirp.take_frame.Goals as goal
 
 pub returns-then-ether-eq-IPV4_KIND-clause-request : goal.returns-then-ether-eq-IPV4_KIND-clause-request
 returns-then-ether-eq-IPV4_KIND-clause-request c =
     let i = c.self.inside in
-    let slirp : SlirpState = record {
-      config = i.policy;
-      known = i.guests;
-      sent = i.sent;
-      pending = i.outgoing;
-      moment = i.moment;
-      number = i.number;
-      associations = i.associations.list;
-      questions = i.questions.list;
-      fragments = i.reasm;
-      flows = i.flows;
-      leases = i.leases.leases;
-      forwards = i.forwards;
-      transfers = i.files.transfers;
-    } in
+    let slirp : SlirpState = state_of i in
     let frame = c.args.frame.now in
     subst (λ (s : SlirpState). (held : List PartSet) → IsHeld s.fragments held → brought_request s.config c.take_ip.result c.take_ip.new.room ≡ request_for_udp s.config
     (udp_in s.config s.moment (young s.moment held) frame)) c.self.view_is
@@ -36,21 +23,7 @@ returns-then-ether-eq-IPV4_KIND-clause-request c =
 pub returns-then-ether-eq-IPV4_KIND-clause-segment : goal.returns-then-ether-eq-IPV4_KIND-clause-segment
 returns-then-ether-eq-IPV4_KIND-clause-segment c =
     let i = c.self.inside in
-    let slirp : SlirpState = record {
-      config = i.policy;
-      known = i.guests;
-      sent = i.sent;
-      pending = i.outgoing;
-      moment = i.moment;
-      number = i.number;
-      associations = i.associations.list;
-      questions = i.questions.list;
-      fragments = i.reasm;
-      flows = i.flows;
-      leases = i.leases.leases;
-      forwards = i.forwards;
-      transfers = i.files.transfers;
-    } in
+    let slirp : SlirpState = state_of i in
     let frame = c.args.frame.now in
     subst (λ (s : SlirpState). (held : List PartSet) → IsHeld s.fragments held → brought_segment s.config c.take_ip.result c.take_ip.new.room ≡ segment_in s.config s.moment
     (young s.moment held) frame) c.self.view_is
@@ -60,21 +33,7 @@ returns-then-ether-eq-IPV4_KIND-clause-segment c =
 pub returns-then-ether-eq-IPV4_KIND-clause-changes : goal.returns-then-ether-eq-IPV4_KIND-clause-changes
 returns-then-ether-eq-IPV4_KIND-clause-changes c =
     let i = c.self.inside in
-    let slirp : SlirpState = record {
-      config = i.policy;
-      known = i.guests;
-      sent = i.sent;
-      pending = i.outgoing;
-      moment = i.moment;
-      number = i.number;
-      associations = i.associations.list;
-      questions = i.questions.list;
-      fragments = i.reasm;
-      flows = i.flows;
-      leases = i.leases.leases;
-      forwards = i.forwards;
-      transfers = i.files.transfers;
-    } in
+    let slirp : SlirpState = state_of i in
     let frame = c.args.frame.now in
     let new = c.take_ip.new.self in
     subst (λ (s : SlirpState). (held : List PartSet) → IsHeld s.fragments held → taken_on new c.take_ip.result c.take_ip.new.room ≡ after_frame s.config s
@@ -85,21 +44,7 @@ returns-then-ether-eq-IPV4_KIND-clause-changes c =
 pub returns-then-ether-eq-IPV4_KIND-clause-fragments : goal.returns-then-ether-eq-IPV4_KIND-clause-fragments
 returns-then-ether-eq-IPV4_KIND-clause-fragments c =
     let i = c.self.inside in
-    let slirp : SlirpState = record {
-      config = i.policy;
-      known = i.guests;
-      sent = i.sent;
-      pending = i.outgoing;
-      moment = i.moment;
-      number = i.number;
-      associations = i.associations.list;
-      questions = i.questions.list;
-      fragments = i.reasm;
-      flows = i.flows;
-      leases = i.leases.leases;
-      forwards = i.forwards;
-      transfers = i.files.transfers;
-    } in
+    let slirp : SlirpState = state_of i in
     let frame = c.args.frame.now in
     let new = c.take_ip.new.self in
     subst (λ (s : SlirpState). (held : List PartSet) → IsHeld s.fragments held → IsHeld new.fragments (with_fragment s.moment (fragment_in s.config frame) held)) c.self.view_is

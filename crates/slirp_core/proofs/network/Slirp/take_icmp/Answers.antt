@@ -7,6 +7,7 @@ use Rattle.slirp_core.specs.Packets.{owed_for}
 use Rattle.slirp_core.specs.State.{SlirpState}
 use Rattle.owed_frames.specs.declared.outgoing.Course.{Course}
 use Rattle.slirp_core.proofs.Taking.{echoed}
+use Rattle.slirp_core.proofs.Viewed.{state_of}
 use Rattle.slirp_core.proofs.network.Slirp.take_icmp.Goals as goal
 
 pub returns-in-Some : goal.returns-in-Some
@@ -18,19 +19,5 @@ returns-in-Some c =
     c.put_message.ensures
     ∙ ap (λ (k : Course). datagram_frames k.mtu k.to_mac.0 k.from_mac.0 k.ident icmp_proto k.from.0 k.to.0 (icmp_octets (icmp_of c.in-Some.reply))) c.course-course.ensures.course
     ∙ echoed old.config old.sent c.args.mac.0 ip c.in-Ok.message c.in-Some.reply c.in-Some.ensures c.in-Ok.ensures.packet c.requires.size c.in-Ok.ensures.fields in
-    ap (λ (p : List (List ℕ)). record {
-      config = inside.policy;
-      known = inside.guests;
-      sent = inside.sent;
-      pending = p;
-      moment = inside.moment;
-      number = inside.number;
-      associations = inside.associations.list;
-      questions = inside.questions.list;
-      fragments = inside.reasm;
-      flows = inside.flows;
-      leases = inside.leases.leases;
-      forwards = inside.forwards;
-      transfers = inside.files.transfers;
-    }) pending
+    ap (λ (p : List (List ℕ)). record (state_of inside) { pending = p }) pending
     ∙ ap (λ (s : SlirpState). record s { pending = frames_of old.config old.sent (owed_for (owed_for_icmp c.args.mac.0 ip) (read_icmp ip.body)) }) c.self.view_is

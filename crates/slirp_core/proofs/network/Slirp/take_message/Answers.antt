@@ -16,6 +16,7 @@ use Rattle.slirp_core.specs.Leases.{after_message}
 use Rattle.slirp_core.specs.State.{SlirpState}
 use Rattle.owed_frames.specs.declared.outgoing.Course.{Course}
 use Rattle.slirp_core.proofs.Taking.{lease_count, lease_sent}
+use Rattle.slirp_core.proofs.Viewed.{state_of}
 use Rattle.slirp_core.proofs.network.Slirp.take_message.Goals as goal
 
 pub returns-in-Nothing : goal.returns-in-Nothing
@@ -30,21 +31,7 @@ returns-in-Nothing c =
     let none : i.outgoing ≡ [] = ap (λ (s : SlirpState). s.pending) c.self.view_is ∙ c.requires.none in
     let owed : i.outgoing ≡ frames_of i.policy i.sent (answers_of (sending_of (reply_to i.policy i.moment i.leases.leases m) octets)) = none ∙ ap
     (λ (r : Reply). frames_of i.policy i.sent (answers_of (sending_of r octets))) reply in
-    (λ j. record {
-      config = i.policy;
-      known = i.guests;
-      sent = i.sent;
-      pending = owed j;
-      moment = i.moment;
-      number = i.number;
-      associations = i.associations.list;
-      questions = i.questions.list;
-      fragments = i.reasm;
-      flows = i.flows;
-      leases = lent j;
-      forwards = i.forwards;
-      transfers = i.files.transfers;
-    })
+    (λ j. record (state_of i) { pending = owed j; leases = lent j })
     ∙ ap (λ (s : SlirpState). after_message s d) c.self.view_is
 
 pub returns-in-Unreachable : goal.returns-in-Unreachable
@@ -60,21 +47,7 @@ returns-in-Unreachable c =
     let none : i.outgoing ≡ [] = ap (λ (s : SlirpState). s.pending) c.self.view_is ∙ c.requires.none in
     let owed : i.outgoing ≡ frames_of i.policy i.sent (answers_of (sending_of (reply_to i.policy i.moment i.leases.leases m) octets)) = none ∙ ap
     (λ (r : Reply). frames_of i.policy i.sent (answers_of (sending_of r octets))) reply in
-    (λ j. record {
-      config = i.policy;
-      known = i.guests;
-      sent = i.sent;
-      pending = owed j;
-      moment = i.moment;
-      number = i.number;
-      associations = i.associations.list;
-      questions = i.questions.list;
-      fragments = i.reasm;
-      flows = i.flows;
-      leases = lent j;
-      forwards = i.forwards;
-      transfers = i.files.transfers;
-    })
+    (λ j. record (state_of i) { pending = owed j; leases = lent j })
     ∙ ap (λ (s : SlirpState). after_message s d) c.self.view_is
 
 pub returns-in-None : goal.returns-in-None
@@ -91,21 +64,7 @@ returns-in-None c =
     let none : i.outgoing ≡ [] = ap (λ (s : SlirpState). s.pending) c.self.view_is ∙ c.requires.none in
     let owed : i.outgoing ≡ frames_of i.policy i.sent (answers_of (sending_of (reply_to i.policy i.moment i.leases.leases m) octets)) = none ∙ ap
     (λ (r : Reply). frames_of i.policy i.sent (answers_of (sending_of r octets))) reply in
-    (λ j. record {
-      config = i.policy;
-      known = i.guests;
-      sent = i.sent;
-      pending = owed j;
-      moment = i.moment;
-      number = i.number;
-      associations = i.associations.list;
-      questions = i.questions.list;
-      fragments = i.reasm;
-      flows = i.flows;
-      leases = lent j;
-      forwards = i.forwards;
-      transfers = i.files.transfers;
-    })
+    (λ j. record (state_of i) { pending = owed j; leases = lent j })
     ∙ ap (λ (s : SlirpState). after_message s d) c.self.view_is
 
 -- what was written stands at the front of the room
@@ -151,19 +110,5 @@ returns-in-Some c =
     (udp_octets b.from.addr.0 b.to.addr.0 (record { from_port = b.from.port; to_port = b.to.port; body = o }))) front
     ∙ lease_sent i.policy i.sent b.length b.from b.to c.in-Some.mac octets few
     ∙ ap (λ (r : Reply). frames_of i.policy i.sent (answers_of (sending_of r octets))) reply in
-    (λ j. record {
-      config = i.policy;
-      known = i.guests;
-      sent = i.sent;
-      pending = owed j;
-      moment = i.moment;
-      number = i.number;
-      associations = i.associations.list;
-      questions = i.questions.list;
-      fragments = i.reasm;
-      flows = i.flows;
-      leases = lent j;
-      forwards = i.forwards;
-      transfers = i.files.transfers;
-    })
+    (λ j. record (state_of i) { pending = owed j; leases = lent j })
     ∙ ap (λ (s : SlirpState). after_message s d) c.self.view_is

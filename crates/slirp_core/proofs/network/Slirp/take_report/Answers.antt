@@ -9,26 +9,13 @@ use Rattle.slirp_core.proofs.Telling.{brings_allowed}
 use Rattle.tcp_flows.specs.Kept.{Kept}
 use Rattle.tcp_flows.specs.Reading.{IsOpenAt, NoneOpen, Stays}
 use Rattle.tcp_flows.specs.Told.{ServesOnce}
+use Rattle.slirp_core.proofs.Viewed.{state_of}
 use Rattle.slirp_core.proofs.network.Slirp.take_report.Goals as goal
 
 pub returns-clause-makes : goal.returns-clause-makes
 returns-clause-makes g c config count wants item items link wanted =
     let i = c.self.inside in
-    let slirp : SlirpState = record {
-      config = i.policy;
-      known = i.guests;
-      sent = i.sent;
-      pending = i.outgoing;
-      moment = i.moment;
-      number = i.number;
-      associations = i.associations.list;
-      questions = i.questions.list;
-      fragments = i.reasm;
-      flows = i.flows;
-      leases = i.leases.leases;
-      forwards = i.forwards;
-      transfers = i.files.transfers;
-    } in
+    let slirp : SlirpState = state_of i in
     let new = c.host_ready.new.self in
     subst (λ (s : SlirpState). Brings (g.W.World.tells c.args.world.now) (g.W.World.tells c.host_ready.new.world) (Holds config (standing count wants (item ∷ items)) s (flowing false s.flows) link)
     (λ past. Holds config (standing count wants items) (record slirp { flows = new })
@@ -65,21 +52,7 @@ returns-clause-told g c k p at is =
 pub returns-clause-untold : goal.returns-clause-untold
 returns-clause-untold g c none =
     let i = c.self.inside in
-    let slirp : SlirpState = record {
-      config = i.policy;
-      known = i.guests;
-      sent = i.sent;
-      pending = i.outgoing;
-      moment = i.moment;
-      number = i.number;
-      associations = i.associations.list;
-      questions = i.questions.list;
-      fragments = i.reasm;
-      flows = i.flows;
-      leases = i.leases.leases;
-      forwards = i.forwards;
-      transfers = i.files.transfers;
-    } in
+    let slirp : SlirpState = state_of i in
     ap (λ (k : Kept). record slirp { flows = k }) (c.host_ready.ensures.none (subst (λ (s : SlirpState). NoneOpen c.args.number s.flows.flows.slots) (sym c.self.view_is) none)).0 ∙ c.self.view_is
 
 pub returns-clause-stays : goal.returns-clause-stays

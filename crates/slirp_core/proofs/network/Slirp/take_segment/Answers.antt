@@ -22,27 +22,14 @@ use Rattle.slirp_core.proofs.Hearing.{alone_crowded, alone_dropped, alone_reset,
 use Rattle.slirp_core.proofs.Telling.{brings_allowed}
 use Rattle.slirp_core.specs.Marks.{KeepsMarks}
 use Rattle.slirp_core.proofs.Marking.{marks_begun, marks_stay, marks_then}
+use Rattle.slirp_core.proofs.Viewed.{state_of}
 use Rattle.slirp_core.proofs.network.Slirp.take_segment.Goals as goal
 
 -- its flow took it
 pub returns-in-Taken-clause-makes : goal.returns-in-Taken-clause-makes
 returns-in-Taken-clause-makes g c config at link =
     let i = c.self.inside in
-    let slirp : SlirpState = record {
-      config = i.policy;
-      known = i.guests;
-      sent = i.sent;
-      pending = i.outgoing;
-      moment = i.moment;
-      number = i.number;
-      associations = i.associations.list;
-      questions = i.questions.list;
-      fragments = i.reasm;
-      flows = i.flows;
-      leases = i.leases.leases;
-      forwards = i.forwards;
-      transfers = i.files.transfers;
-    } in
+    let slirp : SlirpState = state_of i in
     let coming = coming_of c.args.came.now in
     let new = c.take_segment.new.self in
     subst (λ (s : SlirpState). Brings (g.W.World.tells c.args.world.now) (g.W.World.tells c.take_segment.new.world) (Comes config at s s.flows link coming)
@@ -54,21 +41,7 @@ returns-in-Taken-clause-makes g c config at link =
 pub returns-in-Strange-clause-makes : goal.returns-in-Strange-clause-makes
 returns-in-Strange-clause-makes g c config at link =
     let i = c.self.inside in
-    let slirp : SlirpState = record {
-      config = i.policy;
-      known = i.guests;
-      sent = i.sent;
-      pending = i.outgoing;
-      moment = i.moment;
-      number = i.number;
-      associations = i.associations.list;
-      questions = i.questions.list;
-      fragments = i.reasm;
-      flows = i.flows;
-      leases = i.leases.leases;
-      forwards = i.forwards;
-      transfers = i.files.transfers;
-    } in
+    let slirp : SlirpState = state_of i in
     let coming = coming_of c.args.came.now in
     let new = c.take_segment.new.self in
     subst (λ (s : SlirpState). Brings (g.W.World.tells c.args.world.now) (g.W.World.tells c.take_segment.new.world) (Comes config at s s.flows link coming)
@@ -81,21 +54,7 @@ returns-in-Strange-clause-makes g c config at link =
 pub returns-in-Dropped-clause-makes : goal.returns-in-Dropped-clause-makes
 returns-in-Dropped-clause-makes g c config at link =
     let i = c.self.inside in
-    let slirp : SlirpState = record {
-      config = i.policy;
-      known = i.guests;
-      sent = i.sent;
-      pending = i.outgoing;
-      moment = i.moment;
-      number = i.number;
-      associations = i.associations.list;
-      questions = i.questions.list;
-      fragments = i.reasm;
-      flows = i.flows;
-      leases = i.leases.leases;
-      forwards = i.forwards;
-      transfers = i.files.transfers;
-    } in
+    let slirp : SlirpState = state_of i in
     let coming = coming_of c.args.came.now in
     let new = c.take_segment.new.self in
     subst (λ (s : SlirpState). Brings (g.W.World.tells c.args.world.now) (g.W.World.tells c.take_segment.new.world) (Comes config at s s.flows link coming)
@@ -113,21 +72,7 @@ IsWay new parted now P made = (before : List Entry) × (closes : List Entry) × 
 pub returns-in-Crowded-clause-makes : goal.returns-in-Crowded-clause-makes
 returns-in-Crowded-clause-makes g c config at link =
     let i = c.self.inside in
-    let slirp : SlirpState = record {
-      config = i.policy;
-      known = i.guests;
-      sent = i.sent;
-      pending = i.outgoing;
-      moment = i.moment;
-      number = i.number;
-      associations = i.associations.list;
-      questions = i.questions.list;
-      fragments = i.reasm;
-      flows = i.flows;
-      leases = i.leases.leases;
-      forwards = i.forwards;
-      transfers = i.files.transfers;
-    } in
+    let slirp : SlirpState = state_of i in
     let coming = coming_of c.args.came.now in
     let new = c.take_segment.new.self in
     let parted = c.give_way.new.self in
@@ -151,21 +96,7 @@ returns-in-Crowded-clause-makes g c config at link =
 pub returns-in-Reset-clause-makes : goal.returns-in-Reset-clause-makes
 returns-in-Reset-clause-makes g c config at link =
     let i = c.self.inside in
-    let slirp : SlirpState = record {
-      config = i.policy;
-      known = i.guests;
-      sent = i.sent;
-      pending = i.outgoing;
-      moment = i.moment;
-      number = i.number;
-      associations = i.associations.list;
-      questions = i.questions.list;
-      fragments = i.reasm;
-      flows = i.flows;
-      leases = i.leases.leases;
-      forwards = i.forwards;
-      transfers = i.files.transfers;
-    } in
+    let slirp : SlirpState = state_of i in
     let coming = coming_of c.args.came.now in
     let new = c.take_segment.new.self in
     subst (λ (s : SlirpState). Brings (g.W.World.tells c.args.world.now) (g.W.World.tells c.take_segment.new.world) (Comes config at s s.flows link coming)
@@ -184,21 +115,7 @@ IsConnect e P made = (before : List Entry) × (made ≡ e ∷ before) × P befor
 pub returns-in-Done-clause-makes : goal.returns-in-Done-clause-makes
 returns-in-Done-clause-makes g c config at link =
     let i = c.self.inside in
-    let slirp : SlirpState = record {
-      config = i.policy;
-      known = i.guests;
-      sent = i.sent;
-      pending = i.outgoing;
-      moment = i.moment;
-      number = i.number;
-      associations = i.associations.list;
-      questions = i.questions.list;
-      fragments = i.reasm;
-      flows = i.flows;
-      leases = i.leases.leases;
-      forwards = i.forwards;
-      transfers = i.files.transfers;
-    } in
+    let slirp : SlirpState = state_of i in
     let coming = coming_of c.args.came.now in
     let new = c.take_segment.new.self in
     let to = c.in-Connects.to in
@@ -223,21 +140,7 @@ returns-in-Done-clause-makes g c config at link =
 pub returns-in-Failed-clause-makes : goal.returns-in-Failed-clause-makes
 returns-in-Failed-clause-makes g c config at link =
     let i = c.self.inside in
-    let slirp : SlirpState = record {
-      config = i.policy;
-      known = i.guests;
-      sent = i.sent;
-      pending = i.outgoing;
-      moment = i.moment;
-      number = i.number;
-      associations = i.associations.list;
-      questions = i.questions.list;
-      fragments = i.reasm;
-      flows = i.flows;
-      leases = i.leases.leases;
-      forwards = i.forwards;
-      transfers = i.files.transfers;
-    } in
+    let slirp : SlirpState = state_of i in
     let coming = coming_of c.args.came.now in
     let new = c.take_segment.new.self in
     let to = c.in-Connects.to in

@@ -9,6 +9,7 @@ use Rattle.slirp_core.specs.Datagrams.{datagram_of}
 use Rattle.slirp_core.specs.State.{SlirpState}
 use Rattle.owed_frames.specs.declared.outgoing.Course.{Course}
 use Rattle.slirp_core.proofs.Taking.{told, both_false}
+use Rattle.slirp_core.proofs.Viewed.{state_of}
 use Rattle.slirp_core.proofs.network.Slirp.tell_about.Goals as goal
 
 pub returns : goal.returns
@@ -28,19 +29,5 @@ returns c =
     ∙ ap (λ (k : Course). datagram_frames k.mtu k.to_mac.0 k.from_mac.0 k.ident icmp_proto k.from.0 k.to.0 (unreachable_octets code d.quote)) c.course-course.ensures.course
     ∙ ap (λ (host : ℕ). datagram_frames old.config.mtu d.mac (our_mac old.config.vhost) old.sent icmp_proto host d.from.addr.0 (unreachable_octets code d.quote)) host
     ∙ told old.config old.sent code d untold c.requires.quote in
-    ap (λ (p : List (List ℕ)). record {
-      config = inside.policy;
-      known = inside.guests;
-      sent = inside.sent;
-      pending = p;
-      moment = inside.moment;
-      number = inside.number;
-      associations = inside.associations.list;
-      questions = inside.questions.list;
-      fragments = inside.reasm;
-      flows = inside.flows;
-      leases = inside.leases.leases;
-      forwards = inside.forwards;
-      transfers = inside.files.transfers;
-    }) pending
+    ap (λ (p : List (List ℕ)). record (state_of inside) { pending = p }) pending
     ∙ ap (λ (s : SlirpState). record s { pending = frames_of old.config old.sent (told_about old.config code d) }) c.self.view_is

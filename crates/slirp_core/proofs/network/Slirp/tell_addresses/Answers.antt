@@ -6,26 +6,13 @@ use Rattle.slirp_core.specs.State.{SlirpState}
 use Rattle.slirp_core.proofs.Connecting.{learnt_time}
 use Rattle.slirp_core.proofs.Called.{addresses_told, flows_put}
 use Rattle.slirp_core.proofs.Drawn.{drawn_stay}
+use Rattle.slirp_core.proofs.Viewed.{state_of}
 use Rattle.slirp_core.proofs.network.Slirp.tell_addresses.Goals as goal
 
 pub returns-clause-holds : goal.returns-clause-holds
 returns-clause-holds c config at aged link past holds =
     let i = c.self.inside in
-    let slirp : SlirpState = record {
-      config = i.policy;
-      known = i.guests;
-      sent = i.sent;
-      pending = i.outgoing;
-      moment = i.moment;
-      number = i.number;
-      associations = i.associations.list;
-      questions = i.questions.list;
-      fragments = i.reasm;
-      flows = i.flows;
-      leases = i.leases.leases;
-      forwards = i.forwards;
-      transfers = i.files.transfers;
-    } in
+    let slirp : SlirpState = state_of i in
     let new = c.learn.new.self in
     flows_put config at slirp new (flowing aged new) link past
     (addresses_told config at slirp aged i.flows new link past c.learn.ensures.learns c.learn.ensures.idle

@@ -14,26 +14,13 @@ use Rattle.tftp_server.specs.Serving.{Serving}
 use Rattle.tftp_server.specs.Transfers.{Transfer}
 use Rattle.slirp_core.proofs.Drawn.{drawn_stay}
 use Rattle.slirp_core.proofs.Telling.{brings_allowed}
+use Rattle.slirp_core.proofs.Viewed.{state_of}
 use Rattle.slirp_core.proofs.network.Slirp.tell_time.Goals as goal
 
 pub returns-clause-makes : goal.returns-clause-makes
 returns-clause-makes g c config count link few =
     let i = c.self.inside in
-    let slirp : SlirpState = record {
-      config = i.policy;
-      known = i.guests;
-      sent = i.sent;
-      pending = i.outgoing;
-      moment = i.moment;
-      number = i.number;
-      associations = i.associations.list;
-      questions = i.questions.list;
-      fragments = i.reasm;
-      flows = i.flows;
-      leases = i.leases.leases;
-      forwards = i.forwards;
-      transfers = i.files.transfers;
-    } in
+    let slirp : SlirpState = state_of i in
     let new = c.tick.new.self in
     let files = c.end_over.new.self in
     subst (λ (s : SlirpState). Brings (g.W.World.tells c.args.world.now) (g.W.World.tells c.tick.new.world) (Holds config (after count) s (flowing false s.flows) link)
@@ -47,21 +34,7 @@ returns-clause-makes g c config count link few =
 pub returns-clause-rising : goal.returns-clause-rising
 returns-clause-rising g c =
     let i = c.self.inside in
-    let slirp : SlirpState = record {
-      config = i.policy;
-      known = i.guests;
-      sent = i.sent;
-      pending = i.outgoing;
-      moment = i.moment;
-      number = i.number;
-      associations = i.associations.list;
-      questions = i.questions.list;
-      fragments = i.reasm;
-      flows = i.flows;
-      leases = i.leases.leases;
-      forwards = i.forwards;
-      transfers = i.files.transfers;
-    } in
+    let slirp : SlirpState = state_of i in
     subst (λ (s : SlirpState). Makes (g.W.World.tells c.args.world.now) (g.W.World.tells c.tick.new.world) (λ made. WhereItTicks s (ClosesRising made))) c.self.view_is
     (makes_as _ _ _ (λ made. WhereItTicks slirp (ClosesRising made)) c.tick.ensures.makes
     (λ made ticks config count link past few holds. told_rising config count slirp i.flows c.tick.new.self link past made few

@@ -14,26 +14,13 @@ use Rattle.slirp_core.specs.State.{SlirpState}
 use Rattle.slirp_core.specs.Waiting.{AreFresh}
 use Rattle.slirp_core.proofs.Called.{flows_put, turn_begins}
 use Rattle.slirp_core.proofs.Starting.{forgets}
+use Rattle.slirp_core.proofs.Viewed.{state_of}
 use Rattle.slirp_core.proofs.network.Slirp.tick.Goals as goal
 
 pub returns-clause-makes : goal.returns-clause-makes
 returns-clause-makes g c config count link few =
     let i = c.self.inside in
-    let slirp : SlirpState = record {
-      config = i.policy;
-      known = i.guests;
-      sent = i.sent;
-      pending = i.outgoing;
-      moment = i.moment;
-      number = i.number;
-      associations = i.associations.list;
-      questions = i.questions.list;
-      fragments = i.reasm;
-      flows = i.flows;
-      leases = i.leases.leases;
-      forwards = i.forwards;
-      transfers = i.files.transfers;
-    } in
+    let slirp : SlirpState = state_of i in
     let begun = c.begin_turn.new.self in
     let mid = c.tell_time.new.self in
     brings_then (brings_none (λ past holds.
@@ -50,21 +37,7 @@ returns-clause-makes g c config count link few =
 pub returns-clause-rising : goal.returns-clause-rising
 returns-clause-rising g c =
     let i = c.self.inside in
-    let slirp : SlirpState = record {
-      config = i.policy;
-      known = i.guests;
-      sent = i.sent;
-      pending = i.outgoing;
-      moment = i.moment;
-      number = i.number;
-      associations = i.associations.list;
-      questions = i.questions.list;
-      fragments = i.reasm;
-      flows = i.flows;
-      leases = i.leases.leases;
-      forwards = i.forwards;
-      transfers = i.files.transfers;
-    } in
+    let slirp : SlirpState = state_of i in
     let begun = c.begin_turn.new.self in
     subst (λ (s : SlirpState). Makes (g.W.World.tells c.args.world.now) (g.W.World.tells c.close_unanswered.new.world) (λ made. WhereItTicks s (ClosesByKind made))) c.self.view_is
     (makes_then _ _ _ (λ made. (flows associations : List Entry) × (made ≡ associations ++ flows) × WhereItTicks c.tell_addresses.new.self
@@ -90,21 +63,7 @@ returns-clause-rising g c =
 pub returns-clause-ahead : goal.returns-clause-ahead
 returns-clause-ahead g c config at aged link past holds n unowed =
     let i = c.self.inside in
-    let slirp : SlirpState = record {
-      config = i.policy;
-      known = i.guests;
-      sent = i.sent;
-      pending = i.outgoing;
-      moment = i.moment;
-      number = i.number;
-      associations = i.associations.list;
-      questions = i.questions.list;
-      fragments = i.reasm;
-      flows = i.flows;
-      leases = i.leases.leases;
-      forwards = i.forwards;
-      transfers = i.files.transfers;
-    } in
+    let slirp : SlirpState = state_of i in
     let begun : Kept = c.begin_turn.new.self in
     let same : begun.flows ≡ c.args.self.now.flows.flows = ap (λ (k : Kept). k.flows) c.begin_turn.ensures.turn ∙ ap (λ (s : SlirpState). s.flows.flows) c.self.view_is in
     let begins =

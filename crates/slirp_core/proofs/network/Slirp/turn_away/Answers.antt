@@ -5,6 +5,7 @@ use Rattle.slirp_laws.specs.Answers.{frames_of, reset_for}
 use Rattle.slirp_core.specs.Segments.{coming_of}
 use Rattle.slirp_core.specs.State.{SlirpState}
 use Rattle.slirp_core.proofs.Taking.{reset_frames, reset_small}
+use Rattle.slirp_core.proofs.Viewed.{state_of}
 use Rattle.slirp_core.proofs.network.Slirp.turn_away.Goals as goal
 
 pub put_segment-requires-clause-size : goal.put_segment-requires-clause-size
@@ -18,19 +19,5 @@ returns c =
     let pending : c.put_segment.new.self ≡ frames_of old.config old.sent (reset_for on ∷ []) =
     reset_frames old.config old.sent on (tcp_of c.reset_for-reset.result) c.course-course.result c.put_segment.new.self c.reset_for-reset.ensures c.course-course.ensures.course
     c.put_segment.ensures in
-    ap (λ (p : List (List ℕ)). record {
-      config = i.policy;
-      known = i.guests;
-      sent = i.sent;
-      pending = p;
-      moment = i.moment;
-      number = i.number;
-      associations = i.associations.list;
-      questions = i.questions.list;
-      fragments = i.reasm;
-      flows = i.flows;
-      leases = i.leases.leases;
-      forwards = i.forwards;
-      transfers = i.files.transfers;
-    }) pending
+    ap (λ (p : List (List ℕ)). record (state_of i) { pending = p }) pending
     ∙ ap (λ (s : SlirpState). record s { pending = frames_of old.config old.sent (reset_for on ∷ []) }) c.self.view_is
