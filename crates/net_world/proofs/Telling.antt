@@ -10,7 +10,8 @@ use Rattle.std.proofs.lemmas.List.Elements.{Contains-append_cases, Contains-appe
 use Rattle.poll_list.specs.declared.Want.{Want}
 use Rattle.poll_list.specs.declared.Who.{Who}
 use Rattle.poll_list.specs.declared.Who.TheVariants.{Link, Listener, Udp, Tcp}
-use Rattle.poll_list.specs.Listing.{count_to_write, same_who}
+use Rattle.poll_list.specs.Listing.{same_who}
+use Rattle.poll_list.specs.Writes.{count_to_write}
 use Rattle.poll_list.specs.Picks.{Adds, Begins, GoesOn, part_in, as_list}
 use Rattle.poll_list.proofs.Counting.{is_counted}
 use Rattle.poll_list.proofs.Picking.{goes_on_step}

@@ -2,7 +2,7 @@ use Rattle.std.proofs.Common.{◌≡◌, ◌⊎◌, ℕ, ◌+◌, ◌<◌, ◌�
 use Rattle.std.specs.List.{Contains}
 use Rattle.poll_list.specs.declared.Want.{Want}
 use Rattle.poll_list.specs.declared.Who.TheVariants.{Link}
-use Rattle.poll_list.specs.Listing.{count_to_write}
+use Rattle.poll_list.specs.Writes.{count_to_write}
 use Rattle.poll_list.specs.Picks.{GoesOn, BeginsWithLink}
 use Rattle.net_world.specs.declared.sockets.Listed.{Listed}
 use Rattle.net_world.specs.Telling.{AreInOrder, AreReady, IsWritable, TellsOneRead, TellsRead, TellsWrite, read_sockets}

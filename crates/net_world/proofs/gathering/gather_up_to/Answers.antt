@@ -4,7 +4,7 @@ use Rattle.poll_list.specs.declared.Want.{Want}
 use Rattle.poll_list.specs.declared.Who.{Who}
 use Rattle.poll_list.specs.declared.Who.TheVariants.{Link}
 use Rattle.std.specs.Int.{from_bool}
-use Rattle.poll_list.specs.Listing.{count_to_write}
+use Rattle.poll_list.specs.Writes.{count_to_write}
 use Rattle.poll_list.proofs.Counting.{count_from, count_parted}
 use Rattle.poll_list.specs.Picks.{as_list, part_in}
 use Rattle.poll_list.proofs.Picking.{goes_on_split, begins_added}

@@ -1,7 +1,7 @@
 use Rattle.std.proofs.Common.{◌≡◌, refl, arith, inl, ◌∙◌, drop, true, false}
 use Rattle.poll_list.specs.declared.Want.{Want}
 use Rattle.poll_list.specs.declared.Who.TheVariants.{Link}
-use Rattle.poll_list.specs.Listing.{count_to_write}
+use Rattle.poll_list.specs.Writes.{count_to_write}
 use Rattle.poll_list.proofs.Counting.{counted_next, counted_past}
 use Rattle.poll_list.proofs.Picking.{goes_on_step, goes_on_passed, adds_one, begins_added}
 use Rattle.net_world.proofs.Telling.{read_none, ready_on_written, written_all, written_more, written_none, written_past}

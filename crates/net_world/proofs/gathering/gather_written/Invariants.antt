@@ -1,6 +1,6 @@
 use Rattle.std.proofs.Common.{◌≡◌, ◌+◌, ◌≤◌, List, ◌++◌, length, take, drop}
 use Rattle.poll_list.specs.declared.Want.{Want}
-use Rattle.poll_list.specs.Listing.{count_to_write}
+use Rattle.poll_list.specs.Writes.{count_to_write}
 use Rattle.poll_list.specs.Picks.{GoesOn, Begins}
 use Rattle.net_world.specs.declared.sockets.Known.{Known}
 use Rattle.net_world.specs.Telling.{AreReady, read_sockets}
