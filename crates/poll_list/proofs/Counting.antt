@@ -1,8 +1,10 @@
 -- How many wants of a list are for writing.
-use Rattle.std.proofs.Common.{◌≡◌, Bool, true, cond, ℕ, suc, zero, ◌+◌, ◌<◌, ◌≤◌, List, [], ◌∷◌, ◌++◌, length, take, drop, get_or, drop-cons, arith, ap, ◌∙◌}
+use Rattle.std.proofs.Common.{◌≡◌, Bool, true, cond, ℕ, suc, zero, ◌+◌, ◌<◌, ◌≤◌, List, [], ◌∷◌, ◌++◌, length, take, drop, get_or, drop-cons, arith, ap, ◌∙◌, false, refl, set}
 use Rattle.std.proofs.lemmas.List.{drop_all, take-append-le}
 use Rattle.std.proofs.Math.Seq.{take-length}
-use Rattle.std.proofs.lemmas.List.Sums.{sum_by-append, sum_by-take-drop}
+use Rattle.std.proofs.lemmas.List.Sums.{sum_by-append, sum_by-insert, sum_by-set, sum_by-take-drop}
+use Rattle.std.specs.Int.{from_bool}
+use Rattle.std.specs.List.{insert}
 use Rattle.std.specs.List.{Contains}
 use Rattle.poll_list.specs.declared.Want.{Want}
 use Rattle.poll_list.specs.Writes.{count_to_write}
@@ -50,6 +52,24 @@ counted_next wants i d b below is = count_from wants i d below ∙ ap (λ (x : B
 -- past the end there is none
 pub counted_past : (wants : List Want) (i : ℕ) → length wants ≤ i → count_to_write (drop i wants) ≡ 0
 counted_past wants i past = ap (λ (l : List Want). count_to_write l) (drop_all i wants past)
+
+-- each is counted
+pub count_one : (wants : List Want) (i : ℕ) (d : Want) → i < length wants → cond (get_or wants i d).write 1 0 ≤ count_to_write wants
+count_one wants i d below = omega (arith, count_parted wants i, count_from wants i d below)
+
+-- once one stands in place of another
+pub count_set : (wants : List Want) (i : ℕ) (x d : Want) → i < length wants
+    → count_to_write (set wants i x) + cond (get_or wants i d).write 1 0 ≡ count_to_write wants + cond x.write 1 0
+count_set wants i x d below = sum_by-set _ wants i x d below
+
+-- once one is put in
+pub count_inserted : (wants : List Want) (i : ℕ) (x : Want) → count_to_write (insert wants i x) ≡ count_to_write wants + cond x.write 1 0
+count_inserted wants i x = sum_by-insert _ wants i x
+
+-- of a truth value as a number
+pub count_bit : (b : Bool) → from_bool b ≡ cond {A = ℕ} b 1 0
+count_bit true = refl
+count_bit false = refl
 
 -- where one is for writing, one at least is counted
 pub is_counted : (wants : List Want) (want : Want) → Contains wants want → want.write ≡ true → 0 < count_to_write wants

@@ -1,11 +1,11 @@
-use Rattle.std.proofs.Common.{◌≡◌, ℕ, ◌<◌, ◌-◌, ◌+◌, Bool, true, cond, List, length, take, drop, get_or, false, ◌∙◌, ap, sym, subst, refl, inl, inr, arith}
+use Rattle.std.proofs.Common.{◌≡◌, ℕ, ◌<◌, ◌-◌, ◌+◌, cond, List, length, take, drop, get_or, false, ◌∙◌, ap, sym, subst, refl, inl, inr, arith}
 use Rattle.std.proofs.lemmas.List.{take_rest}
 use Rattle.poll_list.specs.declared.Want.{Want}
 use Rattle.poll_list.specs.declared.Who.{Who}
 use Rattle.poll_list.specs.declared.Who.TheVariants.{Link}
 use Rattle.std.specs.Int.{from_bool}
 use Rattle.poll_list.specs.Writes.{count_to_write}
-use Rattle.poll_list.proofs.Counting.{count_from, count_parted}
+use Rattle.poll_list.proofs.Counting.{count_bit, count_from, count_parted}
 use Rattle.poll_list.specs.Picks.{as_list, part_in}
 use Rattle.poll_list.proofs.Picking.{goes_on_split, begins_added}
 use Rattle.net_world.specs.Telling.{IsKnown, IsWritable, TellsRead, TellsWrite}
@@ -15,15 +15,11 @@ use Rattle.net_world.proofs.gathering.gather_up_to.Goals as goal
 abbrev link : Want
 link = record { of = Link; read = false; write = false }
 
-bit : (b : Bool) → from_bool b ≡ cond {A = ℕ} b 1 0
-bit true = refl
-bit false = refl
-
 -- what is left to write is that want, where it is for writing, and those behind it
 left_to_write : (wants : List Want) (at old new one : ℕ) → at < length wants → old ≡ count_to_write wants → new + count_to_write (take at wants) ≡ old
     → one ≡ from_bool (get_or wants at link).write → new ≡ one + count_to_write (drop (at + 1) wants)
 left_to_write wants at old new one below all rest is =
-    let here : one ≡ cond {A = ℕ} (get_or wants at link).write 1 0 = is ∙ bit (get_or wants at link).write in
+    let here : one ≡ cond {A = ℕ} (get_or wants at link).write 1 0 = is ∙ count_bit (get_or wants at link).write in
     omega (arith, all, rest, here, count_parted wants at, count_from wants at link below)
 
 pub overflow_sub-to_write : goal.overflow_sub-to_write
