@@ -149,10 +149,7 @@ impl Forwards {
     pub fn with_socket(&self, number: u64) -> Option<Forward>
         ensures { result ≡ forward_with number self.now }
     {
-        let (port, lead) = self
-            .ports
-            .iter()
-            .find(|(_, lead)| lead.number == number)?;
+        let (port, lead) = self.ports.iter().find(|(_, lead)| lead.number == number)?;
         Some(forward_of(port, lead))
     }
 
