@@ -1,6 +1,7 @@
 // What the flows of the slots wait for, and the wants of those whose socket waits, which stand from turn to turn.
 ghost use Rattle.std.specs.Prelude.{◌≡◌, ◌^◌, ◌<◌, ◌≤◌, length, slice_get, slice_set, replicate, IfOk, Some, []};
 ghost use Rattle.std.specs.Vec.{vec_capacity};
+ghost use Rattle.poll_list.specs.Writes.{count_to_write};
 ghost use Rattle.tcp_flows.specs.declared.rows.Waits.{Waits as WaitsOf};
 ghost use Rattle.tcp_flows.specs.Places.{IsPlaceOf, has_at};
 ghost use Rattle.tcp_flows.specs.Standing.{AreOrdered, is_any as is_any_by, listed, number_in, same_ways as same_ways_by, wants_after, with_wants};
@@ -17,18 +18,21 @@ use std::marker::Model;
 pub(crate) struct Waiting {
     each: Vec<Waits>,
     wants: Vec<Want>,
+    // how many of the wants are for writing
+    writes: usize,
 }
 
 impl Model for Waiting {
-    ghost use Rattle.std.specs.Prelude.{◌≤◌, length};
+    ghost use Rattle.std.specs.Prelude.{◌≡◌, ◌≤◌, length};
     ghost use Rattle.std.specs.Vec.{vec_capacity};
+    ghost use Rattle.poll_list.specs.Writes.{count_to_write};
     ghost use Rattle.tcp_flows.specs.Standing.{Waited};
 
     ghost Value = { Waited };
 
     ghost view = { λ s. record { each = s.each.items; wants = s.wants.items } };
 
-    ghost invariant = { λ s. length s.each.items ≤ vec_capacity s.wants };
+    ghost invariant = { λ s. (length s.each.items ≤ vec_capacity s.wants) × (s.writes ≡ count_to_write s.wants.items) };
 }
 
 impl Waiting {
@@ -44,7 +48,11 @@ impl Waiting {
         let Ok(wants) = Vec::with_capacity(alloc, slots) else {
             return Err(NoMemory);
         };
-        Ok(Waiting { each, wants })
+        Ok(Waiting {
+            each,
+            wants,
+            writes: 0,
+        })
     }
 
     // What the flow of a slot waits for.
@@ -63,6 +71,13 @@ impl Waiting {
         self.wants.as_slice()
     }
 
+    // How many of them are for writing.
+    pub(crate) fn writes(&self) -> usize
+        ensures { result ≡ count_to_write self.now.wants }
+    {
+        self.writes
+    }
+
     // The flow of a slot, on the socket of this number, waits for this now. Where nothing else is waited for on its socket than was, the wants stay as they are.
     pub(crate) fn set(&mut self, slot: usize, number: u64, waits: Waits)
         requires slot { slot < length self.old.each }
@@ -75,7 +90,7 @@ impl Waiting {
         let was = self.each[slot];
         self.each[slot] = waits;
         if !same_ways(was, waits) {
-            list(&mut self.wants, number, waits);
+            list(&mut self.wants, &mut self.writes, number, waits);
         }
     }
 }
@@ -87,10 +102,12 @@ fn same_ways(one: Waits, other: Waits) -> bool
     one.read == other.read && one.write == other.write
 }
 
-// What stands for the number is what is waited for on its socket, or nothing.
-fn list(wants: &mut Vec<Want>, number: u64, waits: Waits)
+// What stands for the number is what is waited for on its socket, or nothing. The wants for writing are counted, before and after.
+fn list(wants: &mut Vec<Want>, writes: &mut usize, number: u64, waits: Waits)
     requires order { AreOrdered wants.old.items }
+    requires counted { writes.old ≡ count_to_write wants.old.items }
     requires room { length (with_wants number (listed number waits) wants.old.items) ≤ vec_capacity wants.old }
+    ensures counted { writes.new ≡ count_to_write wants.new.items }
     ensures items { wants.new.items ≡ with_wants number (listed number waits) wants.old.items }
     ensures capacity { vec_capacity wants.old ≤ vec_capacity wants.new }
 {
@@ -101,11 +118,17 @@ fn list(wants: &mut Vec<Want>, number: u64, waits: Waits)
         write: waits.write,
     };
     match (stands_at(wants, place, number), is_any(waits)) {
-        (true, true) => wants[place] = want,
+        (true, true) => {
+            *writes -= usize::from(wants[place].write);
+            *writes += usize::from(want.write);
+            wants[place] = want;
+        }
         (true, false) => {
+            *writes -= usize::from(wants[place].write);
             let _ = wants.remove(place);
         }
         (false, true) => {
+            *writes += usize::from(want.write);
             let _ = wants.insert(place, want);
         }
         (false, false) => {}
