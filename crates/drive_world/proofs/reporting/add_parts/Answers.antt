@@ -1,4 +1,4 @@
-use Rattle.std.proofs.Common.{◌≡◌, arith, ◌∙◌, length}
+use Rattle.std.proofs.Common.{arith, ◌∙◌}
 use Rattle.poll_list.proofs.Picking.{goes_on_step, goes_on_passed, adds_one}
 use Rattle.drive_world.proofs.reporting.add_parts.Goals as goal
 
@@ -10,6 +10,4 @@ loop-want-preserved c = record {
 }
 
 pub returns-clause-goes_on : goal.returns-clause-goes_on
-returns-clause-goes_on c all rest goes =
-    let end : c.loop-want.want-index ≡ length c.args.wants.now = omega (arith, c.loop-want-test.false, c.loop-want.auto.want-index-end) in
-    goes_on_passed all c.args.wants.now rest _ c.loop-want.want-index end (c.loop-want.invariant.picks all rest goes)
+returns-clause-goes_on c all rest goes = goes_on_passed all c.args.wants.now rest _ c.loop-want.want-index (c.loop-want.invariant.picks all rest goes)
