@@ -4,6 +4,7 @@ use Rattle.world_face.specs.Journal.{place_of}
 use Rattle.world_face.specs.Tells.{Makes}
 use Rattle.slirp_config.specs.declared.Tap.{Tap}
 use Rattle.slirp_app.specs.Serving.{ServesAt}
+use Rattle.slirp_app.proofs.Courses.{opens_code}
 use Rattle.slirp_app.proofs.Served.{served, served_plain}
 use Rattle.slirp_app.proofs.serving.serve.Goals as goal
 
@@ -27,3 +28,7 @@ returns-in-Ok-open-2-clause-serves g c =
     (ServesAt (settings c.args.config.now) (place_of c.args.at.now) t c.capture_link.result (g.K.Sink.holds c.args.out.now) (g.K.Sink.holds c.capture_link.new.out))) (sym c.in-Capture.is)
     (served _ _ (settings c.args.config.now) c.in-Ok.service.slirp.config (place_of c.args.at.now) _ c.capture_link.result (g.K.Sink.holds c.args.out.now)
     (g.K.Sink.holds c.capture_link.new.out) c.in-Ok.ensures.config c.capture_link.ensures.captures)
+
+-- a run that nothing is put of doesn't end as one whose record was refused
+pub returns-in-Off-clause-refused : goal.returns-in-Off-clause-refused
+returns-in-Off-clause-refused g c twelve = absurd ((opens_code _ _ _ _ c.serve_link.ensures.holds).taken twelve)
