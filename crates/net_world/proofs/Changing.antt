@@ -9,7 +9,7 @@ use Rattle.std.proofs.lemmas.List.{get_or-set_other}
 use Rattle.poll_list.specs.declared.Who.{Who}
 use Rattle.net_world.specs.declared.slot.Slot.{Slot}
 use Rattle.net_world.specs.declared.sockets.Place.{Place}
-use Rattle.net_world.specs.declared.sockets.Listed.{Listed}
+use Rattle.net_world.specs.declared.ready_list.Listed.{Listed}
 use Rattle.net_world.specs.Tables.{rank_of, number_of, fed, listed_at, place_at, slot_at, reads, IsOf, one, count_below, AreListed, ArePlaced, IsKnownStarved, Lists, Finds, OthersStay, Table, Becomes, IsTaken}
 use Rattle.net_world.proofs.Ascending as up
 use Rattle.net_world.proofs.Standing.{IsAlone, alone, count_room, lists_same, number_itself, one_key, placed_still, relisted, same_number}

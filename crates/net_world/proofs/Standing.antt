@@ -11,7 +11,7 @@ use Rattle.poll_list.specs.declared.Who.{Who}
 use Rattle.poll_list.specs.declared.Who.TheVariants.{Link, Listener, Udp, Tcp}
 use Rattle.net_world.specs.declared.slot.Slot.{Slot}
 use Rattle.net_world.specs.declared.sockets.Place.{Place}
-use Rattle.net_world.specs.declared.sockets.Listed.{Listed}
+use Rattle.net_world.specs.declared.ready_list.Listed.{Listed}
 use Rattle.net_world.specs.Tables.{rank_of, number_of, by_rank, InOrder, listed_at, place_at, slot_at, reads, IsOf, one, count_below, AreListed, ArePlaced, Lists, OthersStay}
 use Rattle.net_world.proofs.Ascending as up
 

@@ -17,7 +17,7 @@ use Rattle.poll_list.proofs.Counting.{is_counted}
 use Rattle.poll_list.proofs.Picking.{goes_on_step}
 use Rattle.net_world.specs.declared.slot.Slot.{Slot}
 use Rattle.net_world.specs.declared.sockets.Known.{Known}
-use Rattle.net_world.specs.declared.sockets.Listed.{Listed}
+use Rattle.net_world.specs.declared.ready_list.Listed.{Listed}
 use Rattle.net_world.specs.Tables.{InOrder, rank_of, by_rank, Rise, slot_at, known_of, one}
 use Rattle.net_world.specs.Telling.{AreInOrder, AreReady, IsKnown, IsLinkAtMost, IsReadable, IsReady, IsWritable, TellsRead, TellsWrite, read_sockets}
 use Rattle.net_world.proofs.Ascending as up

@@ -9,7 +9,7 @@ use Rattle.net_world.specs.Linking.{is_told_readable, is_told_writable}
 use Rattle.poll_list.specs.Listing.{same_who}
 use Rattle.net_world.specs.declared.slot.Slot.{Slot}
 use Rattle.net_world.specs.declared.sockets.Known.{Known}
-use Rattle.net_world.specs.declared.sockets.Listed.{Listed}
+use Rattle.net_world.specs.declared.ready_list.Listed.{Listed}
 use Rattle.net_world.specs.Tables.{rank_of, by_rank, Rise, slot_at, known_of, nothing_known, one}
 
 -- The socket of this is one of those, and this holds of it.

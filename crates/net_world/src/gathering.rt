@@ -11,7 +11,8 @@ ghost use Rattle.poll_list.specs.Picks.{IsPart, IsPickedFrom, GoesOn, Adds, Begi
 ghost use Rattle.net_world.specs.Telling.{AreInOrder, AreReady, IsEndWanted, IsLinkAtMost, IsReadable, IsWritable, TellsOneRead, TellsRead, TellsWrite, WantsRead, link_told, read_sockets};
 ghost use Rattle.net_world.specs.Tables.{by_rank, rank_of, one};
 
-use crate::sockets::{Known, Listed, Sockets, rank};
+use crate::ready_list::{Listed, rank};
+use crate::sockets::{Known, Sockets};
 use mio::net::TcpStream;
 use poll_list::{ReadyList, Want, Wants, Who};
 

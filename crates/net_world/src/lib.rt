@@ -12,6 +12,7 @@ mod laws;
 mod link;
 mod net_world;
 mod place;
+mod ready_list;
 mod slot;
 mod socket_file;
 mod sockets;

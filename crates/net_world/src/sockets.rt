@@ -1,5 +1,5 @@
 // The sockets of the host, each under its number.
-ghost use Rattle.std.specs.Prelude.{◌≡◌, ◌⊎◌, ℕ, List, ◌<◌, ◌≤◌, true, false, Some, None, [], Ok, Err, IfOk, IfSome, length, count_by, is_some, vec_capacity};
+ghost use Rattle.std.specs.Prelude.{◌≡◌, ◌⊎◌, ℕ, List, ◌<◌, ◌≤◌, true, false, Some, None, [], Err, IfOk, IfSome, length, count_by, is_some, vec_capacity};
 ghost use Rattle.std.specs.List.{Contains};
 ghost use Rattle.std.specs.List.Sorted.{IsSearchInRange, IsBinarySearchResult, IsPartitionPoint};
 ghost use Rattle.std.specs.Bool.{OnFalse};
@@ -9,11 +9,12 @@ ghost use Rattle.mio.specs.Event.{event_token};
 ghost use Rattle.world_face.specs.Journal.{MayRead, MayWrite, MayGet, filled};
 ghost use Rattle.net_world.specs.Slots.{is_connection, are_datagrams};
 ghost use Rattle.net_world.specs.Streaming.{after_event};
-ghost use Rattle.net_world.specs.Tables.{rank_of, number_of, by_rank, InOrder, listed_at, slot_at, AreListed, ArePlaced, IsKnownStarved, Lists, Finds, OthersStay, Becomes, known_of, nothing_known, told_or, last_read};
+ghost use Rattle.net_world.specs.Tables.{rank_of, number_of, by_rank, InOrder, listed_at, slot_at, AreListed, ArePlaced, IsKnownStarved, Finds, OthersStay, Becomes, known_of, nothing_known, last_read};
 ghost use Rattle.net_world.specs.Telling.{IsKnown};
 ghost use Rattle.net_world.specs.Tables.{IsRead, IsWritten, IsReceived, IsTaken, IsAsked, Joins, Opens, Table, fed, fed_at};
 ghost use Rattle.net_world.specs.declared.sockets.TheConstants.{MOST};
 
+use crate::ready_list::{Listed, find_listed, last_read, rank, relist};
 use crate::slot::{
     Came, Slot, Socket, end, joined, new_socket, read, receive, register, send, take_from, write,
 };
@@ -49,13 +50,6 @@ const NOTHING: Known = Known {
 #[derive(Clone, Copy)]
 struct Place {
     number: u64,
-    key: usize,
-}
-
-/// A socket that is ready for reading, and where the slab keeps it.
-#[derive(Clone, Copy)]
-pub(crate) struct Listed {
-    pub of: Who,
     key: usize,
 }
 
@@ -474,53 +468,6 @@ fn none_open<S>(slots: Slab<Slot<S>>, places: Vec<Place>, readable: Vec<Listed>)
     }
 }
 
-// Puts a socket into the list of those that are ready for reading, or takes it out, where that changed.
-fn relist(readable: &mut Vec<Listed>, listed: Listed, was: bool, is: bool)
-    requires rise { InOrder readable.old.items }
-    requires has { was ≡ true → Contains readable.old.items listed }
-    requires alone { (other : Listed) → Contains readable.old.items other → other.of ≡ listed.of → (other ≡ listed) × (was ≡ true) }
-    requires room { was ≡ false → length readable.old.items < vec_capacity readable.old }
-    ensures lists { Lists readable.old.items readable.new.items listed was is }
-    ensures capacity { vec_capacity readable.old ≤ vec_capacity readable.new }
-{
-    if was == is {
-        return;
-    }
-    if is {
-        put_in(readable, listed);
-    } else {
-        take_out(readable, listed);
-    }
-}
-
-// Puts a socket at its place in the list.
-fn put_in(readable: &mut Vec<Listed>, listed: Listed)
-    requires rise { InOrder readable.old.items }
-    requires alone { (other : Listed) → Contains readable.old.items other → other.of ≡ listed.of → ⊥ }
-    requires room { length readable.old.items < vec_capacity readable.old }
-    ensures lists { Lists readable.old.items readable.new.items listed false true }
-    ensures capacity { vec_capacity readable.old ≤ vec_capacity readable.new }
-{
-    let Err(at) = find_listed(readable, listed.of) else {
-        unreachable!();
-    };
-    let _put = readable.insert(at, listed);
-}
-
-// Takes a socket out of the list.
-fn take_out(readable: &mut Vec<Listed>, listed: Listed)
-    requires rise { InOrder readable.old.items }
-    requires has { Contains readable.old.items listed }
-    requires alone { (other : Listed) → Contains readable.old.items other → other.of ≡ listed.of → other ≡ listed }
-    ensures lists { Lists readable.old.items readable.new.items listed true false }
-    ensures capacity { vec_capacity readable.old ≤ vec_capacity readable.new }
-{
-    let Ok(at) = find_listed(readable, listed.of) else {
-        unreachable!();
-    };
-    let _was = readable.remove(at);
-}
-
 // Listeners that waited for a descriptor are ready again.
 fn feed_all<S: Stream>(slots: &mut Slab<Slot<S>>, places: &[Place], readable: &mut Vec<Listed>)
     requires listed { AreListed slots.old.slots slots.old.capacity readable.old.items }
@@ -576,53 +523,12 @@ fn known_if<S>(slot: &Slot<S>, of: Who) -> Known
     }
 }
 
-// What of a list was told last for reading, or what was before.
-fn last_read(last: Who, told: &[Want]) -> Who
-    ensures { result ≡ last_read last told.now }
-{
-    let mut last = last;
-    for want in told {
-        last = told_or(last, want.read, want.of);
-    }
-    last
-}
-
-// What was told last for reading, once this was told.
-fn told_or(last: Who, read: bool, of: Who) -> Who
-    ensures { result ≡ told_or last read of }
-{
-    match of {
-        Who::Link => last,
-        of => { if read { of } else { last } }
-    }
-}
-
 // The place of a number, or where it would stand.
 fn find(places: &[Place], number: u64) -> Result<usize, usize>
     ensures range { IsSearchInRange result (length places.now) }
     ensures position { IsBinarySearchResult (λ p. nat_cmp p.number number) places.now result }
 {
     places.binary_search_by_key(&number, |place| place.number)
-}
-
-// The place of a socket among those that are ready for reading, or where it would stand.
-fn find_listed(readable: &[Listed], of: Who) -> Result<usize, usize>
-    ensures range { IsSearchInRange result (length readable.now) }
-    ensures position { IsBinarySearchResult (λ listed. by_rank (rank_of listed.of) (rank_of of)) readable.now result }
-{
-    readable.binary_search_by_key(&rank(of), |listed| rank(listed.of))
-}
-
-/// Where something stands in the order of wants: its kind, then its number.
-pub(crate) fn rank(of: Who) -> (u8, u64)
-    ensures { result ≡ rank_of of }
-{
-    match of {
-        Who::Link => (0, 0),
-        Who::Listener(number) => (1, number),
-        Who::Udp(number) => (2, number),
-        Who::Tcp(number) => (3, number),
-    }
 }
 
 /// Has the system send what is written at once, where it can, in place of waiting for more (RFC 1122, 4.2.3.4).

@@ -6,7 +6,7 @@ use Rattle.poll_list.specs.declared.Want.{Want}
 use Rattle.poll_list.specs.declared.Who.TheVariants.{Link}
 use Rattle.poll_list.specs.Picks.{Begins}
 use Rattle.poll_list.proofs.Picking.{goes_on_from, goes_on_end}
-use Rattle.net_world.specs.declared.sockets.Listed.{Listed}
+use Rattle.net_world.specs.declared.ready_list.Listed.{Listed}
 use Rattle.net_world.specs.Tables.{one, listed_at}
 use Rattle.net_world.specs.Telling.{AreInOrder}
 use Rattle.net_world.proofs.Telling.{begins_itself, drop_contains, link_ready, no_link_read, rank_before, tells_read_on, tells_write_on}

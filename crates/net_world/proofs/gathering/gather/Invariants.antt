@@ -4,7 +4,7 @@ use Rattle.poll_list.specs.declared.Want.{Want}
 use Rattle.poll_list.specs.declared.Who.TheVariants.{Link}
 use Rattle.poll_list.specs.Writes.{count_to_write}
 use Rattle.poll_list.specs.Picks.{GoesOn, BeginsWithLink}
-use Rattle.net_world.specs.declared.sockets.Listed.{Listed}
+use Rattle.net_world.specs.declared.ready_list.Listed.{Listed}
 use Rattle.net_world.specs.Telling.{AreInOrder, AreReady, IsWritable, TellsOneRead, TellsRead, TellsWrite, read_sockets}
 use Rattle.net_world.proofs.gathering.gather.Given as goal
 

@@ -1,7 +1,7 @@
 use Rattle.std.proofs.Common.{ℕ, ◌≡◌, ◌<◌, ◌+◌, List, length, Ok, Err, Greater, sym, subst, arith}
 use Rattle.std.specs.List.Sorted.{IsBinarySearchResult, IsPartitionPoint}
 use Rattle.poll_list.specs.declared.Who.{Who}
-use Rattle.net_world.specs.declared.sockets.Listed.{Listed}
+use Rattle.net_world.specs.declared.ready_list.Listed.{Listed}
 use Rattle.net_world.specs.Tables.{Table, by_rank, rank_of}
 use Rattle.net_world.proofs.Ascending.{past, past_none}
 use Rattle.net_world.proofs.Standing.{by_rank_total}

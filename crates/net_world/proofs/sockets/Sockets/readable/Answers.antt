@@ -1,6 +1,6 @@
 use Rattle.std.proofs.Common.{◌≡◌, List, Some, true, subst}
 use Rattle.std.specs.List.{Contains}
-use Rattle.net_world.specs.declared.sockets.Listed.{Listed}
+use Rattle.net_world.specs.declared.ready_list.Listed.{Listed}
 use Rattle.net_world.specs.declared.slot.Slot.{Slot}
 use Rattle.net_world.specs.Tables.{Table, slot_at}
 use Rattle.net_world.proofs.sockets.Sockets.readable.Goals as goal

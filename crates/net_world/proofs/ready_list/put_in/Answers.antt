@@ -1,9 +1,9 @@
 use Rattle.std.proofs.Common.{◌<◌, ◌≤◌, List, Ok, Err, length, true, false, sym, subst, arith}
 use Rattle.std.specs.List.Sorted.{IsBinarySearchResult}
-use Rattle.net_world.specs.declared.sockets.Listed.{Listed}
+use Rattle.net_world.specs.declared.ready_list.Listed.{Listed}
 use Rattle.net_world.specs.Tables.{rank_of, by_rank, Lists}
 use Rattle.net_world.proofs.Standing.{found_alone, inserted, lists_in}
-use Rattle.net_world.proofs.sockets.put_in.Goals as goal
+use Rattle.net_world.proofs.ready_list.put_in.Goals as goal
 
 pub unreachable-requires : goal.unreachable-requires
 unreachable-requires c =

@@ -1,9 +1,9 @@
 use Rattle.std.proofs.Common.{◌<◌, ◌≤◌, List, Ok, Err, length, true, false, refl, sym, subst}
 use Rattle.std.specs.List.Sorted.{IsBinarySearchResult}
-use Rattle.net_world.specs.declared.sockets.Listed.{Listed}
+use Rattle.net_world.specs.declared.ready_list.Listed.{Listed}
 use Rattle.net_world.specs.Tables.{rank_of, by_rank, Lists}
 use Rattle.net_world.proofs.Standing.{found_listed, lists_out}
-use Rattle.net_world.proofs.sockets.take_out.Goals as goal
+use Rattle.net_world.proofs.ready_list.take_out.Goals as goal
 
 pub unreachable-requires : goal.unreachable-requires
 unreachable-requires c =

@@ -1,7 +1,7 @@
 use Rattle.std.proofs.Common.{◌≡◌, Bool, true, false, refl}
 use mathlib.Core.Bool.{beq}
 use Rattle.net_world.proofs.Standing.{lists_same}
-use Rattle.net_world.proofs.sockets.relist.Goals as goal
+use Rattle.net_world.proofs.ready_list.relist.Goals as goal
 
 same : (a b : Bool) → beq a b ≡ true → a ≡ b
 same true true is = refl

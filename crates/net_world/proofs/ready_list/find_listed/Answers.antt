@@ -2,8 +2,8 @@ use Rattle.std.proofs.Common.{rules, ℕ, subst}
 use Rattle.std.specs.List.Sorted.{IsBinarySearchResult}
 use Rattle.std.proofs.lemmas.List.Sorted.{answers_always}
 use Rattle.net_world.specs.Tables.{rank_of, by_rank}
-use Rattle.net_world.specs.declared.sockets.Listed.{Listed}
-use Rattle.net_world.proofs.sockets.find_listed.Goals as goal
+use Rattle.net_world.specs.declared.ready_list.Listed.{Listed}
+use Rattle.net_world.proofs.ready_list.find_listed.Goals as goal
 
 pub returns-clause-position : goal.returns-clause-position
 returns-clause-position c =
