@@ -12,27 +12,24 @@
 //! (`HasBuffers`).
 #![tactic(auto)]
 
-ghost use Rattle.std.specs.Prelude.{◌≡◌, ℕ, ◌+◌, ◌-◌, ◌*◌, ◌/◌, ◌^◌, ◌<◌, ◌≤◌, ◌↔◌, ◌||◌, ◌++◌, if◌then◌else◌, [], length, take, drop, min, not, IsTrue, IfSome, None, Some, Option};
-ghost use Rattle.std.specs.Prelude.{is_some, true, false};
+ghost use Rattle.std.specs.Prelude.{◌≡◌, ℕ, ◌+◌, ◌-◌, ◌^◌, ◌<◌, ◌≤◌, ◌↔◌, ◌++◌, [], length, take, drop, min, IsTrue, IfSome};
+ghost use Rattle.std.specs.Prelude.{true};
 ghost use Rattle.sock_buffers.specs.Downward.{Downward, downward};
 ghost use Rattle.sock_buffers.specs.Upward.{Upward, empty};
 ghost use Rattle.tcp_receive.specs.Coming.{Comes};
-ghost use Rattle.tcp_receive.specs.Received.{next_number};
 ghost use Rattle.tcp_segment.specs.Tcp.{tcp_of};
-ghost use Rattle.tcp_transmit.specs.Acks.{without};
 ghost use Rattle.tcp_transmit.specs.Timing.{watched_over};
 ghost use Rattle.tcp_transmit.specs.Transmission.{octets_read};
 ghost use Rattle.tcp_guest.specs.Connection.{Connection, HasBuffers, from_guest, has_gone, has_gone_again, is_answering, is_opening, is_synchronized, once_more, state_of, to_guest};
 ghost use Rattle.tcp_guest.specs.Hosts.{after_news, change_on, is_open};
-ghost use Rattle.tcp_guest.specs.Owing.{ack_if, after_gone, change_gone, head_of, owed_of};
-ghost use Rattle.tcp_guest.specs.Segments.{acknowledged, after_segment, arrived, change_at, down_after_segment, opened, up_after_segment};
+ghost use Rattle.tcp_guest.specs.Segments.{acknowledged, after_segment, change_at, down_after_segment, up_after_segment};
 ghost use Rattle.tcp_guest.specs.Timing.{after_tick, change_at_tick, due_of};
-ghost use Rattle.tcp_guest.specs.Windows.{field as field_by, least_shift as least_shift_by, shift_within as shift_within_by};
 
 mod judging;
 mod news;
 mod segment;
 mod sending;
+mod windows;
 
 use retransmit::Resend;
 use segment::shift;
@@ -427,43 +424,6 @@ impl Conn {
         self.transmit.more(down, octets, now)
     }
 
-    /// What is to be sent next, one thing at a time. `None` exactly where nothing is owed.
-    pub fn owed(&self, up: &Up, down: &Down) -> Option<Owed>
-        requires buffers { HasBuffers self.now up.now down.now }
-        ensures owed { result ≡ owed_of self.now up.now down.now }
-    {
-        match self.stage {
-            Stage::Connects | Stage::Gone => None,
-            Stage::Calls => self.syn_owed.then_some(Owed::Syn),
-            Stage::Answers => {
-                if self.syn_owed {
-                    Some(Owed::SynAck)
-                } else {
-                    ack_if(self.ack_owed)
-                }
-            }
-            Stage::Rests => ack_if(self.ack_owed),
-            Stage::Synchronized => match self.transmit.next_piece(down) {
-                Some(piece) => Some(Owed::Data(piece)),
-                None => ack_if(self.ack_owed || self.is_update_owed(up)),
-            },
-            Stage::Resets { seq, ack } => Some(Owed::Reset { seq, ack }),
-        }
-    }
-
-    /// The link took what `owed` gives in this state. `Finished` where both ends passed with it.
-    pub fn sent(&mut self, up: &Up, what: &Owed, now: u64) -> Change
-        requires owed { (down : Downward) × HasBuffers self.old up.now down × (owed_of self.old up.now down ≡ Some what.now) }
-        requires now { now ≤ 2 ^ 62 }
-        ensures change { result ≡ change_gone what.now self.old up.now now }
-        ensures connection { self.new ≡ after_gone what.now self.old up.now now }
-        ensures buffers { (down : Downward) → HasBuffers self.old up.now down → owed_of self.old up.now down ≡ Some what.now
-            → HasBuffers self.new up.now down }
-    {
-        self.go(up, what, now);
-        self.settle()
-    }
-
     /// The moment to which the timer runs: that of our SYN until it is acknowledged, and then that of pieces and probes.
     /// `None` exactly where none runs.
     pub fn due(&self) -> Option<u64>
@@ -488,44 +448,6 @@ impl Conn {
         match self.due() {
             Some(at) if at <= now => self.expire(),
             _ => Change::Nothing,
-        }
-    }
-
-    /// The numbers, the window field and the window scale of the segment that `owed` names.
-    pub fn head(&self, up: &Up, what: &Owed) -> Head
-        ensures { result ≡ head_of self.now up.now what.now }
-    {
-        match what {
-            Owed::Syn => Head {
-                seq: self.ours,
-                ack: Seq(0),
-                window: field(0, up.room()),
-                scale: Some(least_shift(self.ring)),
-            },
-            Owed::SynAck => Head {
-                seq: self.ours,
-                ack: self.receive.expected(),
-                window: field(0, up.room()),
-                scale: self.scale.is_some().then_some(least_shift(self.ring)),
-            },
-            Owed::Data(piece) => Head {
-                seq: self.transmit.number(piece),
-                ack: self.receive.expected(),
-                window: field(self.our_shift(), up.room()),
-                scale: None,
-            },
-            Owed::Ack => Head {
-                seq: self.transmit.next_number(),
-                ack: self.receive.expected(),
-                window: field(self.our_shift(), up.room()),
-                scale: None,
-            },
-            Owed::Reset { seq, ack } => Head {
-                seq: *seq,
-                ack: *ack,
-                window: 0,
-                scale: None,
-            },
         }
     }
 
@@ -604,37 +526,3 @@ pub fn buffers_stay_while_octets_are_written()
           written = up.written + n;
         }) down }
 {}
-
-/// A segment that acknowledges and carries nothing else, where one is owed.
-fn ack_if(owed: bool) -> Option<Owed>
-    ensures { result ≡ ack_if owed }
-{
-    owed.then_some(Owed::Ack)
-}
-
-/// The least shift by which so much room fits a window field.
-fn least_shift(ring: u32) -> u8
-    ensures shift { result ≡ least_shift_by ring }
-    ensures few { result ≤ 14 }
-{
-    shift_within(14, ring)
-}
-
-fn shift_within(most: u8, room: u32) -> u8
-    ensures shift { result ≡ shift_within_by most room }
-    ensures few { result ≤ most }
-{
-    if most == 0 || room <= 65_535 {
-        0
-    } else {
-        1 + shift_within(most - 1, room / 2)
-    }
-}
-
-/// The window field for so much room.
-fn field(shift: u8, room: usize) -> u16
-    requires { shift ≤ 14 }
-    ensures { result ≡ field_by shift room }
-{
-    (room >> shift).min(65_535) as u16
-}

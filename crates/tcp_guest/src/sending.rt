@@ -1,19 +1,93 @@
 // What goes out, and when.
-ghost use Rattle.std.specs.Prelude.{◌≡◌, ◌+◌, ◌-◌, ◌/◌, ◌^◌, ◌<◌, ◌≤◌, ◌&&◌, if◌then◌else◌, IsSome, None, Some, Option, is_some, true, false};
+ghost use Rattle.std.specs.Prelude.{◌≡◌, ◌^◌, ◌≤◌, if◌then◌else◌, IsSome, Some};
 ghost use Rattle.sock_buffers.specs.Downward.{Downward};
 ghost use Rattle.sock_buffers.specs.Upward.{Upward};
-ghost use Rattle.tcp_transmit.specs.Acks.{without};
 ghost use Rattle.tcp_transmit.specs.Transmission.{Feeds};
-ghost use Rattle.tcp_guest.specs.Connection.{HasBuffers, has_gone, is_opening, once_more};
-ghost use Rattle.tcp_guest.specs.Owing.{gone as gone_by, owed_of, syn_gone as syn_gone_by, told as told_by};
-ghost use Rattle.tcp_guest.specs.Segments.{acknowledged};
+ghost use Rattle.tcp_guest.specs.Connection.{HasBuffers};
+ghost use Rattle.tcp_guest.specs.Owing.{ack_if, after_gone, change_gone, gone as gone_by, head_of, owed_of, syn_gone as syn_gone_by, told as told_by};
 ghost use Rattle.tcp_guest.specs.Timing.{again as again_by, change_expiring, due_of, expired as expired_by, is_spent};
-ghost use Rattle.tcp_guest.specs.Windows.{is_update_owed as is_update_owed_by, moves_far as moves_far_by, our_shift as our_shift_by, told_edge as told_edge_by};
 
-use crate::{Change, Conn, Owed, Stage, field, least_shift};
-use sock_buffers::Up;
+use crate::windows::{field, least_shift};
+use crate::{Change, Conn, Head, Owed, Stage};
+use seq_space::Seq;
+use sock_buffers::{Down, Up};
 
 impl Conn {
+    /// What is to be sent next, one thing at a time. `None` exactly where nothing is owed.
+    pub fn owed(&self, up: &Up, down: &Down) -> Option<Owed>
+        requires buffers { HasBuffers self.now up.now down.now }
+        ensures owed { result ≡ owed_of self.now up.now down.now }
+    {
+        match self.stage {
+            Stage::Connects | Stage::Gone => None,
+            Stage::Calls => self.syn_owed.then_some(Owed::Syn),
+            Stage::Answers => {
+                if self.syn_owed {
+                    Some(Owed::SynAck)
+                } else {
+                    ack_if(self.ack_owed)
+                }
+            }
+            Stage::Rests => ack_if(self.ack_owed),
+            Stage::Synchronized => match self.transmit.next_piece(down) {
+                Some(piece) => Some(Owed::Data(piece)),
+                None => ack_if(self.ack_owed || self.is_update_owed(up)),
+            },
+            Stage::Resets { seq, ack } => Some(Owed::Reset { seq, ack }),
+        }
+    }
+
+    /// The link took what `owed` gives in this state. `Finished` where both ends passed with it.
+    pub fn sent(&mut self, up: &Up, what: &Owed, now: u64) -> Change
+        requires owed { (down : Downward) × HasBuffers self.old up.now down × (owed_of self.old up.now down ≡ Some what.now) }
+        requires now { now ≤ 2 ^ 62 }
+        ensures change { result ≡ change_gone what.now self.old up.now now }
+        ensures connection { self.new ≡ after_gone what.now self.old up.now now }
+        ensures buffers { (down : Downward) → HasBuffers self.old up.now down → owed_of self.old up.now down ≡ Some what.now
+            → HasBuffers self.new up.now down }
+    {
+        self.go(up, what, now);
+        self.settle()
+    }
+
+    /// The numbers, the window field and the window scale of the segment that `owed` names.
+    pub fn head(&self, up: &Up, what: &Owed) -> Head
+        ensures { result ≡ head_of self.now up.now what.now }
+    {
+        match what {
+            Owed::Syn => Head {
+                seq: self.ours,
+                ack: Seq(0),
+                window: field(0, up.room()),
+                scale: Some(least_shift(self.ring)),
+            },
+            Owed::SynAck => Head {
+                seq: self.ours,
+                ack: self.receive.expected(),
+                window: field(0, up.room()),
+                scale: self.scale.is_some().then_some(least_shift(self.ring)),
+            },
+            Owed::Data(piece) => Head {
+                seq: self.transmit.number(piece),
+                ack: self.receive.expected(),
+                window: field(self.our_shift(), up.room()),
+                scale: None,
+            },
+            Owed::Ack => Head {
+                seq: self.transmit.next_number(),
+                ack: self.receive.expected(),
+                window: field(self.our_shift(), up.room()),
+                scale: None,
+            },
+            Owed::Reset { seq, ack } => Head {
+                seq: *seq,
+                ack: *ack,
+                window: 0,
+                scale: None,
+            },
+        }
+    }
+
     /// What `owed` named went out.
     pub(crate) fn go(&mut self, up: &Up, what: &Owed, now: u64)
         requires owed { (down : Downward) × HasBuffers self.old up.now down × (owed_of self.old up.now down ≡ Some what.now) }
@@ -64,34 +138,6 @@ impl Conn {
         self.ack_owed = false;
     }
 
-    /// The shift of our window field in segments without SYN.
-    pub(crate) fn our_shift(&self) -> u8
-        ensures shift { result ≡ our_shift_by self.now }
-        ensures few { result ≤ 14 }
-    {
-        if self.scale.is_some() {
-            least_shift(self.ring)
-        } else {
-            0
-        }
-    }
-
-    /// Up to which place a segment tells that there is room.
-    pub(crate) fn told_edge(&self, up: &Up, shift: u8) -> u64
-        requires { shift ≤ 14 }
-        ensures { result ≡ told_edge_by self.now up.now shift }
-    {
-        let place = self.receive.taken() + u64::from(self.receive.ended());
-        place + (u64::from(field(shift, up.room())) << shift)
-    }
-
-    /// Whether a window update is owed.
-    pub(crate) fn is_update_owed(&self, up: &Up) -> bool
-        ensures { result ≡ is_update_owed_by self.now up.now }
-    {
-        !self.receive.ended() && moves_far(self.told, self.told_edge(up, self.our_shift()))
-    }
-
     /// The timer expired. Nothing changes where the connection is to be given up and an acknowledgement is owed.
     pub(crate) fn expire(&mut self) -> Change
         requires runs { IsSome (due_of self.old) }
@@ -127,12 +173,9 @@ impl Conn {
     }
 }
 
-// Whether the right edge can move by two segments at least.
-fn moves_far(told: Option<u64>, edge: u64) -> bool
-    ensures { result ≡ moves_far_by told edge }
+// A segment that acknowledges and carries nothing else, where one is owed.
+fn ack_if(owed: bool) -> Option<Owed>
+    ensures { result ≡ ack_if owed }
 {
-    match told {
-        Some(told) => edge.saturating_sub(told) >= 2_920,
-        None => false,
-    }
+    owed.then_some(Owed::Ack)
 }
