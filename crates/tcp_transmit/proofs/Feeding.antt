@@ -21,6 +21,7 @@ use Rattle.tcp_transmit.specs.declared.AckSeen.TheVariants.{Old, Same, Forward, 
 use Rattle.tcp_transmit.specs.declared.End.{End}
 use Rattle.tcp_transmit.specs.declared.End.TheVariants.{Open, Unsent, Sent}
 use Rattle.tcp_transmit.specs.declared.Piece.{Piece}
+use Rattle.tcp_transmit.specs.declared.Window.{Window}
 use Rattle.tcp_transmit.proofs.Owed.{Lies, next_lies}
 
 begun_on : (timer : Timer) (now : ℕ) → is_off (begun timer now) ≡ false
@@ -306,50 +307,38 @@ congested_seen t down duplicate octets at (FinToo n) is = is
 congested_seen t down duplicate octets at TooFar is = is
 
 -- the window, and a probe for which it has room
+window_or_probe : (t : Transmission) (window : Option Window) (early probing : Bool) → (early ≡ true → t.acked < t.sent) → (probing ≡ true → t.acked < t.sent) → IsSound t
+    → Steps t (record t { window = window; early = early; probing = probing })
+window_or_probe t window early probing early_sent probe_sent sound = record {
+  acked = refl;
+  sent = refl;
+  end = refl;
+  sound = record {
+    least = sound.least;
+    most = sound.most;
+    order = sound.order;
+    set = sound.set;
+    steady = sound.steady;
+    begins = sound.begins;
+    segments = sound.segments;
+    recovers = sound.recovers;
+    early = early_sent;
+    probes = probe_sent;
+  };
+}
+
 windowed_step : (t : Transmission) (seq : Seq) (window : ℕ) → IsSound t → Steps t (windowed t seq window)
 windowed_step t seq window sound = by_test (is_newer t.window seq.0 t.acked)
   where
     by_test : (b : Bool) → Steps t (if b then record t { window = Some (record { edge = t.acked + window; seq = seq; ack = t.acked }) } else t)
-    by_test true = record {
-      acked = refl;
-      sent = refl;
-      end = refl;
-      sound = record {
-        least = sound.least;
-        most = sound.most;
-        order = sound.order;
-        set = sound.set;
-        steady = sound.steady;
-        begins = sound.begins;
-        segments = sound.segments;
-        recovers = sound.recovers;
-        early = sound.early;
-        probes = sound.probes;
-      };
-    }
+    by_test true = window_or_probe t (Some (record { edge = t.acked + window; seq = seq; ack = t.acked })) t.early t.probing sound.early sound.probes sound
     by_test false = record { acked = refl; sent = refl; end = refl; sound = sound }
 
 opened_step : (t : Transmission) → IsSound t → Steps t (opened t)
 opened_step t sound = by_test (nat_lt t.acked (edge_of t.window)) t.probing refl
   where
     by_test : (c b : Bool) → t.probing ≡ b → Steps t (if b && c then record t { early = true; probing = false } else t)
-    by_test true true probing = record {
-      acked = refl;
-      sent = refl;
-      end = refl;
-      sound = record {
-        least = sound.least;
-        most = sound.most;
-        order = sound.order;
-        set = sound.set;
-        steady = sound.steady;
-        begins = sound.begins;
-        segments = sound.segments;
-        recovers = sound.recovers;
-        early = λ _. sound.probes probing;
-        probes = λ no. cc;
-      };
-    }
+    by_test true true probing = window_or_probe t t.window true false (λ _. sound.probes probing) (λ no. cc) sound
     by_test false true probing = record { acked = refl; sent = refl; end = refl; sound = sound }
     by_test true false probing = record { acked = refl; sent = refl; end = refl; sound = sound }
     by_test false false probing = record { acked = refl; sent = refl; end = refl; sound = sound }
