@@ -1,5 +1,5 @@
 -- A flow gives way to a guest's SYN, or none does: by the slots and in the record.
-use Rattle.std.proofs.Common.{◌≡◌, ℕ, zero, suc, ◌+◌, ◌<◌, ◌≤◌, ◌==◌, ◌^◌, ◌&&◌, ◌||◌, not, nat_le, nat_lt, Bool, true, false, List, [], ◌∷◌, ◌++◌, map, set, slice_get, Option, Some, None, option_and_then, option_map}
+use Rattle.std.proofs.Common.{◌≡◌, ℕ, zero, suc, ◌+◌, ◌<◌, ◌≤◌, ◌==◌, ◌^◌, ◌&&◌, ◌||◌, not, nat_le, nat_lt, Bool, true, false, List, [], ◌∷◌, ◌++◌, get_or, map, set, slice_get, Option, Some, None, option_and_then, option_map}
 use Rattle.std.proofs.Common.{if◌then◌else◌, refl, sym, ◌∙◌, ap, subst, arith}
 use Rattle.std.proofs.lemmas.Bool.Decides.{nat_tests}
 use Rattle.std.specs.List.{list_any}
@@ -40,15 +40,52 @@ use Rattle.flows_follow.proofs.Parting.{apart, called, core_parted, its_close, m
 use Rattle.flows_follow.proofs.Pumped.{Called, state_at}
 use Rattle.tcp_flows.specs.Way.{AreFirst, GivesWay, IsCrowded, IsFirstQuiet, gives, is_before, owes, quiet_of}
 use Rattle.tcp_flows.specs.Kept.{IsFor, Kept, flows_of, part_of, slot_of}
-use Rattle.tcp_flows.specs.Rows.{table_at}
+use Rattle.tcp_flows.specs.Rows.{Moves, table_at}
 use Rattle.tcp_flows.specs.Runs.{Between, Leaves}
 use Rattle.tcp_flows.specs.declared.giving.Quiet.{Quiet}
 use Rattle.tcp_flows.proofs.Asking.{asked_by_calls}
 use Rattle.tcp_flows.proofs.Beside.{close_beside, leaves_none, none_strange}
-use Rattle.tcp_flows.proofs.Keeping.{open_used, raw_here}
+use Rattle.tcp_flows.proofs.Keeping.{open_moves, open_used, raw_here, read_here}
 use Rattle.tcp_flows.proofs.Lists.{get_map}
 use Rattle.tcp_flows.proofs.Requesting.{kept_asked}
 use Rattle.tcp_flows.proofs.Seated.{ends, flow, followed, learnt_here, once, part_here, part_is, slot_here, state_then, was}
+
+-- ---- the part that gives way
+
+both_first : (a b : Bool) → (a && b) ≡ true → a ≡ true
+both_first true b is = refl
+both_first false b is = cc
+
+-- it is open
+pub first_open : (now : ℕ) (parts : List Splice) (quiet : Quiet) (first : IsFirstQuiet now parts quiet) → is_open first.part ≡ true
+first_open now parts quiet first = both_first (is_open first.part) (nat_le (gives_way_at first.part) now) first.may
+
+-- what the part in the slot was, and what giving way makes of it
+pub record Gave (now : ℕ) (parts : List Splice) (quiet : Quiet) (read q : Splice) (place : Place) (opens : Bool) : Type 0 where
+  pub first : IsFirstQuiet now parts quiet
+  pub open_yet : is_open first.part ≡ true
+  pub read_is : read ≡ first.part
+  pub as_old : IsAsOld first.part q
+  pub moves : Moves false first.part q
+  pub place_is : place ≡ first.part.place
+  pub open_is : opens ≡ is_open first.part
+
+pub gave : (now : ℕ) (parts : List Splice) (quiet : Quiet) (read q : Splice) (place : Place) (opens : Bool) → IsFirstQuiet now parts quiet → read ≡ get_or parts quiet.slot read
+    → IsAsOld read q → place ≡ read.place → opens ≡ is_open read → Gave now parts quiet read q place opens
+gave now parts quiet read q place opens first value stays place_read open_read =
+    let p : Splice = first.part in
+    let open_yet = first_open now parts quiet first in
+    let read_is : read ≡ p = read_here parts quiet.slot p read first.at value in
+    let as_old = subst (λ (x : Splice). IsAsOld x q) read_is stays in
+    record {
+      first = first;
+      open_yet = open_yet;
+      read_is = read_is;
+      as_old = as_old;
+      moves = open_moves p q open_yet as_old.face as_old.accepted;
+      place_is = place_read ∙ ap (λ (x : Splice). x.place) read_is;
+      open_is = open_read ∙ ap is_open read_is;
+    }
 
 -- ---- one flow
 
@@ -189,11 +226,7 @@ module _ (config : Config) (now : ℕ) (few : now ≤ 2 ^ 62) (table : Flows) (p
     k = quiet.slot
 
     open_yet : is_open p ≡ true
-    open_yet = first (is_open p) (nat_le (gives_way_at p) now) is.may
-      where
-        first : (a b : Bool) → (a && b) ≡ true → a ≡ true
-        first true b is = refl
-        first false b is = cc
+    open_yet = first_open now parts quiet is
 
     some : p.place ≡ Empty → ⊥
     some empty = cc (sym (open_used p open_yet) ∙ empty)
