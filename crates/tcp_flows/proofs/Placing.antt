@@ -379,3 +379,21 @@ put_ok (Err e) now done was ok is = absurd cc
 
 pub long_insert : (wants : List Want) (i : ℕ) (x : Want) → i ≤ length wants → length (insert wants i x) ≡ length wants + 1
 long_insert wants i x fits = length-insert wants i x fits
+
+-- what is waited for on a socket
+abbrev pub want_of : ℕ → Waits → Want
+want_of n waits = record { of = Tcp n; read = waits.read; write = waits.write }
+
+-- a want is put in: what the list is then, and that there is room for it
+pub record Put (n place room : ℕ) (waits : Waits) (wants : List Want) : Type 0 where
+  pub is : insert wants place (want_of n waits) ≡ with_wants n (listed n waits) wants
+  pub fits : length wants < room
+
+pub put_so : (n place room : ℕ) (waits : Waits) (wants seen : List Want) → seen ≡ wants → IsPlaceOf n seen place → place ≤ length seen → has_at place n wants ≡ false → is_any waits ≡ true
+    → length (with_wants n (listed n waits) wants) ≤ room → Put n place room waits wants
+put_so n place room waits wants seen same stood bound none any enough =
+    let x = want_of n waits in
+    let within = subst (λ (l : List Want). place ≤ length l) same bound in
+    let is = put_in n wants place x within (subst (λ (l : List Want). IsPlaceOf n l place) same stood) none ∙ ap (λ (l : List Want). with_wants n l wants) (sym (listed_some n waits any)) in
+    let long : length (with_wants n (listed n waits) wants) ≡ length wants + 1 = sym (ap (λ (l : List Want). length l) is) ∙ long_insert wants place x within in
+    record { is = is; fits = omega (arith, long, enough) }

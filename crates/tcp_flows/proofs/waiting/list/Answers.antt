@@ -1,4 +1,4 @@
-use Rattle.std.proofs.Common.{◌≡◌, ℕ, zero, suc, ◌<◌, ◌≤◌, ◌+◌, List, [], ◌∷◌, Some, cond, length, get_or, slice_get, ap, sym, subst, ◌∙◌, arith}
+use Rattle.std.proofs.Common.{◌≡◌, ℕ, zero, suc, ◌<◌, ◌≤◌, List, [], ◌∷◌, Some, cond, length, get_or, slice_get, ap, sym, subst, ◌∙◌, arith}
 use Rattle.std.specs.Vec.{vec_capacity}
 use Rattle.std.specs.Int.{from_bool}
 use Rattle.std.specs.List.{insert}
@@ -7,8 +7,8 @@ use Rattle.poll_list.proofs.Counting.{count_bit, count_inserted, count_one, coun
 use Rattle.poll_list.specs.declared.Want.{Want}
 use Rattle.poll_list.specs.declared.Who.TheVariants.{Tcp}
 use Rattle.tcp_flows.specs.Places.{IsPlaceOf, has_at}
-use Rattle.tcp_flows.specs.Standing.{listed, with_wants}
-use Rattle.tcp_flows.proofs.Placing.{left_so, listed_none, listed_some, long_insert, put_in, put_ok, replaced, stands, taken_out}
+use Rattle.tcp_flows.specs.Standing.{with_wants}
+use Rattle.tcp_flows.proofs.Placing.{left_so, listed_none, listed_some, put_ok, put_so, replaced, stands, taken_out}
 use Rattle.tcp_flows.proofs.waiting.list.Goals as goal
 
 pub returns-in-true-true-clause-items : goal.returns-in-true-true-clause-items
@@ -33,14 +33,9 @@ returns-in-false-true-clause-items c =
     let wants = c.args.wants.now.items in
     let n = c.args.number in
     let place = c.place_of-place.result in
-    let x : Want = record { of = Tcp n; read = c.args.waits.read; write = c.args.waits.write } in
-    let stood = subst (λ (l : List Want). IsPlaceOf n l place) c.deref.ensures.value c.place_of-place.ensures.place in
-    let bound = subst (λ (l : List Want). place ≤ length l) c.deref.ensures.value c.place_of-place.ensures.bound in
-    let none = sym (c.in-false-true.ensures ∙ ap (has_at place n) c.deref-2.ensures.value) in
-    let is = put_in n wants place x bound stood none ∙ ap (λ (l : List Want). with_wants n l wants) (sym (listed_some n c.args.waits (sym (c.in-false-true.ensures')))) in
-    let long : length (with_wants n (listed n c.args.waits) wants) ≡ length wants + 1 = sym (ap (λ (l : List Want). length l) is) ∙ long_insert wants place x bound in
-    let fits : length wants < vec_capacity c.args.wants.now = omega (arith, long, c.requires.room) in
-    put_ok c.insert.result _ _ _ (c.insert.ensures.succeeds (omega (arith, fits, c.args.wants.now.ok.0))) c.insert.ensures.items ∙ is
+    let put = put_so n place (vec_capacity c.args.wants.now) c.args.waits wants _ c.deref.ensures.value c.place_of-place.ensures.place c.place_of-place.ensures.bound
+    (sym (c.in-false-true.ensures ∙ ap (has_at place n) c.deref-2.ensures.value)) (sym (c.in-false-true.ensures')) c.requires.room in
+    put_ok c.insert.result _ _ _ (c.insert.ensures.succeeds (omega (arith, put.fits, c.args.wants.now.ok.0))) c.insert.ensures.items ∙ put.is
 
 pub returns-in-false-false-clause-items : goal.returns-in-false-false-clause-items
 returns-in-false-false-clause-items c =
@@ -118,14 +113,10 @@ returns-in-false-true-clause-counted c =
     let wants = c.args.wants.now.items in
     let n = c.args.number in
     let place = c.place_of-place.result in
+    let put = put_so n place (vec_capacity c.args.wants.now) c.args.waits wants _ c.deref.ensures.value c.place_of-place.ensures.place c.place_of-place.ensures.bound
+    (sym (c.in-false-true.ensures ∙ ap (has_at place n) c.deref-2.ensures.value)) (sym (c.in-false-true.ensures')) c.requires.room in
     let x : Want = record { of = Tcp n; read = c.args.waits.read; write = c.args.waits.write } in
-    let stood = subst (λ (l : List Want). IsPlaceOf n l place) c.deref.ensures.value c.place_of-place.ensures.place in
-    let bound = subst (λ (l : List Want). place ≤ length l) c.deref.ensures.value c.place_of-place.ensures.bound in
-    let none = sym (c.in-false-true.ensures ∙ ap (has_at place n) c.deref-2.ensures.value) in
-    let is = put_in n wants place x bound stood none ∙ ap (λ (l : List Want). with_wants n l wants) (sym (listed_some n c.args.waits (sym (c.in-false-true.ensures')))) in
-    let long : length (with_wants n (listed n c.args.waits) wants) ≡ length wants + 1 = sym (ap (λ (l : List Want). length l) is) ∙ long_insert wants place x bound in
-    let fits : length wants < vec_capacity c.args.wants.now = omega (arith, long, c.requires.room) in
-    let put : c.insert.new.self.items ≡ insert wants place x = put_ok c.insert.result _ _ _ (c.insert.ensures.succeeds (omega (arith, fits, c.args.wants.now.ok.0))) c.insert.ensures.items in
-    let count : count_to_write c.insert.new.self.items ≡ count_to_write (insert wants place x) = ap (λ (l : List Want). count_to_write l) put in
+    let done : c.insert.new.self.items ≡ insert wants place x = put_ok c.insert.result _ _ _ (c.insert.ensures.succeeds (omega (arith, put.fits, c.args.wants.now.ok.0))) c.insert.ensures.items in
+    let count : count_to_write c.insert.new.self.items ≡ count_to_write (insert wants place x) = ap (λ (l : List Want). count_to_write l) done in
     let other = c.from-in-false-true.ensures ∙ count_bit c.args.waits.write in
     omega (arith, count, other, count_inserted wants place x, c.requires.counted)
