@@ -515,55 +515,14 @@ module _ (config : Config) (face : Face) (mac : Option Mac) (f : Flow) (past : L
   abbrev CalledHere : List Entry → Story → Type 0
   CalledHere made beats = Called config face f past now ended known made beats
 
-  -- These entries are lawful, and in the record they are these events of the flow; the reports behind this one are left; nothing else has changed.
-  pub record Heard (made : List Entry) (beats : Story) : Type 0 where
-    pub lawful : Lawful config (made ++ past)
-    pub work : InWork config (made ++ past)
-    pub has : HasFlow config face (with_beats f beats) (made ++ past)
-    pub at : moment (made ++ past) ≡ now
-    pub of : AreOf config face.number past made
-    pub agenda : IsLast items (agenda (made ++ past))
-    pub knows : guest_is_known (scene config (made ++ past)) (with_beats f beats) ≡ known
-    pub last : is_closed (beats ++ f.story) ≡ false → comes_last (scene config (made ++ past)) (with_beats f beats) ≡ ended
-    pub left : left config (made ++ past) ≡ left config past
-    pub tail : tail (made ++ past) ≡ tail past
-    pub blocked : is_blocked (made ++ past) ≡ is_blocked past
-    pub counted : identification (made ++ past) ≡ identification past
-    pub next : next_number (made ++ past) ≡ next_number past
-    pub taught : taught config (made ++ past) ≡ taught config past
-    pub rests : is_closed f.story ≡ false → (book config (made ++ past)).rests ≡ with_rest (rests_since (beats ++ f.story)) face.number (book config past).rests
-    pub rests_on : is_closed f.story ≡ true → (book config (made ++ past)).rests ≡ (book config past).rests
-    pub rests_still : is_closed f.story ≡ true → rests_since (beats ++ f.story) ≡ rests_since f.story
-    pub since : is_closed f.story ≡ false → (m : ℕ) → rests_since (beats ++ f.story) ≡ Some m → m ≡ now
-
   -- the calls so far, and what is left of the reports
-  record Facing (Left : List Want → Type 0) (made : List Entry) (beats : Story) : Type 0 where
+  pub record Facing (Left : List Want → Type 0) (made : List Entry) (beats : Story) : Type 0 where
     pub called : CalledHere made beats
     pub agenda : Left (agenda (made ++ past))
 
-  heard : (made : List Entry) (beats : Story) → Facing (IsLast items) made beats → Heard made beats
-  heard made beats faces =
-      let called = faces.called in
-      record {
-        lawful = called.lawful;
-        work = called.work;
-        has = called.has;
-        at = called.at;
-        of = called.of;
-        agenda = faces.agenda;
-        knows = called.knows;
-        last = called.last;
-        left = called.left;
-        tail = called.tail;
-        blocked = called.blocked;
-        counted = called.counted;
-        next = called.next;
-        taught = called.taught;
-        rests = called.rests;
-        rests_on = called.rests_on;
-        rests_still = called.rests_still;
-        since = called.since;
-      }
+  -- These entries are lawful, and in the record they are these events of the flow; the reports behind this one are left; nothing else has changed.
+  abbrev pub Heard : List Entry → Story → Type 0
+  Heard made beats = Facing (IsLast items) made beats
 
   -- this report is there, for writing too; is there; and is there, and octets were written for the one in front
   abbrev ForWriting : List Want → Type 0
@@ -768,14 +727,13 @@ module _ (config : Config) (face : Face) (mac : Option Mac) (f : Flow) (past : L
     read_for : (l made : List Entry) → is_reading l ≡ true → (read ≡ false → l ≡ []) → Before made (Facing There made) → Before (l ++ made) (λ beats. Heard (l ++ made) beats)
     read_for [] made is unless go_on rest are lawful =
         let faces = go_on rest are lawful in
-        heard made rest (record { called = faces.called; agenda = pass_over face.number read items (agenda (made ++ past)) faces.agenda })
-    read_for (a ∷ []) made is unless go_on rest are lawful = heard (a ∷ made) rest (takes_next made rest a is (was_wanted read a [] unless) go_on are lawful)
+        record { called = faces.called; agenda = pass_over face.number read items (agenda (made ++ past)) faces.agenda }
+    read_for (a ∷ []) made is unless go_on rest are lawful = takes_next made rest a is (was_wanted read a [] unless) go_on are lawful
     read_for (b ∷ a ∷ []) made is unless go_on rest are lawful =
         let one = first_of (is_shut b) (is_for_reading a) is in
         let two = second_of (is_shut b) (is_for_reading a) is in
-        heard (b ∷ a ∷ made) rest
-        (shuts_next (a ∷ made) rest (IsLast items) b one (quiet_read config (made ++ past) a two)
-        (λ r m well. takes_next made r a two (was_wanted read b (a ∷ []) unless) go_on m well) are lawful)
+        shuts_next (a ∷ made) rest (IsLast items) b one (quiet_read config (made ++ past) a two)
+        (λ r m well. takes_next made r a two (was_wanted read b (a ∷ []) unless) go_on m well) are lawful
     read_for (c ∷ b ∷ a ∷ l) made is unless go_on rest are lawful = absurd (not_both is)
       where
         not_both : false ≡ true → ⊥

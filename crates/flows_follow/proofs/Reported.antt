@@ -62,16 +62,16 @@ module _ (config : Config) (state : FlowsState Splice) (past : List Entry) (now 
 
     reported_called : Called config p.face f past now made beats
     reported_called = record {
-      lawful = told.lawful;
-      found = told.has.found;
-      of = told.of;
-      at = told.at;
-      asks = told.has.due ∙ well (follows_well config now q (beats ++ f.story) follows) (number_of p);
-      next = told.next;
-      rests = told.rests;
-      rests_on = told.rests_on;
-      rests_still = told.rests_still;
-      since = told.since;
+      lawful = told.called.lawful;
+      found = told.called.has.found;
+      of = told.called.of;
+      at = told.called.at;
+      asks = told.called.has.due ∙ well (follows_well config now q (beats ++ f.story) follows) (number_of p);
+      next = told.called.next;
+      rests = told.called.rests;
+      rests_on = told.called.rests_on;
+      rests_still = told.called.rests_still;
+      since = told.called.since;
     }
 
     -- the core's relation holds after a report
