@@ -1,3 +1,2 @@
-mod Rowing
 pub mod Steady
 mod Waiting

@@ -1,4 +1,2 @@
 pub mod Estimate
-pub mod Moments
 pub mod Resending
-pub mod Rows

@@ -1,10 +1,9 @@
-//! When to send again: the retransmission timeout of a connection (RFC 6298), the timer of what wasn't acknowledged with
-//! the count of how often it went again, and timers over slots. Moments and times are in milliseconds.
+//! When to send again: the retransmission timeout of a connection (RFC 6298), and the timer of what wasn't acknowledged with
+//! the count of how often it went again. Moments and times are in milliseconds.
 #![tactic(auto)]
 
 mod estimate;
 mod resending;
-mod slots;
 
 use std::marker::Model;
 
@@ -62,32 +61,4 @@ impl Model for Resend {
     ghost view = { λ r. resending r.rto r.timer r.resent };
 
     ghost invariant = { λ r. IsSteady (resending r.rto r.timer r.resent) };
-}
-
-/// A timer for each of a fixed number of slots. A contract sees a list with the moment of each
-/// slot whose timer runs. Moments are in milliseconds.
-#[derive(Drop)]
-pub struct Timers {
-    moments: Vec<Option<u64>>,
-    row: Vec<SlotTimer>,
-}
-
-impl Model for Timers {
-    ghost use Rattle.std.specs.Prelude.{List, Option, ℕ};
-
-    ghost Value = { List (Option ℕ) };
-
-    ghost use Rattle.std.specs.Vec.{vec_capacity};
-    ghost use Rattle.retransmit.specs.Rows.{IsRow};
-
-    ghost view = { λ t. t.moments.items };
-
-    ghost invariant = { λ t. IsRow t.moments.items t.row.items (vec_capacity t.row) };
-}
-
-/// A timer that runs: its slot and its moment.
-#[derive(Clone, Copy)]
-struct SlotTimer {
-    slot: usize,
-    at: u64,
 }
