@@ -1,5 +1,5 @@
 -- Settings that options give, field by field.
-use Rattle.std.proofs.Common.{◌≡◌, ℕ, Bool, List, Option, sym, ◌∙◌, ap, arith}
+use Rattle.std.proofs.Common.{◌≡◌, ℕ, Bool, List, Option, refl, sym, ◌∙◌, ap, arith}
 use Rattle.net_octets.specs.declared.Endpoint.{Endpoint}
 use Rattle.host_policy.specs.Addresses.{Config}
 use Rattle.host_policy.specs.declared.Denial.{Denial}
@@ -44,35 +44,7 @@ made base network mask vhost vnameserver dhcp_start restricted no_loopback hostn
       denied = denied;
     }
 
--- forwards are given by no option
-pub with_forwards : (given : Word → Option Word) (config : Config) (forwards : List Forward) → AreSettings given config → AreSettings given (record config { forwards = forwards })
-with_forwards given config forwards are = record {
-  net = are.net;
-  host = are.host;
-  dns = are.dns;
-  dhcp_start = are.dhcp_start;
-  restricted = are.restricted;
-  no_loopback = are.no_loopback;
-  hostname = are.hostname;
-  domainname = are.domainname;
-  tftp_server_name = are.tftp_server_name;
-  bootfile = are.bootfile;
-  tftp_path = are.tftp_path;
-  mtu = are.mtu;
-  mru = are.mru;
-  flows = are.flows;
-  ring = are.ring;
-  resolver = are.resolver;
-  turns = are.turns;
-  outbound = are.outbound;
-  no_dns = are.no_dns;
-  no_dhcp = are.no_dhcp;
-  congestion = are.congestion;
-  version = are.version;
-  rest = ap (λ (c : Config). record c { forwards = forwards }) are.rest;
-}
-
--- nor are forwards of guests, and denied networks
+-- forwards, forwards of guests and denied networks are given by no option of their own
 abbrev pub with_lists : Config → List Forward → List GuestFwd → List Denial → Config
 with_lists config forwards guests denied = record config { forwards = forwards; guest_forwards = guests; denied = denied }
 
@@ -104,6 +76,10 @@ lists_are given config forwards guests denied same are = record {
   version = are.version ∙ same;
   rest = ap (λ (c : Config). record c { forwards = forwards; guest_forwards = guests; denied = denied }) are.rest;
 }
+
+-- forwards alone
+pub with_forwards : (given : Word → Option Word) (config : Config) (forwards : List Forward) → AreSettings given config → AreSettings given (record config { forwards = forwards })
+with_forwards given config forwards are = lists_are given config forwards config.guest_forwards config.denied refl are
 
 -- with those that are held, and with those of which as much is held
 pub with_both : (given : Word → Option Word) (config : Config) (forwards : List Forward) (guests : List GuestFwd) → held_guests config.guest_forwards ≡ held_guests guests → AreSettings given config
