@@ -8,7 +8,7 @@ use Rattle.udp_assoc.specs.Links.{AreLinks, Chain, first_of, neighbours, neighbo
 use Rattle.udp_assoc.specs.declared.order.Neighbours.{Neighbours}
 use Rattle.udp_assoc.specs.declared.order.Side.{Side}
 use Rattle.udp_assoc.proofs.Linking.{Once, Put, Taken, apart, chain_put, chain_same, chain_taken, first_put, first_taken, walked}
-use Rattle.udp_assoc.proofs.Ordering.{as_long, as_often, equal, gone_alike, is_equal, is_other, moved_alike, none_yet, once, placed, rise_gone, rise_last, same, times_gone}
+use Rattle.udp_assoc.proofs.Ordering.{as_long, as_often, equal, gone_alike, is_equal, is_other, moved_alike, none_yet, once, placed, remove_gone, rise_gone, rise_last, same, times_gone}
 use Rattle.udp_assoc.proofs.Ordering.{times_gone_other, times_last}
 
 -- the neighbours of a number that is there
@@ -131,7 +131,7 @@ module _ (numbers : List ℕ) (links : List Neighbours) (first last : Option ℕ
             others_by no_test e = let yes_test = is_equal m k e in cc
 
     -- it went out
-    pub forgotten : (place : ℕ) → place < length numbers → get_or numbers place 0 ≡ m → length taken ≡ length links → (new_numbers : List ℕ) (new : List Neighbours) →
+    forgotten : (place : ℕ) → place < length numbers → get_or numbers place 0 ≡ m → length taken ≡ length links → (new_numbers : List ℕ) (new : List Neighbours) →
         new_numbers ≡ gone m numbers → new_numbers ≡ remove numbers place → new ≡ remove taken place → length new ≡ length new_numbers
         → AreLinks new_numbers new (unless_none l.before l.behind first) (unless_none l.behind l.before last)
     forgotten place few here long new_numbers new gone_is numbers_is links_is as_many = record {
@@ -147,7 +147,7 @@ module _ (numbers : List ℕ) (links : List Neighbours) (first last : Option ℕ
           chain_out;
     }
 
-    pub forgotten_list : (place : ℕ) (few : place < length numbers) (at_it : get_or numbers place 0 ≡ m) (long : length taken ≡ length links) (new_numbers : List ℕ)
+    forgotten_list : (place : ℕ) (few : place < length numbers) (at_it : get_or numbers place 0 ≡ m) (long : length taken ≡ length links) (new_numbers : List ℕ)
         (new : List Neighbours) (gone_is : new_numbers ≡ gone m numbers) (numbers_is : new_numbers ≡ remove numbers place) (links_is : new ≡ remove taken place)
         → length new ≡ length new_numbers → walk (length new_numbers) (neighbours_of new_numbers new) (unless_none l.before l.behind first) ≡ gone m are.order
     unfolding forgotten
@@ -213,3 +213,24 @@ both_shorter [] (l ∷ ls) place long = absurd (omega (arith, long))
 both_shorter (n ∷ ns) [] place long = absurd (omega (arith, long))
 both_shorter (n ∷ ns) (l ∷ ls) zero long = omega (arith, long)
 both_shorter (n ∷ ns) (l ∷ ls) (suc p) long = ap (λ k. suc k) (both_shorter ns ls p (omega (arith, long)))
+
+-- a number goes out that stands at a place
+pub goes_out : (numbers : List ℕ) (links : List Neighbours) (first last : Option ℕ) (are : AreLinks numbers links first last) (m place : ℕ) (seen : List ℕ) → seen ≡ numbers →
+    place < length seen → get_or seen place 0 ≡ m → (l : Neighbours) → l ≡ neighbours_of numbers links m → (taken : List Neighbours)
+    → ((k : ℕ) → 0 < times k numbers → neighbours_of numbers taken k ≡ with_before l.behind l.before k (with_behind l.before l.behind k (neighbours_of numbers links k)))
+    → length taken ≡ length links → (new_numbers : List ℕ) (new : List Neighbours) → new_numbers ≡ remove numbers place → new ≡ remove taken place
+    → (first_now last_now : Option ℕ) → first_now ≡ unless_none l.before l.behind first → last_now ≡ unless_none l.behind l.before last
+    → AreLinks new_numbers new first_now last_now × (walk (length new_numbers) (neighbours_of new_numbers new) first_now ≡ gone m are.order)
+goes_out numbers links first last are m place seen same within stands l is taken takes long new_numbers new numbers_is links_is first_now last_now first_is last_is =
+    let few = subst (λ (ns : List ℕ). place < length ns) same within in
+    let here = subst (λ (ns : List ℕ). get_or ns place 0 ≡ m) same stands in
+    let found = placed m numbers place few here in
+    let alike = are.same m in
+    let there : 0 < times m are.order = omega (arith, found, alike) in
+    let gone_is = numbers_is ∙ remove_gone m numbers place few here (once m numbers are.rise) in
+    let as_many = ap length links_is ∙ both_shorter numbers taken place (long ∙ are.beside) ∙ sym (ap length numbers_is) in (
+      subst (λ (f : Option ℕ). AreLinks new_numbers new f last_now) (sym first_is) (subst (λ (f : Option ℕ). AreLinks new_numbers new (unless_none l.before l.behind first) f) (sym last_is)
+          (forgotten numbers links first last are m there l is taken takes place few here long new_numbers new gone_is numbers_is links_is as_many)),
+      ap (walk (length new_numbers) (neighbours_of new_numbers new)) first_is
+          ∙ forgotten_list numbers links first last are m there l is taken takes place few here long new_numbers new gone_is numbers_is links_is as_many,
+    )
