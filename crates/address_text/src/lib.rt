@@ -8,7 +8,10 @@ ghost use Rattle.std.specs.Str.{IsUtf8};
 ghost use Rattle.net_octets.specs.declared.Endpoint.{Endpoint as AnEndpoint};
 ghost use Rattle.address_text.specs.Texts.{IsNumber, IsAddress, IsEndpointText, is_other, IsReadAs};
 
+mod writing;
+
 use net_octets::{Endpoint, Ip4};
+pub use writing::endpoint_string;
 
 /// A text has no reading.
 #[derive(Clone, Copy)]

@@ -1,18 +1,15 @@
 // How a mistake in the words, and a port that the host refused, are named.
 #![tactic(auto, using(world_face::proofs::Putting::puts_then, world_face::proofs::Putting::puts_failed, replay::proofs::Putting::added_none))]
 
-ghost use Rattle.std.specs.Prelude.{◌≡◌, ◌++◌, ◌≤◌, ◌+◌, ◌∷◌, [], map, take, codes, decimal};
+ghost use Rattle.std.specs.Prelude.{◌≡◌, ◌++◌, ◌∷◌, [], map};
 ghost use Rattle.std.specs.String.{string_bytes};
-ghost use Rattle.arrayvec.specs.ArrayString.{array_string_len};
-ghost use Rattle.address_text.specs.Texts.{endpoint_text};
 ghost use Rattle.world_face.specs.Puts.{Puts};
 ghost use Rattle.app_edges.specs.Texts.{forward_text, mistake_text, shown, shown_octet, word_text};
 
 use crate::status::tell_number;
-use arrayvec::{ArrayString, ArrayVec};
+use address_text::endpoint_string;
+use arrayvec::ArrayVec;
 use host_policy::{Forward, Proto};
-use itoa::Buffer;
-use net_octets::{Endpoint, Ip4};
 use slirp_config::Stop;
 use world_face::{Failed, Sink};
 
@@ -75,39 +72,4 @@ pub(crate) fn put_forward<E: Sink>(err: &mut E, forward: &Forward) -> Result<(),
         Proto::Udp => b"udp ",
     })?;
     err.put(at.as_str().as_bytes())
-}
-
-#[tactic(auto, unfolding(address_text::specs::Texts::endpoint_text, address_text::specs::Texts::address_text))]
-fn endpoint_string(at: Endpoint) -> ArrayString<21>
-    ensures { result.bytes ≡ endpoint_text at }
-{
-    let Ip4(address) = at.addr;
-    let mut text = ArrayString::new();
-    push_part(&mut text, (address >> 24) as u8);
-    text.push_str(".");
-    push_part(&mut text, (address >> 16 & 0xff) as u8);
-    text.push_str(".");
-    push_part(&mut text, (address >> 8 & 0xff) as u8);
-    text.push_str(".");
-    push_part(&mut text, (address & 0xff) as u8);
-    text.push_str(":");
-    push_port(&mut text, at.port);
-    text
-}
-
-fn push_part(text: &mut ArrayString<21>, part: u8)
-    requires { array_string_len text.old + 3 ≤ 21 }
-    ensures bytes { text.new.bytes ≡ text.old.bytes ++ decimal part }
-    ensures len { array_string_len text.new ≤ array_string_len text.old + 3 }
-{
-    let mut buffer = Buffer::new();
-    text.push_str(buffer.format(part));
-}
-
-fn push_port(text: &mut ArrayString<21>, port: u16)
-    requires { array_string_len text.old + 5 ≤ 21 }
-    ensures { text.new.bytes ≡ text.old.bytes ++ decimal port }
-{
-    let mut buffer = Buffer::new();
-    text.push_str(buffer.format(port));
 }

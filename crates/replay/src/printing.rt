@@ -3,7 +3,6 @@
 
 ghost use Rattle.std.specs.Prelude.{◌≡◌, ◌++◌, ◌∷◌, [], ℕ, List, codes, decimal};
 ghost use Rattle.std.specs.Prelude.{◌+◌, ◌≤◌, ◌<◌, length, IfSome, IfNone};
-ghost use Rattle.arrayvec.specs.ArrayString.{array_string_len};
 ghost use Rattle.replay.specs.Rows.{entries_of};
 ghost use Rattle.replay.specs.Pieces.{lines_text, more_text};
 ghost use Rattle.hex.specs.Hex.{encode_lower};
@@ -17,10 +16,10 @@ ghost use Rattle.replay.specs.Text.{accepted_text, sent_text, got_text, size_tex
 
 use crate::row::Row;
 use crate::view::LineView;
-use arrayvec::ArrayString;
+use address_text::endpoint_string;
 use itoa::Buffer;
 use world_face::{
-    Accepted, Endpoint, Failed, FileSize, Got, Io, Ip4, Joined, Made, Sent, Sink, Waited, Want, Who,
+    Accepted, Endpoint, Failed, FileSize, Got, Io, Joined, Made, Sent, Sink, Waited, Want, Who,
 };
 
 // Octets that are put in hexadecimal at a time.
@@ -416,41 +415,6 @@ fn put_endpoint<K: Sink>(at: Endpoint, out: &mut K) -> Result<(), Failed>
 {
     let text = endpoint_string(at);
     out.put(text.as_str().as_bytes())
-}
-
-#[tactic(auto, unfolding(address_text::specs::Texts::endpoint_text, address_text::specs::Texts::address_text))]
-fn endpoint_string(at: Endpoint) -> ArrayString<21>
-    ensures { result.bytes ≡ endpoint_text at }
-{
-    let Ip4(address) = at.addr;
-    let mut text = ArrayString::new();
-    push_part(&mut text, (address >> 24) as u8);
-    text.push_str(".");
-    push_part(&mut text, (address >> 16 & 0xff) as u8);
-    text.push_str(".");
-    push_part(&mut text, (address >> 8 & 0xff) as u8);
-    text.push_str(".");
-    push_part(&mut text, (address & 0xff) as u8);
-    text.push_str(":");
-    push_port(&mut text, at.port);
-    text
-}
-
-fn push_part(text: &mut ArrayString<21>, part: u8)
-    requires { array_string_len text.old + 3 ≤ 21 }
-    ensures bytes { text.new.bytes ≡ text.old.bytes ++ decimal part }
-    ensures len { array_string_len text.new ≤ array_string_len text.old + 3 }
-{
-    let mut buffer = Buffer::new();
-    text.push_str(buffer.format(part));
-}
-
-fn push_port(text: &mut ArrayString<21>, port: u16)
-    requires { array_string_len text.old + 5 ≤ 21 }
-    ensures { text.new.bytes ≡ text.old.bytes ++ decimal port }
-{
-    let mut buffer = Buffer::new();
-    text.push_str(buffer.format(port));
 }
 
 // Octets in hexadecimal, or a dash for none.
