@@ -125,6 +125,9 @@ close_is_due = refl
 close_comes_next : MayControl read config both (CallClose 0)
 close_comes_next = refl
 
+is_taken_back : (desk read config both).removed ≡ 0 ∷ []
+is_taken_back = refl
+
 last_not_there : (desk read config (wrote ∷ Close 0 ∷ both)).talk.left ≡ codes "not there" ++ 10 ∷ []
 last_not_there = refl
 

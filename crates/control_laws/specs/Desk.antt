@@ -36,15 +36,16 @@ pub data Awaited : Type 0 where
   Shutting : (socket : ℕ) → Awaited
 
 -- the connection; the forwards in force, in the order in which they were added, each with the number of its socket;
--- all for which a socket was asked for while the run went on, by its number; and the call that is awaited
+-- all for which a socket was asked for while the run went on, by its number, and the sockets of those that were taken back; and the call that is awaited
 pub record Desk : Type 0 where
   pub talk : Talk
   pub forwards : List Opened
   pub added : List (ℕ × Forward)
+  pub removed : List ℕ
   pub awaited : Awaited
 
 abbrev pub with_talk : Talk → Desk → Desk
-with_talk talk d = record { talk = talk; forwards = d.forwards; added = d.added; awaited = d.awaited }
+with_talk talk d = record d { talk = talk }
 
 -- the settings' forwards, whose sockets have the first numbers
 abbrev pub numbered_from : ℕ → List Forward → List Opened
@@ -52,7 +53,7 @@ numbered_from n [] = []
 numbered_from n (f ∷ forwards) = (f, n) ∷ numbered_from (n + 1) forwards
 
 abbrev pub at_first : Config → Desk
-at_first config = record { talk = silent; forwards = numbered_from 0 config.forwards; added = []; awaited = Nothing }
+at_first config = record { talk = silent; forwards = numbered_from 0 config.forwards; added = []; removed = []; awaited = Nothing }
 
 -- a reply
 abbrev pub says : List ℕ → Desk → Desk
@@ -63,7 +64,7 @@ abbrev pub is_its_own : Config → Forward → Bool
 is_its_own config f = same_proto f.proto Tcp && option_map_or (same_endpoint f.host) config.control false
 
 abbrev pub awaits : Awaited → Desk → Desk
-awaits awaited d = record { talk = d.talk; forwards = d.forwards; added = d.added; awaited = awaited }
+awaits awaited d = record d { awaited = awaited }
 
 -- a port of the host is to be given to a guest: why not, or its socket is opened next
 abbrev pub adds_unless : Option FwdFault → Forward → Desk → Desk
@@ -76,7 +77,8 @@ adds config f d = adds_unless (if is_its_own config f then Some Taken else fault
 -- one is to be taken back: its socket is closed next, and its connections go on
 abbrev pub removes : Option ℕ → Proto → Endpoint → Desk → Desk
 removes None proto host d = says (reply_line (codes "not there")) d
-removes (Some socket) proto host d = says (reply_line (codes "ok")) (record { talk = d.talk; forwards = without proto host d.forwards; added = d.added; awaited = Shutting socket })
+removes (Some socket) proto host d =
+    says (reply_line (codes "ok")) (record d { forwards = without proto host d.forwards; removed = d.removed ++ (socket ∷ []); awaited = Shutting socket })
 
 -- the flows that are in use, by rising number
 abbrev pub flow_entry : Flow → ℕ × Tuple
@@ -102,8 +104,8 @@ serves read config past d = if is_out d.talk && is_some d.talk.peer then answers
 
 -- the socket that was awaited was opened, or the host refused it
 abbrev pub opened : Made → Forward → ℕ → Desk → Desk
-opened MadeDone f socket d = says (reply_line (codes "ok")) (record { talk = d.talk; forwards = d.forwards ++ ((f, socket) ∷ []); added = d.added ++ ((socket, f) ∷ []); awaited = Nothing })
-opened MadeFailed f socket d = says (reply_line (fault_text Refused)) (record { talk = d.talk; forwards = d.forwards; added = d.added ++ ((socket, f) ∷ []); awaited = Nothing })
+opened MadeDone f socket d = says (reply_line (codes "ok")) (record d { forwards = d.forwards ++ ((f, socket) ∷ []); added = d.added ++ ((socket, f) ∷ []); awaited = Nothing })
+opened MadeFailed f socket d = says (reply_line (fault_text Refused)) (record d { added = d.added ++ ((socket, f) ∷ []); awaited = Nothing })
 
 abbrev pub opens_awaited : Awaited → Made → ℕ → Desk → Desk
 opens_awaited Nothing answer socket d = d
@@ -137,16 +139,16 @@ after_entry read config past (TcpWrite socket octets answer) d =
 after_entry read config past (Close socket) d = shut socket d
 after_entry read config past _ d = d
 
--- the settings with the forwards that were asked for since
-abbrev pub with_added : Config → List (ℕ × Forward) → Config
-with_added config added = record config { added = added }
+-- the settings with the forwards that were asked for since, and those that were taken back
+abbrev pub with_changes : Config → Desk → Config
+with_changes config d = record config { added = d.added; removed = d.removed }
 
 abbrev pub desk : Reads → Config → List Entry → Desk
 desk read config [] = at_first config
 desk read config (e ∷ past) =
     let d = desk read config past in
-    after_entry read (with_added config d.added) (without_control past) e d
+    after_entry read (with_changes config d) (without_control past) e d
 
--- the settings by which the network runs: with all that was added
+-- the settings by which the network runs: with all that was added and taken back
 abbrev pub by_control : Reads → Config → List Entry → Config
-by_control read config past = with_added config (desk read config past).added
+by_control read config past = with_changes config (desk read config past)

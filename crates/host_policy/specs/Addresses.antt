@@ -39,6 +39,8 @@ pub record Config : Type 0 where
   pub congestion : Bool
   -- ports of the host that are given to guests while the run goes on, each with the number of its socket; the settings of a command have none
   pub added : List (ℕ × Forward)
+  -- and the sockets of those that are taken back while it goes on
+  pub removed : List ℕ
 
 -- the forward that a socket is for: those of the settings have the first numbers, in their order
 abbrev pub forward_on : Config → ℕ → Option Forward

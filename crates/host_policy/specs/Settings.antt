@@ -35,6 +35,7 @@ settings c = record {
   denied = c.denied.items;
   congestion = c.congestion;
   added = [];
+  removed = [];
 }
 
 -- the settings of a command without options: 10.0.2.0/24, the host at 10.0.2.2, the name server at 10.0.2.3, guests from 10.0.2.15 on; 256 flows, 2^44 turns
@@ -69,4 +70,5 @@ usual = record {
   denied = [];
   congestion = false;
   added = [];
+  removed = [];
 }

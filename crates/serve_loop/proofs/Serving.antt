@@ -18,7 +18,7 @@ use Rattle.stream_netdev.proofs.Reading.{reads_first}
 use Rattle.tcp_flows.specs.Kept.{IsFor, Kept}
 use Rattle.port_forward.specs.Opened.{Opened}
 use Rattle.slirp_core.specs.Forwards.{forward_sockets}
-use Rattle.slirp_core.specs.Holds.{AfterListening, after, flowing, Begins, ClosesAll, Closing, Opens, Stands, Turns, Holders, holders_of}
+use Rattle.slirp_core.specs.Holds.{AfterListening, after, flowing, Begins, ClosesAll, Closing, Opens, Stands, Turns, Holders, as_given, holders_of}
 use Rattle.slirp_core.specs.Numbers.{flows_for}
 use Rattle.slirp_core.specs.State.{SlirpState}
 use Rattle.run_duties.specs.Duties.{Attended, Dutiful, Must}
@@ -36,29 +36,31 @@ use Rattle.serve_loop.specs.declared.service.End.TheVariants.{ListenRefused, Tur
 flows_fit : (config : Config) → IsFor config (flows_for config)
 flows_fit config = record { ring = refl; mtu = refl; mru = refl; congestion = refl; vhost = refl }
 
-unbegun : (service : ServiceState) → IsNew service → IsUnbegun service.slirp.config service.slirp service.link
-unbegun service new = record {
-  forwards = new.forwards;
-  settings = refl;
-  flows = record { flows = ap (λ (k : Kept). k.flows) new.flows; settings = subst (IsFor service.slirp.config) (sym new.flows) (flows_fit service.slirp.config); unit = new.unit };
-  known = new.known;
-  sent = new.sent;
-  pending = new.pending;
-  moment = new.moment;
-  number = new.number;
-  associations = new.associations;
-  questions = new.questions;
-  fragments = new.fragments;
-  leases = new.leases;
-  transfers = new.transfers;
-  input = new.input;
-  output = new.output;
-  free = new.free;
-}
+unbegun : (service : ServiceState) (config : Config) → service.slirp.config ≡ as_given config → IsNew service → IsUnbegun config service.slirp service.link
+unbegun service config given new =
+    let flows : service.slirp.flows ≡ flows_for config = new.flows ∙ ap flows_for given in
+    record {
+      forwards = new.forwards;
+      settings = given;
+      flows = record { flows = ap (λ (k : Kept). k.flows) flows; settings = subst (IsFor config) (sym flows) (flows_fit config); unit = subst (λ (k : Config). 28 ≤ k.mtu) given new.unit };
+      known = new.known;
+      sent = new.sent;
+      pending = new.pending;
+      moment = new.moment;
+      number = new.number;
+      associations = new.associations;
+      questions = new.questions;
+      fragments = new.fragments;
+      leases = new.leases;
+      transfers = new.transfers;
+      input = new.input;
+      output = new.output;
+      free = new.free;
+    }
 
 -- nothing was done yet
-pub opens : (service : ServiceState) → IsNew service → Opens service.slirp.config 0 service.slirp service.link []
-opens service new = begun service.slirp.config service.slirp service.link (unbegun service new)
+pub opens : (service : ServiceState) (config : Config) → service.slirp.config ≡ as_given config → IsNew service → Opens config 0 service.slirp service.link []
+opens service config given new = begun config service.slirp service.link (unbegun service config given new)
 
 -- the host refused a forward
 pub refused : (config : Config) (place : ℕ) (slirp : SlirpState) (link : LinkState) (made : List Entry) → AfterListening (Some place) config slirp link made

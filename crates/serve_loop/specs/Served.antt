@@ -5,6 +5,7 @@ use Rattle.dhcp_server.specs.declared.leases.Lease.TheVariants.{Free}
 use Rattle.poll_list.specs.declared.Want.{Want}
 use Rattle.stream_netdev.specs.State.{LinkState, under_way}
 use Rattle.host_policy.specs.Ranges.{IsSound}
+use Rattle.slirp_core.specs.Holds.{as_given}
 use Rattle.slirp_core.specs.Numbers.{flows_for}
 use Rattle.slirp_core.specs.State.{SlirpState}
 
@@ -15,9 +16,10 @@ pub record ServiceState : Type 0 where
   pub wants : List Want
   pub ready : List Want
 
--- what a step within a turn leaves as it was: the settings, how many turns there were, and what the last wait wanted and reported
+-- what a step within a turn leaves as it was: the settings, the open forwards, how many turns there were, and what the last wait wanted and reported
 pub record Stays (old new : ServiceState) : Type 0 where
   pub config : new.slirp.config ≡ old.slirp.config
+  pub forwards : new.slirp.forwards ≡ old.slirp.forwards
   pub turn : new.slirp.flows.turn ≡ old.slirp.flows.turn
   pub wants : new.wants ≡ old.wants
   pub ready : new.ready ≡ old.ready
@@ -27,10 +29,11 @@ pub record IsBuilt (config : Config) : Type 0 where
   pub control : config.control ≡ None
 
 -- nothing was read or written, no datagram was sent, no guest is known, no socket is open, no moment was told, nothing is owed, no fragment waits, no address
--- is lent and no guest gets a file; there is room for as many flows as the settings say, and none of them was used; no port of the host is open yet, and no
+-- is lent and no guest gets a file; no forward is added or taken back; there is room for as many flows as the settings say, and none of them was used; no port of the host is open yet, and no
 -- question waits; a frame has room for a header and a unit of 8 octets, and there are at most 2^44 turns, one at least
 pub record IsNew (service : ServiceState) : Type 0 where
   pub sound : IsSound service.slirp.config
+  pub given : service.slirp.config ≡ as_given service.slirp.config
   pub forwards : service.slirp.forwards ≡ []
   pub flows : service.slirp.flows ≡ flows_for service.slirp.config
   pub unit : 28 ≤ service.slirp.config.mtu

@@ -1,8 +1,10 @@
 //! The loop that serves a guest.
 #![tactic(auto)]
 
+mod forwards;
 mod listed;
 mod reports;
 mod service;
 
 pub use service::{End, Service, Turn};
+pub use slirp_core::{FwdFault, NotThere};

@@ -104,7 +104,7 @@ impl Service {
     ghost use Rattle.stream_netdev.specs.State.{under_way};
     ghost use Rattle.serve_loop.specs.Ends.{end_of, IsCounted};
     ghost use Rattle.slirp_core.specs.Counts.{AreGrown};
-    ghost use Rattle.slirp_core.specs.Holds.{AfterListening, after};
+    ghost use Rattle.slirp_core.specs.Holds.{AfterListening, ClosesAll, Opens, after, as_given, holders_of};
     ghost use Rattle.serve_loop.specs.Turns.{AfterTurn, AllSent, AreYoung, AttendsAfterSleep, AttendsAfterTaking, AttendsAfterTurn, AttendsAfterWholeTurn, AttendsNow};
     ghost use Rattle.serve_loop.specs.Turns.{HoldsNow, IsCalm, IsCalmAfter, IsInTime, IsStep, MayRest, NoneGoesAgain, NoneTold, ServedAfter, ServesNow, all_passed_over, is_frame_due};
     ghost use Rattle.run_duties.specs.Duties.{Attended, Dutiful};
@@ -174,8 +174,8 @@ impl Service {
     /// moment is asked for. Where the host refuses a port the run ends, and those that were opened are closed.
     pub fn start<W: World>(&mut self, world: &mut W) -> Turn
         requires { IsNew self.old }
-        ensures makes { Makes (W.tells world.old) (W.tells world.new)
-            (AttendsAfterWholeTurn result self.old.slirp.config (after 0) self.new.slirp self.new.link) }
+        ensures makes { (config : Config) → self.old.slirp.config ≡ as_given config → Makes (W.tells world.old) (W.tells world.new)
+            (AttendsAfterWholeTurn result config (after 0) self.new.slirp self.new.link) }
         ensures step { IsStep result (W.tells world.old).faults (W.tells world.new).faults self.new.link }
         ensures calm { result ≡ Turn.Again → IsCalm self.new.slirp self.new.link }
         ensures config { self.new.slirp.config ≡ self.old.slirp.config }
@@ -183,24 +183,47 @@ impl Service {
         ensures turns { self.new.slirp.flows.turn ≡ 0 }
     {
         if let Some(place) = self.listen(world) {
-            self.slirp.close_all(world);
+            self.close_all(world);
             return Turn::Ended(End::ListenRefused(place));
         }
-        let told = world.now();
-        self.slirp.tell_moment(told);
+        self.begin(world);
         Turn::Again
     }
 
-    // Opens the ports of the host, and answers the place of the first that is refused.
-    fn listen<W: World>(&mut self, world: &mut W) -> Option<usize>
+    /// The first step of `start`: opens the ports of the host that are given to guests, and answers the place of the first that is refused, counted from 0.
+    pub fn listen<W: World>(&mut self, world: &mut W) -> Option<usize>
         requires { IsNew self.old }
-        ensures makes { Makes (W.tells world.old) (W.tells world.new) (AfterListening result self.old.slirp.config self.new.slirp self.new.link) }
+        ensures makes { (config : Config) → self.old.slirp.config ≡ as_given config
+            → Makes (W.tells world.old) (W.tells world.new) (AfterListening result config self.new.slirp self.new.link) }
         ensures counted { IfSome result (λ k. Rose (W.tells world.old).faults.socket (W.tells world.new).faults.socket) }
         ensures number { self.new.slirp.number ≤ 32 }
         ensures slirp { self.new.slirp ≡ record self.old.slirp { number = self.new.slirp.number; forwards = self.new.slirp.forwards } }
         ensures link { self.new.link ≡ self.old.link }
     {
         self.slirp.listen_all(world, self.forwards.as_slice())
+    }
+
+    /// The second step of `start`, where none is refused: asks for the moment.
+    pub fn begin<W: World>(&mut self, world: &mut W)
+        ensures makes { (config : Config) → Brings (W.tells world.old) (W.tells world.new)
+            (Opens config (length config.forwards) self.old.slirp self.old.link) (AttendsNow config (after 0) false self.new.slirp self.new.link) }
+        ensures counts { AreGrown (W.tells world.old).faults (W.tells world.new).faults }
+        ensures slirp { self.new.slirp ≡ record self.old.slirp { moment = self.new.slirp.moment } }
+        ensures link { self.new.link ≡ self.old.link }
+    {
+        let told = world.now();
+        self.slirp.tell_moment(told);
+    }
+
+    /// Closes all sockets of the network, by rising number.
+    pub fn close_all<W: World>(&mut self, world: &mut W)
+        ensures makes { Makes (W.tells world.old) (W.tells world.new) (ClosesAll self.old.slirp.forwards (holders_of self.old.slirp)) }
+        ensures config { self.new.slirp.config ≡ self.old.slirp.config }
+        ensures number { self.new.slirp.number ≡ self.old.slirp.number }
+        ensures turns { self.new.slirp.flows.turn ≡ self.old.slirp.flows.turn }
+        ensures link { self.new.link ≡ self.old.link }
+    {
+        self.slirp.close_all(world);
     }
 
     /// One turn, before which unless the link is blocked no flow owes a frame: the flows are told the time, sockets that were idle for long are closed and what
@@ -218,6 +241,7 @@ impl Service {
         ensures step { IsStep result (W.tells world.old).faults (W.tells world.new).faults self.new.link }
         ensures calm { result ≡ Turn.Again → IsCalm self.new.slirp self.new.link }
         ensures config { self.new.slirp.config ≡ self.old.slirp.config }
+        ensures forwards { result ≡ Turn.Again → self.new.slirp.forwards ≡ self.old.slirp.forwards }
         ensures number { self.new.slirp.number ≤ self.old.slirp.number + most_ready }
         ensures turns { self.new.slirp.flows.turn ≤ self.old.slirp.flows.turn + 1 }
     {
@@ -241,6 +265,7 @@ impl Service {
         ensures step { IsStep result (W.tells world.old).faults (W.tells world.new).faults self.new.link }
         ensures calm { result ≡ Turn.Again → IsCalm self.new.slirp self.new.link }
         ensures config { self.new.slirp.config ≡ self.old.slirp.config }
+        ensures forwards { self.new.slirp.forwards ≡ self.old.slirp.forwards }
         ensures number { self.new.slirp.number ≤ self.old.slirp.number + most_ready }
         ensures turns { self.new.slirp.flows.turn ≤ self.old.slirp.flows.turn + 1 }
     {
@@ -267,6 +292,7 @@ impl Service {
         ensures untold { NoneTold self.old.slirp → NoneTold self.new.slirp }
         ensures step { IsStep result (W.tells world.old).faults (W.tells world.new).faults self.new.link }
         ensures config { self.new.slirp.config ≡ self.old.slirp.config }
+        ensures forwards { self.new.slirp.forwards ≡ self.old.slirp.forwards }
         ensures number { self.new.slirp.number ≡ self.old.slirp.number }
         ensures turns { self.new.slirp.flows.turn ≡ self.old.slirp.flows.turn }
     {
@@ -298,6 +324,7 @@ impl Service {
         ensures step { IsStep result (W.tells world.old).faults (W.tells world.new).faults self.new.link }
         ensures calm { result ≡ Turn.Again → IsCalm self.new.slirp self.new.link }
         ensures config { self.new.slirp.config ≡ self.old.slirp.config }
+        ensures forwards { self.new.slirp.forwards ≡ self.old.slirp.forwards }
         ensures number { self.new.slirp.number ≤ self.old.slirp.number + most_ready }
         ensures turns { self.new.slirp.flows.turn ≡ self.old.slirp.flows.turn }
     {
@@ -325,6 +352,7 @@ impl Service {
         ensures calm { result ≡ Slept.Ready → IsCalmAfter self.new.wants self.new.ready self.new.slirp self.new.link }
         ensures few { result ≡ Slept.Ready → length self.new.ready ≤ most_ready }
         ensures config { self.new.slirp.config ≡ self.old.slirp.config }
+        ensures forwards { self.new.slirp.forwards ≡ self.old.slirp.forwards }
         ensures number { self.new.slirp.number ≡ self.old.slirp.number }
         ensures turns { self.new.slirp.flows.turn ≡ self.old.slirp.flows.turn }
     {
@@ -353,6 +381,7 @@ impl Service {
         ensures step { IsStep result (W.tells world.old).faults (W.tells world.new).faults self.new.link }
         ensures calm { result ≡ Turn.Again → IsCalm self.new.slirp self.new.link }
         ensures config { self.new.slirp.config ≡ self.old.slirp.config }
+        ensures forwards { self.new.slirp.forwards ≡ self.old.slirp.forwards }
         ensures number { self.new.slirp.number ≤ self.old.slirp.number + most_ready }
         ensures turns { self.new.slirp.flows.turn ≡ self.old.slirp.flows.turn }
         ensures passed { all_passed_over self.old.wants self.old.ready ≡ true → (result ≡ Turn.Again) × (self.new ≡ self.old) × (world.new ≡ world.old) }

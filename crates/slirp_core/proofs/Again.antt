@@ -36,6 +36,7 @@ use Rattle.slirp_core.specs.Owed.{IsOwed, OfLeft, kept_by}
 use Rattle.slirp_core.proofs.Owing.{of_left}
 use Rattle.slirp_core.proofs.Taking.{datagram_sent}
 use Rattle.slirp_core.specs.State.{SlirpState}
+use Rattle.slirp_core.proofs.AsGiven.{answers_as, told_as}
 
 -- ---- its first frame goes out
 
@@ -177,7 +178,8 @@ module _ (config : Config) (at : Standing) (slirp : SlirpState) (kept : Kept) (l
         left = l.left ∙ none;
         may = (λ i. option_or (l.again i) (option_map said_again (found i)));
         some = subst (λ o. 0 < length (frames_of slirp.config slirp.sent (told_of_files slirp.config o))) (sym goes) (frames_some slirp.config slirp.sent said (fits said goes));
-        pending = (λ i. frames_of (holds.guests.settings i) (sym holds.answers.sent i) (told_of_files (holds.guests.settings i) (goes i)));
+        pending = answers_as config holds.guests.settings slirp.sent (λ k. told_of_files k (begun slirp.moment true slirp.transfers)) (told_as config (begun slirp.moment true slirp.transfers))
+            ∙ (λ i. frames_of config (sym holds.answers.sent i) (told_of_files config (goes i)));
         on_its_way = λ never. cc;
         files = ticked_is ∙ sym (ap (λ o. ticked now (not (is_some o)) all) l.again);
       })

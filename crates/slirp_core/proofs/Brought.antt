@@ -22,7 +22,7 @@ use Rattle.stream_netdev.specs.declared.Arrived.{Arrived}
 use Rattle.stream_netdev.specs.declared.Arrived.TheVariants.{Frame}
 use Rattle.tcp_flows.specs.Kept.{Kept}
 use Rattle.slirp_core.specs.Fragments.{IsHeld, after_frame}
-use Rattle.slirp_core.specs.Holds.{AsksFile, Standing, asked_by, standing, flowing, Comes, Holds, HoldsAt}
+use Rattle.slirp_core.specs.Holds.{AsksFile, Standing, as_given, asked_by, standing, flowing, Comes, Holds, HoldsAt}
 use Rattle.slirp_core.specs.Packets.{Request, ToServe, errand_in, file_in, request_by_packet, request_for_udp, udp_in, with_ether, with_frame}
 use Rattle.slirp_core.specs.Segments.{Coming, coming, coming_by, segment_in}
 use Rattle.slirp_core.specs.State.{SlirpState, serving_of}
@@ -31,6 +31,7 @@ use Rattle.slirp_core.proofs.Reading.{KeepsParts, after_packet, errand_is_in, pa
 use Rattle.slirp_core.specs.Came.{FrameCame}
 use Rattle.slirp_core.specs.Fragments.{brought_request, brought_segment, taken_on}
 use Rattle.slirp_core.specs.declared.fragments.Brought.{Brought}
+use Rattle.slirp_core.proofs.AsGiven.{frame_as, request_as}
 
 -- a packet that holds a segment, or none
 record IsSegment (c : Coming) (p : Packet) : Type 0 where
@@ -72,10 +73,12 @@ module _ (config : Config) (count : ℕ) (wants : List Want) (item : Want) (item
   -- what a frame is said to bring, by the settings and the sets of the core, is what its packet brings
   of_packet : {A : Type 0} (of : Config → ℕ → List PartSet → List ℕ → A) (frame : List ℕ) (what : A) → ((held : List PartSet) → IsHeld slirp.fragments held →
       what ≡ of slirp.config slirp.moment (young slirp.moment held) frame)
+      → ((w : List PartSet) → of (as_given config) slirp.moment w frame ≡ of config slirp.moment w frame)
       → what ≡ of config slirp.moment (waiting config past) frame
-  of_packet of frame what is =
+  of_packet of frame what is same =
       is holds.guests.fragments.held holds.guests.fragments.is_held
       ∙ ap (λ k. of k slirp.moment (young slirp.moment holds.guests.fragments.held) frame) holds.guests.settings
+      ∙ same (young slirp.moment holds.guests.fragments.held)
       ∙ ap (λ w. of config slirp.moment w frame) sets_wait
 
   module _ (done : SlirpState) (frame : List ℕ) (came : hands answer new ≡ Some frame) (goes_on : ending_of answer ≡ None)
@@ -98,7 +101,7 @@ module _ (config : Config) (count : ℕ) (wants : List Want) (item : Want) (item
     -- what it owes, and what it makes of the leases
     done_is : done ≡ after_packet config slirp (packet_of config slirp.moment (waiting config past) (hands answer new)) (hands answer new) done.fragments
     done_is =
-        of_packet (λ (k : Config) n w f. after_frame k slirp w done.fragments f) frame done is
+        of_packet (λ (k : Config) n w f. after_frame k slirp w done.fragments f) frame done is (λ w. frame_as config slirp w done.fragments frame)
         ∙ sym (λ i. record slirp {
           pending = frames_of config slirp.sent (owes_same config (serving_of slirp) (waiting config past) frame i);
           known = with_ether config (read_ether frame) slirp.known;
@@ -112,7 +115,8 @@ module _ (config : Config) (count : ℕ) (wants : List Want) (item : Want) (item
         (udp_in slirp.config slirp.moment (young slirp.moment held) frame))
         → request_by_packet config (packet_of config slirp.moment (waiting config past) (hands answer new)) ≡ request
     asks_for request asks =
-        ap (request_by_packet config) packet_is ∙ asks_same config slirp.moment (waiting config past) frame ∙ sym (of_packet (λ k n w f. request_for_udp k (udp_in k n w f)) frame request asks)
+        ap (request_by_packet config) packet_is ∙ asks_same config slirp.moment (waiting config past) frame ∙ sym
+        (of_packet (λ k n w f. request_for_udp k (udp_in k n w f)) frame request asks (λ w. request_as config (udp_in config slirp.moment w frame)))
 
     -- a datagram for the server of files, which is still to be served
     file_came : (d : Datagram) → ((held : List PartSet) → IsHeld slirp.fragments held → Some (ToServe d) ≡ request_for_udp slirp.config
@@ -131,7 +135,7 @@ module _ (config : Config) (count : ℕ) (wants : List Want) (item : Want) (item
     taken_in request no_file sends none =
         let packet = packet_of config slirp.moment (waiting config past) (hands answer new) in
         let strays : coming_by packet ≡ None =
-        ap coming_by packet_is ∙ brings_same config slirp.moment (waiting config past) frame ∙ sym (of_packet segment_in frame None none) in
+        ap coming_by packet_is ∙ brings_same config slirp.moment (waiting config past) frame ∙ sym (of_packet segment_in frame None none (λ w. refl)) in
         let asks : errand_by_packet config packet ≡ errand_in request = errand_is_in config packet ∙ ap errand_in (asks_for request sends) in
         let h = read_on config count wants item items reads_it slirp slirp.flows old new answer no_packet out made past allowed read holds done goes_on kept
         (no_segment packet strays) (ap file_in (asks_for request sends) ∙ no_file) done_is in
@@ -144,7 +148,7 @@ module _ (config : Config) (count : ℕ) (wants : List Want) (item : Want) (item
         → Comes config (standing count wants items) done done.flows new c (made ++ past)
     segment_came c brings =
         let packet = packet_of config slirp.moment (waiting config past) (hands answer new) in
-        let seg = is_segment c packet (ap coming_by packet_is ∙ brings_same config slirp.moment (waiting config past) frame ∙ sym (of_packet segment_in frame (Some c) brings)) in
+        let seg = is_segment c packet (ap coming_by packet_is ∙ brings_same config slirp.moment (waiting config past) frame ∙ sym (of_packet segment_in frame (Some c) brings (λ w. refl))) in
         let unowed = done_is ∙ ap (λ (p : Packet). after_packet config slirp p (hands answer new) done.fragments) seg.packet
         ∙ ap (λ (l : List (List ℕ)). record slirp { pending = l; known = with_frame config (hands answer new) slirp.known; fragments = done.fragments }) (sym no_packet) in
         let h = read_segment config count wants item items reads_it slirp slirp.flows old new answer no_packet out made past allowed read holds done seg.mac seg.ip seg.tcp goes_on

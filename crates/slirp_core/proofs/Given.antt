@@ -46,7 +46,7 @@ above n m (y ∷ ms) up is = by (m == y) refl is (above n m ms up.1)
     by false other is rest = rest is
 
 -- one that is under the first of them is none of them
-none_above : (n : ℕ) (ms : List ℕ) → AllAbove n ms → is_among n ms ≡ false
+pub none_above : (n : ℕ) (ms : List ℕ) → AllAbove n ms → is_among n ms ≡ false
 none_above n ms up = by (is_among n ms) refl
   where
     by : (b : Bool) → is_among n ms ≡ b → b ≡ false
@@ -302,7 +302,7 @@ module _ (config : Config) (forwards : List Opened) (past : List Entry) (lawful 
 -- ---- by its socket
 
 -- the socket of one that stands in the list is among theirs
-among_at : (list : List Opened) (k : ℕ) (o : Opened) → slice_get list k ≡ Some o → is_among (socket_of o) (forward_sockets list) ≡ true
+pub among_at : (list : List Opened) (k : ℕ) (o : Opened) → slice_get list k ≡ Some o → is_among (socket_of o) (forward_sockets list) ≡ true
 among_at [] k o at = cc
 among_at (x ∷ list) zero o at = ap (λ (y : Opened). is_among (socket_of o) (socket_of y ∷ forward_sockets list)) (the_same at) ∙ ap (λ b. b || is_among (socket_of o) (forward_sockets list)) (same (socket_of o))
   where

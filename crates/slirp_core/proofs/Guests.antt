@@ -7,7 +7,7 @@ use Rattle.host_policy.specs.Addresses.{Config}
 use Rattle.ipv4_reasm.specs.Areas.{Gathered}
 use Rattle.run_laws.specs.Guests.{known, with_arrival}
 use Rattle.run_laws.specs.Happenings.{happens}
-use Rattle.slirp_core.specs.Holds.{OfGuests}
+use Rattle.slirp_core.specs.Holds.{OfGuests, as_given}
 use Rattle.slirp_core.specs.Packets.{with_frame}
 use Rattle.slirp_core.specs.State.{SlirpState}
 use Rattle.slirp_core.specs.Waiting.{OfFragments}
@@ -27,7 +27,7 @@ guests_stay config slirp new e past nothing same is = record {
 }
 
 -- one by which one came, or none
-pub guests_learn : (config : Config) (slirp new : SlirpState) (frame : Option (List ℕ)) (past : List Entry) → slirp.config ≡ config → known config past ≡ with_frame config frame slirp.known
+pub guests_learn : (config : Config) (slirp new : SlirpState) (frame : Option (List ℕ)) (past : List Entry) → slirp.config ≡ as_given config → known config past ≡ with_frame config frame slirp.known
     → new.config ≡ slirp.config → new.known ≡ with_frame config frame slirp.known → OfFragments config new past → OfGuests config new past
 guests_learn config slirp new frame past settings learnt same_config same_known fragments = record {
   settings = same_config ∙ settings;

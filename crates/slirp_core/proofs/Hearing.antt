@@ -50,6 +50,7 @@ use Rattle.flow_laws.specs.Close.{owes_reset}
 use Rattle.std.specs.List.{list_any}
 use Rattle.tcp_flows.specs.Way.{GivesWay}
 use Rattle.run_laws.specs.Moments.{moment}
+use Rattle.slirp_core.proofs.AsGiven.{answers_as}
 
 -- the kinds of sockets, one more that is a flow's
 kinds_joined : (number : ℕ) (to : Endpoint) (answer : Made) (past : List Entry) → ((n : ℕ) → is_among n (open_sockets past) ≡ true → is_ours (kind_of n past) ≡ true)
@@ -131,7 +132,7 @@ module _ (config : Config) (at : Standing) (slirp : SlirpState) (kept : Kept) (l
   reset_frames = frames_of slirp.config slirp.sent (reset_for c.on ∷ [])
 
   owed_reset : is_reset config (book config past) c.on ≡ true → left config past ≡ reset_frames
-  owed_reset is = owed_as true is ∙ ap (λ k. frames_of k slirp.sent (reset_for c.on ∷ [])) (sym comes.guests.settings)
+  owed_reset is = owed_as true is ∙ sym (answers_as config comes.guests.settings slirp.sent (λ k. reset_for c.on ∷ []) refl)
 
   owed_none : is_reset config (book config past) c.on ≡ false → left config past ≡ slirp.pending
   owed_none is = owed_as false is ∙ sym comes.none
@@ -300,4 +301,4 @@ module _ (config : Config) (at : Standing) (slirp : SlirpState) (kept : Kept) (l
             })
             (ap (λ o. unconnected config (identification past) o (left config past)) came_is
             ∙ ap (λ i. frames_of config i (reset_for c.on ∷ [])) comes.sent
-            ∙ ap (λ k. frames_of k slirp.sent (reset_for c.on ∷ [])) (sym comes.guests.settings))
+            ∙ sym (answers_as config comes.guests.settings slirp.sent (λ k. reset_for c.on ∷ []) refl))

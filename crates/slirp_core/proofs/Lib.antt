@@ -1,6 +1,8 @@
 pub mod Viewed
 pub mod Again
+pub mod Adding
 pub mod Arriving
+pub mod AsGiven
 pub mod Askers
 pub mod Asking
 pub mod Assembling
@@ -33,6 +35,7 @@ pub mod Ticking
 pub mod Waitings
 pub mod Flows
 pub mod Open
+pub mod Openings
 pub mod Owing
 pub mod Waiting
 pub mod Reading

@@ -25,11 +25,11 @@ use Rattle.slirp_laws.proofs.Waiting.{are_waiting}
 
 -- ---- their numbers
 
-none_first : (a b : Bool) → (a || b) ≡ false → a ≡ false
+pub none_first : (a b : Bool) → (a || b) ≡ false → a ≡ false
 none_first true b is = cc
 none_first false b is = refl
 
-none_second : (a b : Bool) → (a || b) ≡ false → b ≡ false
+pub none_second : (a b : Bool) → (a || b) ≡ false → b ≡ false
 none_second true b is = cc
 none_second false b is = is
 

@@ -68,6 +68,7 @@ use Rattle.slirp_core.proofs.Owing.{left_stays, left_then, nothing_left as none_
 use Rattle.slirp_core.proofs.Services.{asks_resolver, close_due, none_due_for_services, opened_for_name, opened_for_other}
 use Rattle.slirp_core.proofs.Sockets.{numbered_among, idle_among}
 use Rattle.slirp_core.proofs.Flows.{closes_freely, flows_ask_nothing, flows_stay_open, no_flow}
+use Rattle.slirp_core.proofs.AsGiven.{answers_as, reply_as}
 
 -- what is left of a datagram that was sent on: nothing new where it could be sent
 abbrev pub unless_sent : Sent → List (List ℕ) → List (List ℕ) → List (List ℕ)
@@ -331,7 +332,7 @@ module _ (config : Config) (at : Standing) (slirp : SlirpState) (f : Flowing) (l
                   (UdpOpen slirp.number port MadeFailed) past refl refl refl refl
                   (ap (λ s. unsent config (identification past) s (left config past)) (asks (NeedsSocket errand) None holds)
                   ∙ ap (λ i. frames_of config i (told_about config no_network errand.datagram)) holds.answers.sent
-                  ∙ sym (ap (λ k. frames_of k slirp.sent (told_about k no_network errand.datagram)) holds.guests.settings)) holds.answers.owed);
+                  ∙ sym (answers_as config holds.guests.settings slirp.sent (λ k. told_about k no_network errand.datagram) refl)) holds.answers.owed);
             };
             relayed = record { list = holds.relayed.list; questions = holds.relayed.questions; asks = refl; heard = refl };
             sockets = record { number = ap (λ n. n + 1) holds.sockets.number; kinds = kinds_open slirp.number port MadeFailed past turn.waited any holds.sockets.kinds };
@@ -464,7 +465,7 @@ module _ (config : Config) (at : Standing) (slirp : SlirpState) (f : Flowing) (l
     after_failure allowed =
         after_sending SentFailed (frames_of slirp.config slirp.sent (told_about slirp.config no_network errand.datagram)) allowed
         (ap (λ i. frames_of config i (told_about config no_network errand.datagram)) holds.answers.sent ∙ sym
-        (ap (λ k. frames_of k slirp.sent (told_about k no_network errand.datagram)) holds.guests.settings))
+        (answers_as config holds.guests.settings slirp.sent (λ k. told_about k no_network errand.datagram) refl))
 
   -- ---- a socket is closed for a reason of its kind
 
@@ -762,7 +763,7 @@ module _ (config : Config) (count : ℕ) (wants : List Want) (item : Want) (item
         (ap (λ q. frames_of config slirp.sent (reply_on config past socket peer octets q)) (none_numbered socket slirp.questions unnamed)
         ∙ ap (λ g. frames_of config slirp.sent (reply_for config peer octets g (mac_for config socket past))) says.guest
         ∙ ap (λ m. frames_of config slirp.sent (reply_for config peer octets (Some a.guest) m)) (own_mac config past socket own ∙ says.mac)
-        ∙ sym (ap (λ k. frames_of k slirp.sent (reply_at k peer octets a.guest a.mac.0)) holds.guests.settings))
+        ∙ sym (answers_as config holds.guests.settings slirp.sent (λ k. reply_at k peer octets a.guest a.mac.0) refl))
 
   -- ---- on the socket of a port of the host that is given to a guest
 
@@ -804,7 +805,8 @@ module _ (config : Config) (count : ℕ) (wants : List Want) (item : Want) (item
         (ap (λ q. frames_of config slirp.sent (reply_on config past socket peer octets q)) (none_numbered socket slirp.questions no_names)
         ∙ ap (λ g. frames_of config slirp.sent (reply_for config peer octets g (mac_for config socket past))) leads.1
         ∙ ap (λ m. frames_of config slirp.sent (reply_for config peer octets (Some forward.guest) m)) mac_is
-        ∙ sym (ap (λ k. frames_of k slirp.sent (reply_for k peer octets (Some forward.guest) (option_map (λ (m : Mac). m.0) (learnt_for forward.guest.addr slirp.known)))) holds.guests.settings)
+        ∙ sym (answers_as config holds.guests.settings slirp.sent (λ k. reply_for k peer octets (Some forward.guest) (option_map (λ (m : Mac). m.0) (learnt_for forward.guest.addr slirp.known)))
+        (reply_as config peer octets (Some forward.guest) (option_map (λ (m : Mac). m.0) (learnt_for forward.guest.addr slirp.known))))
         ∙ by_learnt peer octets (learnt_for forward.guest.addr slirp.known))
 
   -- ---- on the socket of a question
@@ -848,4 +850,4 @@ module _ (config : Config) (count : ℕ) (wants : List Want) (item : Want) (item
         (ap (answered_on config peer octets) is ∙ ap (λ b. if b then Some q.number else None) answers ∙ ap Some asked_here.0)
         (ap (λ q. frames_of config slirp.sent (reply_on config past socket peer octets q)) is
         ∙ ap (λ b. frames_of config slirp.sent (if b then name_answer config q octets ∷ [] else [])) answers
-        ∙ sym (ap (λ k. frames_of k slirp.sent (name_answer k q octets ∷ [])) holds.guests.settings)))
+        ∙ sym (answers_as config holds.guests.settings slirp.sent (λ k. name_answer k q octets ∷ []) refl)))

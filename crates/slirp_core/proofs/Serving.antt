@@ -26,6 +26,7 @@ use Rattle.slirp_core.specs.State.{SlirpState}
 use Rattle.slirp_core.proofs.Flows.{flows_ask_nothing, flows_stay}
 use Rattle.slirp_core.proofs.Guests.{guests_stay}
 use Rattle.slirp_core.proofs.Parts.{asks_nothing, errand_for, keeps_by}
+use Rattle.slirp_core.proofs.AsGiven.{answers_as, told_as}
 
 -- ---- calls on files
 
@@ -153,7 +154,7 @@ module _ (config : Config) (at : Standing) (slirp : SlirpState) (kept : Kept) (l
             left = calls.left ∙ ap (λ i. frames_of config i (told_of_files config (after_calls (serving config past).now made o).told)) a.sent
                 ∙ ap (λ (p : Outcome). frames_of config slirp.sent (told_of_files config p.told)) after
                 ∙ sym (ap (λ t. frames_of config slirp.sent (told_of_files config t)) is.tells)
-                ∙ sym (ap (λ k. frames_of k slirp.sent (told_of_files k told)) a.guests.settings);
+                ∙ sym (answers_as config a.guests.settings slirp.sent (λ k. told_of_files k told) (told_as config told));
             again = calls.again ∙ a.again;
             files = is.transfers ∙ sym (ap (λ (f : Files). f.transfers) files);
           });

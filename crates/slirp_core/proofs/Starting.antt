@@ -42,7 +42,7 @@ use Rattle.slirp_laws.proofs.Deeds.{asks, listens, opens as opens_socket}
 use Rattle.stream_netdev.specs.State.{LinkState, under_way}
 use Rattle.slirp_core.specs.Forwards.{AreInForce, forward_sockets, given_kind, with_numbers}
 use Rattle.slirp_core.specs.Fragments.{IsHeld}
-use Rattle.slirp_core.specs.Holds.{Standing, after, Begins, Holders, Closing, asked_by, carriers, holders_of, holders_with, Ended, Flowing, Holds, IsOf, OfFlows, Opens, Rests, OverFor}
+use Rattle.slirp_core.specs.Holds.{Standing, after, Begins, Holders, Closing, asked_by, carriers, holders_of, holders_with, Ended, Flowing, Holds, IsOf, OfFlows, Opens, Rests, OverFor, as_given}
 use Rattle.slirp_core.specs.Holds.{AllWaited, Stands, Turns, flowing, is_ours}
 use Rattle.slirp_core.specs.State.{SlirpState}
 use Rattle.slirp_core.proofs.Guests.{guests_forget, guests_stay}
@@ -61,8 +61,9 @@ use Rattle.flows_follow.proofs.Options.{true_false}
 use Rattle.tcp_flows.specs.Kept.{IsFor, Kept}
 use Rattle.tcp_flows.specs.Reading.{NoneInSlots}
 use Rattle.slirp_core.proofs.Flows.{flows_ask_nothing, flows_stay, flows_stay_open, flows_told}
-use Rattle.slirp_core.proofs.Given.{given_last, named_first, none_in_force, opening_kind, opening_made, opening_next, opening_open, opening_waits, stays_in_force}
+use Rattle.slirp_core.proofs.Given.{given_last, named_first, none_in_force, opening_made, opening_next, opening_open, opening_waits, stays_in_force}
 use Rattle.slirp_core.proofs.Open.{are_open}
+use Rattle.slirp_core.proofs.Openings.{Quiet, errand_then, kinds_opened, list_then, named_then, opens_quietly, phase_then}
 
 -- ---- fragments are dropped
 
@@ -116,7 +117,7 @@ pub record IsUnused (config : Config) (kept : Kept) : Type 0 where
 -- a core that has served nothing, and its link
 pub record IsUnbegun (config : Config) (slirp : SlirpState) (link : LinkState) : Type 0 where
   pub forwards : slirp.forwards ≡ []
-  pub settings : slirp.config ≡ config
+  pub settings : slirp.config ≡ as_given config
   pub flows : IsUnused config slirp.flows
   pub known : slirp.known ≡ []
   pub sent : slirp.sent ≡ 0
@@ -196,30 +197,6 @@ begun config slirp link new = record {
 
 -- ---- a port of the host is opened
 
-kinds_opened : (config : Config) (p : Proto) (number : ℕ) (at : Endpoint) (answer : Made) (past : List Entry) → waits past ≡ 0 → ((n : ℕ) → is_among n (open_sockets past) ≡ true →
-    is_ours (kind_of n past) ≡ true)
-    → (n : ℕ) → is_among n (open_sockets (port_opening p number at answer ∷ past)) ≡ true → is_ours (kind_of n (port_opening p number at answer ∷ past)) ≡ true
-kinds_opened config p number at answer past unwaited kinds n among = ap is_ours (opening_kind p number at answer past (named_first past at unwaited) n) ∙ by (number == n) refl
-  where
-    turned : (number == n) ≡ false → (n == number) ≡ false
-    turned is = grind (arith, nat_tests, is)
-
-    only : (a b : Bool) → b ≡ false → (a || b) ≡ true → a ≡ true
-    only true b is or = refl
-    only false b is or = cc
-
-    before : (a : Made) → (n == number) ≡ false → is_among n (with_made a number (open_sockets past)) ≡ true → is_among n (open_sockets past) ≡ true
-    before Done other is = only (is_among n (open_sockets past)) (n == number) other (sym (among_last n number (open_sockets past)) ∙ is)
-    before Failed other is = is
-
-    ours : (p : Proto) → is_ours (Some (given_kind p)) ≡ true
-    ours Tcp = refl
-    ours Udp = refl
-
-    by : (b : Bool) → (number == n) ≡ b → is_ours (if b then Some (given_kind p) else kind_of n past) ≡ true
-    by true is = ours p
-    by false is = kinds n (before answer (turned is) (sym (ap (is_among n) (opening_made p number at answer past)) ∙ among))
-
 numbers_more : (n : ℕ) (fs : List Forward) (f : Forward) → with_numbers n (fs ++ f ∷ []) ≡ with_numbers n fs ++ (f, n + length fs) ∷ []
 numbers_more n [] f = ap (λ m. (f, m) ∷ []) (omega arith)
 numbers_more n (x ∷ fs) f = ap (λ l. (x, n) ∷ l) (numbers_more (n + 1) fs f ∙ ap (λ m. with_numbers (n + 1) fs ++ (f, m) ∷ []) (omega arith))
@@ -251,57 +228,6 @@ next_left done left all f is at = behind done left f (sym (ap (λ l. slice_get l
         the_same x is = cc
     behind (y ∷ done) left f at = behind done left f at
 
--- what an entry that opens a port of the host leaves
-record Quiet (config : Config) (e : Entry) (past : List Entry) : Type 0 where
-  framed : MayFrame past (call_of e)
-  partly : partial (e ∷ past) ≡ partial past
-  rest : tail (e ∷ past) ≡ tail past
-  blocked : is_blocked (e ∷ past) ≡ is_blocked past
-  sent : identification (e ∷ past) ≡ identification past
-  came : (happens config past e).came ≡ None
-  unheard : answered config (e ∷ past) ≡ None
-  silent : doing config past e ≡ Nothing
-  unasked : requests config (e ∷ past) ≡ requests config past
-  moment : moment (e ∷ past) ≡ moment past
-  unreported : agenda (e ∷ past) ≡ agenda past
-  unrested : (book config (e ∷ past)).rests ≡ (book config past).rests
-  files : (serving config (e ∷ past)).files ≡ (serving config past).files
-  again : (serving config (e ∷ past)).again ≡ (serving config past).again
-
-opens_quietly : (config : Config) (p : Proto) (number : ℕ) (at : Endpoint) (answer : Made) (past : List Entry) → Quiet config (port_opening p number at answer) past
-opens_quietly config Tcp number at answer past = record {
-  framed = tt;
-  partly = refl;
-  rest = refl;
-  blocked = refl;
-  sent = refl;
-  came = refl;
-  unheard = refl;
-  silent = refl;
-  unasked = refl;
-  moment = refl;
-  unreported = refl;
-  unrested = refl;
-  files = refl;
-  again = refl;
-}
-opens_quietly config Udp number at answer past = record {
-  framed = tt;
-  partly = refl;
-  rest = refl;
-  blocked = refl;
-  sent = refl;
-  came = refl;
-  unheard = refl;
-  silent = refl;
-  unasked = refl;
-  moment = refl;
-  unreported = refl;
-  unrested = refl;
-  files = refl;
-  again = refl;
-}
-
 module _ (config : Config) (slirp : SlirpState) (link : LinkState) (past : List Entry) (opens : Opens config slirp.number slirp link past) (f : Forward) (rest : List Forward)
     (next : opens.left ≡ f ∷ rest) where
   open_due : due config past ≡ Some (opening_call f.proto slirp.number f)
@@ -331,23 +257,6 @@ module _ (config : Config) (slirp : SlirpState) (link : LinkState) (past : List 
   left_then : (p : Proto) → left config (port_opening p slirp.number f.host Done ∷ past) ≡ left config past
   left_then Tcp = refl
   left_then Udp = refl
-
-  errand_then : (p : Proto) (answer : Made) → errand_left config (port_opening p slirp.number f.host answer ∷ past) ≡ None
-  errand_then Tcp answer = nothing_left
-  errand_then Udp Done = nothing_left
-  errand_then Udp Failed = refl
-
-  list_then : (p : Proto) → associations config (port_opening p slirp.number f.host Done ∷ past) ≡ associations config past
-  list_then Tcp = refl
-  list_then Udp = ap (λ o. with_opened config Done slirp.number (moment past) o (associations config past)) nothing_left
-
-  named_then : (p : Proto) → questions config (port_opening p slirp.number f.host Done ∷ past) ≡ questions config past
-  named_then Tcp = refl
-  named_then Udp = ap (λ o. name_opened config Done slirp.number (moment past) o (questions config past)) nothing_left
-
-  phase_then : (p : Proto) (answer : Made) → phase config (port_opening p slirp.number f.host answer ∷ past) ≡ opened answer (phase config past)
-  phase_then Tcp answer = refl
-  phase_then Udp answer = refl
 
   -- its number is the next one, and that of its place in the settings
   drawn : (slirp.number == next_number past) ≡ true
@@ -381,9 +290,9 @@ module _ (config : Config) (slirp : SlirpState) (link : LinkState) (past : List 
       };
       guests = guests_stay config slirp with_one (opened_port Done) past q.came refl opens.guests;
       relayed = record {
-        list = list_then f.proto ∙ opens.relayed.list;
-        questions = named_then f.proto ∙ opens.relayed.questions;
-        asks = ap (asked_by config with_one) (errand_then f.proto Done);
+        list = list_then config slirp.number f.host past nothing_left f.proto Done ∙ opens.relayed.list;
+        questions = named_then config slirp.number f.host past nothing_left f.proto Done ∙ opens.relayed.questions;
+        asks = ap (asked_by config with_one) (errand_then config slirp.number f.host past nothing_left f.proto Done);
         heard = q.unheard;
       };
       services = services_stay config slirp with_one (opened_port Done) past q.came q.files refl opens.services;
@@ -393,13 +302,13 @@ module _ (config : Config) (slirp : SlirpState) (link : LinkState) (past : List 
       many = ap (λ n. n + 1) opens.many ∙ sym (length_more opens.done f);
       given = given_last config slirp.forwards past opens.lawful opens.given f f.host (named_first past f.host opens.clock.counted) slirp.number drawn own_place;
       forwards = ap (λ l. l ++ (f, slirp.number) ∷ []) opens.forwards ∙ ap (λ n. with_numbers 0 opens.done ++ (f, n) ∷ []) opens.many ∙ numbers_last opens.done f;
-      opening = phase_then f.proto Done ∙ ap (λ p. opened Done p) (opens.opening ∙ ap (Opening slirp.number) next);
+      opening = phase_then config f.proto slirp.number f.host Done past ∙ ap (λ p. opened Done p) (opens.opening ∙ ap (Opening slirp.number) next);
       are_open = opening_made f.proto slirp.number f.host Done past ∙ ap (λ l. l ++ slirp.number ∷ []) opens.are_open ∙ sym (sockets_more slirp.forwards f slirp.number);
       flows = flows_stay config (flowing false slirp.flows) slirp.moment (opened_port Done) past q.silent q.unasked
           (let up = opening_next f.proto slirp.number f.host Done past in omega (arith, up)) q.moment opens.flows;
       sockets = record {
         number = opening_next f.proto slirp.number f.host Done past ∙ ap (λ n. n + 1) opens.sockets.number;
-        kinds = kinds_opened config f.proto slirp.number f.host Done past opens.clock.counted opens.sockets.kinds;
+        kinds = kinds_opened f.proto slirp.number f.host Done past (named_first past f.host opens.clock.counted) opens.sockets.kinds;
       };
       clock = record { moment = q.moment ∙ opens.clock.moment; counted = opening_waits f.proto slirp.number f.host Done past ∙ opens.clock.counted };
       number = refl;
@@ -421,7 +330,7 @@ module _ (config : Config) (slirp : SlirpState) (link : LinkState) (past : List 
     ended = ap (λ p. is_over p || nat_le config.turns (waits (opened_port Failed ∷ past))) phase_is;
     is = sym phase_is;
     rests = OverFor (Refused slirp.number) phase_is;
-    errand = errand_then f.proto Failed;
+    errand = errand_then config slirp.number f.host past nothing_left f.proto Failed;
     served = none_due_for_services config (opened_port Failed ∷ past) q.unheard (ap (λ (k : Files). k.quest) q.files ∙ opens.services.quest);
     idle = (flows_stay config (flowing false slirp.flows) slirp.moment (opened_port Failed) past q.silent q.unasked
         (let up = opening_next f.proto slirp.number f.host Failed past in omega (arith, up)) q.moment opens.flows).holds.asked;
@@ -443,7 +352,7 @@ module _ (config : Config) (slirp : SlirpState) (link : LinkState) (past : List 
       q = opens_quietly config f.proto slirp.number f.host Failed past
 
       phase_is : phase config (opened_port Failed ∷ past) ≡ Over (Refused slirp.number)
-      phase_is = phase_then f.proto Failed ∙ ap (λ p. opened Failed p) (opens.opening ∙ ap (Opening slirp.number) next)
+      phase_is = phase_then config f.proto slirp.number f.host Failed past ∙ ap (λ p. opened Failed p) (opens.opening ∙ ap (Opening slirp.number) next)
 
       are_same : (n : ℕ) → open_sockets (opened_port Failed ∷ past) ≡ forward_sockets slirp.forwards
       are_same n = opening_made f.proto slirp.number f.host Failed past ∙ opens.are_open

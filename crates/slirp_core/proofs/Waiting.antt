@@ -1,6 +1,6 @@
 -- Waits, and the moment that is asked for after one.
 use Rattle.slirp_core.proofs.Given.{stays_in_force}
-use Rattle.std.proofs.Common.{◌≡◌, ℕ, ◌+◌, ◌^◌, ◌<◌, ◌≤◌, nat_lt, min, max, true, false, List, [], ◌∷◌, Option, Some, None, refl, sym, ◌∙◌, ap, arith, if◌then◌else◌}
+use Rattle.std.proofs.Common.{◌≡◌, ℕ, ◌+◌, ◌^◌, ◌<◌, ◌≤◌, nat_lt, min, max, true, false, List, [], ◌∷◌, length, Option, Some, None, refl, sym, ◌∙◌, ap, arith, if◌then◌else◌}
 use Rattle.std.proofs.lemmas.Bool.Decides.{nat_tests}
 use Rattle.poll_list.specs.Listing.{writes}
 use Rattle.poll_list.specs.declared.Want.{Want}
@@ -14,7 +14,7 @@ use Rattle.run_laws.specs.Moments.{waits}
 use Rattle.run_laws.specs.Shape.{Started, Over, By, phase, phase_after, unless_over, may_turn}
 use Rattle.run_laws.specs.Sockets.{next_number}
 use Rattle.slirp_laws.specs.Datagrams.{Step, NeedsNothing, due_for}
-use Rattle.slirp_laws.specs.Laws.{Lawful, due}
+use Rattle.slirp_laws.specs.Laws.{Lawful, due, most_wanted}
 use Rattle.slirp_laws.proofs.Deeds.{asks, waits_now}
 use Rattle.stream_netdev.specs.State.{LinkState, under_way}
 use Rattle.slirp_core.specs.Forwards.{forward_sockets}
@@ -33,7 +33,7 @@ not_before : (told now : ℕ) → now ≤ max (min told (2 ^ 62)) now
 not_before told now = omega arith
 
 module _ (config : Config) (count : ℕ) (slirp : SlirpState) (kept : Kept) (old : LinkState) (past : List Entry) (wants : List Want) (timeout : Option ℕ)
-    (few : count < config.turns) (none_again : slirp.pending ≡ [] → next_again slirp.moment slirp.transfers ≡ None) (holds : Holds config (after count) slirp (flowing true kept) old past) where
+    (few : count < config.turns) (most : length wants ≤ most_wanted) (none_again : slirp.pending ≡ [] → next_again slirp.moment slirp.transfers ≡ None) (holds : Holds config (after count) slirp (flowing true kept) old past) where
   -- a wait may begin a turn, the first or a later one
   none_due : Stands config NeedsNothing slirp kept old past → due config past ≡ None
   none_due (Turns turn) = due_is config past NeedsNothing turn.working (none_due_for_services config past holds.relayed.heard holds.services.quest) holds.flows.holds.asked
@@ -51,7 +51,7 @@ module _ (config : Config) (count : ℕ) (slirp : SlirpState) (kept : Kept) (old
 
   waited : (answer : Waited) (ready : List Want) → Lawful config (Wait wants timeout answer ready ∷ past)
   waited answer ready = (
-    waits_now config past wants timeout (none_due holds.stands) (flows_stay_open config (flowing true kept) slirp.moment past holds.flows) (turns_on holds.stands) waits_on holds.open_yet,
+    waits_now config past wants timeout (none_due holds.stands) (flows_stay_open config (flowing true kept) slirp.moment past holds.flows) (turns_on holds.stands) waits_on (grind (arith, nat_tests, most)) holds.open_yet,
     holds.lawful,
   )
 

@@ -89,9 +89,13 @@ pub record OfClock (at : Standing) (slirp : SlirpState) (past : List Entry) : Ty
   pub moment : moment past ≡ slirp.moment
   pub counted : waits past ≡ at.count
 
+-- the settings as they were given: no forward is added or taken back
+abbrev pub as_given : Config → Config
+as_given config = record config { added = []; removed = [] }
+
 -- what only a frame of the guests changes, and time, the settings aside, which nothing does: whose addresses are known, and which fragments wait
 pub record OfGuests (config : Config) (slirp : SlirpState) (past : List Entry) : Type 0 where
-  pub settings : slirp.config ≡ config
+  pub settings : slirp.config ≡ as_given config
   pub known : known config past ≡ slirp.known
   pub fragments : OfFragments config slirp past
 

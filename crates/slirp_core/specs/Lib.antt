@@ -1,3 +1,4 @@
+pub mod Added
 pub mod Calm
 pub mod Came
 pub mod Carrying

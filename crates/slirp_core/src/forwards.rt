@@ -1,10 +1,13 @@
-// Ports of the host that are given to guests: they are opened before all else, and closed at the end.
+// Ports of the host that are given to guests: they are opened before all else or while a run goes on, and closed at the end or before it.
 ghost use Rattle.std.specs.Prelude.{[], ◌≡◌, ◌≢◌, ◌<◌, ◌≤◌, ◌+◌, ◌^◌, ℕ, length, map, OnSome, IfSome, Some, None};
+ghost use Rattle.std.specs.Result.{result_err};
+ghost use Rattle.slirp_core.specs.Added.{number_after};
 
 use crate::network::Slirp;
 use flow_table::Tuple;
 use host_policy::{Forward, Proto};
 use net_octets::Endpoint;
+use port_forward::{FwdFault, NotThere};
 use world_face::{Accepted, World};
 
 impl Slirp {
@@ -20,9 +23,12 @@ impl Slirp {
     ghost use Rattle.slirp_laws.specs.Agenda.{is_to_read, wanted_of};
     ghost use Rattle.slirp_core.specs.Counts.{AreGrown};
     ghost use Rattle.slirp_core.specs.Forwards.{Listens};
-    ghost use Rattle.slirp_core.specs.Holds.{Holds, flowing, standing};
+    ghost use Rattle.slirp_core.specs.Holds.{Holds, after, as_given, flowing, standing};
     ghost use Rattle.slirp_core.specs.Marks.{KeepsMarks};
-    ghost use Rattle.port_forward.specs.Adding.{fault_of};
+    ghost use Rattle.port_forward.specs.Adding.{Adds, fault_of};
+    ghost use Rattle.port_forward.specs.Opened.{socket_at, without};
+    ghost use Rattle.slirp_core.specs.Added.{MayAdd, MayRemove, closed_at};
+    ghost use Rattle.std.specs.Result.{is_ok};
     ghost use Rattle.flows_follow.specs.Seats.{in_use_slots};
     ghost use Rattle.record_flows.specs.Book.{book, is_refused, tuple_for};
     ghost use Rattle.host_policy.specs.Targets.{is_hidden};
@@ -39,7 +45,7 @@ impl Slirp {
         requires sound { IsSound self.old.config }
         requires none { self.old.forwards ≡ [] }
         requires number { self.old.number ≡ 0 }
-        ensures makes { (config : Config) (link : LinkState) → self.old.config ≡ config → Brings (W.tells world.old) (W.tells world.new)
+        ensures makes { (config : Config) (link : LinkState) → self.old.config ≡ as_given config → Brings (W.tells world.old) (W.tells world.new)
             (Opens config 0 self.old link) (AfterListening result config self.new link) }
         // The count of the sockets' faults rose where one was refused.
         ensures counted { IfSome result (λ k. Rose (W.tells world.old).faults.socket (W.tells world.new).faults.socket) }
@@ -69,6 +75,51 @@ impl Slirp {
         self.forwards
             .add_hostfwd(world, &self.policy, forward, number)
             .is_ok()
+    }
+
+    /// Gives a port of the host to a guest while the run goes on: its socket is opened, with the next number. Neither port of the forward is 0.
+    ///
+    /// # Errors
+    /// In this order: `Taken` where a forward has that port of the host with this protocol; `BadGuest` where the address that it leads to isn't a guest's;
+    /// `Full` where 32 are open; `Refused` where the host doesn't open the socket. The forwards are then as they were.
+    pub fn add_hostfwd<W: World>(&mut self, world: &mut W, forward: Forward) -> Result<(), FwdFault>
+        requires number { self.old.number + 1 < 2 ^ 64 }
+        requires host_port { forward.host.port ≢ 0 }
+        requires guest_port { forward.guest.port ≢ 0 }
+        ensures adds { Makes (W.tells world.old) (W.tells world.new)
+            (Adds (fault_of self.old.config forward self.old.forwards) forward self.old.number self.old.forwards self.new.forwards (result_err result)) }
+        // Between the calls of a turn it may be added, where the settings have it for the number of its socket.
+        ensures makes { (config : Config) (count : ℕ) (link : LinkState) → 0 < count → MayAdd config self.old forward → Brings (W.tells world.old) (W.tells world.new)
+            (Holds config (after count) self.old (flowing false self.old.flows) link) (Holds config (after count) self.new (flowing false self.new.flows) link) }
+        ensures others { self.new ≡ record self.old { number = number_after (result_err result) self.old.number; forwards = self.new.forwards } }
+    {
+        let number = self.number;
+        let added = self
+            .forwards
+            .add_hostfwd(world, &self.policy, forward, number);
+        let next = next_number(number, &added);
+        self.number = next;
+        added
+    }
+
+    /// Takes a port of the host back while the run goes on: its socket is closed, and connections that came by it go on.
+    ///
+    /// # Errors
+    /// `NotThere` exactly where no forward has that port with this protocol.
+    pub fn remove_hostfwd<W: World>(
+        &mut self,
+        world: &mut W,
+        proto: Proto,
+        host: Endpoint,
+    ) -> Result<(), NotThere>
+        ensures closes { Makes (W.tells world.old) (W.tells world.new) (λ made. made ≡ closed_at (socket_at proto host self.old.forwards)) }
+        ensures found { is_ok result ≡ is_some (socket_at proto host self.old.forwards) }
+        // Between the calls of a turn it may be taken back, where it is so by the settings.
+        ensures makes { (config : Config) (count : ℕ) (link : LinkState) → 0 < count → MayRemove config self.old proto host → Brings (W.tells world.old) (W.tells world.new)
+            (Holds config (after count) self.old (flowing false self.old.flows) link) (Holds config (after count) self.new (flowing false self.new.flows) link) }
+        ensures others { self.new ≡ record self.old { forwards = without proto host self.old.forwards } }
+    {
+        self.forwards.remove_hostfwd(world, proto, host)
     }
 
     /// A peer is taken that came to a port of the host, where there is one and room for its flow: that begins, with the next number, and calls the guest.
@@ -110,7 +161,7 @@ impl Slirp {
         requires room { in_use_slots self.old.flows.flows.table.slots < length self.old.flows.flows.table.slots }
         ensures closes { Makes (W.tells world.old) (W.tells world.new) (ClosesOne self.old.number) }
         ensures treats { Makes (W.tells world.old) (W.tells world.new) (λ made. (config : Config) (now : ℕ) (aged : Bool) (past : List Entry)
-            → CoreHolds config now aged None self.old.flows.flows past → self.old.config ≡ config
+            → CoreHolds config now aged None self.old.flows.flows past → self.old.config ≡ as_given config
             → Treats (is_refused config guest peer (book config past)) guest peer self.old self.new made) }
         ensures turn { self.new.flows.turn ≡ self.old.flows.turn }
         ensures marks { KeepsMarks self.old.number self.old.flows self.new.flows }
@@ -132,7 +183,7 @@ impl Slirp {
         ensures some { IfSome result (λ ends. (ends ≡ tuple_for self.now.config guest peer) × (is_hidden self.now.config peer ≡ false)
             × NoneUses self.now.flows.flows.table.slots ends) }
         ensures recorded { (config : Config) (now : ℕ) (aged : Bool) (past : List Entry) → CoreHolds config now aged None self.now.flows.flows past
-            → self.now.config ≡ config
+            → self.now.config ≡ as_given config
             → is_some result ≡ not (is_refused config guest peer (book config past)) }
     {
         let other = self.policy.shown(peer)?;
@@ -155,5 +206,16 @@ impl Slirp {
         self.forwards
             .remove_hostfwd(world, forward.proto, forward.host)
             .is_ok()
+    }
+}
+
+// The number of the next socket: this one is used up where the host was asked.
+fn next_number(number: u64, added: &Result<(), FwdFault>) -> u64
+    requires { number + 1 < 2 ^ 64 }
+    ensures { result ≡ number_after (result_err added.now) number }
+{
+    match added {
+        Ok(()) | Err(FwdFault::Refused) => number + 1,
+        Err(FwdFault::Taken | FwdFault::BadGuest | FwdFault::Full) => number,
     }
 }

@@ -17,4 +17,5 @@ mod wants;
 
 pub use fragments::LONGEST_ASSEMBLED;
 pub use network::Slirp;
+pub use port_forward::{FwdFault, NotThere};
 pub use wants::TurnWants;

@@ -194,6 +194,7 @@ impl Slirp {
         ensures marks { KeepsMarks self.old.number self.old.flows self.new.flows }
         ensures counts { AreGrown (W.tells world.old).faults (W.tells world.new).faults }
         ensures config { self.new.config ≡ self.old.config }
+        ensures forwards { self.new.forwards ≡ self.old.forwards }
         ensures number { self.new.number ≤ self.old.number + 1 }
         ensures turn { self.new.flows.turn ≡ self.old.flows.turn }
         ensures room { length room.new ≡ 65575 }

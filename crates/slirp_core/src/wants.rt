@@ -41,6 +41,14 @@ pub struct TurnWants {
     front: usize,
     // how many stand before those of flows
     before: usize,
+    rows: Rows,
+}
+
+// Room in which the rows of sockets of datagrams become one: those of ports of the host and of associations, and these with those of questions.
+#[derive(Drop)]
+struct Rows {
+    two: ArrayVec<u64, 544>,
+    three: ArrayVec<u64, 1056>,
 }
 
 /// The sockets of datagrams, each row by rising number: those of ports of the host, those of associations, and those of questions.
@@ -86,6 +94,10 @@ impl TurnWants {
             reads: false,
             front: 0,
             before: 0,
+            rows: Rows {
+                two: ArrayVec::new(),
+                three: ArrayVec::new(),
+            },
         })
     }
 
@@ -188,7 +200,7 @@ impl TurnWants {
         } else {
             self.reads = false;
             self.front = begin(read, write, listeners, &mut self.list);
-            add_wanted(read, carriers, &mut self.list);
+            add_wanted(read, carriers, &mut self.rows, &mut self.list);
             self.before = self.list.items().len();
         }
     }
@@ -213,7 +225,7 @@ impl TurnWants {
             return;
         }
         self.front = begin(true, false, listeners, &mut self.list);
-        add_carriers(carriers, &mut self.list);
+        add_carriers(carriers, &mut self.rows, &mut self.list);
         self.before = self.list.items().len();
         keep(&mut self.listeners, listeners);
         keep(&mut self.forwards, carriers.forwards);
@@ -346,7 +358,7 @@ fn add_link(read: bool, write: bool, wants: &mut Wants)
 }
 
 // Puts these sockets at the end, for reading, where they are wanted.
-fn add_wanted(wanted: bool, carriers: Carriers<'_>, wants: &mut Wants)
+fn add_wanted(wanted: bool, carriers: Carriers<'_>, rows: &mut Rows, wants: &mut Wants)
     requires wants { AreWants wants.old.items }
     requires room { length wants.old.items + length carriers.forwards.now + 1024 ≤ wants.old.capacity }
     requires most { HasRoom carriers }
@@ -356,12 +368,12 @@ fn add_wanted(wanted: bool, carriers: Carriers<'_>, wants: &mut Wants)
     ensures capacity { wants.new.capacity ≡ wants.old.capacity }
 {
     if wanted {
-        add_carriers(carriers, wants);
+        add_carriers(carriers, rows, wants);
     }
 }
 
 // Puts these sockets at the end, for reading, by rising number.
-fn add_carriers(carriers: Carriers<'_>, wants: &mut Wants)
+fn add_carriers(carriers: Carriers<'_>, rows: &mut Rows, wants: &mut Wants)
     requires wants { AreWants wants.old.items }
     requires room { length wants.old.items + length carriers.forwards.now + 1024 ≤ wants.old.capacity }
     requires most { HasRoom carriers }
@@ -370,11 +382,11 @@ fn add_carriers(carriers: Carriers<'_>, wants: &mut Wants)
     ensures room { length wants.new.items ≤ length wants.old.items + length carriers.entry.forwards.now + 1024 }
     ensures capacity { wants.new.capacity ≡ wants.old.capacity }
 {
-    let mut peers: ArrayVec<u64, 544> = ArrayVec::new();
-    merge(carriers.forwards, carriers.associations, &mut peers);
-    let mut all: ArrayVec<u64, 1056> = ArrayVec::new();
-    merge(peers.as_slice(), carriers.questions, &mut all);
-    add_sockets(all.as_slice(), wants);
+    rows.two.clear();
+    merge(carriers.forwards, carriers.associations, &mut rows.two);
+    rows.three.clear();
+    merge(rows.two.as_slice(), carriers.questions, &mut rows.three);
+    add_sockets(rows.three.as_slice(), wants);
 }
 
 // Puts the numbers of two rows, each of which rises, at the end of a third, by rising number.

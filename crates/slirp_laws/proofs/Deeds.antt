@@ -1,7 +1,7 @@
 -- A call may come: one lemma for each kind of call, which has what is to be shown of that kind. Only `gathered` builds the record of the sentences, so that one
 -- more sentence is one more line there, and a premise of the kinds of which it speaks.
 use Rattle.slirp_laws.specs.Ports.{given_port}
-use Rattle.std.proofs.Common.{◌∷◌, ◌≡◌, ℕ, ◌==◌, ◌||◌, not, nat_lt, Bool, true, false, List, is_some, MatchOption, Option, Some, None, refl, sym, ◌∙◌, ap, subst}
+use Rattle.std.proofs.Common.{◌∷◌, ◌≡◌, ℕ, ◌==◌, ◌||◌, not, nat_le, nat_lt, Bool, true, false, List, length, is_some, MatchOption, Option, Some, None, refl, sym, ◌∙◌, ap, subst}
 use Rattle.std.specs.Prelude.{option_map}
 use Rattle.std.specs.Option.{option_or}
 use Rattle.poll_list.specs.Listing.{reads}
@@ -21,7 +21,7 @@ use Rattle.record_flows.specs.Lots.{due_for_flows}
 use Rattle.run_laws.specs.Moments.{waits}
 use Rattle.slirp_laws.specs.Agenda.{agenda}
 use Rattle.slirp_laws.specs.Laws.{May, MayDue, due, due_for_services, goes_on, has_place, has_socket, is_all_out, is_answered, is_added, is_closing, is_served, may_begin}
-use Rattle.slirp_laws.specs.Laws.{may_close, relays, takes_peers}
+use Rattle.slirp_laws.specs.Laws.{may_close, most_wanted, relays, takes_peers}
 use Rattle.slirp_laws.specs.Asking.{step}
 use Rattle.slirp_laws.specs.Datagrams.{due_for}
 use Rattle.world_face.specs.declared.Io.{Io}
@@ -122,10 +122,10 @@ module _ (config : Config) (past : List Entry) where
 
   -- a turn begins
   pub waits_now : (wants : List Want) (timeout : Option ℕ) → due config past ≡ None → NoneMustClose config past → may_turn (phase config past) ≡ true → nat_lt
-      (waits past) config.turns ≡ true → is_closing config past ≡ false → May config past (CallWait wants timeout)
-  waits_now wants timeout none stay turn few open_yet =
+      (waits past) config.turns ≡ true → nat_le (length wants) most_wanted ≡ true → is_closing config past ≡ false → May config past (CallWait wants timeout)
+  waits_now wants timeout none stay turn few most open_yet =
       gathered config past (CallWait wants timeout) tt (any_one config past (CallWait wants timeout) none)
-      (and_both (may_turn (phase config past)) (nat_lt (waits past) config.turns) turn few) refl refl refl
+      (and_both (may_turn (phase config past)) (nat_lt (waits past) config.turns) turn few) most refl refl
       (on_yet open_yet) (untouched config past (CallWait wants timeout) (ask_nothing config past none stay) tt tt)
 
   -- the link is read where the last wait reported it and nothing is left to be sent

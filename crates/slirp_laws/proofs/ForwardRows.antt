@@ -257,12 +257,12 @@ forward_closed may = not_both refl may.socket
 
 -- ---- ports that are given while the run goes on
 
--- port 5555 of the host is asked for with the number 0, and port 6000 for datagrams with 1; there is a control
+-- port 5555 of the host is asked for with the number 0, and port 6000 for datagrams with 1, which is taken back
 abbrev pub adding : Config
 adding = record usual {
-  control = Some (endpoint 2130706433 5556);
   added = (0, record { proto = TcpProto; host = endpoint 2130706433 5555; guest = endpoint 167772687 22 })
       ∷ (1, record { proto = UdpProto; host = endpoint 2130706433 6000; guest = endpoint 167772687 4000 }) ∷ [];
+  removed = 1 ∷ [];
 }
 
 -- both are opened; a peer is taken at the one, and heard at the other, which is closed in the run
@@ -288,7 +288,7 @@ added_leads : may adding (run (take 7 added ++ UdpRecv 1 65507 (From peer 2) (he
 unfolding missing spelling is_too_long spelt_length read_on
 added_leads = refl
 
--- What may not come: one before the first turn, at another port, for another number, or by the other protocol; or a close of it where there is no control.
+-- What may not come: one before the first turn, at another port, for another number, or by the other protocol; or a close of one that isn't taken back.
 added_early : May adding (run (Now 0 ∷ [])) (CallListen 0 (endpoint 2130706433 5555)) → ⊥
 unfolding missing spelling is_too_long spelt_length read_on
 added_early may = not_both refl may.place
@@ -305,6 +305,6 @@ added_otherwise : May adding (run (take 3 added)) (CallUdpOpen 0 (endpoint 21307
 unfolding missing spelling is_too_long spelt_length read_on
 added_otherwise may = not_both refl may.place
 
-kept_without_control : May (record adding { control = None }) (run added) (CallClose 1) → ⊥
+kept_in_the_run : May adding (run added) (CallClose 0) → ⊥
 unfolding missing spelling is_too_long spelt_length read_on
-kept_without_control may = not_both refl may.socket
+kept_in_the_run may = not_both refl may.socket

@@ -172,14 +172,14 @@ opens_where_given config past socket at lawful early may = elim (opening_call co
   | inr given ↦ absurd (turned (phase config past) (waits past) (given_turn config past socket at (given_port config socket) given.is) (has_waited config past) early)
 ]
 
--- ---- and it is closed after the end, where there is no control
+-- ---- and it is closed after the end, unless it is taken back
 
-given_stays : (config : Config) (past : List Entry) (socket : ℕ) (o : Option Kind) → config.control ≡ None → is_given o ≡ true → may_part config past socket o ≡ false
+given_stays : (config : Config) (past : List Entry) (socket : ℕ) (o : Option Kind) → is_among socket config.removed ≡ false → is_given o ≡ true → may_part config past socket o ≡ false
 given_stays config past socket None none is = absurd cc
 given_stays config past socket (Some OfAssociation) none is = absurd cc
 given_stays config past socket (Some DnsSocket) none is = absurd cc
-given_stays config past socket (Some OfForward) none is = ap is_some none
-given_stays config past socket (Some OfListener) none is = ap is_some none
+given_stays config past socket (Some OfForward) none is = none
+given_stays config past socket (Some OfListener) none is = none
 given_stays config past socket (Some OfFlow) none is = absurd cc
 
 ended_only : (closing least some ended : Bool) → (closing ≡ true → ended ≡ true) → some ≡ false → (if closing then least else some || (ended && least)) ≡ true → ended ≡ true
@@ -187,7 +187,7 @@ ended_only true least some ended already none is = already refl
 ended_only false least true ended already none is = absurd cc
 ended_only false least false ended already none is = first_of ended least is
 
-pub closes_given_after_the_end : (config : Config) (past : List Entry) (socket : ℕ) → config.control ≡ None → Lawful config past → May config past (CallClose socket) → is_given
+pub closes_given_after_the_end : (config : Config) (past : List Entry) (socket : ℕ) → is_among socket config.removed ≡ false → Lawful config past → May config past (CallClose socket) → is_given
     (kind_for config socket past) ≡ true → is_ended config past ≡ true
 closes_given_after_the_end config past socket none lawful may given =
     ended_only (is_closing config past) (is_it socket (first (open_sockets past))) (parts config past socket) (is_ended config past) (closing_ended config past lawful)

@@ -1,5 +1,5 @@
 -- What call may follow what past.
-use Rattle.std.specs.Prelude.{◌≡◌, ℕ, ◌+◌, ◌==◌, ◌&&◌, ◌||◌, not, nat_le, nat_lt, Bool, true, false, is_some, List, [], ◌∷◌, drop, MatchOption, Option, Some, None, option_map, if◌then◌else◌}
+use Rattle.std.specs.Prelude.{◌≡◌, ℕ, ◌+◌, ◌==◌, ◌&&◌, ◌||◌, not, nat_le, nat_lt, Bool, true, false, is_some, List, [], ◌∷◌, drop, length, MatchOption, Option, Some, None, option_map, if◌then◌else◌}
 use Rattle.std.specs.Option.{option_or}
 use Rattle.poll_list.specs.Listing.{reads, writes}
 use Rattle.poll_list.specs.declared.Who.TheVariants.{Link, Listener as AListener, Tcp, Udp}
@@ -88,15 +88,15 @@ abbrev pub leaves : Config → List Entry → ℕ → Bool
 leaves config past socket = may_leave (scene config past) (book config past) socket (flow_of socket (book config past).flows)
 
 -- Why a socket may be closed before the end, by its kind: an association, or one of a question, gives way as the longest unused of its kind, or its idle life
--- is over; that of a question also where the answer came; a flow has its cause. That of a port of the host that is given to a guest may be closed where there
--- is a control, which says when.
+-- is over; that of a question also where the answer came; a flow has its cause. That of a port of the host that is given to a guest may be closed where it is
+-- taken back while the run goes on.
 abbrev pub may_part : Config → List Entry → ℕ → Option Kind → Bool
 may_part config past socket (Some Association) = gives_way config false socket (step config past) || is_unused socket past
 may_part config past socket (Some DnsSocket) =
     gives_way config true socket (step config past) || is_it socket (answered config past) || has_waited config past socket
 may_part config past socket (Some Flow) = leaves config past socket
-may_part config past socket (Some Forward) = is_some config.control
-may_part config past socket (Some Listener) = is_some config.control
+may_part config past socket (Some Forward) = is_among socket config.removed
+may_part config past socket (Some Listener) = is_among socket config.removed
 may_part config past socket None = false
 
 abbrev pub parts : Config → List Entry → ℕ → Bool
@@ -136,8 +136,13 @@ joins past socket = is_among socket (open_sockets past) && is_flow (kind_of sock
 abbrev pub takes_peers : Config → List Entry → ℕ → Bool
 takes_peers config past listener = is_among listener (open_sockets past) && is_listener (kind_of listener past) && has_room_for_peer config.flows (book config past).flows
 
--- Numbers of sockets are drawn upward; calls on sockets are on such as are open, and of their kind.
+-- the link, 32 ports of the host, 512 sockets of guests' ports, 512 of questions, and 4,096 connections
+abbrev pub most_wanted : ℕ
+most_wanted = 5153
+
+-- Numbers of sockets are drawn upward; calls on sockets are on such as are open, and of their kind. A wait is for as many as may be open at most.
 abbrev pub has_socket : Config → List Entry → Call → Bool
+has_socket config past (CallWait wants timeout) = nat_le (length wants) most_wanted
 has_socket config past (CallConnect socket to) = socket == next_number past
 has_socket config past (CallConnected socket) = joins past socket
 has_socket config past (CallListen socket at) = socket == next_number past

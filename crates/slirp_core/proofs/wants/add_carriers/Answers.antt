@@ -15,8 +15,8 @@ as_many given some others peers all one two =
 pub add_sockets-requires-clause-room : goal.add_sockets-requires-clause-room
 add_sockets-requires-clause-room c =
     let many = as_many c.args.carriers.forwards.now c.args.carriers.associations.now c.args.carriers.questions.now c.as_slice.result.now c.as_slice-2.result.now
-    (c.as_slice.ensures.value ∙ c.merge.ensures.items ∙ ap (λ l. l ++ merged c.args.carriers.forwards.now c.args.carriers.associations.now) c.new-peers.ensures)
-    (c.as_slice-2.ensures.value ∙ c.merge-2.ensures.items ∙ ap (λ l. l ++ merged c.as_slice.result.now c.args.carriers.questions.now) c.new-all.ensures) in
+    (c.as_slice.ensures.value ∙ c.merge.ensures.items ∙ ap (λ l. l ++ merged c.args.carriers.forwards.now c.args.carriers.associations.now) c.clear.ensures)
+    (c.as_slice-2.ensures.value ∙ c.merge-2.ensures.items ∙ ap (λ l. l ++ merged c.as_slice.result.now c.args.carriers.questions.now) c.clear-2.ensures) in
     let few = c.requires.most in
     let room = c.requires.room in
     omega (arith, many, few.1, few.2, room)
@@ -24,8 +24,8 @@ add_sockets-requires-clause-room c =
 pub returns-clause-room : goal.returns-clause-room
 returns-clause-room c =
     let many = as_many c.args.carriers.forwards.now c.args.carriers.associations.now c.args.carriers.questions.now c.as_slice.result.now c.as_slice-2.result.now
-    (c.as_slice.ensures.value ∙ c.merge.ensures.items ∙ ap (λ l. l ++ merged c.args.carriers.forwards.now c.args.carriers.associations.now) c.new-peers.ensures)
-    (c.as_slice-2.ensures.value ∙ c.merge-2.ensures.items ∙ ap (λ l. l ++ merged c.as_slice.result.now c.args.carriers.questions.now) c.new-all.ensures) in
+    (c.as_slice.ensures.value ∙ c.merge.ensures.items ∙ ap (λ l. l ++ merged c.args.carriers.forwards.now c.args.carriers.associations.now) c.clear.ensures)
+    (c.as_slice-2.ensures.value ∙ c.merge-2.ensures.items ∙ ap (λ l. l ++ merged c.as_slice.result.now c.args.carriers.questions.now) c.clear-2.ensures) in
     let few = c.requires.most in
     let room = c.add_sockets.ensures.room in
     omega (arith, many, few.1, few.2, room)

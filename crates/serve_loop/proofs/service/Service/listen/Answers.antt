@@ -1,8 +1,7 @@
-use Rattle.std.proofs.Common.{refl, sym, ◌∙◌, ap, subst}
-use Rattle.world_face.specs.Tells.{Makes}
+use Rattle.std.proofs.Common.{◌≡◌, sym, ◌∙◌, ap, subst}
 use Rattle.world_face.proofs.Telling.{makes_from, makes_none}
 use Rattle.host_policy.specs.Addresses.{Config}
-use Rattle.slirp_core.specs.Holds.{AfterListening}
+use Rattle.slirp_core.specs.Holds.{as_given}
 use Rattle.slirp_core.specs.State.{SlirpState}
 use Rattle.serve_loop.specs.Served.{IsNew, ServiceState}
 use Rattle.serve_loop.proofs.Serving.{opens}
@@ -21,12 +20,11 @@ pub listen_all-requires-clause-number : goal.listen_all-requires-clause-number
 listen_all-requires-clause-number g c = (subst IsNew (sym c.self.view_is) c.requires).number
 
 pub returns-clause-makes : goal.returns-clause-makes
-returns-clause-makes g c =
+returns-clause-makes g c config given =
     let i = c.self.inside in
     let view : ServiceState = record { slirp = i.slirp; link = i.link; wants = i.wants.items; ready = i.ready.items } in
-    subst (λ (s : ServiceState). Makes (g.W.World.tells c.args.world.now) (g.W.World.tells c.listen_all.new.world)
-    (AfterListening c.listen_all.result s.slirp.config c.listen_all.new.self i.link)) c.self.view_is
-    (makes_from (makes_none _ _ (opens view (subst IsNew (sym c.self.view_is) c.requires))) (c.listen_all.ensures.makes i.slirp.config i.link refl))
+    let as_viewed : i.slirp.config ≡ as_given config = ap (λ (s : ServiceState). s.slirp.config) c.self.view_is ∙ given in
+    makes_from (makes_none _ _ (opens view config as_viewed (subst IsNew (sym c.self.view_is) c.requires))) (c.listen_all.ensures.makes config i.link as_viewed)
 
 pub invariant_of-self : goal.invariant_of-self
 invariant_of-self g c =

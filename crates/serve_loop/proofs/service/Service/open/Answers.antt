@@ -1,6 +1,7 @@
 use Rattle.std.proofs.Common.{rules, ◌++◌, length, sym, ◌∙◌, ap, subst, arith}
 use Rattle.host_policy.specs.Addresses.{Config}
 use Rattle.host_policy.specs.Ranges.{IsSound}
+use Rattle.slirp_core.specs.Holds.{as_given}
 use Rattle.slirp_core.specs.Numbers.{flows_for}
 use Rattle.slirp_core.specs.Pumps.{TcpOnce}
 use Rattle.slirp_core.proofs.Forwarding.{at_ok}
@@ -31,6 +32,7 @@ returns-clause-new c =
     let sound = subst IsSound (sym config) c.requires.sound in
     record {
       sound = sound;
+      given = config ∙ ap as_given (sym config);
       forwards = fresh.forwards;
       flows = fresh.flows ∙ ap flows_for (sym config);
       unit = has_room_for_a_unit c.in_ok-slirp.slirp.config sound;

@@ -38,6 +38,7 @@ loop-self-init g c =
       counts = c.in_default.ensures.step.counted;
       on = c.in_default.ensures.step.on;
       config = search rules;
+      forwards = search rules;
       number = search rules;
       turns = search rules;
     }
@@ -67,6 +68,7 @@ loop-self-preserved g c =
           (subst NoneTold (sym c.send_again-in-loop-self.ensures.others) (subst (λ (s : ServiceState). NoneTold s.slirp) (sym c.self-in-loop-self.view_is) (before.invariant.untold none)));
       on = c.in-Again.ensures.step.on;
       config = search rules;
+      forwards = search rules;
       number = search rules;
       turns = search rules;
     }

@@ -23,6 +23,7 @@ invariant-loop-self g l = record {
   untold : NoneTold l.fn.self.slirp → NoneTold l.self.slirp;
   on : ReadsOn (under_way l.self.link);
   config : l.self.slirp.config ≡ l.fn.self.slirp.config;
+  forwards : l.self.slirp.forwards ≡ l.fn.self.slirp.forwards;
   number : l.self.slirp.number ≡ l.fn.self.slirp.number;
   turns : l.self.slirp.flows.turn ≡ l.fn.self.slirp.flows.turn;
 }

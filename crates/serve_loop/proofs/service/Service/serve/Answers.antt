@@ -14,13 +14,13 @@ use Rattle.serve_loop.proofs.service.Service.serve.Goals as goal
 
 pub loop-count-init : goal.loop-count-init
 loop-count-init g c = record {
-  makes = c.in_default.ensures.makes;
+  makes = c.in_default.ensures.makes c.args.self.now.slirp.config c.requires.given;
   calm = c.in_default.ensures.calm refl;
   on = c.in_default.ensures.step.on;
   config = c.in_default.ensures.config;
   number = omega (arith, c.in_default.ensures.number);
   turns = omega (arith, c.in_default.ensures.turns);
-  counts = grown _ _ _ c.in_default.ensures.makes.counted;
+  counts = grown _ _ _ (c.in_default.ensures.makes c.args.self.now.slirp.config c.requires.given).counted;
 }
 
 pub turn-requires-clause-turns : goal.turn-requires-clause-turns
@@ -46,7 +46,7 @@ loop-count-preserved g c =
     }
 
 pub returns-in-Ended-clause-makes : goal.returns-in-Ended-clause-makes
-returns-in-Ended-clause-makes g c = makes_as _ _ _ _ c.in-Ended.ensures.makes (made_so c.args.self.now.slirp.config c.in-Ended.end)
+returns-in-Ended-clause-makes g c = makes_as _ _ _ _ (c.in-Ended.ensures.makes c.args.self.now.slirp.config c.requires.given) (made_so c.args.self.now.slirp.config c.in-Ended.end)
 
 pub returns-in-Ended-clause-served : goal.returns-in-Ended-clause-served
 returns-in-Ended-clause-served g c = told c.args.self.now.slirp.config c.in-Ended.end _ _ (returns-in-Ended-clause-makes g c)

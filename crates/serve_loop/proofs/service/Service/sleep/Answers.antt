@@ -40,7 +40,7 @@ returns-in-Stop-clause-makes g c config count few =
     (AttendsAfterSleep SleptStopped config (count + 1) c.pollfds_fill-timeout.new.wants.items c.wait.new.ready.items slirp link)) c.self.view_is
     (brings_one (subst (λ (l : Listing). Answers (g.W.World.tells c.args.world.now) (g.W.World.tells c.wait.new.self)
     (Wait l.items c.pollfds_fill-timeout.result Stop c.wait.new.ready.items)) c.list.ensures c.in-Stop.ensures.answers) (λ allowed past rest. let now = rest.0 in (
-      wait_ends_it config count slirp slirp.flows link past c.pollfds_fill-timeout.new.wants.items c.pollfds_fill-timeout.result few none_again now.0 Stop c.wait.new.ready.items Stopped refl,
+      wait_ends_it config count slirp slirp.flows link past c.pollfds_fill-timeout.new.wants.items c.pollfds_fill-timeout.result few c.pollfds_fill-timeout.ensures.few none_again now.0 Stop c.wait.new.ready.items Stopped refl,
       (as_it_must config count past now.0 rest.1 now.1.1, now.1.0),
     )))
 
@@ -60,7 +60,7 @@ returns-in-Failed-clause-makes g c config count few =
     (AttendsAfterSleep SleepFailed config (count + 1) c.pollfds_fill-timeout.new.wants.items c.wait.new.ready.items slirp link)) c.self.view_is
     (brings_one (subst (λ (l : Listing). Answers (g.W.World.tells c.args.world.now) (g.W.World.tells c.wait.new.self)
     (Wait l.items c.pollfds_fill-timeout.result Failed c.wait.new.ready.items)) c.list.ensures c.in-Failed.ensures.answers) (λ allowed past rest. let now = rest.0 in (
-      wait_ends_it config count slirp slirp.flows link past c.pollfds_fill-timeout.new.wants.items c.pollfds_fill-timeout.result few none_again now.0 Failed c.wait.new.ready.items WaitFailed refl,
+      wait_ends_it config count slirp slirp.flows link past c.pollfds_fill-timeout.new.wants.items c.pollfds_fill-timeout.result few c.pollfds_fill-timeout.ensures.few none_again now.0 Failed c.wait.new.ready.items WaitFailed refl,
       (as_it_must config count past now.0 rest.1 now.1.1, now.1.0),
     )))
 
@@ -100,7 +100,7 @@ returns-in-Ready-clause-makes g c config count few =
     subst (λ (m : List Entry). AttendsAfterSleep SleptReady config (count + 1) wants ready c.tell_moment.new.self new (m ++ past)) (sym is) (
       record {
         holds = subst (λ (s : SlirpState). HoldsNow config (standing (count + 1) wants ready) false s new (Now told ∷ Wait wants timeout Ready ready ∷ past)) (sym c.tell_moment.ensures)
-            (wait_wakes config count slirp slirp.flows link past wants timeout few none_again now.0 ready told new fine.1.0 fine.0 (same_under_way link new same.0 same.1) same.2 free);
+            (wait_wakes config count slirp slirp.flows link past wants timeout few c.pollfds_fill-timeout.ensures.few none_again now.0 ready told new fine.1.0 fine.0 (same_under_way link new same.0 same.1) same.2 free);
         left = left_at_first config past wants timeout ready told c.tell_moment.new.self (subst NoneTold (sym c.tell_moment.ensures) untold) apart;
         can_take = can_take_at_first config past wants timeout ready told (after count) true slirp c.tell_moment.new.self link new now.0 sent must.waits_for same.2
             (ap (λ (s : SlirpState). s.pending) c.tell_moment.ensures);

@@ -19,6 +19,7 @@ invariant-loop-place g l = record {
   counts : AreGrown (g.W.World.tells l.fn.world).faults (g.W.World.tells l.world).faults;
   on : ReadsOn (under_way l.self.link);
   config : l.self.slirp.config ≡ l.fn.self.slirp.config;
+  forwards : l.self.slirp.forwards ≡ l.fn.self.slirp.forwards;
   number : l.self.slirp.number ≤ l.fn.self.slirp.number + l.place;
   turns : l.self.slirp.flows.turn ≡ l.fn.self.slirp.flows.turn;
   reports : (l.self.wants ≡ l.fn.self.wants) × (l.self.ready ≡ l.fn.self.ready);

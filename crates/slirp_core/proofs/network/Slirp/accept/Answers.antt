@@ -18,7 +18,7 @@ use Rattle.record_flows.specs.Flows.{most_for_peers}
 use Rattle.record_flows.specs.Book.{book, is_refused}
 use Rattle.flows_follow.specs.Core.{CoreHolds}
 use Rattle.run_duties.specs.Serving.{is_left_to_read}
-use Rattle.slirp_core.specs.Holds.{Holds, flowing, standing}
+use Rattle.slirp_core.specs.Holds.{Holds, as_given, flowing, standing}
 use Rattle.slirp_core.specs.State.{SlirpState}
 use Rattle.slirp_core.specs.Visits.{AsksForPeer, ClosesOne, Treats}
 use Rattle.slirp_core.proofs.Associating.{passes_over}
@@ -102,7 +102,7 @@ returns-in-NotYet g c =
 -- a peer came, and was treated so
 abbrev HasTreated : Config → Endpoint → Endpoint → (old new : SlirpState) → List Entry → Type 0
 HasTreated k guest peer old new made =
-    (config : Config) (now : ℕ) (aged : Bool) (past : List Entry) → CoreHolds config now aged None old.flows.flows past → k ≡ config → Treats
+    (config : Config) (now : ℕ) (aged : Bool) (past : List Entry) → CoreHolds config now aged None old.flows.flows past → k ≡ as_given config → Treats
     (is_refused config guest peer (book config past)) guest peer old new made
 
 pub returns-in-From-clause-makes : goal.returns-in-From-clause-makes
