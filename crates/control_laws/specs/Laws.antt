@@ -1,5 +1,5 @@
 -- What call may come where there is a control, and what a run with one is.
-use Rattle.std.specs.Prelude.{◌≡◌, ◌⊎◌, ℕ, ◌==◌, ◌||◌, Bool, true, false, is_some, List, [], ◌∷◌, ◌++◌, filter, take, length, map, reverse, Option, Some, None, if◌then◌else◌}
+use Rattle.std.specs.Prelude.{◌≡◌, ◌⊎◌, ℕ, ◌==◌, ◌||◌, Bool, true, false, is_some, List, [], ◌∷◌, ◌++◌, take, length, map, reverse, Option, Some, None, if◌then◌else◌}
 use Rattle.std.specs.List.{list_any}
 use Rattle.std.specs.Option.{option_map_or}
 use Rattle.net_octets.specs.declared.Endpoint.{Endpoint}
@@ -13,11 +13,10 @@ use Rattle.world_face.specs.declared.Made.TheVariants.{Failed as MadeFailed}
 use Rattle.host_policy.specs.Addresses.{Config}
 use Rattle.run_laws.specs.Shape.{Opening as OpeningPorts, opening_of, phase, is_ended, is_opening}
 use Rattle.run_laws.specs.Sockets.{is_forward, is_listener, kind_of, next_number, open_sockets}
-use Rattle.slirp_laws.specs.Agenda.{all_wanted}
 use Rattle.slirp_laws.specs.Laws.{Finished, Lawful}
 use Rattle.run_duties.specs.Duties.{Dutiful}
 use Rattle.control_session.specs.Talk.{Talk, free, is_out, listener, most_at_once, next_peer, want_of}
-use Rattle.control_session.specs.Apart.{controls, is_controls, without_control}
+use Rattle.control_session.specs.Apart.{controls, is_controls, reported_of, without_control}
 use Rattle.control_words.specs.Commands.{Means}
 use Rattle.control_laws.specs.Desk.{Awaited, Nothing, Opening, Shutting, Reads, by_control, desk}
 
@@ -28,9 +27,6 @@ wants_of t = option_map_or (λ want. want ∷ []) (want_of t) []
 
 -- ---- what was reported and isn't served yet: items in the directions in which they were wanted
 
-abbrev pub has_direction : Want → Bool
-has_direction item = item.read || item.write
-
 abbrev pub without_read : Who → List Want → List Want
 without_read who [] = []
 without_read who (item ∷ items) = if reads who (item ∷ []) then without_read who items else item ∷ without_read who items
@@ -40,7 +36,7 @@ without_write who [] = []
 without_write who (item ∷ items) = if writes who (item ∷ []) then without_write who items else item ∷ without_write who items
 
 abbrev pub reported_after : Entry → List Want → List Want
-reported_after (Wait wants timeout answer ready) items = filter has_direction (controls (all_wanted wants ready))
+reported_after (Wait wants timeout answer ready) items = reported_of (controls wants) ready
 reported_after (Accept from socket answer) items = without_read (AListener from) items
 reported_after (TcpRead socket asked answer octets) items = without_read (Tcp socket) items
 reported_after (TcpWrite socket octets answer) items = without_write (Tcp socket) items
@@ -148,7 +144,7 @@ MayControl read config past call = MayWhere (desk read config past).awaited read
 
 -- ---- a run
 
--- Each call is one that may come; what the network sees of the run is lawful and dutiful by the settings with all that was added; and nothing is left to be done, nor a socket of the control's open.
+-- Each call is one that may come; what the network sees of the run is lawful and dutiful by the settings with all that was added and taken back; and nothing is left to be done, nor a socket of the control's open.
 pub record RunsBy (read : Reads) (config : Config) (past : List Entry) : Type 0 where
   pub control : Follows (MayControl read config) past
   pub lawful : Lawful (by_control read config past) (without_control past)

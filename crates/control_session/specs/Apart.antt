@@ -1,5 +1,8 @@
 -- A record without the control's entries: what the network sees of it. The laws of the network speak of that.
 use Rattle.std.specs.Prelude.{ℕ, not, nat_le, Bool, false, List, [], ◌∷◌, filter, if◌then◌else◌}
+use Rattle.std.specs.List.{filter_map}
+use Rattle.poll_list.specs.Listing.{reads, writes}
+use Rattle.poll_list.specs.Picks.{part_in}
 use Rattle.poll_list.specs.declared.Want.{Want}
 use Rattle.poll_list.specs.declared.Who.{Who}
 use Rattle.poll_list.specs.declared.Who.TheVariants.{Link, Listener, Tcp, Udp}
@@ -22,6 +25,10 @@ others items = filter (λ item. not (is_of_control item.of)) items
 
 abbrev pub controls : List Want → List Want
 controls items = filter (λ item. is_of_control item.of) items
+
+-- what was reported of some wants: the part of each in the directions in which it was reported, where there is one
+abbrev pub reported_of : (wants ready : List Want) → List Want
+reported_of wants ready = filter_map (λ want. part_in (reads want.of ready) (writes want.of ready) want) wants
 
 -- the socket on which a call is
 abbrev pub is_on_control : Entry → Bool

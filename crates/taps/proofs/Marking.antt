@@ -13,7 +13,7 @@ behind [] = []
 behind (x ∷ xs) = xs
 
 -- no numbers begin others
-read_back : (a b : Gv) (s r : List ℕ) → numbers_of a ++ s ≡ numbers_of b ++ r → (a ≡ b) × (s ≡ r)
+pub read_back : (a b : Gv) (s r : List ℕ) → numbers_of a ++ s ≡ numbers_of b ++ r → (a ≡ b) × (s ≡ r)
 unfolding numbers_of first behind
 read_back gnil gnil s r is = (refl, ap behind is)
 read_back gnil (gnum m) s r is = absurd (omega (arith, ap first is))

@@ -10,7 +10,7 @@ use std::marker::Model;
 /// A list of calls with their answers, newest first, which only clauses read: it has no octets. What it says is tied to the World by `Tap` and to
 /// the sink by each `Book`.
 #[derive(Drop)]
-pub(crate) struct Journal {
+pub struct Journal {
     pub ghost entries: { List Entry },
 }
 
@@ -20,14 +20,14 @@ impl Model for Journal {
 
 impl Journal {
     /// A list with no call.
-    pub(crate) fn new() -> Journal
+    pub fn new() -> Journal
         ensures { result.entries ≡ [] }
     {
         Journal {}
     }
 
     /// The list with one call more.
-    pub(crate) fn then(&self, _line: &LineView<'_>) -> Journal
+    pub fn then(&self, _line: &LineView<'_>) -> Journal
         ensures { result.entries ≡ viewed _line.now ∷ self.now.entries }
     {
         Journal {}

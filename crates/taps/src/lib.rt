@@ -14,7 +14,8 @@ mod tap;
 
 pub use capture::Capture;
 pub use framing::Framing;
+pub use journal::Journal;
 pub use laws::just_the_calls_made_are_told;
 pub use lines::Lines;
 pub use record::Record;
-pub use tap::{Book, Tap};
+pub use tap::{Book, Tap, octets_got, octets_read, seat};

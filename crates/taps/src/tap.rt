@@ -91,16 +91,16 @@ impl<W: World, B: Book> Tap<W, B> {
     }
 }
 
-// The octets that a read left.
-fn octets_read(octets: &[u8], answer: Io) -> &[u8]
+/// The octets that a read left, as its line has them.
+pub fn octets_read(octets: &[u8], answer: Io) -> &[u8]
     requires { count_of answer ≤ length octets.now }
     ensures { result.now ≡ filled answer octets.now }
 {
     &octets[..answer.count()]
 }
 
-// The octets of a datagram that came.
-fn octets_got(octets: &[u8], answer: Got) -> &[u8]
+/// The octets of a datagram that came, none where none did.
+pub fn octets_got(octets: &[u8], answer: Got) -> &[u8]
     requires { count_got answer ≤ length octets.now }
     ensures { result.now ≡ filled_got answer octets.now }
 {
@@ -110,8 +110,8 @@ fn octets_got(octets: &[u8], answer: Got) -> &[u8]
     }
 }
 
-// A place of the link, as it stands in a line.
-fn seat(at: &LinkAt) -> (&[u8], Option<Endpoint>)
+/// A place of the link, as it stands in a line: the octets of a path, or an endpoint and none.
+pub fn seat(at: &LinkAt) -> (&[u8], Option<Endpoint>)
     ensures { place_of_two result.1 result.0.now ≡ place_of at.now }
 {
     match at {

@@ -1,0 +1,5 @@
+pub mod Apartness
+mod Passing
+mod Putting
+pub mod Reporting
+pub mod Stretching
