@@ -1,5 +1,5 @@
 -- What the control has come to: one fold over the record, in which a command is answered directly after the later of the read that makes its line whole and the write that ends the reply before it.
-use Rattle.std.specs.Prelude.{ℕ, ◌+◌, ◌==◌, ◌&&◌, Bool, true, false, is_some, List, [], ◌∷◌, ◌++◌, filter, map, reverse, Option, Some, None, if◌then◌else◌, codes}
+use Rattle.std.specs.Prelude.{◌≡◌, ℕ, ◌+◌, ◌==◌, ◌&&◌, Bool, true, false, is_some, List, [], ◌∷◌, ◌++◌, filter, map, reverse, Option, Some, None, if◌then◌else◌, codes}
 use Rattle.std.specs.Option.{option_map_or}
 use Rattle.net_octets.specs.declared.Endpoint.{Endpoint}
 use Rattle.world_face.specs.Journal.{Entry, Listen, Accept, TcpRead, TcpWrite, Close, UdpOpen}
@@ -20,7 +20,7 @@ use Rattle.flow_laws.specs.Close.{is_in_use}
 use Rattle.record_flows.specs.Book.{book}
 use Rattle.record_flows.specs.Flows.{Flow}
 use Rattle.control_session.specs.Talk.{Talk, after_accept, after_line, after_listen, after_read, after_write, deaf, fails, first_line, hung_up, is_last, is_out, listener, silent, with_left}
-use Rattle.control_session.specs.Apart.{is_controls, without_control}
+use Rattle.control_session.specs.Apart.{is_controls, is_on_control, without_control}
 use Rattle.control_words.specs.declared.Command.{Command}
 use Rattle.control_words.specs.declared.Command.TheVariants.{Add, Remove, List as Lists, What}
 use Rattle.control_laws.specs.Replies.{fault_text, list_reply, reply_line}
@@ -152,3 +152,8 @@ desk read config (e ∷ past) =
 -- the settings by which the network runs: with all that was added and taken back
 abbrev pub by_control : Reads → Config → List Entry → Config
 by_control read config past = with_changes config (desk read config past)
+
+-- none of these calls is on a socket of the control's
+abbrev pub AreOffControl : List Entry → Type 0
+AreOffControl [] = Unit {0}
+AreOffControl (e ∷ made) = (is_on_control e ≡ false) × AreOffControl made
