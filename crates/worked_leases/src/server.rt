@@ -46,21 +46,20 @@ fn config_of(words: &str) -> SlirpConfig {
                 config.version = 2;
                 config.disable_dns = true;
             }
-            "hostname" => config.vhostname = name_of(value),
-            "domainname" => config.vdomainname = name_of(value),
-            "tftp" => config.tftp_server_name = name_of(value),
-            "bootfile" => config.bootfile = name_of(value),
+            "hostname" => put_name(value, &mut config.vhostname),
+            "domainname" => put_name(value, &mut config.vdomainname),
+            "tftp" => put_name(value, &mut config.tftp_server_name),
+            "bootfile" => put_name(value, &mut config.bootfile),
             _ => {}
         }
     }
     config
 }
 
-// The octets of a name. None where they are too many.
-fn name_of(text: &str) -> ArrayVec<u8, 127> {
-    let mut name = ArrayVec::new();
+// The octets of a name, in place of those that stand there. None where they are too many.
+fn put_name(text: &str, name: &mut ArrayVec<u8, 127>) {
+    name.clear();
     let _ = name.try_extend_from_slice(text.as_bytes());
-    name
 }
 
 // What a message gets at its moment.
