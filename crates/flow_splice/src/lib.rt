@@ -262,6 +262,13 @@ impl Spliced {
         self.guest
     }
 
+    /// The other end, as the guest sees it.
+    pub fn other(&self) -> Endpoint
+        ensures { result ≡ self.now.face.other }
+    {
+        self.other
+    }
+
     /// The moment at which the flow is to be looked at: the end of the time to connect, or of the patience with a guest whose peer is gone, that of a wait
     /// for the guest's hardware address, or that of the connection's timer. `None` exactly where there is none, as where a request for that address is owed,
     /// which goes out when the link takes it.

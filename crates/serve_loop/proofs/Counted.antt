@@ -5,7 +5,7 @@ use Rattle.world_face.proofs.Counting.{rose_after, rose_before}
 use Rattle.serve_loop.specs.Ends.{IsCounted, IsCountedEnd, turn_of}
 use Rattle.slirp_core.specs.Counts.{AreGrown}
 use Rattle.serve_loop.specs.declared.service.End.{End}
-use Rattle.serve_loop.specs.declared.service.End.TheVariants.{Done, TooLong, Cut, LinkFault, WaitFault, TurnsSpent, ListenRefused}
+use Rattle.serve_loop.specs.declared.service.End.TheVariants.{Done, TooLong, Cut, LinkFault, WaitFault, TurnsSpent, ListenRefused, ControlRefused}
 use Rattle.serve_loop.specs.declared.service.Turn.{Turn}
 use Rattle.serve_loop.specs.declared.service.Turn.TheVariants.{Again, Ended}
 use Rattle.stream_netdev.specs.declared.Pumped.{Pumped}
@@ -22,6 +22,7 @@ end_after LinkFault a b c before counted = rose_after a.link b.link c.link befor
 end_after WaitFault a b c before counted = rose_after a.wait b.wait c.wait before.1 counted
 end_after (TurnsSpent n) a b c before counted = tt
 end_after (ListenRefused n) a b c before counted = rose_after a.socket b.socket c.socket before.2 counted
+end_after ControlRefused a b c before counted = rose_after a.socket b.socket c.socket before.2 counted
 
 pub end_before : (end : End) (a b c : Counts) → IsCountedEnd end a b → AreGrown b c → IsCountedEnd end a c
 end_before Done a b c counted later = tt
@@ -31,6 +32,7 @@ end_before LinkFault a b c counted later = rose_before a.link b.link c.link coun
 end_before WaitFault a b c counted later = rose_before a.wait b.wait c.wait counted later.1
 end_before (TurnsSpent n) a b c counted later = tt
 end_before (ListenRefused n) a b c counted later = rose_before a.socket b.socket c.socket counted later.2
+end_before ControlRefused a b c counted later = rose_before a.socket b.socket c.socket counted later.2
 
 pub counted_after : (turn : Turn) (a b c : Counts) → AreGrown a b → IsCounted turn b c → IsCounted turn a c
 counted_after Again a b c before counted = grown_then a b c before counted

@@ -1,6 +1,6 @@
 mod Among
 pub mod Attending
-mod Counted
+pub mod Counted
 pub mod Left
 pub mod Opening
 pub mod Serving

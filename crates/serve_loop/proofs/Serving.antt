@@ -1,5 +1,5 @@
 -- A run from its first call to its last.
-use Rattle.std.proofs.Common.{◌≡◌, Bool, ℕ, ◌≤◌, false, List, [], ◌++◌, Some, refl, sym, ◌∙◌, ap, subst}
+use Rattle.std.proofs.Common.{◌≡◌, Bool, ℕ, ◌≤◌, false, List, [], ◌++◌, Some, refl, sym, ◌∙◌, ap, subst, arith}
 use Rattle.std.proofs.lemmas.List.{append-nil}
 use Rattle.world_face.specs.Journal.{Entry}
 use Rattle.world_face.specs.Tells.{Telling, Makes}
@@ -8,6 +8,7 @@ use Rattle.world_face.proofs.Following.{heard}
 use Rattle.host_policy.specs.Addresses.{Config}
 use Rattle.run_laws.specs.Moments.{waits}
 use Rattle.run_laws.specs.Shape.{phase}
+use Rattle.run_laws.specs.Sockets.{next_number}
 use Rattle.slirp_laws.specs.Datagrams.{NeedsNothing}
 use Rattle.slirp_laws.specs.Laws.{Finished, Lawful}
 use Rattle.slirp_laws.specs.Served.{Served}
@@ -17,14 +18,15 @@ use Rattle.stream_netdev.specs.State.{LinkState, under_way}
 use Rattle.stream_netdev.proofs.Reading.{reads_first}
 use Rattle.tcp_flows.specs.Kept.{IsFor, Kept}
 use Rattle.port_forward.specs.Opened.{Opened}
-use Rattle.slirp_core.specs.Forwards.{forward_sockets}
+use Rattle.slirp_core.specs.Forwards.{AreCloses, forward_sockets}
 use Rattle.slirp_core.specs.Holds.{AfterListening, after, flowing, Begins, ClosesAll, Closing, Opens, Stands, Turns, Holders, as_given, holders_of}
 use Rattle.slirp_core.specs.Numbers.{flows_for}
 use Rattle.slirp_core.specs.State.{SlirpState}
 use Rattle.run_duties.specs.Duties.{Attended, Dutiful, Must}
 use Rattle.run_duties.specs.Serving.{AllServed}
 use Rattle.run_duties.proofs.Serving.{all_served_on}
-use Rattle.run_duties.proofs.Ended.{dutiful_to_the_end, dutiful_unwaited, refused_unwaited}
+use Rattle.run_duties.proofs.Ended.{dutiful_to_the_end, dutiful_unwaited, ended_yet, refused_unwaited}
+use Rattle.slirp_core.proofs.Closes.{draw_none}
 use Rattle.slirp_core.proofs.Starting.{IsUnbegun, begun, ran as ran_by, spent as spent_by}
 use Rattle.serve_loop.specs.Ends.{end_of}
 use Rattle.serve_loop.specs.Turns.{AttendsTo, Closes, EndedAs, HoldsNow, RanTo}
@@ -65,18 +67,18 @@ opens service config given new = begun config service.slirp service.link (unbegu
 -- the host refused a forward
 pub refused : (config : Config) (place : ℕ) (slirp : SlirpState) (link : LinkState) (made : List Entry) → AfterListening (Some place) config slirp link made
     → Closes config (ListenRefused place) slirp.forwards (holders_of slirp) made
-refused config place slirp link made closing = record {
-  closing = subst (λ p. Closing config p (forward_sockets slirp.forwards) (holders_of slirp) made) closing.is closing;
-  is = ap (end_of config) closing.is;
+refused config place slirp link made listened = record {
+  closing = subst (λ p. Closing config p (forward_sockets slirp.forwards) (holders_of slirp) made) listened.0.is listened.0;
+  is = ap (end_of config) listened.0.is;
 }
 
 pub reads_new : (service : ServiceState) → IsNew service → ReadsOn (under_way service.link)
 reads_new service new = subst ReadsOn (sym new.input) reads_first
 
 -- a run that an entry ended
-pub ran : (config : Config) (count : ℕ) (end : End) (forwards : List Opened) (o : Holders) (made : List Entry) → EndedAs config count end forwards o made
+pub ran : (config : Config) (count : ℕ) (end : End) (forwards : List Opened) (o : Holders) (number : ℕ) (made : List Entry) → EndedAs config count end forwards o number made
     → Closes config end forwards o made
-ran config count end forwards o made ended = record { closing = ran_by config count ended.why forwards o made ended.ended; is = ended.is ∙ sym (ap (end_of config) ended.ended.over) }
+ran config count end forwards o number made ended = record { closing = ran_by config count ended.why forwards o made ended.ended; is = ended.is ∙ sym (ap (end_of config) ended.ended.over) }
 
 -- after as many waits as there may be
 pub spent : (config : Config) (count turns : ℕ) (service : ServiceState) (made : List Entry) → 1 ≤ config.turns → config.turns ≤ count → turns ≡ config.turns → HoldsNow config
@@ -105,9 +107,23 @@ attends_to config end forwards o more past closes attentive all = (
   dutiful_to_the_end config more past (all config (phase config past) past closes.closing).0 closes.closing.ended attentive,
 )
 
+-- closing them it waits no more
+waits_no_more : (config : Config) (end : End) (forwards : List Opened) (o : Holders) (more past : List Entry) → Closes config end forwards o past → ClosesAll forwards o more
+    → waits (more ++ past) ≡ waits past
+waits_no_more config end forwards o more past closes all = (ended_yet config more past (all config (phase config past) past closes.closing).0 closes.closing.ended).1
+
+-- a turn that ended a run which attended so far, waited so often at most, and drew so many numbers
+pub attends_for : (config : Config) (most number : ℕ) (end : End) (forwards : List Opened) (o : Holders) (more past : List Entry) → Closes config end forwards o past → waits past ≤ most
+    → number ≡ next_number past → Dutiful config past → ClosesAll forwards o more × AreCloses more
+    → (RanTo config end (more ++ past) × (waits (more ++ past) ≤ most) × (next_number (more ++ past) ≤ number)) × Dutiful config (more ++ past)
+attends_for config most number end forwards o more past closes few drawn attentive all =
+    let run = attends_to config end forwards o more past closes attentive all.0 in
+    let no_more : next_number (more ++ past) ≡ number = draw_none more past all.1 ∙ sym drawn in
+    ((run.0, subst (λ n. n ≤ most) (sym (waits_no_more config end forwards o more past closes all.0)) few, omega (arith, no_more)), run.1)
+
 pub finishes : (config : Config) (end : End) (forwards : List Opened) (o : Holders) (a b c : Telling) → Makes a b (λ past. Closes config end forwards o past × Dutiful config past)
-    → Makes b c (ClosesAll forwards o) → Makes a c (AttendsTo config end)
-finishes config end forwards o a b c ran closed = makes_then a b c _ _ (AttendsTo config end) ran closed (λ made more closes all. attends_to config end forwards o more made closes.0 closes.1 all)
+    → Makes b c (λ made. ClosesAll forwards o made × AreCloses made) → Makes a c (AttendsTo config end)
+finishes config end forwards o a b c ran closed = makes_then a b c _ _ (AttendsTo config end) ran closed (λ made more closes all. attends_to config end forwards o more made closes.0 closes.1 all.0)
 
 -- a run whose first wait hasn't been attends
 pub none_waited : (config : Config) (count : ℕ) (aged : Bool) (slirp : SlirpState) (link : LinkState) (made : List Entry) → count ≡ 0 → HoldsNow config
@@ -120,8 +136,18 @@ none_reported config made none =
     let same : made ++ [] ≡ made = append-nil made in
     subst (AllServed config) same (all_served_on config made [] (ap waits same ∙ none) (λ who. record { reading = refl; writing = refl }))
 
-pub none_refused : (config : Config) (place : ℕ) (slirp : SlirpState) (link : LinkState) (made : List Entry) → AfterListening (Some place) config slirp link made → Dutiful config made
-none_refused config place slirp link made closing = dutiful_unwaited config made (refused_unwaited config made place closing.lawful (sym closing.is))
+-- nor did one wait whose forward the host refused
+unwaited : (config : Config) (place : ℕ) (slirp : SlirpState) (link : LinkState) (made : List Entry) → AfterListening (Some place) config slirp link made → waits made ≡ 0
+unwaited config place slirp link made listened = refused_unwaited config made place listened.0.lawful (sym listened.0.is)
+
+pub refuses : (config : Config) (place number : ℕ) (slirp : SlirpState) (link : LinkState) (a b c : Telling) → number ≡ slirp.number
+    → Makes a b (AfterListening (Some place) config slirp link) → Makes b c (λ made. ClosesAll slirp.forwards (holders_of slirp) made × AreCloses made)
+    → Makes a c (λ made. (RanTo config (ListenRefused place) made × (waits made ≤ 0) × (next_number made ≤ number)) × Dutiful config made)
+refuses config place number slirp link a b c same listened closed =
+    makes_then a b c _ _ (λ made. (RanTo config (ListenRefused place) made × (waits made ≤ 0) × (next_number made ≤ number)) × Dutiful config made) listened closed (λ made more refusal all.
+    let none = unwaited config place slirp link made refusal in
+    attends_for config 0 number (ListenRefused place) slirp.forwards (holders_of slirp) more made (refused config place slirp link made refusal) (omega (arith, none))
+    (same ∙ sym refusal.1) (dutiful_unwaited config made none) all)
 
 -- what a run made
 abbrev pub Made : Config → End → List Entry → Type 0
@@ -129,6 +155,11 @@ Made config end made = Lawful config made × Dutiful config made × Finished con
 
 pub made_so : (config : Config) (end : End) (made : List Entry) → AttendsTo config end made → Made config end made
 made_so config end made run = (run.0.0, run.1, run.0.1, run.0.2)
+
+-- the same of a run that a turn ended, with so many waits at most, and so many sockets
+pub made_by_turn : (config : Config) (end : End) (most number : ℕ) (made : List Entry)
+    → (RanTo config end made × (waits made ≤ most) × (next_number made ≤ number)) × Dutiful config made → Made config end made
+made_by_turn config end most number made run = made_so config end made (run.0.0, run.1)
 
 pub told : (config : Config) (end : End) (old new : Telling) → Makes old new (Made config end) → Served config old new
 told config end old new makes = served config old new (makes_as old new (Made config end) (λ made. Lawful config made × Finished config made) makes (λ made run. (run.0, run.2)))

@@ -8,6 +8,7 @@ use Rattle.host_policy.specs.Addresses.{Config}
 use Rattle.record_flows.specs.Segments.{segment_by}
 use Rattle.run_laws.specs.Fragments.{waiting}
 use Rattle.run_laws.specs.Packets.{Unheard}
+use Rattle.run_laws.specs.Sockets.{next_number}
 use Rattle.slirp_laws.specs.Agenda.{is_to_read, wanted_of}
 use Rattle.slirp_laws.specs.Datagrams.{Step, errand_by_packet}
 use Rattle.stream_netdev.specs.Keeps.{Keeps, ReadsFrame, hands, ending_of}
@@ -35,5 +36,6 @@ module _ (config : Config) (count : ℕ) (wants : List Want) (item : Want) (item
       subst (λ (t : Step). HoldsAt config (standing count wants items) t slirp (flowing false slirp.flows) new (made ++ past)) (ap (λ p. asked_by config slirp (errand_by_packet config p)) packet_is) h
 
   -- the run has ended
-  pub read_ended : (why : Ending) → ending_of answer ≡ Some why → hands answer new ≡ None → Ended config count why slirp.forwards (holders_of slirp) (made ++ past)
+  pub read_ended : (why : Ending) → ending_of answer ≡ Some why → hands answer new ≡ None
+      → Ended config count why slirp.forwards (holders_of slirp) (made ++ past) × (next_number (made ++ past) ≡ slirp.number)
   read_ended why is none = read_ends_it config count wants item items reads_it slirp slirp.flows old new answer no_packet out made past allowed read holds why is none

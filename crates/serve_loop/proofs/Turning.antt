@@ -10,14 +10,14 @@ use Rattle.world_face.specs.Journal.{Entry}
 use Rattle.world_face.specs.Frames.{Ending, LinkFailed}
 use Rattle.world_face.specs.Tells.{Brings, Telling}
 use Rattle.host_policy.specs.Addresses.{Config}
-use Rattle.port_forward.specs.Opened.{Opened}
 use Rattle.run_laws.specs.Moments.{waits}
+use Rattle.run_laws.specs.Sockets.{next_number}
 use Rattle.run_duties.specs.Duties.{Dutiful}
 use Rattle.run_duties.proofs.Going.{goes_on}
 use Rattle.run_duties.proofs.Serving.{all_served_on}
 use Rattle.slirp_laws.specs.Agenda.{agenda, is_to_read, is_to_write, wanted_of}
 use Rattle.stream_netdev.specs.State.{LinkState, under_way}
-use Rattle.slirp_core.specs.Holds.{Standing, after, standing, flowing, Ended, AfterPump, Holders, Leaves, holders_of}
+use Rattle.slirp_core.specs.Holds.{Standing, after, standing, flowing, Ended, AfterPump, Leaves, holders_of}
 use Rattle.slirp_core.specs.Calm.{AreClear}
 use Rattle.slirp_core.specs.Pumps.{WantsOf, is_settled, listeners_of}
 use Rattle.waiting_flows.specs.Wants.{link_want, listener_want, socket_wants}
@@ -58,9 +58,10 @@ settled slirp link is =
     (none_at link.tail both.0, none slirp.pending (not_true (nat_lt 0 (length slirp.pending)) both.1))
 
 -- the run has ended
-pub ended_as : (config : Config) (count : ℕ) (why : Ending) (forwards : List Opened) (o : Holders) (past : List Entry) → Ended config count why forwards o past
-    → EndedAs config count (end_by why) forwards o past
-ended_as config count why forwards o past ended = record { why = why; ended = ended; is = refl }
+pub ended_as : (config : Config) (count : ℕ) (why : Ending) (slirp : SlirpState) (past : List Entry)
+    → Ended config count why slirp.forwards (holders_of slirp) past × (next_number past ≡ slirp.number)
+    → EndedAs config count (end_by why) slirp.forwards (holders_of slirp) slirp.number past
+ended_as config count why slirp past over = record { why = why; ended = over.0; is = refl; drawn = over.1 }
 
 -- a pump is a part of a turn
 pub pumped : (answer : Pumped) (config : Config) (at : Standing) (aged : Bool) (slirp : SlirpState) (link : LinkState) (past : List Entry) → AfterPump answer config at slirp
@@ -68,7 +69,7 @@ pub pumped : (answer : Pumped) (config : Config) (at : Standing) (aged : Bool) (
     → AfterTurn (turn_of answer) config at aged slirp link past
 pumped Clear config at aged slirp link past holds = holds
 pumped Blocked config at aged slirp link past holds = holds
-pumped PumpFailed config at aged slirp link past ended = ended_as config at.count LinkFailed slirp.forwards (holders_of slirp) past ended
+pumped PumpFailed config at aged slirp link past ended = ended_as config at.count LinkFailed slirp past ended
 
 -- the same octets are under way
 pub same_under_way : (old new : LinkState) → new.octets ≡ old.octets → new.whole ≡ old.whole → under_way new ≡ under_way old
@@ -219,7 +220,7 @@ rests_on config at slirp new link next a b brings early = record {
 pub taken : (turn : Turn) (config : Config) (count : ℕ) (slirp : SlirpState) (link : LinkState) (past : List Entry) → AttendsAfterTurn turn config
     (after (count + 1)) false slirp link past → AttendsAfterTaking turn config count slirp link past
 taken Again config count slirp link past now = now
-taken (TurnEnded end) config count slirp link past now = ((count + 1, now.0), now.1)
+taken (TurnEnded end) config count slirp link past now = ((count + 1, omega arith, now.0), now.1)
 
 -- nothing is left to be sent after a pump that found the link free
 pub sent_by : (answer : Pumped) (slirp : SlirpState) (link : LinkState) → Leaves answer slirp link → turn_of answer ≡ Again → AllSent slirp link

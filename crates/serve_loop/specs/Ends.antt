@@ -9,7 +9,7 @@ use Rattle.stream_netdev.specs.declared.Pumped.TheVariants.{Clear, Blocked, Fail
 use Rattle.serve_loop.specs.declared.service.Turn.{Turn}
 use Rattle.serve_loop.specs.declared.service.Turn.TheVariants.{Again, Ended}
 use Rattle.serve_loop.specs.declared.service.End.{End}
-use Rattle.serve_loop.specs.declared.service.End.TheVariants.{Done, TooLong, Cut, LinkFault, WaitFault, TurnsSpent, ListenRefused}
+use Rattle.serve_loop.specs.declared.service.End.TheVariants.{Done, TooLong, Cut, LinkFault, WaitFault, TurnsSpent, ListenRefused, ControlRefused}
 
 -- the end by an ending entry: the link ended between frames or a wait was told to stop; and so on
 abbrev pub end_by : Ending → End
@@ -40,6 +40,7 @@ abbrev pub IsCountedEnd : End → Counts → Counts → Type 0
 IsCountedEnd LinkFault old new = Rose old.link new.link
 IsCountedEnd WaitFault old new = Rose old.wait new.wait
 IsCountedEnd (ListenRefused forward) old new = Rose old.socket new.socket
+IsCountedEnd ControlRefused old new = Rose old.socket new.socket
 IsCountedEnd _ old new = Unit {0}
 
 abbrev pub IsCounted : Turn → Counts → Counts → Type 0

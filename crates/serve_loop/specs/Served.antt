@@ -1,5 +1,5 @@
 -- A service, and one that has served nothing.
-use Rattle.std.specs.Prelude.{◌≡◌, ◌^◌, ◌≤◌, List, [], replicate, false, None}
+use Rattle.std.specs.Prelude.{◌≡◌, ◌^◌, ◌≤◌, List, [], replicate, false}
 use Rattle.host_policy.specs.Addresses.{Config}
 use Rattle.dhcp_server.specs.declared.leases.Lease.TheVariants.{Free}
 use Rattle.poll_list.specs.declared.Want.{Want}
@@ -23,10 +23,6 @@ pub record Stays (old new : ServiceState) : Type 0 where
   pub turn : new.slirp.flows.turn ≡ old.slirp.flows.turn
   pub wants : new.wants ≡ old.wants
   pub ready : new.ready ≡ old.ready
-
--- No part is asked for that isn't built: there is no control.
-pub record IsBuilt (config : Config) : Type 0 where
-  pub control : config.control ≡ None
 
 -- nothing was read or written, no datagram was sent, no guest is known, no socket is open, no moment was told, nothing is owed, no fragment waits, no address
 -- is lent and no guest gets a file; no forward is added or taken back; there is room for as many flows as the settings say, and none of them was used; no port of the host is open yet, and no

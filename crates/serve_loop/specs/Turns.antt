@@ -1,5 +1,5 @@
 -- What a turn, and each part of it, comes to.
-use Rattle.std.specs.Prelude.{◌≡◌, ◌⊎◌, ℕ, ◌+◌, ◌&&◌, not, Bool, true, false, List, [], ◌∷◌, slice_get, All, None, Some}
+use Rattle.std.specs.Prelude.{◌≡◌, ◌⊎◌, ℕ, ◌+◌, ◌≤◌, ◌&&◌, not, Bool, true, false, List, [], ◌∷◌, slice_get, All, None, Some}
 use Rattle.poll_list.specs.Listing.{differ, reads, same_who, writes}
 use Rattle.poll_list.specs.declared.Want.{Want}
 use Rattle.poll_list.specs.declared.Who.{Who}
@@ -8,7 +8,9 @@ use Rattle.world_face.specs.Journal.{Entry}
 use Rattle.world_face.specs.Frames.{Ending, Stopped, WaitFailed}
 use Rattle.world_face.specs.Tells.{Counts}
 use Rattle.host_policy.specs.Addresses.{Config}
+use Rattle.run_laws.specs.Moments.{waits}
 use Rattle.run_laws.specs.Shape.{phase}
+use Rattle.run_laws.specs.Sockets.{next_number}
 use Rattle.flow_splice.specs.Splice.{Splice}
 use Rattle.slirp_laws.specs.Agenda.{all_wanted, wanted_of}
 use Rattle.slirp_laws.specs.Laws.{Finished, Lawful}
@@ -120,33 +122,34 @@ is_frame_due wants ready = reads Link wants && reads Link ready
 -- after a wait with these wants, and the call of the clock that follows it
 abbrev pub AfterSleep : Slept → Config → ℕ → List Want → List Want → SlirpState → LinkState → List Entry → Type 0
 AfterSleep Ready config count wants ready slirp link past = ServesNow config count wants ready (is_frame_due wants ready) slirp link past
-AfterSleep SleptStopped config count wants ready slirp link past = Ended config count Stopped slirp.forwards (holders_of slirp) past
-AfterSleep SleepFailed config count wants ready slirp link past = Ended config count WaitFailed slirp.forwards (holders_of slirp) past
+AfterSleep SleptStopped config count wants ready slirp link past = Ended config count Stopped slirp.forwards (holders_of slirp) past × (next_number past ≡ slirp.number)
+AfterSleep SleepFailed config count wants ready slirp link past = Ended config count WaitFailed slirp.forwards (holders_of slirp) past × (next_number past ≡ slirp.number)
 
--- after a turn, or a part of one
-pub record EndedAs (config : Config) (count : ℕ) (end : End) (forwards : List Opened) (o : Holders) (past : List Entry) : Type 0 where
+-- after a turn, or a part of one, that ended the run: the next socket would have this number
+pub record EndedAs (config : Config) (count : ℕ) (end : End) (forwards : List Opened) (o : Holders) (number : ℕ) (past : List Entry) : Type 0 where
   pub why : Ending
   pub ended : Ended config count why forwards o past
   pub is : end ≡ end_by why
+  pub drawn : next_number past ≡ number
 
 abbrev pub AfterTurn : Turn → Config → Standing → Bool → SlirpState → LinkState → List Entry → Type 0
 AfterTurn Again config at aged slirp link past = HoldsNow config at aged slirp link past
-AfterTurn (TurnEnded end) config at aged slirp link past = EndedAs config at.count end slirp.forwards (holders_of slirp) past
+AfterTurn (TurnEnded end) config at aged slirp link past = EndedAs config at.count end slirp.forwards (holders_of slirp) slirp.number past
 
 -- after an item was served
 abbrev pub AfterItem : Turn → Config → ℕ → List Want → List Want → Bool → SlirpState → LinkState → List Entry → Type 0
 AfterItem Again config count wants items to_read slirp link past = ServesNow config count wants items to_read slirp link past
-AfterItem (TurnEnded end) config count wants items to_read slirp link past = EndedAs config count end slirp.forwards (holders_of slirp) past
+AfterItem (TurnEnded end) config count wants items to_read slirp link past = EndedAs config count end slirp.forwards (holders_of slirp) slirp.number past
 
 -- after all were
 abbrev pub ServedAfter : Turn → Config → List Entry → Type 0
 ServedAfter Again config past = AllServed config past
 ServedAfter (TurnEnded end) config past = Unit {0}
 
--- after a turn, whose sockets are left open where it ended the run: that may have been before its wait
+-- after a turn, whose sockets are left open where it ended the run: that may have been before its wait, and it made no other
 abbrev pub AfterTaking : Turn → Config → ℕ → SlirpState → LinkState → List Entry → Type 0
 AfterTaking Again config count slirp link past = HoldsNow config (after (count + 1)) false slirp link past
-AfterTaking (TurnEnded end) config count slirp link past = (waited : ℕ) × EndedAs config waited end slirp.forwards (holders_of slirp) past
+AfterTaking (TurnEnded end) config count slirp link past = (waited : ℕ) × (waited ≤ count + 1) × EndedAs config waited end slirp.forwards (holders_of slirp) slirp.number past
 
 -- and then the link can be read
 abbrev pub GoesOnAfter : Turn → LinkState → Type 0
@@ -167,10 +170,10 @@ pub record Closes (config : Config) (end : End) (forwards : List Opened) (o : Ho
 abbrev pub RanTo : Config → End → List Entry → Type 0
 RanTo config end made = Lawful config made × Finished config made × (end ≡ end_of config (phase config made))
 
--- after a whole turn: where it ended the run all sockets are closed
+-- after a whole turn: where it ended the run all sockets are closed, and there were no more waits than these, and no more sockets than have a number
 abbrev pub AfterWholeTurn : Turn → Config → Standing → SlirpState → LinkState → List Entry → Type 0
 AfterWholeTurn Again config at slirp link past = HoldsNow config at false slirp link past
-AfterWholeTurn (TurnEnded end) config at slirp link past = RanTo config end past
+AfterWholeTurn (TurnEnded end) config at slirp link past = RanTo config end past × (waits past ≤ at.count) × (next_number past ≤ slirp.number)
 
 -- ---- the same, where each wait so far was as it must be
 

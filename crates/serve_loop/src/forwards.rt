@@ -1,15 +1,20 @@
 // Ports of the host that are given to guests between two turns, and taken back.
-ghost use Rattle.std.specs.Prelude.{◌≡◌, ◌≢◌, ◌<◌, ◌+◌, ◌^◌, ℕ, true, false, is_some};
+ghost use Rattle.std.specs.Prelude.{◌≡◌, ◌≢◌, ◌<◌, ◌≤◌, ◌+◌, ◌^◌, IfSome, ℕ, List, Some, length, true, false, is_some, slice_get};
 ghost use Rattle.std.specs.Result.{is_ok, result_err};
-ghost use Rattle.world_face.specs.Tells.{Brings, Makes};
+ghost use Rattle.world_face.specs.Journal.{Entry};
+ghost use Rattle.world_face.specs.Tells.{Brings, Makes, Rose};
 ghost use Rattle.host_policy.specs.Addresses.{Config};
 ghost use Rattle.port_forward.specs.Adding.{Adds, fault_of};
 ghost use Rattle.port_forward.specs.Opened.{socket_at, without};
+ghost use Rattle.port_forward.specs.declared.FwdFault.TheVariants.{Refused};
 ghost use Rattle.slirp_core.specs.Added.{MayAdd, MayRemove, closed_at, number_after};
+ghost use Rattle.record_flows.specs.Book.{book};
 ghost use Rattle.slirp_core.specs.Holds.{after};
+ghost use Rattle.slirp_core.specs.NextFlow.{IsNextFlow};
 ghost use Rattle.serve_loop.specs.Turns.{AttendsNow};
 
 use crate::service::Service;
+use flow_table::Tuple;
 use host_policy::{Forward, Proto};
 use net_octets::Endpoint;
 use slirp_core::{FwdFault, NotThere};
@@ -27,6 +32,7 @@ impl Service {
         requires guest_port { forward.guest.port ≢ 0 }
         ensures adds { Makes (W.tells world.old) (W.tells world.new)
             (Adds (fault_of self.old.slirp.config forward self.old.slirp.forwards) forward self.old.slirp.number self.old.slirp.forwards self.new.slirp.forwards (result_err result)) }
+        ensures counted { result_err result ≡ Some Refused → Rose (W.tells world.old).faults.socket (W.tells world.new).faults.socket }
         // It may be added after a turn, where the settings have it for the number of its socket.
         ensures makes { (config : Config) (count : ℕ) → 0 < count → MayAdd config self.old.slirp forward → Brings (W.tells world.old) (W.tells world.new)
             (AttendsNow config (after count) false self.old.slirp self.old.link) (AttendsNow config (after count) false self.new.slirp self.new.link) }
@@ -56,5 +62,25 @@ impl Service {
         ensures link { self.new.link ≡ self.old.link }
     {
         self.slirp.remove_hostfwd(world, proto, host)
+    }
+
+    /// The port of the host at this place of those that are given to guests, in the order in which they were added, with the number of its socket. `None` exactly
+    /// where there are no more.
+    pub fn forward(&self, place: usize) -> Option<(Forward, u64)>
+        ensures at { result ≡ slice_get self.now.slirp.forwards place }
+        ensures few { length self.now.slirp.forwards ≤ 32 }
+    {
+        self.slirp.forward(place)
+    }
+
+    /// The number of the flow in use that comes next after this number, or of the first one, with its two ends. A flow is in use while its socket is open, and
+    /// until the reset that it owes its guest is out. It looks at all flows.
+    pub fn flow_after(&self, last: Option<u64>) -> Option<(u64, Tuple)>
+        ensures drawn { IfSome result (λ next. next.0 < self.now.slirp.number) }
+        // By the record, between two turns.
+        ensures next { (config : Config) (count : ℕ) (past : List Entry) → AttendsNow config (after count) false self.now.slirp self.now.link past
+            → IsNextFlow last result (book config past).flows }
+    {
+        self.slirp.flow_after(last)
     }
 }

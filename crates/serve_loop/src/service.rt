@@ -39,6 +39,8 @@ pub enum End {
     TurnsSpent(u64),
     /// The host refused the forward with this number, counted from 0.
     ListenRefused(usize),
+    /// The host refused the control connection's port.
+    ControlRefused,
 }
 
 /// What came of a turn.
@@ -91,8 +93,8 @@ impl Model for Service {
 }
 
 impl Service {
-    ghost use Rattle.std.specs.Prelude.{ℕ, ◌+◌, ◌<◌, ◌≤◌, ◌^◌, ◌∷◌, Bool, drop, length, if◌then◌else◌, IfOk};
-    ghost use Rattle.world_face.specs.Journal.{Entry};
+    ghost use Rattle.std.specs.Prelude.{ℕ, ◌+◌, ◌<◌, ◌≤◌, ◌^◌, ◌∷◌, Bool, drop, length, map, reverse, if◌then◌else◌, IfOk};
+    ghost use Rattle.world_face.specs.Journal.{Close, Entry};
     ghost use Rattle.world_face.specs.Tells.{Makes, Brings, Rose};
     ghost use Rattle.host_policy.specs.Addresses.{Config};
     ghost use Rattle.host_policy.specs.Ranges.{IsSound};
@@ -104,18 +106,18 @@ impl Service {
     ghost use Rattle.stream_netdev.specs.State.{under_way};
     ghost use Rattle.serve_loop.specs.Ends.{end_of, IsCounted};
     ghost use Rattle.slirp_core.specs.Counts.{AreGrown};
-    ghost use Rattle.slirp_core.specs.Holds.{AfterListening, ClosesAll, Opens, after, as_given, holders_of};
+    ghost use Rattle.slirp_core.specs.Forwards.{AreCloses, forward_sockets};
+    ghost use Rattle.slirp_core.specs.Holds.{AfterListening, ClosesAll, HoldsNothingElse, Opens, after, as_given, holders_of};
     ghost use Rattle.serve_loop.specs.Turns.{AfterTurn, AllSent, AreYoung, AttendsAfterSleep, AttendsAfterTaking, AttendsAfterTurn, AttendsAfterWholeTurn, AttendsNow};
     ghost use Rattle.serve_loop.specs.Turns.{HoldsNow, IsCalm, IsCalmAfter, IsInTime, IsStep, MayRest, NoneGoesAgain, NoneTold, ServedAfter, ServesNow, all_passed_over, is_frame_due};
     ghost use Rattle.run_duties.specs.Duties.{Attended, Dutiful};
     ghost use Rattle.slirp_core.specs.Marks.{KeepsMarks};
     ghost use Rattle.slirp_core.specs.Pumps.{is_settled};
-    ghost use Rattle.serve_loop.specs.Served.{IsBuilt, IsNew, Stays};
+    ghost use Rattle.serve_loop.specs.Served.{IsNew, Stays};
 
     /// A network with these settings that has served nothing. It takes all the memory that it will ever need.
     pub fn open(alloc: Global, c: &SlirpConfig) -> Result<Service, NoMemory>
         requires sound { IsSound (settings c.now) }
-        requires built { IsBuilt (settings c.now) }
         ensures new { IfOk result (λ service. IsNew service) }
         ensures config { IfOk result (λ service. service.slirp.config ≡ settings c.now) }
     {
@@ -215,9 +217,13 @@ impl Service {
         self.slirp.tell_moment(told);
     }
 
-    /// Closes all sockets of the network, by rising number.
+    /// Closes all sockets of the network, by rising number, and does nothing else.
     pub fn close_all<W: World>(&mut self, world: &mut W)
-        ensures makes { Makes (W.tells world.old) (W.tells world.new) (ClosesAll self.old.slirp.forwards (holders_of self.old.slirp)) }
+        ensures makes { Makes (W.tells world.old) (W.tells world.new)
+            (λ made. ClosesAll self.old.slirp.forwards (holders_of self.old.slirp) made × AreCloses made) }
+        // Where only ports of the host are open they are closed in the order of the list, whether the run has ended or not.
+        ensures ports { HoldsNothingElse self.old.slirp → Makes (W.tells world.old) (W.tells world.new)
+            (λ made. made ≡ map Close (reverse (forward_sockets self.old.slirp.forwards))) }
         ensures config { self.new.slirp.config ≡ self.old.slirp.config }
         ensures number { self.new.slirp.number ≡ self.old.slirp.number }
         ensures turns { self.new.slirp.flows.turn ≡ self.old.slirp.flows.turn }

@@ -439,7 +439,7 @@ module _ (config : Config) (at : Standing) (slirp : SlirpState) (f : Flowing) (l
       (flowing f.aged new) next (made ++ past)
   pumped Clear pumps = let then_is = pumps config f.aged past (sendable config at slirp f link past none turn holds) in went_on then_is.0 then_is.1 then_is.2 then_is.3
   pumped Blocked pumps = let then_is = pumps config f.aged past (sendable config at slirp f link past none turn holds) in went_on then_is.0 then_is.1 then_is.2 then_is.3
-  pumped Failed pumps = let then_is = pumps config f.aged past (sendable config at slirp f link past none turn holds) in broke then_is.0 then_is.1 then_is.2
+  pumped Failed pumps = let then_is = pumps config f.aged past (sendable config at slirp f link past none turn holds) in (broke then_is.0 then_is.1 then_is.2, then_is.1 ∙ holds.sockets.number)
 
 -- the flows of a turn were pumped, or of none
 pub pumped_so : (config : Config) (at : Standing) (slirp : SlirpState) (aged : Bool) (kept new : Kept) (link next : LinkState) (past made : List Entry) (last : ℕ)

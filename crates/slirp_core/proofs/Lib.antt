@@ -1,6 +1,7 @@
 pub mod Viewed
 pub mod Again
 pub mod Adding
+pub mod Alone
 pub mod Arriving
 pub mod AsGiven
 pub mod Askers
@@ -9,6 +10,7 @@ pub mod Assembling
 pub mod Associating
 pub mod Bounding
 pub mod Bridging
+pub mod Closes
 pub mod Closing
 pub mod Connecting
 pub mod Counted
@@ -22,6 +24,7 @@ pub mod Marking
 pub mod Merging
 pub mod Guests
 pub mod Names
+pub mod NextFlow
 pub mod Parts
 pub mod Pumping
 pub mod Relaying

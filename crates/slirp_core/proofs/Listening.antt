@@ -19,11 +19,13 @@ use Rattle.port_forward.specs.Adding.{Adds, fault_of, opening_of}
 use Rattle.port_forward.specs.Opened.{Opened, is_at, is_taken}
 use Rattle.port_forward.proofs.Adding.{no_cause}
 use Rattle.run_laws.specs.Shape.{Over, Refused}
+use Rattle.run_laws.specs.Sockets.{next_number}
 use Rattle.stream_netdev.specs.State.{LinkState}
 use Rattle.slirp_core.specs.Forwards.{Listens, forward_sockets, with_numbers}
 use Rattle.slirp_core.specs.Holds.{Closing, Opens, holders_of}
 use Rattle.slirp_core.specs.State.{SlirpState}
 use Rattle.slirp_laws.proofs.Bools.{first_of, second_of, turned}
+use Rattle.slirp_core.proofs.Given.{opening_next}
 use Rattle.slirp_core.proofs.Starting.{more_open, next_left, numbers_last, refused}
 
 -- ---- what the ranges of the settings say of each forward
@@ -180,15 +182,19 @@ listened config place f slirp new link made past at listens same allowed opens =
 pub listen_refused : (config : Config) (place : ℕ) (f : Forward) (slirp new : SlirpState) (link : LinkState) (made past : List Entry) → slice_get config.forwards place ≡ Some f →
     Listens false f slirp.number slirp.forwards new.forwards made
     → new ≡ record slirp { number = slirp.number + 1; forwards = new.forwards } → AreAllowed made → Opens config place slirp link past
-    → Closing config (Over (Refused place)) (forward_sockets new.forwards) (holders_of new) (made ++ past)
+    → Closing config (Over (Refused place)) (forward_sockets new.forwards) (holders_of new) (made ++ past) × (next_number (made ++ past) ≡ new.number)
 listen_refused config place f slirp new link made past at listens same allowed opens =
     let here : Opens config slirp.number slirp link past = subst (λ n. Opens config n slirp link past) (sym opens.number) opens in
     let next = next_left here.done here.left config.forwards f here.all (ap (slice_get config.forwards) (sym here.many ∙ opens.number) ∙ at) in
     let then_is = refused config slirp link past here f next.0 next.1 (subst AreAllowed listens.1 allowed).0 in
-    subst (λ es. Closing config (Over (Refused place)) (forward_sockets new.forwards) (holders_of new) (es ++ past)) (sym listens.1)
-    (subst (λ n. Closing config (Over (Refused n)) (forward_sockets new.forwards) (holders_of new) (opening_of f.proto slirp.number f.host Failed ∷ past)) opens.number
-    (subst (λ (s : SlirpState). Closing config (Over (Refused slirp.number)) (forward_sockets s.forwards) (holders_of s) (opening_of f.proto slirp.number f.host Failed ∷ past))
-    (sym (same ∙ ap (λ l. record slirp { number = slirp.number + 1; forwards = l }) listens.0)) then_is))
+    let drawn : next_number (made ++ past) ≡ slirp.number + 1 =
+    ap (λ (es : List Entry). next_number (es ++ past)) listens.1 ∙ opening_next f.proto slirp.number f.host Failed past ∙ ap (λ n. n + 1) opens.sockets.number in (
+      subst (λ es. Closing config (Over (Refused place)) (forward_sockets new.forwards) (holders_of new) (es ++ past)) (sym listens.1)
+          (subst (λ n. Closing config (Over (Refused n)) (forward_sockets new.forwards) (holders_of new) (opening_of f.proto slirp.number f.host Failed ∷ past)) opens.number
+          (subst (λ (s : SlirpState). Closing config (Over (Refused slirp.number)) (forward_sockets s.forwards) (holders_of s) (opening_of f.proto slirp.number f.host Failed ∷ past))
+          (sym (same ∙ ap (λ l. record slirp { number = slirp.number + 1; forwards = l }) listens.0)) then_is)),
+      drawn ∙ sym (ap (λ (s : SlirpState). s.number) same),
+    )
 
 -- what the list says of a forward that was added
 pub listens_by : {T : Type 0} (forward : Forward) (number : ℕ) (old new : List Opened) (result : Result T FwdFault) (made : List Entry) → Adds None forward number old new

@@ -100,26 +100,29 @@ after_write config at slirp new_slirp f old new past octets answer blocked holds
     by_answer End false k fine l = goes End k fine refl l
     by_answer NotYet true k fine l = goes NotYet k fine refl l
     by_answer NotYet false k fine l = goes NotYet k fine refl l
-    by_answer Failed b k fine l = record {
-      lawful = lawful Failed k;
-      over = ap (λ p. unless_over p LinkFailed) turn.working;
-      waited = holds.clock.counted;
-      errand = errand_for config NeedsNothing None slirp past holds.relayed;
-      served = none_due_for_services config (LinkWrite octets Failed ∷ past) refl (quest_written config octets Failed past holds.services.quest);
-      idle = (flows Failed).holds.asked;
-      stay = flows_stay_open config f slirp.moment (LinkWrite octets Failed ∷ past) (flows Failed);
-      sockets = subst (λ (s : SlirpState). AreOpen (forward_sockets s.forwards) (carriers (holders_with s f.kept)) f.kept.flows.slots (LinkWrite octets Failed ∷ past))
-          (sym same) (record {
-            each = now_open.each;
-            forward = now_open.forward;
-            carry = now_open.carry;
-            flow = now_open.flow;
-            apart = now_open.apart;
-            rising = now_open.rising;
-            others = now_open.others;
-          });
-      two = subst (λ (s : SlirpState). AreTwo (holders_with s f.kept)) (sym same) (two_in config slirp past holds.lawful holds.relayed.list holds.relayed.questions);
-    }
+    by_answer Failed b k fine l = (
+      record {
+        lawful = lawful Failed k;
+        over = ap (λ p. unless_over p LinkFailed) turn.working;
+        waited = holds.clock.counted;
+        errand = errand_for config NeedsNothing None slirp past holds.relayed;
+        served = none_due_for_services config (LinkWrite octets Failed ∷ past) refl (quest_written config octets Failed past holds.services.quest);
+        idle = (flows Failed).holds.asked;
+        stay = flows_stay_open config f slirp.moment (LinkWrite octets Failed ∷ past) (flows Failed);
+        sockets = subst (λ (s : SlirpState). AreOpen (forward_sockets s.forwards) (carriers (holders_with s f.kept)) f.kept.flows.slots (LinkWrite octets Failed ∷ past))
+            (sym same) (record {
+              each = now_open.each;
+              forward = now_open.forward;
+              carry = now_open.carry;
+              flow = now_open.flow;
+              apart = now_open.apart;
+              rising = now_open.rising;
+              others = now_open.others;
+            });
+        two = subst (λ (s : SlirpState). AreTwo (holders_with s f.kept)) (sym same) (two_in config slirp past holds.lawful holds.relayed.list holds.relayed.questions);
+      },
+      holds.sockets.number ∙ sym (ap (λ (s : SlirpState). s.number) same),
+    )
 
 -- a write of the rest of a frame
 pub after_flush : (config : Config) (at : Standing) (slirp : SlirpState) (f : Flowing) (old new : LinkState) (made past : List Entry) (result : Offered) (pumped : Pumped) →

@@ -601,19 +601,22 @@ module _ (config : Config) (count : ℕ) (wants : List Want) (item : Want) (item
       kept_as (Some frame) other keeps = keeps
 
   -- the run has ended
-  pub read_ends_it : (why : Ending) → ending_of answer ≡ Some why → hands answer new ≡ None → Ended config count why slirp.forwards (holders_with slirp kept) (made ++ past)
+  pub read_ends_it : (why : Ending) → ending_of answer ≡ Some why → hands answer new ≡ None
+      → Ended config count why slirp.forwards (holders_with slirp kept) (made ++ past) × (next_number (made ++ past) ≡ slirp.number)
   read_ends_it why is none =
       let r = read past holds.keeps in
       let nothing : packet_of config slirp.moment wait (arrived (made ++ past)) ≡ Unheard = ap (packet_of config slirp.moment wait) (r.1.frame ∙ none) in
-      let flows = all.quiet_flows (ap segment_by nothing) in
-      record {
-        lawful = all.lawful;
-        over = all.phase_is ∙ ap over_by (r.1.last ∙ is);
-        waited = all.counted;
-        errand = all.asks ∙ ap (errand_by_packet config) nothing;
-        served = none_due_for_services config (made ++ past) all.heard (ap (λ (k : Files). k.quest) (all.files_is ∙ ap (files_by_packet config (serving_of slirp)) nothing));
-        idle = flows.holds.asked;
-        stay = flows_stay_open config (flowing false kept) slirp.moment (made ++ past) flows;
-        sockets = open_by config slirp (flowing false kept) slirp.moment (made ++ past) all.lawful all.list all.named flows.holds all.sockets.kinds forwards_then;
-        two = two_in config slirp (made ++ past) all.lawful all.list all.named;
-      }
+      let flows = all.quiet_flows (ap segment_by nothing) in (
+        record {
+          lawful = all.lawful;
+          over = all.phase_is ∙ ap over_by (r.1.last ∙ is);
+          waited = all.counted;
+          errand = all.asks ∙ ap (errand_by_packet config) nothing;
+          served = none_due_for_services config (made ++ past) all.heard (ap (λ (k : Files). k.quest) (all.files_is ∙ ap (files_by_packet config (serving_of slirp)) nothing));
+          idle = flows.holds.asked;
+          stay = flows_stay_open config (flowing false kept) slirp.moment (made ++ past) flows;
+          sockets = open_by config slirp (flowing false kept) slirp.moment (made ++ past) all.lawful all.list all.named flows.holds all.sockets.kinds forwards_then;
+          two = two_in config slirp (made ++ past) all.lawful all.list all.named;
+        },
+        all.sockets.number,
+      )

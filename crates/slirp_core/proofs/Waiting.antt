@@ -66,18 +66,21 @@ module _ (config : Config) (count : ℕ) (slirp : SlirpState) (kept : Kept) (old
   now_open = are_open config (after count) NeedsNothing None slirp (flowing true kept) old past holds
 
   pub wait_ends_it : (answer : Waited) (ready : List Want) (why : Ending) → wait_ending answer ≡ Some why → Ended config (count + 1) why slirp.forwards (holders_with slirp kept)
-      (Wait wants timeout answer ready ∷ past)
-  wait_ends_it answer ready why is = record {
-    lawful = waited answer ready;
-    over = ap (λ o. phase_after (Wait wants timeout answer ready) o (phase config past)) is ∙ ends why holds.stands;
-    waited = ap (λ n. n + 1) holds.clock.counted;
-    errand = errand_for config NeedsNothing None slirp past holds.relayed;
-    served = none_due_for_services config (Wait wants timeout answer ready ∷ past) refl holds.services.quest;
-    idle = (flows_then answer ready).holds.asked;
-    stay = flows_stay_open config (flowing false kept) slirp.moment (Wait wants timeout answer ready ∷ past) (flows_then answer ready);
-    sockets = record { each = now_open.each; forward = now_open.forward; carry = now_open.carry; flow = now_open.flow; apart = now_open.apart; rising = now_open.rising; others = now_open.others };
-    two = two_in config slirp past holds.lawful holds.relayed.list holds.relayed.questions;
-  }
+      (Wait wants timeout answer ready ∷ past) × (next_number (Wait wants timeout answer ready ∷ past) ≡ slirp.number)
+  wait_ends_it answer ready why is = (
+    record {
+      lawful = waited answer ready;
+      over = ap (λ o. phase_after (Wait wants timeout answer ready) o (phase config past)) is ∙ ends why holds.stands;
+      waited = ap (λ n. n + 1) holds.clock.counted;
+      errand = errand_for config NeedsNothing None slirp past holds.relayed;
+      served = none_due_for_services config (Wait wants timeout answer ready ∷ past) refl holds.services.quest;
+      idle = (flows_then answer ready).holds.asked;
+      stay = flows_stay_open config (flowing false kept) slirp.moment (Wait wants timeout answer ready ∷ past) (flows_then answer ready);
+      sockets = record { each = now_open.each; forward = now_open.forward; carry = now_open.carry; flow = now_open.flow; apart = now_open.apart; rising = now_open.rising; others = now_open.others };
+      two = two_in config slirp past holds.lawful holds.relayed.list holds.relayed.questions;
+    },
+    holds.sockets.number,
+  )
 
   pub wait_wakes : (ready : List Want) (told : ℕ) (new : LinkState) → Allowed (Wait wants timeout Ready ready) → Allowed (Now told) → under_way new ≡ under_way old → new.tail ≡ old.tail
       → new.blocked ≡ (if writes TheLink ready then false else old.blocked)

@@ -1,5 +1,5 @@
 -- Ports of the host that are given to guests: which forwards are in force by the record. Those of the settings have the first numbers, since they are opened before all other sockets.
-use Rattle.std.specs.Prelude.{◌≡◌, ℕ, ◌+◌, ◌||◌, Bool, true, false, List, [], ◌∷◌, ◌++◌, filter, map, slice_get, Option, Some}
+use Rattle.std.specs.Prelude.{◌≡◌, ℕ, ◌+◌, ◌||◌, Bool, true, false, List, [], ◌∷◌, ◌++◌, All, filter, map, slice_get, Option, Some}
 use Rattle.std.specs.Option.{option_and_then}
 use Rattle.net_octets.specs.declared.Endpoint.{Endpoint}
 use Rattle.world_face.specs.Journal.{Close, Entry}
@@ -64,3 +64,10 @@ Listens false forward number old new made = (new ≡ old) × (made ≡ opening_o
 abbrev pub ClosesForward : Bool → (old new : List Opened) → List Entry → Type 0
 ClosesForward true old new made = (forward : Forward) × (number : ℕ) × (old ≡ (forward, number) ∷ new) × (made ≡ Close number ∷ [])
 ClosesForward false old new made = (old ≡ []) × (new ≡ []) × (made ≡ [])
+
+-- no call is made but closes
+abbrev pub IsClose : Entry → Type 0
+IsClose e = (n : ℕ) × (e ≡ Close n)
+
+abbrev pub AreCloses : List Entry → Type 0
+AreCloses made = All IsClose made

@@ -258,6 +258,12 @@ holders_with slirp kept = record { associations = slirp.associations; questions 
 abbrev pub holders_of : SlirpState → Holders
 holders_of slirp = holders_with slirp slirp.flows
 
+-- no socket is open but those of forwards
+pub record HoldsNothingElse (slirp : SlirpState) : Type 0 where
+  pub alone : slirp.associations ≡ []
+  pub unnamed : slirp.questions ≡ []
+  pub none : NoneInSlots slirp.flows.flows.slots
+
 -- the sockets of associations and of questions, which carry datagrams; none is that of both
 abbrev pub carriers : Holders → List ℕ
 carriers o = numbers o.associations ++ question_numbers o.questions
@@ -299,11 +305,11 @@ pub record Ended (config : Config) (count : ℕ) (why : Ending) (forwards : List
   pub sockets : AreOpen (forward_sockets forwards) (carriers o) o.slots past
   pub two : AreTwo o
 
--- after a pump
+-- after a pump: where it failed as many numbers were drawn as the network has
 abbrev pub AfterPump : Pumped → Config → Standing → SlirpState → Flowing → LinkState → List Entry → Type 0
 AfterPump Clear config at slirp f link past = Holds config at slirp f link past
 AfterPump Blocked config at slirp f link past = Holds config at slirp f link past
-AfterPump Failed config at slirp f link past = Ended config at.count LinkFailed slirp.forwards (holders_with slirp f.kept) past
+AfterPump Failed config at slirp f link past = Ended config at.count LinkFailed slirp.forwards (holders_with slirp f.kept) past × (next_number past ≡ slirp.number)
 
 -- what is left after a pump
 abbrev pub Leaves : Pumped → SlirpState → LinkState → Type 0
@@ -373,7 +379,7 @@ abbrev pub ClosesAll : List Opened → Holders → List Entry → Type 0
 ClosesAll forwards o made =
     (config : Config) (over : Phase) (past : List Entry) → Closing config over (forward_sockets forwards) o past → Ran config over (made ++ past)
 
--- after the ports of the host were opened; or one was refused, and the others are to be closed
+-- after the ports of the host were opened; or one was refused, for which a number was drawn, too, and the others are to be closed
 abbrev pub AfterListening : Option ℕ → Config → SlirpState → LinkState → List Entry → Type 0
 AfterListening None config slirp link past = Opens config (length config.forwards) slirp link past
-AfterListening (Some place) config slirp link past = Closing config (Over (Refused place)) (forward_sockets slirp.forwards) (holders_of slirp) past
+AfterListening (Some place) config slirp link past = Closing config (Over (Refused place)) (forward_sockets slirp.forwards) (holders_of slirp) past × (next_number past ≡ slirp.number)

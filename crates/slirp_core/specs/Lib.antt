@@ -13,6 +13,7 @@ pub mod Holds
 pub mod Kinds
 pub mod Leases
 pub mod Marks
+pub mod NextFlow
 pub mod Numbers
 pub mod Outgoing
 pub mod Owed

@@ -1,6 +1,7 @@
 // Ports of the host that are given to guests: they are opened before all else or while a run goes on, and closed at the end or before it.
-ghost use Rattle.std.specs.Prelude.{[], ◌≡◌, ◌≢◌, ◌<◌, ◌≤◌, ◌+◌, ◌^◌, ℕ, length, map, OnSome, IfSome, Some, None};
+ghost use Rattle.std.specs.Prelude.{[], ◌≡◌, ◌≢◌, ◌<◌, ◌≤◌, ◌+◌, ◌^◌, ℕ, length, map, slice_get, OnSome, IfSome, Some, None};
 ghost use Rattle.std.specs.Result.{result_err};
+ghost use Rattle.port_forward.specs.declared.FwdFault.TheVariants.{Refused};
 ghost use Rattle.slirp_core.specs.Added.{number_after};
 
 use crate::network::Slirp;
@@ -88,6 +89,7 @@ impl Slirp {
         requires guest_port { forward.guest.port ≢ 0 }
         ensures adds { Makes (W.tells world.old) (W.tells world.new)
             (Adds (fault_of self.old.config forward self.old.forwards) forward self.old.number self.old.forwards self.new.forwards (result_err result)) }
+        ensures counted { result_err result ≡ Some Refused → Rose (W.tells world.old).faults.socket (W.tells world.new).faults.socket }
         // Between the calls of a turn it may be added, where the settings have it for the number of its socket.
         ensures makes { (config : Config) (count : ℕ) (link : LinkState) → 0 < count → MayAdd config self.old forward → Brings (W.tells world.old) (W.tells world.new)
             (Holds config (after count) self.old (flowing false self.old.flows) link) (Holds config (after count) self.new (flowing false self.new.flows) link) }
@@ -120,6 +122,15 @@ impl Slirp {
         ensures others { self.new ≡ record self.old { forwards = without proto host self.old.forwards } }
     {
         self.forwards.remove_hostfwd(world, proto, host)
+    }
+
+    /// The port of the host at this place of those that are given to guests, in the order in which they were added, with the number of its socket. `None` exactly
+    /// where there are no more.
+    pub fn forward(&self, place: usize) -> Option<(Forward, u64)>
+        ensures at { result ≡ slice_get self.now.forwards place }
+        ensures few { length self.now.forwards ≤ 32 }
+    {
+        self.forwards.at(place)
     }
 
     /// A peer is taken that came to a port of the host, where there is one and room for its flow: that begins, with the next number, and calls the guest.

@@ -89,7 +89,7 @@ impl Model for Slirp {
 
 impl Slirp {
     ghost use Rattle.dhcp_server.specs.declared.leases.Lease.TheVariants.{Free};
-    ghost use Rattle.std.specs.Prelude.{replicate, slice_get, false, Bool, ℕ, List, ◌∷◌, ◌≤◌, ◌+◌, IfOk, IfSome, Some, None, min, max};
+    ghost use Rattle.std.specs.Prelude.{map, replicate, reverse, slice_get, false, Bool, ℕ, List, ◌∷◌, ◌≤◌, ◌+◌, IfOk, IfSome, Some, None, min, max};
     ghost use Rattle.std.specs.Option.{option_map};
     ghost use Rattle.host_policy.specs.Addresses.{Config};
     ghost use Rattle.host_policy.specs.Ranges.{IsSound};
@@ -110,7 +110,7 @@ impl Slirp {
     ghost use Rattle.tcp_flows.specs.Runs.{ClosesRising};
     ghost use Rattle.tcp_flows.specs.Reading.{AreTold, IsFirst, IsOpenAt, NoneIsAbove, Stays};
     ghost use Rattle.tcp_flows.specs.Settled.{HaveTime, IsInTime, OwesNoAck};
-    ghost use Rattle.world_face.specs.Journal.{Entry};
+    ghost use Rattle.world_face.specs.Journal.{Close, Entry};
     ghost use Rattle.flow_splice.specs.Splice.{Splice};
     ghost use Rattle.flows_follow.specs.Core.{CoreHolds, number_of};
     ghost use Rattle.udp_assoc.specs.Associations.{IsLeast, numbers};
@@ -126,8 +126,8 @@ impl Slirp {
     ghost use Rattle.slirp_core.specs.Counts.{AreGrown};
     ghost use Rattle.slirp_core.specs.Marks.{KeepsMarks};
     ghost use Rattle.tftp_server.specs.Transfers.{are_left};
-    ghost use Rattle.slirp_core.specs.Forwards.{forward_sockets};
-    ghost use Rattle.slirp_core.specs.Holds.{Standing, after, carriers, flowing, Holds, holders_of, standing, ClosesAll, ClosesNext, ClosesOther, IsForwardFirst, NoForwardFirst};
+    ghost use Rattle.slirp_core.specs.Forwards.{AreCloses, ClosesForward, forward_sockets};
+    ghost use Rattle.slirp_core.specs.Holds.{Standing, after, carriers, flowing, Holds, holders_of, standing, ClosesAll, ClosesNext, ClosesOther, HoldsNothingElse, IsForwardFirst, NoForwardFirst};
 
     /// A network in which no guest is known, no socket is open and nothing is owed, with room for as many flows of TCP as the settings say. It takes all the memory that it will ever need.
     pub fn new(alloc: Global, c: &SlirpConfig) -> Result<Slirp, NoMemory>
@@ -430,9 +430,13 @@ impl Slirp {
         self.questions.tick(world, self.moment);
     }
 
-    /// Closes all sockets, by rising number.
+    /// Closes all sockets, by rising number, and does nothing else.
     pub fn close_all<W: World>(&mut self, world: &mut W)
-        ensures makes { Makes (W.tells world.old) (W.tells world.new) (ClosesAll self.old.forwards (holders_of self.old)) }
+        ensures makes { Makes (W.tells world.old) (W.tells world.new)
+            (λ made. ClosesAll self.old.forwards (holders_of self.old) made × AreCloses made) }
+        // Where only those of forwards are open they are closed in the order of the list, whether the run has ended or not.
+        ensures ports { HoldsNothingElse self.old → Makes (W.tells world.old) (W.tells world.new)
+            (λ made. made ≡ map Close (reverse (forward_sockets self.old.forwards))) }
         ensures config { self.new.config ≡ self.old.config }
         ensures number { self.new.number ≡ self.old.number }
         ensures turn { self.new.flows.turn ≡ self.old.flows.turn }
@@ -444,7 +448,10 @@ impl Slirp {
 
     // Closes the socket with the least number, and answers whether there was one.
     fn close_next<W: World>(&mut self, world: &mut W) -> bool
-        ensures makes { Makes (W.tells world.old) (W.tells world.new) (ClosesNext result self.old.forwards self.new.forwards (holders_of self.old) (holders_of self.new)) }
+        ensures makes { Makes (W.tells world.old) (W.tells world.new)
+            (λ made. ClosesNext result self.old.forwards self.new.forwards (holders_of self.old) (holders_of self.new) made × AreCloses made) }
+        ensures ports { HoldsNothingElse self.old → (result ≡ true → HoldsNothingElse self.new)
+            × Makes (W.tells world.old) (W.tells world.new) (ClosesForward result self.old.forwards self.new.forwards) }
         ensures fewer { result ≡ true → open_count self.new < open_count self.old }
         ensures config { self.new.config ≡ self.old.config }
         ensures number { self.new.number ≡ self.old.number }
@@ -461,7 +468,9 @@ impl Slirp {
 
     // Closes the socket with the least number, of a flow, an association or a question, and answers whether there was one.
     fn close_other<W: World>(&mut self, world: &mut W) -> bool
-        ensures makes { Makes (W.tells world.old) (W.tells world.new) (ClosesOther result (forward_sockets self.old.forwards) (holders_of self.old) (holders_of self.new)) }
+        ensures makes { Makes (W.tells world.old) (W.tells world.new)
+            (λ made. ClosesOther result (forward_sockets self.old.forwards) (holders_of self.old) (holders_of self.new) made × AreCloses made) }
+        ensures ports { HoldsNothingElse self.old → (result ≡ false) × Makes (W.tells world.old) (W.tells world.new) (λ made. made ≡ []) }
         ensures fewer { result ≡ true → others_open self.new < others_open self.old }
         ensures forwards { self.new.forwards ≡ self.old.forwards }
         ensures config { self.new.config ≡ self.old.config }

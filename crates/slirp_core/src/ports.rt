@@ -45,8 +45,10 @@ impl Ports {
         ensures empty { IfOk result (λ ports. ports ≡ []) }
     {
         let list = Forwards::open(alloc)?;
-        let listeners = numbers_over(Proto::Tcp, &list);
-        let carriers = numbers_over(Proto::Udp, &list);
+        let mut listeners = ArrayVec::new();
+        let mut carriers = ArrayVec::new();
+        list_over(Proto::Tcp, &list, &mut listeners);
+        list_over(Proto::Udp, &list, &mut carriers);
         Ok(Ports {
             list,
             listeners,
@@ -67,7 +69,8 @@ impl Ports {
 
     /// The forward at a place of the list, counted from 0, and the number of its socket.
     pub(crate) fn at(&self, place: usize) -> Option<(Forward, u64)>
-        ensures { result ≡ slice_get self.now place }
+        ensures at { result ≡ slice_get self.now place }
+        ensures few { length self.now ≤ 32 }
     {
         self.list.at(place)
     }
@@ -101,8 +104,8 @@ impl Ports {
         ensures counted { result_err result ≡ Some Refused → Rose (W.tells world.old).faults.socket (W.tells world.new).faults.socket }
     {
         let added = self.list.add_hostfwd(world, policy, forward, number);
-        self.listeners = numbers_over(Proto::Tcp, &self.list);
-        self.carriers = numbers_over(Proto::Udp, &self.list);
+        list_over(Proto::Tcp, &self.list, &mut self.listeners);
+        list_over(Proto::Udp, &self.list, &mut self.carriers);
         added
     }
 
@@ -120,18 +123,18 @@ impl Ports {
         ensures not_there { socket_at proto host self.old ≡ None → IsErr result × (W.tells world.new ≡ W.tells world.old) }
     {
         let removed = self.list.remove_hostfwd(world, proto, host);
-        self.listeners = numbers_over(Proto::Tcp, &self.list);
-        self.carriers = numbers_over(Proto::Udp, &self.list);
+        list_over(Proto::Tcp, &self.list, &mut self.listeners);
+        list_over(Proto::Udp, &self.list, &mut self.carriers);
         removed
     }
 }
 
-// The numbers of the sockets with this protocol, in the order in which they were opened.
-fn numbers_over(proto: Proto, forwards: &Forwards) -> ArrayVec<u64, 32>
-    ensures sockets { result.items ≡ sockets_over proto forwards.now }
+// Puts the numbers of the sockets with this protocol into a list, in the order in which they were opened, in place of what it held.
+fn list_over(proto: Proto, forwards: &Forwards, numbers: &mut ArrayVec<u64, 32>)
+    ensures sockets { numbers.new.items ≡ sockets_over proto forwards.now }
     ensures few { length forwards.now ≤ 32 }
 {
-    let mut numbers = ArrayVec::new();
+    numbers.clear();
     for place in 0..forwards.len() {
         if let Some((forward, number)) = forwards.at(place) {
             if is_over(proto, &forward) {
@@ -139,7 +142,6 @@ fn numbers_over(proto: Proto, forwards: &Forwards) -> ArrayVec<u64, 32>
             }
         }
     }
-    numbers
 }
 
 // Whether a forward is for this protocol.

@@ -62,6 +62,8 @@ impl Slirp {
     ghost use Rattle.slirp_core.specs.Counts.{AreGrown};
     ghost use Rattle.slirp_core.specs.Holds.{Standing, Holds, Comes, flowing, standing};
     ghost use Rattle.slirp_core.specs.Marks.{KeepsMarks};
+    ghost use Rattle.slirp_core.specs.NextFlow.{IsNextFlow};
+    ghost use Rattle.record_flows.specs.Book.{book};
     ghost use Rattle.stream_netdev.specs.State.{LinkState};
     ghost use Rattle.world_face.specs.Tells.{Brings};
     ghost use Rattle.flow_splice.specs.Splice.{Splice};
@@ -147,6 +149,17 @@ impl Slirp {
             → IfSome result (λ count. IsFrontOf config number (length into.old) count (take count into.new) past) }
     {
         self.flows.held(number, into)
+    }
+
+    /// The number of the flow in use that comes next after this number, or of the first one, with its two ends. A flow is in use while its socket is open, and
+    /// until the reset that it owes its guest is out. It looks at all flows.
+    pub fn flow_after(&self, last: Option<u64>) -> Option<(u64, Tuple)>
+        ensures drawn { IfSome result (λ next. next.0 < self.now.number) }
+        // By the record, between the calls of a turn.
+        ensures next { (config : Config) (at : Standing) (link : LinkState) (past : List Entry)
+            → Holds config at self.now (flowing false self.now.flows) link past → IsNextFlow last result (book config past).flows }
+    {
+        self.flows.flow_after(last)
     }
 
     // The reset that answers a segment is owed from now on.

@@ -29,7 +29,7 @@ push_new (x ∷ xs) y = push_new xs y
 
 -- ---- a flow's part, where it has a moment
 
-is_part : (p q : Splice) → Some q ≡ part_of p → q ≡ p
+pub is_part : (p q : Splice) → Some q ≡ part_of p → q ≡ p
 is_part p q is = by p.place is
   where
     by : (x : Place) → Some q ≡ part_at x p → q ≡ p

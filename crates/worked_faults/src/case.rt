@@ -117,5 +117,6 @@ fn name_of(end: End) -> &'static str {
         End::WaitFault => "wait_fault",
         End::TurnsSpent(_) => "turns_spent",
         End::ListenRefused(_) => "listen_refused",
+        End::ControlRefused => "control_refused",
     }
 }

@@ -5,7 +5,7 @@ use Rattle.poll_list.specs.declared.Who.TheVariants.{Link as TheLink}
 use Rattle.world_face.proofs.Telling.{brings_as, brings_none, brings_then}
 use Rattle.run_duties.specs.Serving.{is_left_to_read}
 use Rattle.stream_netdev.specs.declared.Arrived.TheVariants.{NotYet, End, Cut, TooLong, Failed}
-use Rattle.slirp_core.specs.Holds.{flowing, standing, holders_of}
+use Rattle.slirp_core.specs.Holds.{flowing, standing}
 use Rattle.serve_loop.specs.Turns.{AfterTurn, HoldsNow}
 use Rattle.slirp_core.specs.Pumps.{is_settled}
 use Rattle.serve_loop.specs.Served.{ServiceState}
@@ -70,7 +70,7 @@ returns-in-End-clause-makes g c config count wants item items reads_it =
     (subst (λ (s : ServiceState). Brings (g.W.World.tells c.args.world.now) (g.W.World.tells new.world) (HoldsNow config (standing count wants (item ∷ items)) false s.slirp s.link)
     (λ past. AfterTurn (TurnEnded (Done)) config (standing count wants items) false slirp new.self past × ((TurnEnded (Done)) ≡ Again → is_left_to_read config past TheLink ≡ false))) c.self.view_is
     (brings_allowed c.in-End.ensures.makes (λ made read allowed past holds. (
-      ended_as config count (LinkEnded) slirp.forwards (holders_of slirp) _
+      ended_as config count (LinkEnded) slirp _
           (read_ended config count wants item items reads_it slirp link new.self (End) before.1 before.0 made past allowed read.1 holds (LinkEnded) refl refl),
       λ again. absurd cc,
     ))))
@@ -86,7 +86,7 @@ returns-in-Cut-clause-makes g c config count wants item items reads_it =
     (λ past. AfterTurn (TurnEnded (EndCut c.in-Cut.n)) config (standing count wants items) false slirp new.self past ×
     ((TurnEnded (EndCut c.in-Cut.n)) ≡ Again → is_left_to_read config past TheLink ≡ false))) c.self.view_is
     (brings_allowed c.in-Cut.ensures.makes (λ made read allowed past holds. (
-      ended_as config count (LinkCut c.in-Cut.n) slirp.forwards (holders_of slirp) _
+      ended_as config count (LinkCut c.in-Cut.n) slirp _
           (read_ended config count wants item items reads_it slirp link new.self (Cut c.in-Cut.n) before.1 before.0 made past allowed read.1 holds (LinkCut c.in-Cut.n) refl refl),
       λ again. absurd cc,
     ))))
@@ -102,7 +102,7 @@ returns-in-TooLong-clause-makes g c config count wants item items reads_it =
     (λ past. AfterTurn (TurnEnded (EndLong c.in-TooLong.n)) config (standing count wants items) false slirp new.self past × ((TurnEnded (EndLong c.in-TooLong.n)) ≡ Again →
     is_left_to_read config past TheLink ≡ false))) c.self.view_is
     (brings_allowed c.in-TooLong.ensures.makes (λ made read allowed past holds. (
-      ended_as config count (LongFrame c.in-TooLong.n) slirp.forwards (holders_of slirp) _
+      ended_as config count (LongFrame c.in-TooLong.n) slirp _
           (read_ended config count wants item items reads_it slirp link new.self (TooLong c.in-TooLong.n) before.1 before.0 made past allowed read.1 holds
           (LongFrame c.in-TooLong.n) refl refl),
       λ again. absurd cc,
@@ -119,7 +119,7 @@ returns-in-Failed-clause-makes g c config count wants item items reads_it =
     (λ past. AfterTurn (TurnEnded (LinkFault)) config (standing count wants items) false slirp new.self past ×
     ((TurnEnded (LinkFault)) ≡ Again → is_left_to_read config past TheLink ≡ false))) c.self.view_is
     (brings_allowed c.in-Failed.ensures.makes (λ made read allowed past holds. (
-      ended_as config count (LinkFailed) slirp.forwards (holders_of slirp) _
+      ended_as config count (LinkFailed) slirp _
           (read_ended config count wants item items reads_it slirp link new.self (Failed) before.1 before.0 made past allowed read.1 holds (LinkFailed) refl refl),
       λ again. absurd cc,
     ))))

@@ -1,4 +1,4 @@
-use Rattle.std.proofs.Common.{◌<◌, ◌≤◌, ◌∙◌, ap, refl, sym, subst, arith}
+use Rattle.std.proofs.Common.{◌+◌, ◌<◌, ◌≤◌, ◌∙◌, ap, refl, sym, subst, arith}
 use Rattle.slirp_core.specs.Holds.{holders_of}
 use Rattle.world_face.proofs.Telling.{makes_as, makes_from}
 use Rattle.host_policy.specs.Addresses.{Config}
@@ -7,7 +7,7 @@ use Rattle.serve_loop.specs.Served.{ServiceState}
 use Rattle.serve_loop.specs.Turns.{Closes}
 use Rattle.serve_loop.specs.declared.service.End.TheVariants.{TurnsSpent}
 use Rattle.run_duties.specs.Duties.{Dutiful}
-use Rattle.serve_loop.proofs.Serving.{attended, finishes, made_so, spent, told}
+use Rattle.serve_loop.proofs.Serving.{attended, finishes, made_by_turn, made_so, spent, told}
 use Rattle.slirp_core.proofs.Counted.{grown}
 use Rattle.serve_loop.proofs.Counted.{end_after, grown_then}
 use Rattle.serve_loop.proofs.service.Service.serve.Goals as goal
@@ -46,7 +46,7 @@ loop-count-preserved g c =
     }
 
 pub returns-in-Ended-clause-makes : goal.returns-in-Ended-clause-makes
-returns-in-Ended-clause-makes g c = makes_as _ _ _ _ (c.in-Ended.ensures.makes c.args.self.now.slirp.config c.requires.given) (made_so c.args.self.now.slirp.config c.in-Ended.end)
+returns-in-Ended-clause-makes g c = makes_as _ _ _ _ (c.in-Ended.ensures.makes c.args.self.now.slirp.config c.requires.given) (made_by_turn c.args.self.now.slirp.config c.in-Ended.end 0 _)
 
 pub returns-in-Ended-clause-served : goal.returns-in-Ended-clause-served
 returns-in-Ended-clause-served g c = told c.args.self.now.slirp.config c.in-Ended.end _ _ (returns-in-Ended-clause-makes g c)
@@ -59,7 +59,7 @@ returns-in-Ended-turn-clause-makes g c =
     let config = c.args.self.now.slirp.config in
     let turns = c.self.invariant.0 ∙ ap (λ (s : ServiceState). s.slirp.config.turns) c.self.view_is ∙ ap (λ (k : Config). k.turns) c.in_default.ensures.config in
     let few = subst (λ n. c.loop-count._count < n) turns c.loop-count-test.true in
-    makes_as _ _ _ _ (makes_from c.loop-count.invariant.makes (c.in-Ended-turn.ensures.makes config c.loop-count._count few)) (made_so config c.in-Ended-turn.end)
+    makes_as _ _ _ _ (makes_from c.loop-count.invariant.makes (c.in-Ended-turn.ensures.makes config c.loop-count._count few)) (made_by_turn config c.in-Ended-turn.end (c.loop-count._count + 1) _)
 
 pub returns-in-Ended-turn-clause-served : goal.returns-in-Ended-turn-clause-served
 returns-in-Ended-turn-clause-served g c = told c.args.self.now.slirp.config c.in-Ended-turn.end _ _ (returns-in-Ended-turn-clause-makes g c)

@@ -1,24 +1,19 @@
 use Rattle.std.proofs.Common.{sym, ◌∙◌, subst}
-use Rattle.world_face.proofs.Telling.{makes_as, makes_from}
+use Rattle.world_face.proofs.Telling.{makes_from}
 use Rattle.stream_netdev.specs.Keeps.{ReadsOn}
 use Rattle.stream_netdev.specs.State.{LinkState, under_way}
-use Rattle.slirp_core.specs.Holds.{holders_of}
 use Rattle.slirp_core.specs.State.{SlirpState}
 use Rattle.slirp_core.proofs.Counted.{grown}
 use Rattle.serve_loop.specs.Turns.{IsCalm}
 use Rattle.serve_loop.proofs.Counted.{grown_then}
 use Rattle.serve_loop.proofs.Turning.{none_is_calm}
-use Rattle.serve_loop.specs.declared.service.End.TheVariants.{ListenRefused}
-use Rattle.serve_loop.proofs.Serving.{finishes, none_refused, refused, reads_new}
+use Rattle.serve_loop.proofs.Serving.{reads_new, refuses}
 use Rattle.serve_loop.proofs.service.Service.start.Goals as goal
 
 pub returns-in-Some-clause-makes : goal.returns-in-Some-clause-makes
 returns-in-Some-clause-makes g c config given =
     let new = c.listen.new.self in
-    let place = c.in-Some.place in
-    finishes config (ListenRefused place) new.slirp.forwards (holders_of new.slirp) _ _ _
-    (makes_as _ _ _ _ (c.in-Some.ensures.makes config given) (λ made closing. (refused config place new.slirp new.link made closing, none_refused config place new.slirp new.link made closing)))
-    c.close_all.ensures.makes
+    refuses config c.in-Some.place c.close_all.new.self.slirp.number new.slirp new.link _ _ _ c.close_all.ensures.number (c.in-Some.ensures.makes config given) c.close_all.ensures.makes
 
 pub returns-clause-makes : goal.returns-clause-makes
 returns-clause-makes g c config given = makes_from (c.in_default.ensures.makes config given) (c.begin.ensures.makes config)

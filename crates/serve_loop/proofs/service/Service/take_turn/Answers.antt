@@ -1,4 +1,4 @@
-use Rattle.std.proofs.Common.{None, false, true, refl, subst, sym}
+use Rattle.std.proofs.Common.{None, false, true, refl, subst, sym, arith}
 use Rattle.world_face.specs.Tells.{Brings}
 use Rattle.world_face.proofs.Telling.{brings_as, brings_then}
 use Rattle.slirp_core.specs.Holds.{after}
@@ -46,7 +46,7 @@ returns-in-Ended-clause-makes g c config count few =
     (g.W.World.tells c.args.world.now) (g.W.World.tells c.tick.new.world) refl (c.tick.ensures.makes config count c.self.inside.link few))
     (brings_as (attends_on (TurnEnded c.in-Ended.end) config (after count)
     (after count) true true c.tick.new.self c.send_all.new.self.slirp c.self.inside.link c.send_all.new.self.link (g.W.World.tells c.tick.new.world)
-    (g.W.World.tells c.send_all.new.world) refl (c.in-Ended.ensures.makes config (after count))) (λ past ended. ((count, ended.0), ended.1))))
+    (g.W.World.tells c.send_all.new.world) refl (c.in-Ended.ensures.makes config (after count))) (λ past ended. ((count, omega arith, ended.0), ended.1))))
 
 pub returns-in-Again-clause-step : goal.returns-in-Again-clause-step
 returns-in-Again-clause-step g c =

@@ -1,4 +1,4 @@
-use Rattle.std.proofs.Common.{ℕ, false, subst, sym}
+use Rattle.std.proofs.Common.{ℕ, ◌+◌, ◌≤◌, ◌∙◌, false, subst, sym}
 use Rattle.world_face.specs.Tells.{Brings}
 use Rattle.world_face.proofs.Telling.{brings_from, brings_then}
 use Rattle.slirp_core.specs.Holds.{after, holders_of}
@@ -7,7 +7,7 @@ use Rattle.serve_loop.specs.Served.{ServiceState}
 use Rattle.run_duties.specs.Duties.{Dutiful}
 use Rattle.serve_loop.specs.Turns.{AttendsNow, EndedAs}
 use Rattle.serve_loop.proofs.Counted.{end_before}
-use Rattle.serve_loop.proofs.Serving.{attends_to, ran}
+use Rattle.serve_loop.proofs.Serving.{attends_for, ran}
 use Rattle.serve_loop.proofs.service.Service.turn.Goals as goal
 
 pub returns-in-Again-clause-makes : goal.returns-in-Again-clause-makes
@@ -20,10 +20,11 @@ returns-in-Ended-clause-makes g c config count few =
     brings_then
     (subst (λ (s : ServiceState). Brings (g.W.World.tells c.args.world.now) (g.W.World.tells c.take_turn.new.world)
     (AttendsNow config (after count) false c.args.self.now.slirp c.args.self.now.link)
-    (λ past. ((waited : ℕ) × EndedAs config waited end s.slirp.forwards (holders_of s.slirp) past) × Dutiful config past)) (sym c.self.view_is)
+    (λ past. ((waited : ℕ) × (waited ≤ count + 1) × EndedAs config waited end s.slirp.forwards (holders_of s.slirp) s.slirp.number past) × Dutiful config past)) (sym c.self.view_is)
     (c.in-Ended.ensures.makes config count few))
-    (brings_from c.close_all.ensures.makes (λ made all past ended. attends_to config end slirp.forwards (holders_of slirp) made past
-    (ran config ended.0.0 end slirp.forwards (holders_of slirp) past ended.0.1) ended.1 all))
+    (brings_from c.close_all.ensures.makes (λ made all past ended. attends_for config (count + 1) c.close_all.new.self.number end slirp.forwards (holders_of slirp) made past
+    (ran config ended.0.0 end slirp.forwards (holders_of slirp) slirp.number past ended.0.2) (subst (λ n. n ≤ count + 1) (sym ended.0.2.ended.waited) ended.0.1)
+    (c.close_all.ensures.number ∙ sym ended.0.2.drawn) ended.1 all))
 
 pub returns-in-Ended-clause-step : goal.returns-in-Ended-clause-step
 returns-in-Ended-clause-step g c =

@@ -1,5 +1,4 @@
 use Rattle.std.proofs.Common.{◌+◌}
-use Rattle.slirp_core.specs.Holds.{holders_of}
 use Rattle.world_face.specs.Frames.{Stopped, WaitFailed}
 use Rattle.world_face.proofs.Telling.{brings_then, brings_as}
 use Rattle.serve_loop.proofs.Turning.{attends_to_reports, ended_as}
@@ -16,11 +15,11 @@ returns-in-Ready-clause-makes g c config count few =
 
 pub returns-in-Stopped-clause-makes : goal.returns-in-Stopped-clause-makes
 returns-in-Stopped-clause-makes g c config count few = brings_as (c.in-Stopped.ensures.makes config count few)
-    (λ past ended. (ended_as config (count + 1) Stopped c.sleep.new.self.slirp.forwards (holders_of c.sleep.new.self.slirp) past ended.0, ended.1))
+    (λ past ended. (ended_as config (count + 1) Stopped c.sleep.new.self.slirp past ended.0, ended.1))
 
 pub returns-in-Failed-clause-makes : goal.returns-in-Failed-clause-makes
 returns-in-Failed-clause-makes g c config count few = brings_as (c.in-Failed.ensures.makes config count few)
-    (λ past ended. (ended_as config (count + 1) WaitFailed c.sleep.new.self.slirp.forwards (holders_of c.sleep.new.self.slirp) past ended.0, ended.1))
+    (λ past ended. (ended_as config (count + 1) WaitFailed c.sleep.new.self.slirp past ended.0, ended.1))
 
 pub returns-in-Ready-clause-step : goal.returns-in-Ready-clause-step
 returns-in-Ready-clause-step g c = record {

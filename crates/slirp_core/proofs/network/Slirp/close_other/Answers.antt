@@ -7,12 +7,14 @@ use Rattle.dns_relay.specs.State.{RelayState}
 use Rattle.udp_assoc.specs.Associations.{numbers}
 use Rattle.tcp_flows.specs.Kept.{Kept}
 use Rattle.slirp_core.specs.Firsts.{IsFlowFirst, IsQuestionFirst, NoFlowFirst, NoQuestionFirst, others_open}
-use Rattle.slirp_core.specs.Forwards.{forward_sockets}
+use Rattle.slirp_core.specs.Forwards.{AreCloses, forward_sockets}
 use Rattle.slirp_core.specs.Holds.{ClosesOther, Holders, carriers, holders_of}
 use Rattle.slirp_core.specs.Numbers.{open_flows}
 use Rattle.slirp_core.specs.Services.{AreAsked}
 use Rattle.slirp_core.specs.State.{SlirpState}
+use Rattle.slirp_core.proofs.Alone.{no_association, no_question}
 use Rattle.slirp_core.proofs.Associating.{below_first, none_first}
+use Rattle.slirp_core.proofs.Closes.{of_association, of_flow, of_question}
 use Rattle.slirp_core.proofs.Least.{association_first, fewer_flows, flow_first, no_association_left, question_first, some_flow, some_question}
 use Rattle.slirp_core.proofs.network.Slirp.close_other.Goals as goal
 
@@ -24,9 +26,12 @@ returns-then-flow_is_first-clause-makes g c =
     let new = c.close_first.new in
     let o : Holders = record { associations = i.associations.list; questions = i.questions.list; slots = i.flows.flows.slots } in
     let first = subst (λ (s : SlirpState). IsFlowFirst (carriers (holders_of s)) s.flows.flows.slots) (sym c.self.view_is) (c.flow_is_first.ensures.yes c.if-flow_is_first.true) in
-    subst (λ (s : SlirpState). Makes (g.W.World.tells c.args.world.now) (g.W.World.tells new.world) (ClosesOther c.close_first.result (forward_sockets s.forwards) (holders_of s)
-    (record o { slots = new.self.flows.slots }))) c.self.view_is
-    (makes_as _ _ _ _ c.close_first.ensures.closes (λ made closes config over past no_forward holds. flow_first config over (forward_sockets i.forwards) made past c.close_first.result o new.self.flows.slots first no_forward closes holds))
+    subst (λ (s : SlirpState). Makes (g.W.World.tells c.args.world.now) (g.W.World.tells new.world)
+    (λ made. ClosesOther c.close_first.result (forward_sockets s.forwards) (holders_of s) (record o { slots = new.self.flows.slots }) made × AreCloses made)) c.self.view_is
+    (makes_as _ _ _ _ c.close_first.ensures.closes (λ made closes. (
+      λ config over past no_forward holds. flow_first config over (forward_sockets i.forwards) made past c.close_first.result o new.self.flows.slots first no_forward closes holds,
+      of_flow c.close_first.result i.flows.flows.slots new.self.flows.slots made closes,
+    )))
 
 pub returns-then-flow_is_first-clause-fewer : goal.returns-then-flow_is_first-clause-fewer
 returns-then-flow_is_first-clause-fewer g c is =
@@ -53,6 +58,9 @@ returns-then-flow_is_first-clause-unasked g c is =
 pub returns-then-flow_is_first-clause-turn : goal.returns-then-flow_is_first-clause-turn
 returns-then-flow_is_first-clause-turn g c = ap (λ (k : Kept). k.turn) c.close_first.ensures.same ∙ ap (λ (s : SlirpState). s.flows.turn) c.self.view_is
 
+pub returns-then-flow_is_first-clause-ports : goal.returns-then-flow_is_first-clause-ports
+returns-then-flow_is_first-clause-ports g c nothing = let has = (c.flow_is_first.ensures.yes c.if-flow_is_first.true).1.has in absurd (nothing.none has.0 has.1 has.2.here)
+
 -- ---- a question's
 
 pub returns-then-question_is_first-clause-makes : goal.returns-then-question_is_first-clause-makes
@@ -63,9 +71,11 @@ returns-then-question_is_first-clause-makes g c =
     let no_flow = subst (λ (s : SlirpState). NoFlowFirst (carriers (holders_of s)) s.flows.flows.slots) (sym c.self.view_is) (c.flow_is_first.ensures.no c.if-flow_is_first.false) in
     let first = subst (λ (s : SlirpState). IsQuestionFirst s.associations s.questions) (sym c.self.view_is) (c.question_is_first.ensures.yes c.if-question_is_first.true) in
     subst (λ (s : SlirpState). Makes (g.W.World.tells c.args.world.now) (g.W.World.tells closing.new.world)
-    (ClosesOther closing.result (forward_sockets s.forwards) (holders_of s) (record o { questions = closing.new.self.list }))) c.self.view_is
-    (makes_as _ _ _ _ closing.ensures.closes (λ made closes config over past no_forward holds.
-    question_first config over (forward_sockets i.forwards) made past closing.result o closing.new.self.list no_flow first no_forward closes holds))
+    (λ made. ClosesOther closing.result (forward_sockets s.forwards) (holders_of s) (record o { questions = closing.new.self.list }) made × AreCloses made)) c.self.view_is
+    (makes_as _ _ _ _ closing.ensures.closes (λ made closes. (
+      λ config over past no_forward holds. question_first config over (forward_sockets i.forwards) made past closing.result o closing.new.self.list no_flow first no_forward closes holds,
+      of_question closing.result i.questions.list closing.new.self.list made closes,
+    )))
 
 pub returns-then-question_is_first-clause-fewer : goal.returns-then-question_is_first-clause-fewer
 returns-then-question_is_first-clause-fewer g c is =
@@ -90,6 +100,10 @@ returns-then-question_is_first-clause-unasked g c is =
     let first = subst (λ (s : SlirpState). IsQuestionFirst s.associations s.questions) (sym c.self.view_is) (c.question_is_first.ensures.yes c.if-question_is_first.true) in
     absurd (some_question closing.result i.associations.list i.questions.list closing.new.self.list makes.made first makes.holds is)
 
+pub returns-then-question_is_first-clause-ports : goal.returns-then-question_is_first-clause-ports
+returns-then-question_is_first-clause-ports g c nothing =
+    absurd (no_question c.args.self.now.associations c.args.self.now.questions nothing.unnamed (c.question_is_first.ensures.yes c.if-question_is_first.true))
+
 pub invariant_of-self-then-question_is_first : goal.invariant_of-self-then-question_is_first
 invariant_of-self-then-question_is_first g c =
     let i = c.self.inside in
@@ -112,9 +126,11 @@ returns-else-question_is_first-clause-makes g c =
     let no_flow = subst (λ (s : SlirpState). NoFlowFirst (carriers (holders_of s)) s.flows.flows.slots) (sym c.self.view_is) (c.flow_is_first.ensures.no c.if-flow_is_first.false) in
     let no_question = subst (λ (s : SlirpState). NoQuestionFirst s.associations s.questions) (sym c.self.view_is) (c.question_is_first.ensures.no c.if-question_is_first.false) in
     subst (λ (s : SlirpState). Makes (g.W.World.tells c.args.world.now) (g.W.World.tells closing.new.world)
-    (ClosesOther closing.result (forward_sockets s.forwards) (holders_of s) (record o { associations = closing.new.self.list }))) c.self.view_is
-    (makes_as _ _ _ _ closing.ensures.closes (λ made closes config over past no_forward holds.
-    association_first config over (forward_sockets i.forwards) made past closing.result o closing.new.self.list no_flow no_question no_forward closes holds))
+    (λ made. ClosesOther closing.result (forward_sockets s.forwards) (holders_of s) (record o { associations = closing.new.self.list }) made × AreCloses made)) c.self.view_is
+    (makes_as _ _ _ _ closing.ensures.closes (λ made closes. (
+      λ config over past no_forward holds. association_first config over (forward_sockets i.forwards) made past closing.result o closing.new.self.list no_flow no_question no_forward closes holds,
+      of_association closing.result i.associations.list closing.new.self.list made closes,
+    )))
 
 pub returns-else-question_is_first-clause-fewer : goal.returns-else-question_is_first-clause-fewer
 returns-else-question_is_first-clause-fewer g c is =
@@ -136,6 +152,17 @@ returns-else-question_is_first-clause-unasked g c is =
     let makes = closing.ensures.closes in
     let no_question = subst (λ (s : SlirpState). NoQuestionFirst s.associations s.questions) (sym c.self.view_is) (c.question_is_first.ensures.no c.if-question_is_first.false) in
     no_association_left closing.result i.associations.list closing.new.self.list i.questions.list makes.made no_question makes.holds is
+
+pub returns-else-question_is_first-clause-ports : goal.returns-else-question_is_first-clause-ports
+returns-else-question_is_first-clause-ports g c nothing =
+    let old = c.self.inside.associations.list in
+    let closing = c.close_first-else-question_is_first in
+    let new = closing.new.self.list in
+    let makes = closing.ensures.closes in
+    let none = ap (λ (s : SlirpState). s.associations) c.self.view_is ∙ nothing.alone in (
+      (no_association closing.result old new makes.made none makes.holds).0,
+      makes_as _ _ _ _ makes (λ made closes. (no_association closing.result old new made none closes).1),
+    )
 
 pub invariant_of-self-else-question_is_first : goal.invariant_of-self-else-question_is_first
 invariant_of-self-else-question_is_first g c =

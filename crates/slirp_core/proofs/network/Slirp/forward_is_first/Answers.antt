@@ -26,7 +26,7 @@ returns-in_default-clause-no c is =
     let i = c.self.inside in
     let o : Holders = record { associations = i.associations.list; questions = i.questions.list; slots = i.flows.flows.slots } in
     subst IsntFirst c.self.view_is
-    (subst (λ (l : List Opened). NoForwardFirst (forward_sockets l) (carriers o) o.slots) (sym (none_first_forward i.forwards (sym c.at.ensures ∙ c.in_default.is))) (no_forward o))
+    (subst (λ (l : List Opened). NoForwardFirst (forward_sockets l) (carriers o) o.slots) (sym (none_first_forward i.forwards (sym c.at.ensures.at ∙ c.in_default.is))) (no_forward o))
 
 -- the first forward of the list
 first_there : (o : Holders) (list : List Opened) (number : ℕ) (f : Forward) → slice_get list 0 ≡ Some (f, number) → ((m : ℕ) → is_among m (carriers o) ≡ true → number ≤ m)
@@ -47,7 +47,7 @@ returns-then-not-is_under_flows-clause-no c is =
     let o : Holders = record { associations = i.associations.list; questions = i.questions.list; slots = i.flows.flows.slots } in
     let found = subst (λ (s : SlirpState). (n : ℕ) × FirstOfFlows n s.flows.flows.slots × (n ≤ c.in-Some.number)) (sym c.self.view_is) (c.is_under_flows.ensures.no c.if-not-is_under_flows.true) in
     let has = found.1.has in
-    subst IsntFirst c.self.view_is (isnt_there o i.forwards c.in-Some.number found.0 c.in-Some.field-0-0 (sym c.at.ensures ∙ c.in-Some.is) (inr has) found.2)
+    subst IsntFirst c.self.view_is (isnt_there o i.forwards c.in-Some.number found.0 c.in-Some.field-0-0 (sym c.at.ensures.at ∙ c.in-Some.is) (inr has) found.2)
 
 pub returns-then-is_under-clause-yes : goal.returns-then-is_under-clause-yes
 returns-then-is_under-clause-yes c less =
@@ -56,7 +56,7 @@ returns-then-is_under-clause-yes c less =
     let named = c.rising-then-is_under in
     let below = subst (λ (s : SlirpState). (k : ℕ) (p : Splice) → IsOpenAt s.flows.flows.slots k p → c.in-Some.number ≤ number_of p) (sym c.self.view_is)
     (c.is_under_flows.ensures.yes c.if-not-is_under_flows.false) in
-    subst IsFirst c.self.view_is (first_there o i.forwards c.in-Some.number c.in-Some.field-0-0 (sym c.at.ensures ∙ c.in-Some.is)
+    subst IsFirst c.self.view_is (first_there o i.forwards c.in-Some.number c.in-Some.field-0-0 (sym c.at.ensures.at ∙ c.in-Some.is)
     (flow_is_under c.in-Some.number o (λ m among. c.is_under.ensures.yes c.if-is_under.true m (among_rising (numbers o.associations) c.rising.result.now c.rising.ensures.all m among))
     (λ m among. c.is_under-then-is_under.ensures.yes less m (among_rising (question_numbers o.questions) named.result.now named.ensures.all m among)))
     below)
@@ -68,7 +68,7 @@ returns-then-is_under-clause-no c not_less =
     let named = c.rising-then-is_under in
     let found = c.is_under-then-is_under.ensures.no not_less in
     let among = (first_is_least (question_numbers o.questions) named.result.now named.ensures.all named.ensures.rising found.0 found.1).0 in
-    subst IsntFirst c.self.view_is (isnt_there o i.forwards c.in-Some.number found.0 c.in-Some.field-0-0 (sym c.at.ensures ∙ c.in-Some.is)
+    subst IsntFirst c.self.view_is (isnt_there o i.forwards c.in-Some.number found.0 c.in-Some.field-0-0 (sym c.at.ensures.at ∙ c.in-Some.is)
     (inl (among_second found.0 (numbers o.associations) (question_numbers o.questions) among)) found.2)
 
 pub returns-else-is_under-clause-no : goal.returns-else-is_under-clause-no
@@ -77,5 +77,5 @@ returns-else-is_under-clause-no c is =
     let o : Holders = record { associations = i.associations.list; questions = i.questions.list; slots = i.flows.flows.slots } in
     let found = c.is_under.ensures.no c.if-is_under.false in
     let among = (first_is_least (numbers o.associations) c.rising.result.now c.rising.ensures.all c.rising.ensures.rising found.0 found.1).0 in
-    subst IsntFirst c.self.view_is (isnt_there o i.forwards c.in-Some.number found.0 c.in-Some.field-0-0 (sym c.at.ensures ∙ c.in-Some.is)
+    subst IsntFirst c.self.view_is (isnt_there o i.forwards c.in-Some.number found.0 c.in-Some.field-0-0 (sym c.at.ensures.at ∙ c.in-Some.is)
     (inl (among_first found.0 (numbers o.associations) (question_numbers o.questions) among)) found.2)

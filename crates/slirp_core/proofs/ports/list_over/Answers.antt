@@ -3,11 +3,11 @@ use Rattle.std.proofs.lemmas.List.{append-nil}
 use Rattle.port_forward.specs.Opened.{Opened}
 use Rattle.slirp_core.specs.Forwards.{sockets_over}
 use Rattle.slirp_core.proofs.Forwarding.{all_taken, at_ok, few_taken, none_further, over_taken}
-use Rattle.slirp_core.proofs.ports.numbers_over.Goals.{in-Some+then-is_over, in-Some+else-is_over, in_default}
-use Rattle.slirp_core.proofs.ports.numbers_over.Goals as goal
+use Rattle.slirp_core.proofs.ports.list_over.Goals.{in-Some+then-is_over, in-Some+else-is_over, in_default}
+use Rattle.slirp_core.proofs.ports.list_over.Goals as goal
 
 pub loop-place-init : goal.loop-place-init
-loop-place-init c = c.new-numbers.ensures
+loop-place-init c = c.clear.ensures
 
 pub loop-place-preserved : goal.loop-place-preserved
 loop-place-preserved c =
