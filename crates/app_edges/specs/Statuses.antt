@@ -2,7 +2,7 @@
 use Rattle.std.specs.Prelude.{ℕ, ◌==◌, ◌||◌, not, Bool}
 use Rattle.app_edges.specs.declared.status.Outcome.{Outcome}
 use Rattle.app_edges.specs.declared.status.Outcome.TheVariants.{Done, Usage, BadConfig, ScheduleRead, ScheduleTooLarge, ScheduleLine, Diverged, FrameTooLong, FrameCut, LinkFault}
-use Rattle.app_edges.specs.declared.status.Outcome.TheVariants.{WaitFault, TurnsSpent, ListenRefused, SinkFault, NoMemory}
+use Rattle.app_edges.specs.declared.status.Outcome.TheVariants.{WaitFault, TurnsSpent, ListenRefused, SinkFault, NoMemory, ControlRefused}
 
 abbrev pub code_of : Outcome → ℕ
 code_of Done = 0
@@ -20,6 +20,7 @@ code_of (TurnsSpent turns) = 10
 code_of (ListenRefused forward) = 11
 code_of SinkFault = 12
 code_of NoMemory = 13
+code_of ControlRefused = 14
 
 -- nothing was run: the words or the schedule have no reading, the settings aren't sound, or there was no memory
 abbrev pub is_unrun : ℕ → Bool

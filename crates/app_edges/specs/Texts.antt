@@ -14,7 +14,7 @@ use Rattle.replay.specs.declared.CallName.{CallName}
 use Rattle.world_face.specs.Tells.{Rose}
 use Rattle.app_edges.specs.declared.status.Outcome.{Outcome}
 use Rattle.app_edges.specs.declared.status.Outcome.TheVariants.{Done, Usage, BadConfig, ScheduleRead, ScheduleTooLarge, ScheduleLine, Diverged, FrameTooLong, FrameCut, LinkFault}
-use Rattle.app_edges.specs.declared.status.Outcome.TheVariants.{WaitFault, TurnsSpent, ListenRefused, SinkFault, NoMemory}
+use Rattle.app_edges.specs.declared.status.Outcome.TheVariants.{WaitFault, TurnsSpent, ListenRefused, SinkFault, NoMemory, ControlRefused}
 
 -- the call of the line that stands next, where one is left
 abbrev pub wanted_text : Option CallName → List ℕ
@@ -74,6 +74,7 @@ text_of words forwards (TurnsSpent turns) = codes "slirpd: " ++ decimal turns ++
 text_of words forwards (ListenRefused number) = codes "slirpd: forward " ++ decimal number ++ codes " refused" ++ port_text (slice_get forwards number)
 text_of words forwards SinkFault = []
 text_of words forwards NoMemory = codes "slirpd: out of memory"
+text_of words forwards ControlRefused = codes "slirpd: control refused"
 
 -- a text and a line feed; nothing where there is no text
 abbrev pub with_feed : List ℕ → List ℕ
@@ -123,6 +124,7 @@ option_lines =
     ∷ codes "  --resolver A:PORT     who answers questions to the name server"
     ∷ codes "  --no-dns              nothing goes to the name server"
     ∷ codes "  --outbound A          the host's address from which datagrams go out"
+    ∷ codes "  --control A:PORT      where to take commands that add and remove forwards"
     ∷ codes "  --tftp FOLDER         the folder whose files a guest may fetch"
     ∷ codes "  --help, help          this, alone"
     ∷ codes "  --version             the version, alone"

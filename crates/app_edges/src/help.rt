@@ -37,6 +37,7 @@ const OPTIONS: &str = concat!(
     "  --resolver A:PORT     who answers questions to the name server\n",
     "  --no-dns              nothing goes to the name server\n",
     "  --outbound A          the host's address from which datagrams go out\n",
+    "  --control A:PORT      where to take commands that add and remove forwards\n",
     "  --tftp FOLDER         the folder whose files a guest may fetch\n",
     "  --help, help          this, alone\n",
     "  --version             the version, alone\n",

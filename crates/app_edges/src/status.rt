@@ -38,6 +38,8 @@ pub enum Outcome {
     ListenRefused(usize),
     SinkFault,
     NoMemory,
+    /// The host refused the port of the control.
+    ControlRefused,
 }
 
 impl Outcome {
@@ -60,6 +62,7 @@ impl Outcome {
             Outcome::ListenRefused(_) => 11,
             Outcome::SinkFault => 12,
             Outcome::NoMemory => 13,
+            Outcome::ControlRefused => 14,
         }
     }
 
@@ -107,6 +110,7 @@ impl Outcome {
             Outcome::TurnsSpent(turns) => tell_number(err, b"slirpd: ", *turns, b" turns spent\n"),
             Outcome::ListenRefused(forward) => tell_refused(err, *forward, forwards),
             Outcome::NoMemory => err.put(b"slirpd: out of memory\n"),
+            Outcome::ControlRefused => err.put(b"slirpd: control refused\n"),
         }
     }
 }

@@ -79,7 +79,7 @@ guests_none gs false is =
     ap (λ (t : Bool). length (cond t gs (guest_portless ∷ [])) == 0) is ∙ sym some
 
 abbrev by_none : (given : Word → Option Word) (g d : Bool) → ℕ
-by_none given g d = if is_some (given (codes "--outbound")) || is_some (given (codes "--no-dns")) || is_some (given (codes "--no-dhcp")) || not g || not d then 2 else 1
+by_none given g d = if is_some (given (codes "--outbound")) || is_some (given (codes "--control")) || is_some (given (codes "--no-dns")) || is_some (given (codes "--no-dhcp")) || not g || not d then 2 else 1
 
 pub held_version : (given : Word → Option Word) (gs : List GuestFwd) (ds : List Denial) → version_of given (held_guests gs) (held_denials ds) ≡ version_of given gs ds
 held_version given gs ds =

@@ -14,7 +14,7 @@ use Rattle.slirp_config.specs.Texts.{IsNetwork}
 use Rattle.slirp_config.specs.Meaning.{AreSettings, Means, Drives, Replays, Serves, version_of}
 use Rattle.world_face.specs.Journal.{AtPath}
 
--- no option is given but for the network, its addresses, who is asked for names, and from where datagrams go out
+-- no option is given but for the network, its addresses, who is asked for names, from where datagrams go out, and the control
 abbrev IsPlain : (given : Word → Option Word) → Type 0
 IsPlain given =
     (given (codes "--restrict") ≡ None) × (given (codes "--no-loopback") ≡ None) × (given (codes "--hostname") ≡ None) × (given (codes "--domainname") ≡ None) ×
@@ -23,13 +23,14 @@ IsPlain given =
     × (given (codes "--ring") ≡ None) × (given (codes "--turns") ≡ None) × (given (codes "--no-dns") ≡ None) × (given (codes "--no-dhcp") ≡ None) × (given (codes "--congestion") ≡ None)
 
 -- so all else is usual
-plain : (given : Word → Option Word) (network mask vhost vnameserver dhcp_start : ℕ) (resolver : Option Endpoint) (outbound : Option ℕ) (version : ℕ) (forwards : List Forward) → IsPlain given
+plain : (given : Word → Option Word) (network mask vhost vnameserver dhcp_start : ℕ) (resolver : Option Endpoint) (outbound : Option ℕ) (control : Option Endpoint) (version : ℕ) (forwards : List Forward) → IsPlain given
     → MatchOption (given (codes "--net")) ((network ≡ usual.network) × (mask ≡ usual.mask)) (λ text. IsNetwork text network mask)
     → MatchOption (given (codes "--host")) (vhost ≡ (network + 2) % 2 ^ 32) (λ text. IsAddress text vhost)
     → MatchOption (given (codes "--dns")) (vnameserver ≡ (network + 3) % 2 ^ 32) (λ text. IsAddress text vnameserver)
     → MatchOption (given (codes "--dhcpstart")) (dhcp_start ≡ (network + 15) % 2 ^ 32) (λ text. IsAddress text dhcp_start)
     → MatchOption (given (codes "--resolver")) (resolver ≡ None) (λ text. (at : Endpoint) × (resolver ≡ Some at) × IsEndpointText text at)
     → MatchOption (given (codes "--outbound")) (outbound ≡ None) (λ text. (a : ℕ) × (outbound ≡ Some a) × IsAddress text a)
+    → MatchOption (given (codes "--control")) (control ≡ None) (λ text. (at : Endpoint) × (control ≡ Some at) × IsEndpointText text at)
     → version ≡ version_of given [] []
     → AreSettings given (record usual {
       network = network;
@@ -39,10 +40,11 @@ plain : (given : Word → Option Word) (network mask vhost vnameserver dhcp_star
       dhcp_start = dhcp_start;
       resolver = resolver;
       outbound = outbound;
+      control = control;
       version = version;
       forwards = forwards;
     })
-plain given network mask vhost vnameserver dhcp_start resolver outbound version forwards none net host dns start asked out of = record {
+plain given network mask vhost vnameserver dhcp_start resolver outbound control version forwards none net host dns start asked out at of = record {
   net = net;
   host = host;
   dns = dns;
@@ -61,6 +63,7 @@ plain given network mask vhost vnameserver dhcp_start resolver outbound version 
   resolver = asked;
   turns = rw none.11 refl;
   outbound = out;
+  control = at;
   no_dns = rw none.12 refl;
   no_dhcp = rw none.13 refl;
   congestion = rw none.14 refl;
@@ -85,8 +88,8 @@ another_network = (
     omega arith,
     omega arith,
     (tt, tt),
-    plain _ _ _ _ _ _ _ _ _ _ (refl, refl, refl, refl, refl, refl, refl, refl, refl, refl, refl, refl, refl, refl, refl)
-        (16, refl, omega arith, omega arith, refl) (refl, omega arith) refl refl refl refl refl,
+    plain _ _ _ _ _ _ _ _ _ _ _ (refl, refl, refl, refl, refl, refl, refl, refl, refl, refl, refl, refl, refl, refl, refl)
+        (16, refl, omega arith, omega arith, refl) (refl, omega arith) refl refl refl refl refl refl,
     tt,
   ),
 )
@@ -124,8 +127,8 @@ first_guest = (
       ),
       tt,
     ),
-    plain _ _ _ _ _ _ _ _ _ _ (refl, refl, refl, refl, refl, refl, refl, refl, refl, refl, refl, refl, refl, refl, refl)
-        (refl, refl) refl refl (refl, omega arith) refl refl refl,
+    plain _ _ _ _ _ _ _ _ _ _ _ (refl, refl, refl, refl, refl, refl, refl, refl, refl, refl, refl, refl, refl, refl, refl)
+        (refl, refl) refl refl (refl, omega arith) refl refl refl refl,
     tt,
   ),
 )
@@ -166,8 +169,29 @@ datagrams = (
       ),
       tt,
     ),
-    plain _ _ _ _ _ _ _ _ _ _ (refl, refl, refl, refl, refl, refl, refl, refl, refl, refl, refl, refl, refl, refl, refl)
-        (refl, refl) refl refl refl (endpoint 0xc0000201 53, refl, (refl, (omega arith, omega arith))) (0xc0000209, refl, (refl, omega arith)) refl,
+    plain _ _ _ _ _ _ _ _ _ _ _ (refl, refl, refl, refl, refl, refl, refl, refl, refl, refl, refl, refl, refl, refl, refl)
+        (refl, refl) refl refl refl (endpoint 0xc0000201 53, refl, (refl, (omega arith, omega arith))) (0xc0000209, refl, (refl, omega arith)) refl refl,
+    tt,
+  ),
+)
+
+-- where commands are taken: such settings are of version 2
+commanded : Means
+    (codes "serve" ∷ codes "--control" ∷ codes "127.0.0.1:5556" ∷ codes "--link=unix:s" ∷ [])
+    (Serves (record usual { version = 2; control = Some (endpoint loopback 5556) }) (AtPath (codes "s")) Off)
+unfolding address_text endpoint_text digits
+commanded = (
+  codes "--control" ∷ codes "127.0.0.1:5556" ∷ codes "--link=unix:s" ∷ [],
+  refl,
+  (
+    record { pieces = Apart (codes "--control") (codes "127.0.0.1:5556") ∷ Joined (codes "--link") (codes "unix:s") ∷ []; behind = None },
+    refl,
+    (((refl, omega arith, refl), ((refl, omega arith), tt)), refl),
+    (refl, (omega arith, omega arith)),
+    (refl, refl),
+    (tt, tt),
+    plain _ _ _ _ _ _ _ _ _ _ _ (refl, refl, refl, refl, refl, refl, refl, refl, refl, refl, refl, refl, refl, refl, refl)
+        (refl, refl) refl refl refl refl refl (endpoint loopback 5556, refl, (refl, (omega arith, omega arith))) refl,
     tt,
   ),
 )

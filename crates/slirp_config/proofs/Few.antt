@@ -1,4 +1,4 @@
--- Options of which none stands twice: there are twenty-four at most, and one more may stand where its name isn't there.
+-- Options of which none stands twice: there are no more than names, and one more may stand where its name isn't there.
 use Rattle.std.proofs.Common.{◌≡◌, suc, ◌≤◌, Bool, true, false, cond, not, ◌||◌, List, [], ◌∷◌, ◌++◌, length, bytes_eq, Some, find, is_some, refl, sym, ap, subst, arith}
 use Rattle.std.specs.List.{list_any, list_all}
 use Rattle.std.specs.Option.{option_map}

@@ -76,15 +76,15 @@ kept_fits walk word h = (
 )
 
 -- what is held of one option more, for which there is room
-held_more : (o : List Given) (g : Given) → (is_repeated g.name ≡ false → length (single o) < 25) → hold (single o) g ≡ Some (single (o ++ g ∷ []))
+held_more : (o : List Given) (g : Given) → (is_repeated g.name ≡ false → length (single o) < 26) → hold (single o) g ≡ Some (single (o ++ g ∷ []))
 held_more o g room = by_test (is_repeated g.name) refl
   where
     by_test : (t : Bool) → is_repeated g.name ≡ t → hold (single o) g ≡ Some (single (o ++ g ∷ []))
-    by_test true e = ap (λ (t : Bool). cond t (Some (single o)) (cond (ltb (length (single o)) 25) (Some (single o ++ g ∷ [])) None)) e ∙ ap (λ (l : List Given). Some l) (sym (one_repeated o g e))
+    by_test true e = ap (λ (t : Bool). cond t (Some (single o)) (cond (ltb (length (single o)) 26) (Some (single o ++ g ∷ [])) None)) e ∙ ap (λ (l : List Given). Some l) (sym (one_repeated o g e))
     by_test false e =
         let fits = room e in
-        let is : ltb (length (single o)) 25 ≡ true = grind (arith, nat_tests, fits) in
-        ap (λ (t : Bool). cond t (Some (single o)) (cond (ltb (length (single o)) 25) (Some (single o ++ g ∷ [])) None)) e
+        let is : ltb (length (single o)) 26 ≡ true = grind (arith, nat_tests, fits) in
+        ap (λ (t : Bool). cond t (Some (single o)) (cond (ltb (length (single o)) 26) (Some (single o ++ g ∷ [])) None)) e
         ∙ ap (λ (t : Bool). cond t (Some (single o ++ g ∷ [])) None) is ∙ ap (λ (l : List Given). Some l) (sym (one_single o g [] e))
 
 abbrev put_kept : Walk → Option (List Given) → Option Walk
@@ -98,7 +98,7 @@ module _ (walk : Walk) (once : none_twice same_name (single walk.options) ≡ tr
       by_test : (t : Bool) → may_stand walk.options name ≡ t → cond (may_stand (single walk.options) name) (put_kept walk (hold (single walk.options) (given name value))) None ≡ option_map kept_of
           (cond (may_stand walk.options name) (Some (record walk { options = walk.options ++ given name value ∷ [] })) None)
       by_test true e =
-          let room : is_repeated name ≡ false → length (single walk.options) < 25 = λ other. has_room walk.verb walk.options name value b once known takes other e in
+          let room : is_repeated name ≡ false → length (single walk.options) < 26 = λ other. has_room walk.verb walk.options name value b once known takes other e in
           ap (λ (t : Bool). cond t (put_kept walk (hold (single walk.options) (given name value))) None) (may_single walk.options name ∙ e)
           ∙ ap (put_kept walk) (held_more walk.options (given name value) room)
           ∙ sym (ap (λ (t : Bool). option_map kept_of (cond t (Some (record walk { options = walk.options ++ given name value ∷ [] })) None)) e)

@@ -1,4 +1,4 @@
--- Names of options: what they look like, and that a command has twenty-four at most.
+-- Names of options: what they look like.
 use Rattle.std.proofs.Common.{◌≡◌, Bool, true, false, not, ◌&&◌, List, [], ◌∷◌, bytes_eq, codes, Option, Some, find, refl, sym, ◌∙◌, ap, subst}
 use Rattle.std.specs.List.{list_any, list_all}
 use Rattle.std.specs.Option.{option_map}

@@ -94,6 +94,7 @@ one_settings given rules guests denials c d h g hf gf hg gg hd gd =
     let resolver : c.resolver ≡ d.resolver = one_if_any (given (codes "--resolver")) IsEndpointText same_to c.resolver d.resolver h.resolver g.resolver in
     let turns : c.turns ≡ d.turns = one_of (given (codes "--turns")) usual.turns usual.turns (IsNumber 64) refl same_long c.turns d.turns h.turns g.turns in
     let outbound : c.outbound ≡ d.outbound = one_if_any (given (codes "--outbound")) IsAddress same_at c.outbound d.outbound h.outbound g.outbound in
+    let control : c.control ≡ d.control = one_if_any (given (codes "--control")) IsEndpointText same_to c.control d.control h.control g.control in
     let no_dns : c.no_dns ≡ d.no_dns = h.no_dns ∙ sym g.no_dns in
     let no_dhcp : c.no_dhcp ≡ d.no_dhcp = h.no_dhcp ∙ sym g.no_dhcp in
     let congestion : c.congestion ≡ d.congestion = h.congestion ∙ sym g.congestion in
@@ -103,57 +104,59 @@ one_settings given rules guests denials c d h g hf gf hg gg hd gd =
     let forwards : c.forwards ≡ d.forwards = same_forwards rules d.dhcp_start c.forwards d.forwards (subst (λ (n : ℕ). AreForwards rules n c.forwards) dhcp_start hf) gf in
     h.rest
     ∙ ap (λ (x : ℕ). made usual x c.mask c.vhost c.vnameserver c.dhcp_start c.restricted c.no_loopback c.hostname c.domainname c.tftp_server_name c.bootfile c.tftp_path c.mtu c.mru
-    c.flows c.ring c.resolver c.turns c.outbound c.no_dns c.no_dhcp c.congestion c.version c.forwards c.guest_forwards c.denied) network
+    c.flows c.ring c.resolver c.turns c.outbound c.control c.no_dns c.no_dhcp c.congestion c.version c.forwards c.guest_forwards c.denied) network
     ∙ ap (λ (x : ℕ). made usual d.network x c.vhost c.vnameserver c.dhcp_start c.restricted c.no_loopback c.hostname c.domainname c.tftp_server_name c.bootfile c.tftp_path c.mtu
-    c.mru c.flows c.ring c.resolver c.turns c.outbound c.no_dns c.no_dhcp c.congestion c.version c.forwards c.guest_forwards c.denied) mask
+    c.mru c.flows c.ring c.resolver c.turns c.outbound c.control c.no_dns c.no_dhcp c.congestion c.version c.forwards c.guest_forwards c.denied) mask
     ∙ ap (λ (x : ℕ). made usual d.network d.mask x c.vnameserver c.dhcp_start c.restricted c.no_loopback c.hostname c.domainname c.tftp_server_name c.bootfile c.tftp_path c.mtu
-    c.mru c.flows c.ring c.resolver c.turns c.outbound c.no_dns c.no_dhcp c.congestion c.version c.forwards c.guest_forwards c.denied) vhost
+    c.mru c.flows c.ring c.resolver c.turns c.outbound c.control c.no_dns c.no_dhcp c.congestion c.version c.forwards c.guest_forwards c.denied) vhost
     ∙ ap (λ (x : ℕ). made usual d.network d.mask d.vhost x c.dhcp_start c.restricted c.no_loopback c.hostname c.domainname c.tftp_server_name c.bootfile c.tftp_path c.mtu c.mru
-    c.flows c.ring c.resolver c.turns c.outbound c.no_dns c.no_dhcp c.congestion c.version c.forwards c.guest_forwards c.denied) vnameserver
+    c.flows c.ring c.resolver c.turns c.outbound c.control c.no_dns c.no_dhcp c.congestion c.version c.forwards c.guest_forwards c.denied) vnameserver
     ∙ ap (λ (x : ℕ). made usual d.network d.mask d.vhost d.vnameserver x c.restricted c.no_loopback c.hostname c.domainname c.tftp_server_name c.bootfile c.tftp_path c.mtu c.mru
-    c.flows c.ring c.resolver c.turns c.outbound c.no_dns c.no_dhcp c.congestion c.version c.forwards c.guest_forwards c.denied) dhcp_start
+    c.flows c.ring c.resolver c.turns c.outbound c.control c.no_dns c.no_dhcp c.congestion c.version c.forwards c.guest_forwards c.denied) dhcp_start
     ∙ ap (λ (x : Bool). made usual d.network d.mask d.vhost d.vnameserver d.dhcp_start x c.no_loopback c.hostname c.domainname c.tftp_server_name c.bootfile c.tftp_path c.mtu c.mru
-    c.flows c.ring c.resolver c.turns c.outbound c.no_dns c.no_dhcp c.congestion c.version c.forwards c.guest_forwards c.denied) restricted
+    c.flows c.ring c.resolver c.turns c.outbound c.control c.no_dns c.no_dhcp c.congestion c.version c.forwards c.guest_forwards c.denied) restricted
     ∙ ap (λ (x : Bool). made usual d.network d.mask d.vhost d.vnameserver d.dhcp_start d.restricted x c.hostname c.domainname c.tftp_server_name c.bootfile c.tftp_path c.mtu c.mru
-    c.flows c.ring c.resolver c.turns c.outbound c.no_dns c.no_dhcp c.congestion c.version c.forwards c.guest_forwards c.denied) no_loopback
+    c.flows c.ring c.resolver c.turns c.outbound c.control c.no_dns c.no_dhcp c.congestion c.version c.forwards c.guest_forwards c.denied) no_loopback
     ∙ ap (λ (x : List ℕ). made usual d.network d.mask d.vhost d.vnameserver d.dhcp_start d.restricted d.no_loopback x c.domainname c.tftp_server_name c.bootfile c.tftp_path c.mtu
-    c.mru c.flows c.ring c.resolver c.turns c.outbound c.no_dns c.no_dhcp c.congestion c.version c.forwards c.guest_forwards c.denied) hostname
+    c.mru c.flows c.ring c.resolver c.turns c.outbound c.control c.no_dns c.no_dhcp c.congestion c.version c.forwards c.guest_forwards c.denied) hostname
     ∙ ap (λ (x : List ℕ). made usual d.network d.mask d.vhost d.vnameserver d.dhcp_start d.restricted d.no_loopback d.hostname x c.tftp_server_name c.bootfile c.tftp_path c.mtu
-    c.mru c.flows c.ring c.resolver c.turns c.outbound c.no_dns c.no_dhcp c.congestion c.version c.forwards c.guest_forwards c.denied) domainname
+    c.mru c.flows c.ring c.resolver c.turns c.outbound c.control c.no_dns c.no_dhcp c.congestion c.version c.forwards c.guest_forwards c.denied) domainname
     ∙ ap (λ (x : List ℕ). made usual d.network d.mask d.vhost d.vnameserver d.dhcp_start d.restricted d.no_loopback d.hostname d.domainname x c.bootfile c.tftp_path c.mtu c.mru
-    c.flows c.ring c.resolver c.turns c.outbound c.no_dns c.no_dhcp c.congestion c.version c.forwards c.guest_forwards c.denied) tftp_server_name
+    c.flows c.ring c.resolver c.turns c.outbound c.control c.no_dns c.no_dhcp c.congestion c.version c.forwards c.guest_forwards c.denied) tftp_server_name
     ∙ ap (λ (x : List ℕ). made usual d.network d.mask d.vhost d.vnameserver d.dhcp_start d.restricted d.no_loopback d.hostname d.domainname d.tftp_server_name x c.tftp_path c.mtu
-    c.mru c.flows c.ring c.resolver c.turns c.outbound c.no_dns c.no_dhcp c.congestion c.version c.forwards c.guest_forwards c.denied) bootfile
+    c.mru c.flows c.ring c.resolver c.turns c.outbound c.control c.no_dns c.no_dhcp c.congestion c.version c.forwards c.guest_forwards c.denied) bootfile
     ∙ ap (λ (x : Option (List ℕ)). made usual d.network d.mask d.vhost d.vnameserver d.dhcp_start d.restricted d.no_loopback d.hostname d.domainname d.tftp_server_name d.bootfile x
-    c.mtu c.mru c.flows c.ring c.resolver c.turns c.outbound c.no_dns c.no_dhcp c.congestion c.version c.forwards c.guest_forwards c.denied) tftp_path
+    c.mtu c.mru c.flows c.ring c.resolver c.turns c.outbound c.control c.no_dns c.no_dhcp c.congestion c.version c.forwards c.guest_forwards c.denied) tftp_path
     ∙ ap (λ (x : ℕ). made usual d.network d.mask d.vhost d.vnameserver d.dhcp_start d.restricted d.no_loopback d.hostname d.domainname d.tftp_server_name d.bootfile d.tftp_path x
-    c.mru c.flows c.ring c.resolver c.turns c.outbound c.no_dns c.no_dhcp c.congestion c.version c.forwards c.guest_forwards c.denied) mtu
+    c.mru c.flows c.ring c.resolver c.turns c.outbound c.control c.no_dns c.no_dhcp c.congestion c.version c.forwards c.guest_forwards c.denied) mtu
     ∙ ap (λ (x : ℕ). made usual d.network d.mask d.vhost d.vnameserver d.dhcp_start d.restricted d.no_loopback d.hostname d.domainname d.tftp_server_name d.bootfile d.tftp_path
-    d.mtu x c.flows c.ring c.resolver c.turns c.outbound c.no_dns c.no_dhcp c.congestion c.version c.forwards c.guest_forwards c.denied) mru
+    d.mtu x c.flows c.ring c.resolver c.turns c.outbound c.control c.no_dns c.no_dhcp c.congestion c.version c.forwards c.guest_forwards c.denied) mru
     ∙ ap (λ (x : ℕ). made usual d.network d.mask d.vhost d.vnameserver d.dhcp_start d.restricted d.no_loopback d.hostname d.domainname d.tftp_server_name d.bootfile d.tftp_path
-    d.mtu d.mru x c.ring c.resolver c.turns c.outbound c.no_dns c.no_dhcp c.congestion c.version c.forwards c.guest_forwards c.denied) flows
+    d.mtu d.mru x c.ring c.resolver c.turns c.outbound c.control c.no_dns c.no_dhcp c.congestion c.version c.forwards c.guest_forwards c.denied) flows
     ∙ ap (λ (x : ℕ). made usual d.network d.mask d.vhost d.vnameserver d.dhcp_start d.restricted d.no_loopback d.hostname d.domainname d.tftp_server_name d.bootfile d.tftp_path
-    d.mtu d.mru d.flows x c.resolver c.turns c.outbound c.no_dns c.no_dhcp c.congestion c.version c.forwards c.guest_forwards c.denied) ring
+    d.mtu d.mru d.flows x c.resolver c.turns c.outbound c.control c.no_dns c.no_dhcp c.congestion c.version c.forwards c.guest_forwards c.denied) ring
     ∙ ap (λ (x : Option Endpoint). made usual d.network d.mask d.vhost d.vnameserver d.dhcp_start d.restricted d.no_loopback d.hostname d.domainname d.tftp_server_name d.bootfile
-    d.tftp_path d.mtu d.mru d.flows d.ring x c.turns c.outbound c.no_dns c.no_dhcp c.congestion c.version c.forwards c.guest_forwards c.denied) resolver
+    d.tftp_path d.mtu d.mru d.flows d.ring x c.turns c.outbound c.control c.no_dns c.no_dhcp c.congestion c.version c.forwards c.guest_forwards c.denied) resolver
     ∙ ap (λ (x : ℕ). made usual d.network d.mask d.vhost d.vnameserver d.dhcp_start d.restricted d.no_loopback d.hostname d.domainname d.tftp_server_name d.bootfile d.tftp_path
-    d.mtu d.mru d.flows d.ring d.resolver x c.outbound c.no_dns c.no_dhcp c.congestion c.version c.forwards c.guest_forwards c.denied) turns
+    d.mtu d.mru d.flows d.ring d.resolver x c.outbound c.control c.no_dns c.no_dhcp c.congestion c.version c.forwards c.guest_forwards c.denied) turns
     ∙ ap (λ (x : Option ℕ). made usual d.network d.mask d.vhost d.vnameserver d.dhcp_start d.restricted d.no_loopback d.hostname d.domainname d.tftp_server_name d.bootfile
-    d.tftp_path d.mtu d.mru d.flows d.ring d.resolver d.turns x c.no_dns c.no_dhcp c.congestion c.version c.forwards c.guest_forwards c.denied) outbound
+    d.tftp_path d.mtu d.mru d.flows d.ring d.resolver d.turns x c.control c.no_dns c.no_dhcp c.congestion c.version c.forwards c.guest_forwards c.denied) outbound
+    ∙ ap (λ (x : Option Endpoint). made usual d.network d.mask d.vhost d.vnameserver d.dhcp_start d.restricted d.no_loopback d.hostname d.domainname d.tftp_server_name d.bootfile
+    d.tftp_path d.mtu d.mru d.flows d.ring d.resolver d.turns d.outbound x c.no_dns c.no_dhcp c.congestion c.version c.forwards c.guest_forwards c.denied) control
     ∙ ap (λ (x : Bool). made usual d.network d.mask d.vhost d.vnameserver d.dhcp_start d.restricted d.no_loopback d.hostname d.domainname d.tftp_server_name d.bootfile d.tftp_path
-    d.mtu d.mru d.flows d.ring d.resolver d.turns d.outbound x c.no_dhcp c.congestion c.version c.forwards c.guest_forwards c.denied) no_dns
+    d.mtu d.mru d.flows d.ring d.resolver d.turns d.outbound d.control x c.no_dhcp c.congestion c.version c.forwards c.guest_forwards c.denied) no_dns
     ∙ ap (λ (x : Bool). made usual d.network d.mask d.vhost d.vnameserver d.dhcp_start d.restricted d.no_loopback d.hostname d.domainname d.tftp_server_name d.bootfile d.tftp_path
-    d.mtu d.mru d.flows d.ring d.resolver d.turns d.outbound d.no_dns x c.congestion c.version c.forwards c.guest_forwards c.denied) no_dhcp
+    d.mtu d.mru d.flows d.ring d.resolver d.turns d.outbound d.control d.no_dns x c.congestion c.version c.forwards c.guest_forwards c.denied) no_dhcp
     ∙ ap (λ (x : Bool). made usual d.network d.mask d.vhost d.vnameserver d.dhcp_start d.restricted d.no_loopback d.hostname d.domainname d.tftp_server_name d.bootfile d.tftp_path
-    d.mtu d.mru d.flows d.ring d.resolver d.turns d.outbound d.no_dns d.no_dhcp x c.version c.forwards c.guest_forwards c.denied) congestion
+    d.mtu d.mru d.flows d.ring d.resolver d.turns d.outbound d.control d.no_dns d.no_dhcp x c.version c.forwards c.guest_forwards c.denied) congestion
     ∙ ap (λ (x : ℕ). made usual d.network d.mask d.vhost d.vnameserver d.dhcp_start d.restricted d.no_loopback d.hostname d.domainname d.tftp_server_name d.bootfile d.tftp_path
-    d.mtu d.mru d.flows d.ring d.resolver d.turns d.outbound d.no_dns d.no_dhcp d.congestion x c.forwards c.guest_forwards c.denied) version
+    d.mtu d.mru d.flows d.ring d.resolver d.turns d.outbound d.control d.no_dns d.no_dhcp d.congestion x c.forwards c.guest_forwards c.denied) version
     ∙ ap (λ (x : List Forward). made usual d.network d.mask d.vhost d.vnameserver d.dhcp_start d.restricted d.no_loopback d.hostname d.domainname d.tftp_server_name d.bootfile
-    d.tftp_path d.mtu d.mru d.flows d.ring d.resolver d.turns d.outbound d.no_dns d.no_dhcp d.congestion d.version x c.guest_forwards c.denied) forwards
+    d.tftp_path d.mtu d.mru d.flows d.ring d.resolver d.turns d.outbound d.control d.no_dns d.no_dhcp d.congestion d.version x c.guest_forwards c.denied) forwards
     ∙ ap (λ (x : List GuestFwd). made usual d.network d.mask d.vhost d.vnameserver d.dhcp_start d.restricted d.no_loopback d.hostname d.domainname d.tftp_server_name d.bootfile
-    d.tftp_path d.mtu d.mru d.flows d.ring d.resolver d.turns d.outbound d.no_dns d.no_dhcp d.congestion d.version d.forwards x c.denied) led
+    d.tftp_path d.mtu d.mru d.flows d.ring d.resolver d.turns d.outbound d.control d.no_dns d.no_dhcp d.congestion d.version d.forwards x c.denied) led
     ∙ ap (λ (x : List Denial). made usual d.network d.mask d.vhost d.vnameserver d.dhcp_start d.restricted d.no_loopback d.hostname d.domainname d.tftp_server_name d.bootfile
-    d.tftp_path d.mtu d.mru d.flows d.ring d.resolver d.turns d.outbound d.no_dns d.no_dhcp d.congestion d.version d.forwards d.guest_forwards x) denied
+    d.tftp_path d.mtu d.mru d.flows d.ring d.resolver d.turns d.outbound d.control d.no_dns d.no_dhcp d.congestion d.version d.forwards d.guest_forwards x) denied
     ∙ sym g.rest
 
 -- the link is at one place

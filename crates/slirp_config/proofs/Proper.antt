@@ -33,10 +33,10 @@ fresh_proper verb = record { once = refl; known = refl; waiting = tt; quiet = λ
 
 -- there is room for one that may stand, and once alone
 pub has_room : (verb : Verb) (o : List Given) (name value : Word) (b : Bool) → none_twice same_name (single o) ≡ true → list_all is_known (single o) ≡ true → takes_value verb name ≡ Some b
-    → is_repeated name ≡ false → may_stand o name ≡ true → length (single o) < 25
+    → is_repeated name ≡ false → may_stand o name ≡ true → length (single o) < 26
 has_room verb o name value b once known takes other free =
     let g = given name value in
-    let more : length (single (o ++ g ∷ [])) ≤ 25 = few option_names (single (o ++ g ∷ [])) (once_again o g once free) (known_again o g known (name_known verb name b takes)) in
+    let more : length (single (o ++ g ∷ [])) ≤ 26 = few option_names (single (o ++ g ∷ [])) (once_again o g once free) (known_again o g known (name_known verb name b takes)) in
     omega (arith, more, ap length (one_single o g [] other), length-append (single o) (g ∷ []))
 
 module _ (verb : Verb) (o : List Given) (a : List Word) (once : none_twice same_name (single o) ≡ true) (known : list_all is_known (single o) ≡ true) where

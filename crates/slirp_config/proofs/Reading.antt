@@ -108,8 +108,12 @@ module _ (verb : Verb) (given : Word → Option Word) where
                                                 (λ _. weaken (given (codes "--outbound")) _ (λ text. (a : ℕ) × (config.outbound ≡ Some a) × IsAddress text a) (CanHave Address)
                                                     (λ t h. (h.0, h.2)) are.outbound),
                                                 (
-                                                  (λ _. free (given (codes "--tftp"))),
-                                                  ((λ _. none_read (given (codes "--deny")) (CanHave Network) none), tt),
+                                                  (λ _. weaken (given (codes "--control")) _ (λ text. (at : Endpoint) × (config.control ≡ Some at) × IsEndpointText text at)
+                                                      (CanHave AddressPort) (λ t h. (h.0, h.2)) are.control),
+                                                  (
+                                                    (λ _. free (given (codes "--tftp"))),
+                                                    ((λ _. none_read (given (codes "--deny")) (CanHave Network) none), tt),
+                                                  ),
                                                 ),
                                               ),
                                             ),
@@ -247,11 +251,13 @@ module _ (verb : Verb) where
       let resolver = pick_any (given (codes "--resolver")) (λ text at. IsEndpointText text at) (λ v e. value_read o are (codes "--resolver") v e AddressPort
       (of_both (λ b. kind_of b (codes "--resolver") ≡ Some AddressPort) refl refl)) in
       let outbound = pick_any (given (codes "--outbound")) (λ text a. IsAddress text a) (λ v e. value_read o are (codes "--outbound") v e Address
-      (of_both (λ b. kind_of b (codes "--outbound") ≡ Some Address) refl refl)) in (
+      (of_both (λ b. kind_of b (codes "--outbound") ≡ Some Address) refl refl)) in
+      let control = pick_any (given (codes "--control")) (λ text at. IsEndpointText text at) (λ v e. value_read o are (codes "--control") v e AddressPort
+      (of_both (λ b. kind_of b (codes "--control") ≡ Some AddressPort) refl refl)) in (
         made usual net.0 net.1 host.0 dns.0 start.0 (is_some (given (codes "--restrict"))) (is_some (given (codes "--no-loopback")))
             (option_map_or held_text (given (codes "--hostname")) []) (option_map_or held_text (given (codes "--domainname")) [])
             (option_map_or held_text (given (codes "--tftp-server-name")) []) (option_map_or held_text (given (codes "--bootfile")) [])
-            (option_map held_folder (given (codes "--tftp"))) mtu.0 mru.0 flows.0 ring.0 resolver.0 turns.0 outbound.0 (is_some (given (codes "--no-dns")))
+            (option_map held_folder (given (codes "--tftp"))) mtu.0 mru.0 flows.0 ring.0 resolver.0 turns.0 outbound.0 control.0 (is_some (given (codes "--no-dns")))
             (is_some (given (codes "--no-dhcp"))) (is_some (given (codes "--congestion"))) (version_of given gs ds) [] gs ds,
         record {
           net = net.2;
@@ -272,6 +278,7 @@ module _ (verb : Verb) where
           resolver = resolver.1;
           turns = turns.1;
           outbound = outbound.1;
+          control = control.1;
           no_dns = refl;
           no_dhcp = refl;
           congestion = refl;

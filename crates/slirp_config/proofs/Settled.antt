@@ -12,9 +12,9 @@ use Rattle.slirp_config.specs.Options.{Word}
 use Rattle.slirp_config.proofs.Denying.{held_version}
 
 abbrev pub made : Config → (network mask vhost vnameserver dhcp_start : ℕ) (restricted no_loopback : Bool) (hostname domainname tftp_server_name bootfile : List ℕ)
-    (tftp_path : Option (List ℕ)) (mtu mru flows ring : ℕ) (resolver : Option Endpoint) (turns : ℕ) (outbound : Option ℕ) (no_dns no_dhcp congestion : Bool) (version : ℕ)
+    (tftp_path : Option (List ℕ)) (mtu mru flows ring : ℕ) (resolver : Option Endpoint) (turns : ℕ) (outbound : Option ℕ) (control : Option Endpoint) (no_dns no_dhcp congestion : Bool) (version : ℕ)
     (forwards : List Forward) (guest_forwards : List GuestFwd) (denied : List Denial) → Config
-made base network mask vhost vnameserver dhcp_start restricted no_loopback hostname domainname tftp_server_name bootfile tftp_path mtu mru flows ring resolver turns outbound no_dns
+made base network mask vhost vnameserver dhcp_start restricted no_loopback hostname domainname tftp_server_name bootfile tftp_path mtu mru flows ring resolver turns outbound control no_dns
     no_dhcp congestion version forwards guest_forwards denied = record base {
       network = network;
       mask = mask;
@@ -35,6 +35,7 @@ made base network mask vhost vnameserver dhcp_start restricted no_loopback hostn
       resolver = resolver;
       turns = turns;
       outbound = outbound;
+      control = control;
       no_dns = no_dns;
       no_dhcp = no_dhcp;
       congestion = congestion;
@@ -70,6 +71,7 @@ lists_are given config forwards guests denied same are = record {
   resolver = are.resolver;
   turns = are.turns;
   outbound = are.outbound;
+  control = are.control;
   no_dns = are.no_dns;
   no_dhcp = are.no_dhcp;
   congestion = are.congestion;

@@ -51,7 +51,7 @@ broken_in TellsVersion = None
 -- a command with an option or a RULE that only version 2 of the settings has is of that version
 abbrev pub version_of : (given : Word → Option Word) (guest_forwards : List GuestFwd) (denied : List Denial) → ℕ
 version_of given guest_forwards denied =
-    if is_some (given (codes "--outbound")) || is_some (given (codes "--no-dns")) || is_some (given (codes "--no-dhcp")) || not (length guest_forwards == 0)
+    if is_some (given (codes "--outbound")) || is_some (given (codes "--control")) || is_some (given (codes "--no-dns")) || is_some (given (codes "--no-dhcp")) || not (length guest_forwards == 0)
     || not (length denied == 0) then 2 else 1
 
 -- the settings that options give, by the value that each name has; what no option gives is usual. None of these gives forwards, forwards of guests or denied networks
@@ -74,6 +74,7 @@ pub record AreSettings (given : Word → Option Word) (config : Config) : Type 0
   pub resolver : MatchOption (given (codes "--resolver")) (config.resolver ≡ None) (λ text. (at : Endpoint) × (config.resolver ≡ Some at) × IsEndpointText text at)
   pub turns : MatchOption (given (codes "--turns")) (config.turns ≡ usual.turns) (λ text. IsNumber 64 text config.turns)
   pub outbound : MatchOption (given (codes "--outbound")) (config.outbound ≡ None) (λ text. (a : ℕ) × (config.outbound ≡ Some a) × IsAddress text a)
+  pub control : MatchOption (given (codes "--control")) (config.control ≡ None) (λ text. (at : Endpoint) × (config.control ≡ Some at) × IsEndpointText text at)
   pub no_dns : config.no_dns ≡ is_some (given (codes "--no-dns"))
   pub no_dhcp : config.no_dhcp ≡ is_some (given (codes "--no-dhcp"))
   pub congestion : config.congestion ≡ is_some (given (codes "--congestion"))
@@ -98,6 +99,7 @@ pub record AreSettings (given : Word → Option Word) (config : Config) : Type 0
     resolver = config.resolver;
     turns = config.turns;
     outbound = config.outbound;
+    control = config.control;
     no_dns = config.no_dns;
     no_dhcp = config.no_dhcp;
     congestion = config.congestion;

@@ -52,6 +52,7 @@ rows =
     ∷ of_all (codes "--resolver") AddressPort
     ∷ of_all (codes "--no-dns") Nothing
     ∷ of_all (codes "--outbound") Address
+    ∷ of_all (codes "--control") AddressPort
     ∷ of_all (codes "--tftp") Text
     ∷ of_all (codes "--deny") Network
     ∷ []

@@ -132,9 +132,9 @@ guests_of Serve rules = guest_words rules
 abbrev pub kept_guests : List Word → List Word
 kept_guests words = take 17 words
 
--- It has room for one option of each name, of which there are twenty-five, and for none that may stand several times.
+-- It has room for one option of each name, of which there are twenty-six, and for none that may stand several times.
 abbrev pub hold : List Given → Given → Option (List Given)
-hold options given = if is_repeated given.name then Some options else (if nat_lt (length options) 25 then Some (options ++ given ∷ []) else None)
+hold options given = if is_repeated given.name then Some options else (if nat_lt (length options) 26 then Some (options ++ given ∷ []) else None)
 
 abbrev pub kept_of : Walk → Walk
 kept_of walk = record walk { options = single walk.options; alone = kept (own_words walk.verb walk.alone) }

@@ -15,7 +15,7 @@
 //! | `--hostname`, `--domainname`, `--tftp-server-name`, `--bootfile` | a text | none |
 //! | `--mtu`, `--mru` | a number up to 65,535 | 1500 |
 //! | `--flows`, `--ring`, `--turns` | a number up to 2^64 - 1 | 256, 65,535, 2^44 |
-//! | `--resolver` | an endpoint: an address, `:` and a number up to 65,535 | none |
+//! | `--resolver`, `--control` | an endpoint: an address, `:` and a number up to 65,535 | none |
 //! | `--outbound` | an address | none |
 //! | `--tftp` | a folder: a text | none |
 //! | `--deny`, up to 8 times | a network as in `--net`: guests don't reach it | none |
@@ -29,7 +29,7 @@
 //!
 //! A setting out of its range is named, the first in the order of `host_policy`: a text of over 127 octets too, a folder of over 1,024, more than 32 RULEs of
 //! the first kind or 16 of the second, and more than 8 denied networks.
-//! With `--no-dhcp`, `--no-dns`, `--outbound`, `--deny` or a RULE of the second kind the settings are of version 2.
+//! With `--no-dhcp`, `--no-dns`, `--outbound`, `--control`, `--deny` or a RULE of the second kind the settings are of version 2.
 #![tactic(auto)]
 
 mod denied;

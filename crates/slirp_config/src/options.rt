@@ -59,7 +59,7 @@ macro_rules! rows {
 }
 
 /// How many options there are.
-pub(crate) const COUNT: usize = 25;
+pub(crate) const COUNT: usize = 26;
 
 const OPTIONS: [Row; COUNT] = rows![
     "--link" link of serve,
@@ -85,6 +85,7 @@ const OPTIONS: [Row; COUNT] = rows![
     "--resolver" port of all,
     "--no-dns" flag of all,
     "--outbound" address of all,
+    "--control" port of all,
     "--tftp" text of all,
     "--deny" network of all,
 ];

@@ -73,9 +73,10 @@ impl<'a> Line<'a> {
         config.if_mru = self.short("--mru", config.if_mru)?;
         config.flows = narrow(self.number("--flows", config.flows as u64)?);
         config.ring = narrow(self.number("--ring", config.ring as u64)?);
-        config.resolver = self.resolver()?;
+        config.resolver = self.endpoint("--resolver")?;
         config.turns = self.number("--turns", config.turns)?;
         config.outbound = self.outbound()?;
+        config.control = self.endpoint("--control")?;
         config.disable_dns = self.has("--no-dns");
         config.disable_dhcp = self.has("--no-dhcp");
         config.congestion = self.has("--congestion");
@@ -150,15 +151,14 @@ impl<'a> Line<'a> {
         }
     }
 
-    // Who is asked for names, where it is given.
-    fn resolver(&self) -> Result<Option<Endpoint>, NoReading>
-        ensures read { IfOk result (λ read. MatchOption (value_in (walk_of self.now).options (codes "--resolver")) (read ≡ None)
+    // The endpoint that the option of this name gives, where it is given.
+    fn endpoint(&self, name: &str) -> Result<Option<Endpoint>, NoReading>
+        ensures read { IfOk result (λ read. MatchOption (value_in (walk_of self.now).options name.now) (read ≡ None)
             (λ text. (at : AnEndpoint) × (read ≡ Some at) × IsEndpointText text at)) }
-        ensures refused { OnErr result ((read : Option AnEndpoint)
-            → ¬ MatchOption (value_in (walk_of self.now).options (codes "--resolver")) (read ≡ None)
+        ensures refused { OnErr result ((read : Option AnEndpoint) → ¬ MatchOption (value_in (walk_of self.now).options name.now) (read ≡ None)
             (λ text. (at : AnEndpoint) × (read ≡ Some at) × IsEndpointText text at)) }
     {
-        let Some(text) = self.value("--resolver") else {
+        let Some(text) = self.value(name) else {
             return Ok(None);
         };
         let at = read_endpoint(text.as_bytes())?;
@@ -184,6 +184,7 @@ impl<'a> Line<'a> {
         ensures { result ≡ version_of (value_in (walk_of self.now).options) guests.now denied.now }
     {
         if self.has("--outbound")
+            || self.has("--control")
             || self.has("--no-dns")
             || self.has("--no-dhcp")
             || !guests.is_empty()

@@ -173,13 +173,16 @@ fn push_names(text: &mut String, config: &SlirpConfig) -> Result<(), AllocError>
     }
 }
 
-// Where names are asked for, and from where connections go out.
+// Where names are asked for, from where datagrams go out, and where commands are taken.
 fn push_ways(alloc: Global, text: &mut String, config: &SlirpConfig) -> Result<(), AllocError> {
     if let Some(resolver) = config.resolver {
         push_place(alloc, text, ", resolver ", resolver)?;
     }
     if let Some(outbound) = config.outbound {
         push_addr(alloc, text, ", outbound ", outbound)?;
+    }
+    if let Some(control) = config.control {
+        push_place(alloc, text, ", control ", control)?;
     }
     Ok(())
 }

@@ -38,6 +38,12 @@ returns-in-NoMemory-clause-text g c =
     let forwards = c.args.forwards.now in
     puts_same _ _ _ _ _ _ _ c.put-in-NoMemory.ensures (ap (told_text words forwards) (sym c.in-NoMemory.is))
 
+pub returns-in-ControlRefused-clause-text : goal.returns-in-ControlRefused-clause-text
+returns-in-ControlRefused-clause-text g c =
+    let words = map string_bytes c.args.words.now in
+    let forwards = c.args.forwards.now in
+    puts_same _ _ _ _ _ _ _ c.put-in-ControlRefused.ensures (ap (told_text words forwards) (sym c.in-ControlRefused.is))
+
 pub returns-in-BadConfig-clause-text : goal.returns-in-BadConfig-clause-text
 returns-in-BadConfig-clause-text g c =
     let words = map string_bytes c.args.words.now in

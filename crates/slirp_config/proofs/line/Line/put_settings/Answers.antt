@@ -60,6 +60,10 @@ pub returns-in_err-config-8-clause-refused : goal.returns-in_err-config-8-clause
 returns-in_err-config-8-clause-refused c = let p = err_from_is_err_and c.from_residual-in_err-config-8.result c.from_residual-in_err-config-8.ensures.1 in rw (p.1)
     (λ config are. c.in_err-config-8.ensures.refused config.outbound are.outbound)
 
+pub returns-in_err-config-9-clause-refused : goal.returns-in_err-config-9-clause-refused
+returns-in_err-config-9-clause-refused c = let p = err_from_is_err_and c.from_residual-in_err-config-9.result c.from_residual-in_err-config-9.ensures.1 in rw (p.1)
+    (λ config are. c.in_err-config-9.ensures.refused config.control are.control)
+
 pub returns-clause-set : goal.returns-clause-set
 returns-clause-set c = λ guests all led held.
     let is = c.requires ∙ ap (λ (g : List GuestFwd). record usual { guest_forwards = g; denied = c.args.config.now.denied.items }) led
@@ -75,10 +79,11 @@ returns-clause-set c = λ guests all led held.
     let resolver = c.in_ok-config-6.field-0 in
     let turns = c.in_ok-config-7.field-0 in
     let outbound = option_map (λ a. a.0) c.in_ok-config-8.field-0 in
+    let control = c.in_ok-config-9.field-0 in
     let folder = option_map (λ path. path.bytes) c.folder-config.result in
     let set = λ (u : Config) (f r : ℕ) (g : List GuestFwd) (ds : List Denial). made u network mask c.in_ok-config.field-0.0 c.in_ok-config-2.field-0.0 c.in_ok-config-3.field-0.0
     c.has-config.result c.has-config-2.result
-    c.text-config.result.items c.text-config-2.result.items c.text-config-3.result.items c.text-config-4.result.items folder mtu mru f r resolver turns outbound
+    c.text-config.result.items c.text-config-2.result.items c.text-config-3.result.items c.text-config-4.result.items folder mtu mru f r resolver turns outbound control
     c.has-config-3.result c.has-config-4.result c.has-config-5.result c.version-config.result u.forwards g ds in (
       set usual flows ring guests all,
       record {
@@ -103,6 +108,7 @@ returns-clause-set c = λ guests all led held.
         turns = match_default (given (codes "--turns")) (turns ≡ base.turns) (turns ≡ usual.turns) (λ text. IsNumber 64 text turns)
             (λ d. d ∙ ap (λ (u : Config). u.turns) is) c.in_ok-config-7.ensures.read;
         outbound = c.in_ok-config-8.ensures.read;
+        control = c.in_ok-config-9.ensures.read;
         no_dns = c.has-config-3.ensures;
         no_dhcp = c.has-config-4.ensures;
         congestion = c.has-config-5.ensures;

@@ -3,7 +3,7 @@ use Rattle.std.proofs.lemmas.Result.{err_from_is_err_and}
 use Rattle.net_octets.specs.declared.Endpoint.{Endpoint}
 use Rattle.address_text.specs.Texts.{IsEndpointText}
 use Rattle.slirp_config.proofs.Finding.{match_some}
-use Rattle.slirp_config.proofs.line.Line.resolver.Goals as goal
+use Rattle.slirp_config.proofs.line.Line.endpoint.Goals as goal
 
 pub returns-in_err-at-clause-refused : goal.returns-in_err-at-clause-refused
 returns-in_err-at-clause-refused c =
