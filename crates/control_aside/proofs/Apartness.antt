@@ -98,7 +98,7 @@ item_wanted (Some item) wants own none few =
         (not_from_false (list_any (λ (w : Want). is_of_control w.of) wants) (none_taken wants none))
 
 -- what is seen of a call that isn't on the control's sockets
-seen_off : (item : Option Want) (e s : Entry) → IsItem item → IsSeen item e s → IsOff s → (is_on_control e ≡ false) × (seen_of e ≡ s)
+pub seen_off : (item : Option Want) (e s : Entry) → IsItem item → IsSeen item e s → IsOff s → (is_on_control e ≡ false) × (seen_of e ≡ s)
 seen_off item e (Wait wants timeout answer shown) own is off = (
   ap is_on_control is.1,
   ap seen_of is.1 ∙ ap (λ l. Wait l timeout answer (others is.0)) (others_wanted item wants own off) ∙ ap (λ l. Wait wants timeout answer l) (sym is.2),

@@ -14,11 +14,11 @@ use Rattle.slirp_laws.specs.Ports.{given_port}
 use Rattle.slirp_laws.proofs.Phases.{IsForOther, for_others, given_forward, opening_call, others_due}
 
 -- a close is no opening
-closed_first : (o : Option ℕ) (other : Option Call) (call : Call) → ((s : ℕ) → Some (CallClose s) ≡ Some call → ⊥) → option_or (option_map CallClose o) other ≡ Some call → other ≡ Some call
+pub closed_first : (o : Option ℕ) (other : Option Call) (call : Call) → ((s : ℕ) → Some (CallClose s) ≡ Some call → ⊥) → option_or (option_map CallClose o) other ≡ Some call → other ≡ Some call
 closed_first None other call never is = is
 closed_first (Some s) other call never is = absurd (never s is)
 
-at_first : (p : Phase) (past : List Entry) (other : Option Call) (call : Call) → ((s : ℕ) → Some (CallClose s) ≡ Some call → ⊥) → (Some CallNow ≡ Some call → ⊥)
+pub at_first : (p : Phase) (past : List Entry) (other : Option Call) (call : Call) → ((s : ℕ) → Some (CallClose s) ≡ Some call → ⊥) → (Some CallNow ≡ Some call → ⊥)
     → (other ≡ Some call → ⊥) → option_or (due_in p past) other ≡ Some call → is_opening p ≡ true
 at_first (Opening count forwards) past other call no_close no_clock never is = refl
 at_first Started past other call no_close no_clock never is = absurd (never is)
@@ -26,7 +26,7 @@ at_first Woken past other call no_close no_clock never is = absurd (no_clock is)
 at_first Working past other call no_close no_clock never is = absurd (never is)
 at_first (Over cause) past other call no_close no_clock never is = absurd (never (closed_first (first (open_sockets past)) other call no_close is))
 
-no_listener : (config : Config) (st : Step) (other : Option Call) (number socket : ℕ) (at : Endpoint) → IsForOther other → option_or (due_for config st number) other ≡ Some (CallListen socket at) → ⊥
+pub no_listener : (config : Config) (st : Step) (other : Option Call) (number socket : ℕ) (at : Endpoint) → IsForOther other → option_or (due_for config st number) other ≡ Some (CallListen socket at) → ⊥
 no_listener config NeedsNothing other number socket at flow is = subst IsForOther is flow
 no_listener config (NeedsRoom oldest errand) other number socket at flow is = cc
 no_listener config (NeedsSocket errand) other number socket at flow is = cc
@@ -36,7 +36,7 @@ no_listener config (NeedsSending s errand) other number socket at flow is = cc
 not_named : (a b : Endpoint) (n m : ℕ) → ◌≡◌ {A = Option Call} (Some (CallUdpOpen n a)) (Some (CallUdpOpen m b)) → a ≡ b
 not_named a b n m is = cc
 
-no_port : (config : Config) (st : Step) (other : Option Call) (number socket : ℕ) (at : Endpoint) → IsForOther other → (at.port == 0) ≡ false
+pub no_port : (config : Config) (st : Step) (other : Option Call) (number socket : ℕ) (at : Endpoint) → IsForOther other → (at.port == 0) ≡ false
     → option_or (due_for config st number) other ≡ Some (CallUdpOpen socket at) → ⊥
 no_port config NeedsNothing other number socket at flow named is = subst IsForOther is flow
 no_port config (NeedsRoom oldest errand) other number socket at flow named is = cc

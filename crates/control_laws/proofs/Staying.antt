@@ -148,7 +148,7 @@ not_listener l n off = grind (arith, nat_tests, off)
 not_own : (l p n : ℕ) → nat_le l p ≡ true → nat_le l n ≡ false → (p == n) ≡ false
 not_own l p n own off = grind (arith, nat_tests, own, off)
 
-no_peer : (socket : ℕ) (o : Option ℕ) → OwnPeer o → is_controls socket ≡ false → is_peer socket o ≡ false
+pub no_peer : (socket : ℕ) (o : Option ℕ) → OwnPeer o → is_controls socket ≡ false → is_peer socket o ≡ false
 no_peer socket None own off = refl
 no_peer socket (Some peer) own off = not_own listener peer socket (own peer refl) off
 

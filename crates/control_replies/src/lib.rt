@@ -30,7 +30,8 @@ pub fn fault_text(fault: FwdFault) -> &'static str
 
 /// The line that names a forward, with its line feed: `forward tcp HOST GUEST`, or with `udp`.
 pub fn forward_line(forward: &Forward) -> ArrayString<56>
-    ensures { result.bytes ≡ reply_line (forward_text forward.now) }
+    ensures text { result.bytes ≡ reply_line (forward_text forward.now) }
+    ensures short { length result.bytes ≤ 56 }
 {
     let mut line = ArrayString::new();
     line.push_str("forward ");
@@ -43,7 +44,8 @@ pub fn forward_line(forward: &Forward) -> ArrayString<56>
 
 /// The line that names a flow, with its line feed: `flow NUMBER GUEST OTHER`.
 pub fn flow_line(number: u64, ends: &Tuple) -> ArrayString<70>
-    ensures { result.bytes ≡ reply_line (flow_text (number, ends.now)) }
+    ensures text { result.bytes ≡ reply_line (flow_text (number, ends.now)) }
+    ensures short { length result.bytes ≤ 50 + length (decimal number) }
 {
     let mut line = ArrayString::new();
     line.push_str("flow ");
@@ -69,6 +71,7 @@ fn push_number<const N: usize>(line: &mut ArrayString<N>, number: u64)
     requires { array_string_len line.old + 20 ≤ N }
     ensures bytes { line.new.bytes ≡ line.old.bytes ++ decimal number }
     ensures len { array_string_len line.new ≤ array_string_len line.old + 20 }
+    ensures exact { array_string_len line.new ≡ array_string_len line.old + length (decimal number) }
 {
     let mut buffer = Buffer::new();
     line.push_str(buffer.format(number));
