@@ -11,7 +11,7 @@ use Rattle.app_edges.specs.Statuses.{code_of}
 use Rattle.app_edges.specs.declared.status.Outcome.{Outcome}
 use Rattle.app_edges.specs.declared.status.Outcome.TheVariants.{Done, SinkFault}
 use Rattle.slirp_app.specs.Doing.{ServesLink}
-use Rattle.slirp_app.specs.Serving.{CapturesAt, HasNoMemory, IsGiven, IsRefused, IsRun, IsUnopened, OpensAt, Records, RecordsAt, Runs, Serves, ServesAt, TapsAt, Took, TookNot}
+use Rattle.slirp_app.specs.Serving.{CapturesAt, ComesTo, HasNoMemory, IsGiven, IsRefused, IsUnopened, OpensAt, Records, RecordsAt, Runs, Serves, ServesAt, TapsAt, Took, TookNot}
 use Rattle.slirp_app.specs.Untroubled.{IsUntroubledBehind, Untroubled}
 use Rattle.slirp_app.proofs.Fitted.{allowed_later}
 use Rattle.slirp_app.proofs.Following.{is_served}
@@ -27,7 +27,7 @@ not_refused at (e ∷ []) is = cc
 not_refused at (e ∷ f ∷ run) is = cc
 
 module _ (config : Config) (at : Place) (made : List Entry) (allowed : AreAllowed made) (u : IsUntroubledBehind config at made) where
-  of_run : (run : List Entry) (came : Outcome) → made ≡ run ++ LinkOpen at MadeDone ∷ [] → IsRun config came run → came ≡ Done
+  of_run : (run : List Entry) (came : Outcome) → made ≡ run ++ LinkOpen at MadeDone ∷ [] → ComesTo config came run → came ≡ Done
   of_run run came is ran =
       is_served config came run ran (allowed_later run (LinkOpen at MadeDone ∷ []) (subst AreAllowed is allowed))
       (subst (Untroubled config) (append_cancel_right u.run run (LinkOpen at MadeDone ∷ []) (sym u.is ∙ is)) u.untroubled)
@@ -51,11 +51,11 @@ module _ (config : Config) (at : Place) (made : List Entry) (allowed : AreAllowe
 
   of_served : (tap : Tap) (outcome : Outcome) (old new : Option (List ℕ)) → ServesAt config at tap outcome old new made → (outcome ≡ Done) ⊎ (outcome ≡ SinkFault)
   of_served tap outcome old new (Serves taps) = of_tap tap outcome old new taps
-  of_served tap outcome old new (HasNoMemory none memory same) = absurd (none_made (LinkOpen at MadeDone) u.run (sym none ∙ u.is))
+  of_served tap outcome old new (HasNoMemory nothing memory same) = absurd (none_made (LinkOpen at MadeDone) u.run (sym nothing ∙ u.is))
 
   of_plain : (outcome : Outcome) (old new : Option (List ℕ)) → ServesAt config at Off outcome old new made → outcome ≡ Done
   of_plain outcome old new (Serves taps) = of_opened outcome taps.0
-  of_plain outcome old new (HasNoMemory none memory same) = absurd (none_made (LinkOpen at MadeDone) u.run (sym none ∙ u.is))
+  of_plain outcome old new (HasNoMemory nothing memory same) = absurd (none_made (LinkOpen at MadeDone) u.run (sym nothing ∙ u.is))
 
 module _ (config : Config) (at : Place) (status : ℕ) (live live_new : Telling) (old new : Option (List ℕ)) (Said : Outcome → Type 0) where
   pub plain_done : ServesLink config at Off status live live_new old new Said → Makes live live_new (λ made. IsUntroubledBehind config at made → status ≡ 0)

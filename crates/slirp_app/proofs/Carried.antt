@@ -5,7 +5,8 @@ use Rattle.std.proofs.lemmas.List.{append_assoc, length-append, drop_at, take-ap
 use Rattle.std.proofs.lemmas.Nat.{from_be_bytes-to_be_bytes_4}
 use Rattle.std.specs.Int.{w32, from_be_bytes}
 use Rattle.world_face.specs.Frames.{LinkCut, LongFrame, MayFrame, ending, is_too_long, is_whole, missing, partial, read_ending, spelling, spelt_length}
-use Rattle.world_face.specs.Journal.{Entry, AreAllowed, Follows, Wait, LinkRead, LinkWrite, MayRead, count_of}
+use Rattle.slirp_app.proofs.Rightly.{AreRightReads}
+use Rattle.world_face.specs.Journal.{Entry, Follows, Wait, LinkRead, LinkWrite, MayRead, count_of}
 use Rattle.world_face.specs.declared.Io.{Io}
 use Rattle.world_face.specs.declared.Io.TheVariants.{Done, End, NotYet, Failed}
 use Rattle.world_face.specs.declared.Waited.TheVariants.{Ready, Stop, Failed as WaitFails}
@@ -126,7 +127,7 @@ few_read asked End may = omega arith
 few_read asked NotYet may = omega arith
 few_read asked Failed may = omega arith
 
-pub carried : (journal : List Entry) (frames : List (List ℕ)) (rest : List ℕ) → AreAllowed journal → Follows MayFrame journal → MayCome frames → link_octets journal
+pub carried : (journal : List Entry) (frames : List (List ℕ)) (rest : List ℕ) → AreRightReads journal → Follows MayFrame journal → MayCome frames → link_octets journal
     ++ rest ≡ spelt frames → Carried (partial journal) rest
 carried [] frames rest allowed framed fit is = record { later = frames; fit = fit; is = is; part = none_whole }
 carried (LinkRead asked answer octets ∷ past) frames rest allowed framed fit is =
@@ -167,7 +168,7 @@ too_long End (x ∷ octets) n is = cc
 too_long NotYet octets n is = cc
 too_long Failed octets n is = cc
 
-pub no_long_frame : (e : Entry) (past : List Entry) (frames : List (List ℕ)) (rest : List ℕ) (n : ℕ) → AreAllowed past → Follows MayFrame past → MayCome frames → link_octets
+pub no_long_frame : (e : Entry) (past : List Entry) (frames : List (List ℕ)) (rest : List ℕ) (n : ℕ) → AreRightReads past → Follows MayFrame past → MayCome frames → link_octets
     (e ∷ past) ++ rest ≡ spelt frames → ending e (partial past) ≡ Some (LongFrame n) → ⊥
 no_long_frame (LinkRead asked answer octets) past frames rest n allowed framed fit is ends =
     let before = carried past frames (octets ++ rest) allowed framed fit (sym (append_assoc (link_octets past) octets rest) ∙ is) in
@@ -202,7 +203,7 @@ uncut : (octets : List ℕ) (n : ℕ) → octets ≡ [] → read_ending End octe
 uncut [] n is ends = cc
 uncut (x ∷ octets) n is ends = cc
 
-no_cut : (asked : ℕ) (answer : Io) (octets : List ℕ) (past : List Entry) (frames : List (List ℕ)) (n : ℕ) → AreAllowed (LinkRead asked answer octets ∷ past) → Follows MayFrame past → MayCome frames
+no_cut : (asked : ℕ) (answer : Io) (octets : List ℕ) (past : List Entry) (frames : List (List ℕ)) (n : ℕ) → AreRightReads (LinkRead asked answer octets ∷ past) → Follows MayFrame past → MayCome frames
     → link_ended (LinkRead asked answer octets ∷ past) ≡ true → link_octets past ++ octets ≡ spelt frames → read_ending answer (partial past ++ octets) ≡ Some (LinkCut n) → ⊥
 no_cut asked (Done k) octets past frames n allowed framed fit over is ends = by (is_too_long (partial past ++ octets)) ends
   where
@@ -236,7 +237,7 @@ cut_ended (LinkWrite octets NotYet) past n ends = cc
 cut_ended (LinkWrite octets Failed) past n ends = cc
 cut_ended _ past n ends = cc
 
-pub no_frame_cut : (e : Entry) (past : List Entry) (frames : List (List ℕ)) (n : ℕ) → AreAllowed (e ∷ past) → Follows MayFrame past → MayCome frames → link_octets
+pub no_frame_cut : (e : Entry) (past : List Entry) (frames : List (List ℕ)) (n : ℕ) → AreRightReads (e ∷ past) → Follows MayFrame past → MayCome frames → link_octets
     (e ∷ past) ≡ spelt frames → ending e (partial past) ≡ Some (LinkCut n) → ⊥
 no_frame_cut (LinkRead asked answer octets) past frames n allowed framed fit is ends = no_cut asked answer octets past frames n allowed framed fit
     (cut_ended (LinkRead asked answer octets) past n ends) is ends

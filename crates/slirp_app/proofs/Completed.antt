@@ -1,5 +1,5 @@
 -- An untroubled run that is finished ended as its link did between two frames, or a wait was told to stop.
-use Rattle.std.proofs.Common.{◌≡◌, ◌⊎◌, inl, inr, ℕ, ◌+◌, ◌<◌, ◌==◌, ◌||◌, nat_le, nat_lt, Bool, true, false, cond, List, [], ◌∷◌, ◌++◌, Option, Some, None, refl, sym, ◌∙◌, ap, subst, arith}
+use Rattle.std.proofs.Common.{◌≡◌, ◌⊎◌, inl, inr, ℕ, ◌+◌, ◌<◌, ◌||◌, nat_le, nat_lt, Bool, true, false, cond, List, [], ◌∷◌, ◌++◌, Option, Some, None, refl, sym, ◌∙◌, ap, subst, arith}
 use Rattle.std.proofs.lemmas.Bool.Decides.{nat_tests}
 use Rattle.std.proofs.lemmas.List.{append-nil}
 use Rattle.host_policy.specs.Addresses.{Config}
@@ -10,18 +10,20 @@ use Rattle.slirp_laws.specs.Laws.{Finished, Lawful, May}
 use Rattle.slirp_laws.proofs.Bools.{first_of}
 use Rattle.world_face.specs.Faults.{failures, link_failed, socket_failed, wait_failed}
 use Rattle.world_face.specs.Frames.{Ending, LinkEnded, LinkCut, LongFrame, LinkFailed, Stopped, WaitFailed, MayFrame, ending, is_too_long, partial, read_ending, spelt_length}
-use Rattle.world_face.specs.Journal.{Entry, AreAllowed, Follows, call_of, Now, Wait, LinkRead, LinkWrite, Listen, UdpOpen}
+use Rattle.world_face.specs.Journal.{Entry, Follows, call_of, Now, Wait, LinkRead, LinkWrite, Listen, UdpOpen}
 use Rattle.world_face.specs.declared.Io.{Io}
 use Rattle.world_face.specs.declared.Io.TheVariants.{Done as IoDone, End as IoEnd, NotYet, Failed as IoFailed}
 use Rattle.world_face.specs.declared.Made.{Made}
 use Rattle.world_face.specs.declared.Made.TheVariants.{Done as MadeDone, Failed as MadeFailed}
 use Rattle.world_face.specs.declared.Waited.TheVariants.{Ready, Stop, Failed as WaitFails}
 use Rattle.world_face.proofs.Counting.{some_failed}
-use Rattle.world_face.proofs.Following.{all_before, follows_as, follows_before}
+use Rattle.world_face.proofs.Following.{follows_as, follows_before}
 use Rattle.slirp_app.specs.Ran.{EndsBy}
-use Rattle.slirp_app.specs.Untroubled.{Untroubled, before_waits, link_ended, link_octets, spelt, tells_end}
+use Rattle.slirp_app.specs.Untroubled.{Untroubled, link_ended, link_octets, spelt, tells_end}
+use Rattle.slirp_app.proofs.Apart.{before_first}
 use Rattle.slirp_app.proofs.Carried.{cut_ended, no_frame_cut, no_long_frame}
 use Rattle.slirp_app.proofs.Ending.{ends_by}
+use Rattle.slirp_app.proofs.Rightly.{AreRightReads, right_before}
 
 framed : (config : Config) (past : List Entry) → Lawful config past → Follows MayFrame past
 framed config past lawful = follows_as (May config) MayFrame (λ before call may. may.framed) past lawful
@@ -114,7 +116,7 @@ pub some_among : (of : Entry → Bool) (later past : List Entry) (e : Entry) →
 some_among of [] past e is = some_failed of e past is
 some_among of (d ∷ later) past e is = let before = some_among of later past e is in omega arith
 
-none_failed : (of : Entry → Bool) (journal later past : List Entry) (e : Entry) → failures of journal ≡ 0 → journal ≡ later ++ (e ∷ past) → of e ≡ true → ⊥
+pub none_failed : (of : Entry → Bool) (journal later past : List Entry) (e : Entry) → failures of journal ≡ 0 → journal ≡ later ++ (e ∷ past) → of e ≡ true → ⊥
 none_failed of journal later past e none is fails =
     let some = some_among of later past e fails in
     let same : failures of (later ++ (e ∷ past)) ≡ 0 = ap (failures of) (sym is) ∙ none in
@@ -216,17 +218,9 @@ refused_failed config (e ∷ past) forward is = elim (refused_after e (ending e 
   | inr before ↦ (let some = refused_failed config past forward before in omega arith)
 ]
 
-before_first : (journal : List Entry) → waits journal ≡ 0 → before_waits journal ≡ journal
-before_first [] none = refl
-before_first (e ∷ past) none = by (waits (e ∷ past) == 0) refl
-  where
-    by : (b : Bool) → (waits (e ∷ past) == 0) ≡ b → cond b (e ∷ past) (before_waits past) ≡ e ∷ past
-    by true is = refl
-    by false is = grind (arith, nat_tests)
-
 -- ---- so an untroubled run is made to its end
 
-module _ (config : Config) (journal : List Entry) (allowed : AreAllowed journal) (lawful : Lawful config journal) (u : Untroubled config journal) where
+module _ (config : Config) (journal : List Entry) (allowed : AreRightReads journal) (lawful : Lawful config journal) (u : Untroubled config journal) where
   unrefused : (forward : ℕ) → phase config journal ≡ Over (Refused forward) → ⊥
   unrefused forward is =
       let some = refused_failed config journal forward is in
@@ -235,7 +229,7 @@ module _ (config : Config) (journal : List Entry) (allowed : AreAllowed journal)
 
   -- where an entry ended it, all that came on the link had come
   record CameThen (past : List Entry) (e : Entry) : Type 0 where
-    allowed_then : AreAllowed (e ∷ past)
+    allowed_then : AreRightReads (e ∷ past)
     framed_then : Follows MayFrame past
     octets : link_octets (e ∷ past) ≡ link_octets journal
 
@@ -245,7 +239,7 @@ module _ (config : Config) (journal : List Entry) (allowed : AreAllowed journal)
       let lawful_all : Lawful config (by.later ++ at) = subst (Lawful config) by.is lawful in
       let over = over_there by.entry (ending by.entry (partial by.past)) (phase config by.past) why by.ends in
       record {
-        allowed_then = all_before by.later at (subst AreAllowed by.is allowed);
+        allowed_then = right_before by.later at (subst AreRightReads by.is allowed);
         framed_then = framed config by.past (follows_before (May config) by.later at lawful_all).1;
         octets = sym (over_on config by.later at lawful_all over).octets ∙ ap link_octets (sym by.is);
       }

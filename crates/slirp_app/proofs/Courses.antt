@@ -9,8 +9,8 @@ use Rattle.world_face.specs.declared.sink.Failed.{Failed}
 use Rattle.host_policy.specs.Addresses.{Config}
 use Rattle.host_policy.specs.declared.config.Field.{Field}
 use Rattle.host_policy.specs.declared.config.Field.TheVariants.{Octets}
-use Rattle.slirp_config.specs.Meaning.{AnswersBy, AreSettings, Drives, HasPlace, Helps, TellsVersion, Meaning, Means, MeansReplay, MeansServe, Replays, Serves, broken_in, config_of, said}
-use Rattle.slirp_config.specs.Options.{Word, value_of}
+use Rattle.slirp_config.specs.Meaning.{AnswersBy, Drives, HasPlace, Helps, TellsVersion, Meaning, Means, MeansReplay, Replays, Serves, broken_in, said}
+use Rattle.slirp_config.specs.Options.{Word}
 use Rattle.slirp_config.specs.Stops.{StopsAt}
 use Rattle.slirp_config.specs.declared.Command.{Command}
 use Rattle.slirp_config.specs.declared.Stop.{Stop}
@@ -18,12 +18,9 @@ use Rattle.slirp_config.specs.declared.Tap.{Tap}
 use Rattle.slirp_config.specs.declared.Tap.TheVariants.{Off, Record, Capture}
 use Rattle.slirp_config.specs.declared.WordFault.{WordFault}
 use Rattle.slirp_config.specs.declared.WordFault.TheVariants.{Usage as Misread, BadConfig as BadField}
-use Rattle.run_laws.specs.Shape.{phase}
-use Rattle.serve_loop.specs.Ends.{end_of}
 use Rattle.serve_loop.specs.declared.service.End.{End}
-use Rattle.serve_loop.specs.declared.service.End.TheVariants.{Done as EndDone, TooLong, Cut, LinkFault as EndLink, WaitFault as EndWait, TurnsSpent as EndTurns, ListenRefused as EndRefused}
+use Rattle.serve_loop.specs.declared.service.End.TheVariants.{Done as EndDone, TooLong, Cut, LinkFault as EndLink, WaitFault as EndWait, TurnsSpent as EndTurns, ListenRefused as EndRefused, ControlRefused as EndControl}
 use Rattle.slirp_app.specs.Doing.{CanBeDone, Course, Meant, Misset, Misused, Does, TellsText, refusal_of}
-use Rattle.serve_loop.specs.Served.{IsBuilt}
 use Rattle.slirp_app.specs.Serving.{HasNoMemory, IsGiven, IsRefused, IsUnopened, OpensAt, Records, Runs, Serves as Served, ServesAt, Took, TookNot}
 use Rattle.app_edges.specs.Statuses.{code_of, is_unrun}
 use Rattle.slirp_app.specs.Statuses.{outcome_of}
@@ -33,23 +30,6 @@ use Rattle.app_edges.specs.declared.status.Outcome.TheVariants.{BadConfig, Done,
 -- two numbers that a test tells apart
 pub other : (n m : ℕ) → m ≡ n → (m == n) ≡ false → (n == n) ≡ true → ⊥
 other n m is differs same = let clash : ◌≡◌ {A = Bool} true false = sym (subst (λ k. (k == n) ≡ true) (sym is) same) ∙ differs in cc clash
-
--- what no option gives is not asked for
-is_built : (config : Config) (given : Word → Option Word) → AreSettings given config → IsBuilt config
-is_built config given set = record { control = ap (λ (k : Config). k.control) set.rest }
-
-built_replay : (config : Config) (behind : List Word) (file : Word) → MeansReplay behind file config → IsBuilt config
-built_replay config behind file (line, rules, same, all, alone, some, few, are, set, denied) = is_built config (value_of line) set
-
-built_serve : (config : Config) (behind : List Word) (at : Place) (tap : Tap) → MeansServe behind config at tap → IsBuilt config
-built_serve config behind at tap (line, same, all, link, taps, are, set, denied) = is_built config (value_of line) set
-
-pub built : (words : List Word) (meaning : Meaning) → Means words meaning → IsBuilt (config_of meaning)
-built words (Replays file config) (behind, is, meant) = built_replay config behind file meant
-built words (Serves config at tap) (behind, is, meant) = built_serve config behind at tap meant
-built words (Drives number octets) means = record { control = refl }
-built words Helps means = record { control = refl }
-built words TellsVersion means = record { control = refl }
 
 named : (behind : List Word) (file : Word) (config : Config) → MeansReplay behind file config → (0 < length file) × (length file ≤ 1280)
 named behind file config (line, rules, same, all, alone, some, few, are, set, denied) = (some, few)
@@ -149,12 +129,13 @@ end_code EndLink = record { ran = refl; taken = λ is. cc }
 end_code EndWait = record { ran = refl; taken = λ is. cc }
 end_code (EndTurns n) = record { ran = refl; taken = λ is. cc }
 end_code (EndRefused n) = record { ran = refl; taken = λ is. cc }
+end_code EndControl = record { ran = refl; taken = λ is. cc }
 
 pub end_of_run : (outcome : Outcome) (end : End) → outcome ≡ outcome_of end → IsOfRun outcome
 end_of_run outcome end is = subst IsOfRun (sym is) (end_code end)
 
 pub opens_code : (config : Config) (at : Place) (outcome : Outcome) (made : List Entry) → OpensAt config at outcome made → IsOfRun outcome
-opens_code config at outcome made (Runs run is ran) = end_of_run outcome (end_of config (phase config run)) ran.ends
+opens_code config at outcome made (Runs run is ran) = end_of_run outcome ran.end ran.is
 opens_code config at outcome made (IsRefused is told) = subst IsOfRun (sym told) (record { ran = refl; taken = λ is. cc })
 
 given_code : (octets : List ℕ) (course outcome : Outcome) (old new : Option (List ℕ)) → IsOfRun course → IsGiven octets course outcome old new → is_unrun (code_of outcome) ≡ false
@@ -166,7 +147,7 @@ pub served_code : (config : Config) (at : Place) (tap : Tap) (outcome : Outcome)
     → (is_unrun (code_of outcome) ≡ false) ⊎ ((outcome ≡ NoMemory) × (new ≡ old))
 served_code config at Off outcome old new made (Served taps) = inl (opens_code config at outcome made taps.0).ran
 served_code config at Record outcome old new made (Served (Records run is recorded)) =
-    inl (given_code _ recorded.done outcome old new (end_of_run recorded.done (end_of config (phase config run)) recorded.ran.ends) recorded.given)
+    inl (given_code _ recorded.done outcome old new (end_of_run recorded.done recorded.ran.end recorded.ran.is) recorded.given)
 served_code config at Record outcome old new made (Served (IsUnopened is told same)) = inl (ap (λ (o : Outcome). is_unrun (code_of o)) told)
 served_code config at Capture outcome old new made (Served taps) = inl (given_code _ taps.done outcome old new (opens_code config at taps.done made taps.opens) taps.given)
 served_code config at tap outcome old new made (HasNoMemory none is same) = inr (is, same)

@@ -118,7 +118,7 @@ long_frame (LinkWrite octets IoFailed) so_far n is = cc
 long_frame _ so_far n is = cc
 
 -- where no entry ended a run that is finished, it made all its waits
-waited : (config : Config) (stands : Phase) (count : ℕ) → (is_over stands || nat_le config.turns count) ≡ true → outcome_of (end_of config stands) ≡ TurnsSpent config.turns → config.turns ≤ count
+pub waited : (config : Config) (stands : Phase) (count : ℕ) → (is_over stands || nat_le config.turns count) ≡ true → outcome_of (end_of config stands) ≡ TurnsSpent config.turns → config.turns ≤ count
 waited config (Opening n forwards) count ended is = grind (arith, nat_tests)
 waited config Started count ended is = grind (arith, nat_tests)
 waited config Woken count ended is = grind (arith, nat_tests)
@@ -136,7 +136,7 @@ few : (may : Bool) (count turns : ℕ) → (may && nat_lt count turns) ≡ true 
 few true count turns is = grind (arith, nat_tests)
 few false count turns is = cc
 
-few_waits : (config : Config) (journal : List Entry) → Lawful config journal → waits journal ≤ config.turns
+pub few_waits : (config : Config) (journal : List Entry) → Lawful config journal → waits journal ≤ config.turns
 few_waits config [] lawful = omega arith
 few_waits config (Wait wants timeout answer ready ∷ past) lawful = few (may_turn (phase config past)) (waits past) config.turns lawful.0.place
 few_waits config (_ ∷ past) lawful = few_waits config past lawful.1

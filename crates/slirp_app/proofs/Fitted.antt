@@ -1,9 +1,9 @@
 -- The frames of a lawful run are of lengths that may be.
-use Rattle.std.proofs.Common.{◌≡◌, ℕ, ◌+◌, ◌-◌, ◌≤◌, ltb, Bool, true, false, cond, ◌&&◌, List, [], ◌∷◌, ◌++◌, length, Some, None, sym, ◌∙◌, ap, subst, refl, arith, length-append}
+use Rattle.std.proofs.Common.{◌≡◌, ℕ, ◌+◌, ◌-◌, ◌≤◌, ltb, Bool, true, false, cond, ◌&&◌, List, [], ◌∷◌, ◌++◌, length, map, reverse, Option, Some, None, sym, ◌∙◌, ap, subst, refl, arith, length-append}
 use Rattle.std.proofs.Common.{length-drop, append-nil}
 use Rattle.std.proofs.lemmas.Bool.Decides.{nat_tests}
 use Rattle.world_face.specs.Frames.{Ending, LinkCut, LinkEnded, LinkFailed, LongFrame, is_too_long, is_whole, missing, partial, partial_after, read_ending, rest_after, spelt_length, tail, MayOffer}
-use Rattle.world_face.specs.Journal.{Entry, Place, AreAllowed, Now, Wait, LinkOpen, LinkRead, LinkWrite, Listen, UdpOpen, count_of, MayRead}
+use Rattle.world_face.specs.Journal.{Entry, Place, AreAllowed, Close, Now, Wait, LinkOpen, LinkRead, LinkWrite, Listen, UdpOpen, count_of, MayRead}
 use Rattle.world_face.specs.declared.Io.{Io}
 use Rattle.world_face.specs.declared.Io.TheVariants.{Done, End, NotYet, Failed}
 use Rattle.world_face.specs.declared.Made.{Made}
@@ -11,7 +11,16 @@ use Rattle.world_face.specs.declared.Made.TheVariants.{Done as MadeDone, Failed 
 use Rattle.host_policy.specs.Addresses.{Config}
 use Rattle.run_laws.specs.Shape.{Phase, Opening, Started, Woken, Working, Over, clocked, is_over, is_working, may_turn, opened, phase, phase_after, unless_over}
 use Rattle.slirp_laws.specs.Laws.{Lawful}
+use Rattle.net_octets.specs.declared.Endpoint.{Endpoint}
+use Rattle.run_laws.specs.Sockets.{open_sockets}
+use Rattle.control_session.specs.Apart.{is_on_control, seen, without_control}
+use Rattle.control_session.specs.Talk.{listener}
+use Rattle.control_loop.specs.Runs.{IsRun}
+use Rattle.serve_loop.specs.declared.service.End.{End as AnEnd}
 use Rattle.slirp_app.specs.Serving.{IsRefused, OpensAt, Runs}
+use Rattle.slirp_app.proofs.Apart.{partial_apart}
+use Rattle.slirp_app.proofs.Rightly.{AreRightReads, right_apart, right_before, right_reads}
+use Rattle.slirp_app.proofs.Seen.{BySight, RanTo, Unserved, ran_to}
 use Rattle.app_edges.specs.declared.status.Outcome.{Outcome}
 use Rattle.taps.specs.Capturing.{Fits}
 
@@ -115,7 +124,7 @@ write_open config octets NotYet past going = going
 write_open config octets Failed past going = ended (phase config past) LinkFailed going
 
 -- while a run isn't over no length that was read is too great
-fine : (config : Config) (past : List Entry) → Lawful config past → AreAllowed past → is_over (phase config past) ≡ false → is_too_long (partial past) ≡ false
+fine : (config : Config) (past : List Entry) → Lawful config past → AreRightReads past → is_over (phase config past) ≡ false → is_too_long (partial past) ≡ false
 fine config [] lawful allowed going = none_long
 fine config (Now told ∷ past) lawful allowed going = fine config past lawful.1 allowed.1 (clock_open (phase config past) going)
 fine config (Wait wants timeout answer ready ∷ past) lawful allowed going = fine config past lawful.1 allowed.1 (turn_open (phase config past) (first _ _ lawful.0.place))
@@ -147,7 +156,7 @@ offer_short : (rest octets : List ℕ) → MayOffer rest octets → length rest 
 offer_short [] octets may few = omega (arith, may.1)
 offer_short (x ∷ rest) octets may few = subst (λ l. length l ≤ 69636) (sym may) few
 
-pub fits : (config : Config) (past : List Entry) → Lawful config past → AreAllowed past → Fits past
+fits : (config : Config) (past : List Entry) → Lawful config past → AreRightReads past → Fits past
 fits config [] lawful allowed = tt
 fits config (LinkRead asked answer octets ∷ past) lawful allowed =
     let before = fits config past lawful.1 allowed.1 in
@@ -157,6 +166,37 @@ fits config (LinkWrite octets answer ∷ past) lawful allowed =
     let before = fits config past lawful.1 allowed.1 in
     (offer_short (tail past) octets lawful.0.framed.0 (tail_short past before), before)
 fits config (_ ∷ past) lawful allowed = (tt, fits config past lawful.1 allowed.1)
+
+-- what is passed over has no frame
+fits_apart : (run : List Entry) → Fits (without_control run) → Fits run
+fits_apart [] fit = tt
+fits_apart (LinkRead asked answer octets ∷ past) fit = (subst (λ (l : List ℕ). length l + length octets ≤ 69636) (partial_apart past) fit.0, fits_apart past fit.1)
+fits_apart (LinkWrite octets answer ∷ past) fit = (fit.0, fits_apart past fit.1)
+fits_apart (e ∷ past) fit = (tt, fits_apart past (rest (is_on_control e) fit))
+  where
+    rest : (b : Bool) → Fits (cond b (without_control past) (seen e ∷ without_control past)) → Fits (without_control past)
+    rest true fit = fit
+    rest false fit = fit.1
+
+fits_closed : (sockets : List ℕ) (past : List Entry) → Fits past → Fits (map Close sockets ++ past)
+fits_closed [] past fit = fit
+fits_closed (socket ∷ sockets) past fit = (tt, fits_closed sockets past fit)
+
+-- where the control was refused, too
+reads_behind : (sockets : List ℕ) (past : List Entry) → AreRightReads (map Close sockets ++ past) → AreRightReads past
+reads_behind sockets past right = right_before (map Close sockets) past right
+
+run_fits : (config : Config) (end : AnEnd) (run : List Entry) → IsRun config end run → AreRightReads run → Fits run
+run_fits config end run ran right = by config.control (ran_to config end run ran)
+  where
+    by : (control : Option Endpoint) → RanTo control config end run → Fits run
+    by None (BySight sight) = fits sight.its run sight.lawful right
+    by (Some at) (BySight sight) = fits_apart run (fits sight.its (without_control run) sight.lawful (right_apart run right))
+    by control (Unserved refuses is) =
+        let sockets = reverse (open_sockets refuses.before) in
+        let refusal : Entry = Listen listener refuses.at MadeFailed in
+        let read = reads_behind sockets (refusal ∷ refuses.before) (subst AreRightReads refuses.is right) in
+        subst Fits (sym refuses.is) (fits_closed sockets (refusal ∷ refuses.before) (tt, fits config refuses.before refuses.lawful read.1))
 
 -- behind the opening of the link
 module _ (at : Place) (answer : Made) where
@@ -176,5 +216,5 @@ allowed_later (e ∷ later) past all = (all.0, allowed_later later past all.1)
 
 pub opened_fits : (config : Config) (at : Place) (outcome : Outcome) (made : List Entry) → OpensAt config at outcome made → AreAllowed made → Fits made
 opened_fits config at outcome made (Runs run is ran) allowed =
-    subst Fits (sym is) (fits_behind at MadeDone run (fits config run ran.lawful (allowed_later run (LinkOpen at MadeDone ∷ []) (subst AreAllowed is allowed))))
+    subst Fits (sym is) (fits_behind at MadeDone run (run_fits config ran.end run ran.ran (right_reads run (allowed_later run (LinkOpen at MadeDone ∷ []) (subst AreAllowed is allowed)))))
 opened_fits config at outcome made (IsRefused is told) allowed = subst Fits (sym is) (tt, tt)

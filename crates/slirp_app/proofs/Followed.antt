@@ -6,15 +6,11 @@ use Rattle.std.specs.Option.{option_map}
 use Rattle.world_face.specs.Journal.{Entry, Call, AreAllowed, call_of}
 use Rattle.world_face.specs.Puts.{added}
 use Rattle.world_face.specs.Tells.{Told, on, ceased, silent, Makes}
-use Rattle.world_face.proofs.Following.{follows_before, all_before}
+use Rattle.world_face.proofs.Following.{all_before}
 use Rattle.host_policy.specs.Addresses.{Config}
-use Rattle.slirp_laws.specs.Laws.{May, Lawful}
-use Rattle.slirp_laws.specs.Laws.{Finished}
-use Rattle.run_laws.specs.Shape.{phase}
-use Rattle.run_duties.specs.Duties.{Dutiful, Must}
-use Rattle.serve_loop.specs.Ends.{end_of}
 use Rattle.serve_loop.specs.declared.service.End.{End}
-use Rattle.serve_loop.specs.declared.service.End.TheVariants.{Done, TooLong, Cut, LinkFault, WaitFault, TurnsSpent, ListenRefused}
+use Rattle.serve_loop.specs.declared.service.End.TheVariants.{Done, TooLong, Cut, LinkFault, WaitFault, TurnsSpent, ListenRefused, ControlRefused}
+use Rattle.control_loop.specs.Runs.{BeginsRun, IsRun}
 use Rattle.replay.specs.Fitting.{FitsNone, StopsRightly, divergence_of}
 use Rattle.replay.specs.Names.{name_of}
 use Rattle.replay.specs.Rows.{Row, AreReadable, Fits, FitsBefore, entries_of, row_text, schedule_text, turned_text}
@@ -22,13 +18,14 @@ use Rattle.replay.specs.Script.{Script, IsFresh, script_tells, newest_onto}
 use Rattle.replay.specs.Text.{text}
 use Rattle.replay.specs.declared.Divergence.{Divergence}
 use Rattle.slirp_app.specs.Causes.{Came}
-use Rattle.slirp_app.specs.Ran.{Replayed, IsAtEnd, Ceased}
+use Rattle.slirp_app.specs.Ran.{Replayed, Ceased}
 use Rattle.app_edges.specs.Texts.{end_line}
-use Rattle.slirp_app.specs.Serving.{IsRun}
+use Rattle.slirp_app.specs.Serving.{ComesTo}
 use Rattle.app_edges.specs.Statuses.{code_of}
 use Rattle.slirp_app.specs.Statuses.{outcome_of}
 use Rattle.app_edges.specs.declared.status.Outcome.{Outcome}
 use Rattle.app_edges.specs.declared.status.Outcome.TheVariants.{Diverged}
+use Rattle.slirp_app.proofs.Alone.{begun_before}
 
 their_entries : (n : ℕ) (rows older : List Row) → entries_of (newest_onto n rows older) ≡ newest_onto n (entries_of rows) (entries_of older)
 their_entries zero rows older = refl
@@ -73,7 +70,7 @@ stopped_at (Some call) f divergence is = (call, refl, cc)
 
 -- a run that came to its end
 at_end : (config : Config) (end : End) (schedule : List ℕ) (old new : Option (List ℕ)) → Replayed config (code_of (outcome_of end)) schedule old new
-    (IsAtEnd config (outcome_of end)) → Came config (outcome_of end) schedule old new
+    (ComesTo config (outcome_of end)) → Came config (outcome_of end) schedule old new
 at_end config Done schedule old new ran = ran
 at_end config (TooLong n) schedule old new ran = ran
 at_end config (Cut n) schedule old new ran = ran
@@ -81,6 +78,7 @@ at_end config LinkFault schedule old new ran = ran
 at_end config WaitFault schedule old new ran = ran
 at_end config (TurnsSpent n) schedule old new ran = ran
 at_end config (ListenRefused n) schedule old new ran = ran
+at_end config ControlRefused schedule old new ran = ran
 
 module _ (config : Config) (script new : Script) (done outcome : Outcome) (before after : Option (List ℕ)) (fresh : IsFresh script)
     (lives : new.live ≡ true → outcome ≡ done)
@@ -106,9 +104,8 @@ module _ (config : Config) (script new : Script) (done outcome : Outcome) (befor
 
   -- where it ceased
   there : (divergence : Divergence) → divergence_of new ≡ Some divergence → (told : List Entry) (e : Entry) → told ≡ (script_tells new).kept → IfSome new.stop (λ s. s ≡ call_of e)
-      → May config told (call_of e) → Must config told (call_of e) → schedule_text new.lines ≡ schedule_text script.lines → Ceased config (schedule_text script.lines) divergence
-      (script_tells new).kept
-  there divergence is told e kept stop may attends same =
+      → BeginsRun config (e ∷ told) → schedule_text new.lines ≡ schedule_text script.lines → Ceased config (schedule_text script.lines) divergence (script_tells new).kept
+  there divergence is told e kept stop next same =
       let f : Call → Divergence = λ call. record { line = new.used + 1; made = name_of call; wanted = option_map (λ (row : Row). name_of (call_of row.entry)) (slice_get new.lines new.used) } in
       let at = stopped_at new.stop f divergence is in
       let of : at.0 ≡ call_of e = subst (λ (o : Option Call). IfSome o (λ s. s ≡ call_of e)) at.1 stop in
@@ -117,8 +114,7 @@ module _ (config : Config) (script new : Script) (done outcome : Outcome) (befor
         readable = readable_left new.used new.lines readable;
         before = before_left same;
         call = at.0;
-        may = subst (λ k. May config k at.0) kept (subst (May config told) (sym of) may);
-        attends = subst (λ k. Must config k at.0) kept (subst (Must config told) (sym of) attends);
+        goes_on = record { next = e; is = of; begins = subst (λ k. BeginsRun config (e ∷ k)) kept next };
         fits_none = none_left new.lines new.used at.0 (rightly at.0 at.1);
         line = ap (λ (d : Divergence). d.line) at.2 ∙ ap (λ n. n + 1)
             (sym (omega (arith, kept_count new.used (entries_of new.lines) [] (omega (arith, within, length-map new.lines (λ (row : Row). row.entry))))));
@@ -126,37 +122,33 @@ module _ (config : Config) (script new : Script) (done outcome : Outcome) (befor
         wanted = ap (λ (d : Divergence). d.wanted) at.2 ∙ ap (λ o. option_map (λ (row : Row). name_of (call_of row.entry)) o) (sym (first_left new.used new.lines));
       }
 
-  by_told : (made : List Entry) → schedule_text new.lines ≡ schedule_text script.lines → AreAllowed made → IsRun config done made → Told (script_tells script)
+  by_told : (made : List Entry) → schedule_text new.lines ≡ schedule_text script.lines → AreAllowed made → ComesTo config done made → Told (script_tells script)
       (script_tells new) made → Came config outcome (schedule_text script.lines) before after
   by_told made same allowed run (on was now kept) =
       let is : made ≡ (script_tells new).kept = sym (kept ∙ ap (λ l. made ++ l) nothing_kept ∙ append-nil made) in
-      let end = end_of config (phase config made) in
-      let ends : outcome ≡ outcome_of end = lives now ∙ run.ends in
-      subst (λ o. Came config o (schedule_text script.lines) before after) (sym ends) (at_end config end (schedule_text script.lines) before after (record {
+      let ends : outcome ≡ outcome_of run.end = lives now ∙ run.is in
+      let ran : IsRun config run.end (script_tells new).kept = subst (IsRun config run.end) is run.ran in
+      subst (λ o. Came config o (schedule_text script.lines) before after) (sym ends) (at_end config run.end (schedule_text script.lines) before after (record {
         journal = (script_tells new).kept;
-        put = put_as (outcome_of end) ends;
+        put = put_as (outcome_of run.end) ends;
         fits = fits same;
         allowed = subst AreAllowed is allowed;
-        lawful = subst (Lawful config) is run.lawful;
-        dutiful = subst (Dutiful config) is run.dutiful;
-        holds = (subst (Finished config) is run.finished, ap (λ l. outcome_of (end_of config (phase config l))) is);
+        begins = record { later = []; end = run.end; run = ran };
+        holds = record { end = run.end; ran = ran; is = refl };
       }))
   by_told made same allowed run (ceased was now later told e made_is kept stop) =
       let is : told ≡ (script_tells new).kept = sym (kept ∙ ap (λ l. told ++ l) nothing_kept ∙ append-nil told) in
-      let lawful = subst (Lawful config) made_is run.lawful in
-      let next = follows_before (May config) later (e ∷ told) lawful in
-      let duty = follows_before (Must config) later (e ∷ told) (subst (Dutiful config) made_is run.dutiful) in
+      let next : BeginsRun config (e ∷ told) = record { later = later; end = run.end; run = subst (IsRun config run.end) made_is run.ran } in
       let left = dead now in
       subst (λ o. Came config o (schedule_text script.lines) before after) (sym left.1) (record {
         journal = (script_tells new).kept;
         put = put_as (Diverged left.0) left.1;
         fits = fits same;
         allowed = subst AreAllowed is (all_before later (e ∷ told) (subst AreAllowed made_is allowed)).1;
-        lawful = subst (Lawful config) is next.1;
-        dutiful = subst (Dutiful config) is duty.1;
-        holds = there left.0 left.2 told e is stop next.0 duty.0 same;
+        begins = subst (BeginsRun config) is (begun_before config e told next);
+        holds = there left.0 left.2 told e is stop next same;
       })
   by_told made same allowed run (silent quiet now kept stop) = cc
 
-  pub replayed : Makes (script_tells script) (script_tells new) (IsRun config done) → Came config outcome (schedule_text script.lines) before after
+  pub replayed : Makes (script_tells script) (script_tells new) (ComesTo config done) → Came config outcome (schedule_text script.lines) before after
   replayed makes = by_told makes.made makes.same makes.allowed makes.holds makes.told

@@ -1,3 +1,5 @@
+mod Alone
+mod Apart
 mod Attended
 mod Carried
 mod Causing
@@ -12,6 +14,8 @@ mod Halted
 mod Lined
 mod Opened
 mod Repeated
+mod Rightly
 mod Risen
+mod Seen
 mod Served
 mod Tapped

@@ -1,27 +1,20 @@
 -- The calls of `serve`.
-use Rattle.std.proofs.Common.{◌≡◌, ℕ, List, [], ◌∷◌, ◌++◌, Option, refl, sym, ◌∙◌, ap, subst}
+use Rattle.std.proofs.Common.{◌≡◌, ℕ, List, [], ◌∷◌, ◌++◌, Option, refl, sym, subst}
 use Rattle.world_face.specs.Journal.{Entry, Place, LinkOpen}
 use Rattle.world_face.specs.Tells.{Telling, Answers, Makes}
 use Rattle.world_face.specs.declared.Made.TheVariants.{Done, Failed}
 use Rattle.world_face.proofs.Telling.{makes_as, makes_one, makes_then}
 use Rattle.host_policy.specs.Addresses.{Config}
-use Rattle.slirp_app.specs.Serving.{IsRecorded, IsRefused, IsRun, IsUnopened, OpensAt, Records, RecordsAt, Runs}
+use Rattle.slirp_app.specs.Serving.{ComesTo, IsRecorded, IsRefused, IsUnopened, OpensAt, Records, RecordsAt, Runs}
 use Rattle.slirp_app.specs.Statuses.{outcome_of}
 use Rattle.app_edges.specs.declared.status.Outcome.{Outcome}
 use Rattle.app_edges.specs.declared.status.Outcome.TheVariants.{LinkFault}
-use Rattle.slirp_laws.specs.Laws.{Finished, Lawful}
-use Rattle.run_duties.specs.Duties.{Dutiful}
-use Rattle.run_laws.specs.Shape.{phase}
-use Rattle.serve_loop.specs.Ends.{end_of}
+use Rattle.control_loop.specs.Runs.{IsRun}
 use Rattle.serve_loop.specs.declared.service.End.{End}
 
--- the calls of a run, with the end that they tell
-pub runs : (a b : Telling) (config : Config) (end : End) (outcome : Outcome) → Makes a b (λ made. Lawful config made × Dutiful config made × Finished config made ×
-    (end ≡ end_of config (phase config made)))
-    → outcome ≡ outcome_of end → Makes a b (IsRun config outcome)
-runs a b config end outcome calls told =
-    makes_as a b (λ made. Lawful config made × Dutiful config made × Finished config made × (end ≡ end_of config (phase config made))) (IsRun config outcome) calls
-    (λ made holds. record { lawful = holds.0; dutiful = holds.1; finished = holds.2; ends = told ∙ ap outcome_of holds.3 })
+-- the calls of a run, and what its end comes to
+pub runs : (a b : Telling) (config : Config) (end : End) (outcome : Outcome) → Makes a b (IsRun config end) → outcome ≡ outcome_of end → Makes a b (ComesTo config outcome)
+runs a b config end outcome calls told = makes_as a b (IsRun config end) (ComesTo config outcome) calls (λ made ran. record { end = end; ran = ran; is = told })
 
 -- the link was opened, and some calls were made
 behind : {P Q : List Entry → Type 0} (a b c : Telling) (at : Place) → Answers a b (LinkOpen at Done) → Makes b c P → ((run : List Entry) → P run → Q (run ++ LinkOpen at Done ∷ [])) → Makes a c Q
@@ -31,7 +24,7 @@ behind {P} {Q} a b c at first calls here =
     calls
     (λ before run is holds. subst (λ l. Q (run ++ l)) (sym is) (here run holds))
 
-pub opened : (a b c : Telling) (at : Place) (outcome : Outcome) (config : Config) → Answers a b (LinkOpen at Done) → Makes b c (IsRun config outcome) → Makes a c (OpensAt config at outcome)
+pub opened : (a b c : Telling) (at : Place) (outcome : Outcome) (config : Config) → Answers a b (LinkOpen at Done) → Makes b c (ComesTo config outcome) → Makes a c (OpensAt config at outcome)
 opened a b c at outcome config first calls = behind a b c at first calls (λ run holds. Runs run refl holds)
 
 pub opened_recorded : (a b c : Telling) (at : Place) (outcome : Outcome) (config : Config) (old new : Option (List ℕ)) → Answers a b (LinkOpen at Done) → Makes b c

@@ -6,12 +6,10 @@ use Rattle.world_face.specs.Tells.{Counts, Makes, Rose, Telling}
 use Rattle.world_face.proofs.Telling.{makes_as}
 use Rattle.host_policy.specs.Addresses.{Config}
 use Rattle.replay.specs.Text.{text}
-use Rattle.slirp_app.specs.Serving.{CapturesAt, IsGiven, IsRecorded, IsRun, OpensAt, Took, TookNot}
+use Rattle.slirp_app.specs.Serving.{CapturesAt, ComesTo, IsGiven, IsRecorded, OpensAt, Took, TookNot}
 use Rattle.app_edges.specs.Statuses.{code_of}
 use Rattle.app_edges.specs.declared.status.Outcome.{Outcome}
 use Rattle.app_edges.specs.declared.status.Outcome.TheVariants.{SinkFault}
-use Rattle.run_laws.specs.Shape.{phase}
-use Rattle.serve_loop.specs.Ends.{end_of}
 use Rattle.slirp_app.proofs.Courses.{end_of_run, opens_code}
 use Rattle.slirp_app.proofs.Fitted.{opened_fits}
 use Rattle.taps.specs.Capturing.{IsCaptured, capture}
@@ -53,7 +51,7 @@ module _ (failed : Bool) (done outcome : Outcome) (is : outcome ≡ (if failed t
   fault rose taken code = fault_by failed refl is rose taken code
 
 pub recorded : (world world_new : Telling) (noted : List Entry) (config : Config) (done outcome : Outcome) (old new : Option (List ℕ))
-    → ArePassed world world_new noted → IsRun config done noted → IsGiven (text noted) done outcome old new → Makes world world_new (IsRecorded config outcome old new)
+    → ArePassed world world_new noted → ComesTo config done noted → IsGiven (text noted) done outcome old new → Makes world world_new (IsRecorded config outcome old new)
 recorded world world_new noted config done outcome old new passed ran given =
     makes_as world world_new (λ made. made ≡ noted) (IsRecorded config outcome old new) passed (λ made is. subst (IsRecorded config outcome old new) (sym is)
     (record { done = done; ran = ran; given = given }))
@@ -70,7 +68,7 @@ pub run_recorded : {W K : Type 0} (tells : W → Telling) (config : Config) (don
     (counts counts_new : Counts) (fresh : Written K) (tap tap_new : Tapped W (Written K)) (book : Written K)
     → fresh ≡ record { out = sink; source = beginning faults before; made = []; failed = false }
     → tap ≡ record { world = world; began = world; book = fresh }
-    → Makes (telling (marked (tells tap.began) tap.book.source) counts tap.book.made) (telling (marked (tells tap_new.began) tap_new.book.source) counts_new tap_new.book.made) (IsRun config done)
+    → Makes (telling (marked (tells tap.began) tap.book.source) counts tap.book.made) (telling (marked (tells tap_new.began) tap_new.book.source) counts_new tap_new.book.made) (ComesTo config done)
     → ArePassed (tells tap_new.began) (tells world_new) book.made
     → book ≡ tap_new.book
     → ((old : Option (List ℕ)) (f : ℕ) → book.source ≡ beginning f old → IsWritten old after f faults_new book.made failed)
@@ -79,15 +77,15 @@ pub run_recorded : {W K : Type 0} (tells : W → Telling) (config : Config) (don
 run_recorded {W} {K} tells config done outcome failed world world_new sink before after faults faults_new counts counts_new fresh tap tap_new book fresh_is tap_is makes passed
     book_is written outcome_is =
     let none : tap.book.made ≡ [] = ap (λ (t : Tapped W (Written K)). t.book.made) tap_is ∙ ap (λ (b : Written K). b.made) fresh_is in
-    let noted = all_noted {P = IsRun config done} (tells tap.began) (tells tap_new.began) tap.book.source tap_new.book.source tap.book.made tap_new.book.made counts counts_new none makes in
+    let noted = all_noted {P = ComesTo config done} (tells tap.began) (tells tap_new.began) tap.book.source tap_new.book.source tap.book.made tap_new.book.made counts counts_new none makes in
     let began : tells tap_new.began ≡ tells world = noted.same_world ∙ ap (λ (t : Tapped W (Written K)). tells t.began) tap_is in
     let source : book.source ≡ beginning faults before = ap (λ (b : Written K). b.source) book_is ∙ noted.same_sink ∙ ap (λ (t : Tapped W (Written K)). t.book.source) tap_is ∙ ap
     (λ (b : Written K). b.source) fresh_is in
     let put = written before faults source in
-    let ran : IsRun config done book.made = subst (IsRun config done) (sym (ap (λ (b : Written K). b.made) book_is)) noted.holds in (
+    let ran : ComesTo config done book.made = subst (ComesTo config done) (sym (ap (λ (b : Written K). b.made) book_is)) noted.holds in (
       recorded (tells world) (tells world_new) book.made config done outcome before after (subst (λ t. ArePassed t (tells world_new) book.made) began passed)
           ran (given failed done outcome outcome_is (text book.made) before after put.put),
-      fault failed done outcome outcome_is put.fault (end_of_run done (end_of config (phase config book.made)) ran.ends).taken,
+      fault failed done outcome outcome_is put.fault (end_of_run done ran.end ran.is).taken,
     )
 
 -- and one whose frames were put

@@ -10,29 +10,31 @@ use Rattle.replay.specs.Rows.{TakesTooMuch}
 use Rattle.replay.specs.Unread.{IsFirstUnread}
 use Rattle.world_face.specs.Tells.{Telling, Makes, Rose}
 use Rattle.app_edges.specs.Fetching.{IsWhole, IsUnreadable, is_read, octets_read}
-use Rattle.slirp_app.specs.Ran.{Replayed, IsAtEnd, Ceased}
+use Rattle.slirp_app.specs.Ran.{Replayed, Ceased}
+use Rattle.slirp_app.specs.Serving.{ComesTo}
 use Rattle.app_edges.specs.Statuses.{code_of}
 use Rattle.app_edges.specs.declared.status.Outcome.{Outcome}
 use Rattle.app_edges.specs.declared.status.Outcome.TheVariants.{Done, Usage, BadConfig, ScheduleRead, ScheduleTooLarge, ScheduleLine, Diverged, FrameTooLong, FrameCut, LinkFault}
-use Rattle.app_edges.specs.declared.status.Outcome.TheVariants.{WaitFault, TurnsSpent, ListenRefused, SinkFault, NoMemory}
+use Rattle.app_edges.specs.declared.status.Outcome.TheVariants.{WaitFault, TurnsSpent, ListenRefused, SinkFault, NoMemory, ControlRefused}
 
 -- Where a run was made, a record of it was put. It diverged, or came to its end.
 abbrev pub Came : Config → Outcome → (schedule : List ℕ) → (old new : Option (List ℕ)) → Type 0
-Came config Done schedule old new = Replayed config 0 schedule old new (IsAtEnd config Done)
+Came config Done schedule old new = Replayed config 0 schedule old new (ComesTo config Done)
 Came config (Usage stop) schedule old new = Unit {0}
 Came config (BadConfig field) schedule old new = Unit {0}
 Came config ScheduleRead schedule old new = Unit {0}
 Came config ScheduleTooLarge schedule old new = Unit {0}
 Came config (ScheduleLine line) schedule old new = Unit {0}
 Came config (Diverged divergence) schedule old new = Replayed config 5 schedule old new (Ceased config schedule divergence)
-Came config (FrameTooLong length) schedule old new = Replayed config 6 schedule old new (IsAtEnd config (FrameTooLong length))
-Came config (FrameCut octets) schedule old new = Replayed config 7 schedule old new (IsAtEnd config (FrameCut octets))
-Came config LinkFault schedule old new = Replayed config 8 schedule old new (IsAtEnd config LinkFault)
-Came config WaitFault schedule old new = Replayed config 9 schedule old new (IsAtEnd config WaitFault)
-Came config (TurnsSpent turns) schedule old new = Replayed config 10 schedule old new (IsAtEnd config (TurnsSpent turns))
-Came config (ListenRefused forward) schedule old new = Replayed config 11 schedule old new (IsAtEnd config (ListenRefused forward))
+Came config (FrameTooLong length) schedule old new = Replayed config 6 schedule old new (ComesTo config (FrameTooLong length))
+Came config (FrameCut octets) schedule old new = Replayed config 7 schedule old new (ComesTo config (FrameCut octets))
+Came config LinkFault schedule old new = Replayed config 8 schedule old new (ComesTo config LinkFault)
+Came config WaitFault schedule old new = Replayed config 9 schedule old new (ComesTo config WaitFault)
+Came config (TurnsSpent turns) schedule old new = Replayed config 10 schedule old new (ComesTo config (TurnsSpent turns))
+Came config (ListenRefused forward) schedule old new = Replayed config 11 schedule old new (ComesTo config (ListenRefused forward))
 Came config SinkFault schedule old new = Unit {0}
 Came config NoMemory schedule old new = Unit {0}
+Came config ControlRefused schedule old new = Replayed config 14 schedule old new (ComesTo config ControlRefused)
 
 -- FILE was read whole, each line has a reading, and its stars take over 1 GiB of room
 abbrev pub IsTooLarge : List Entry → Type 0

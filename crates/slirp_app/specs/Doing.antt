@@ -20,8 +20,9 @@ use Rattle.slirp_config.specs.Options.{Word}
 use Rattle.slirp_config.specs.declared.Tap.{Tap}
 use Rattle.slirp_config.specs.declared.WordFault.{WordFault}
 use Rattle.slirp_config.specs.declared.WordFault.TheVariants.{Usage as Misread, BadConfig as BadField}
-use Rattle.serve_loop.specs.Ends.{end_of}
-use Rattle.slirp_laws.specs.Laws.{Finished}
+use Rattle.serve_loop.specs.declared.service.End.{End}
+use Rattle.control_laws.specs.Laws.{Refuses}
+use Rattle.control_loop.specs.Runs.{IsRun, seen_by_network}
 use Rattle.slirp_app.specs.Causes.{CannotRead, Caused, IsTooLarge, RanOn}
 use Rattle.app_edges.specs.Fetching.{IsUnreadable, IsWhole, MayFetch, is_read, octets_read}
 use Rattle.slirp_app.specs.Ran.{Ceased, EndsBy}
@@ -46,26 +47,28 @@ pub record ReplaysFile (file : Word) (config : Config) (status : ℕ) (world wor
   -- 4 comes exactly where a line of FILE has no reading, and the text has the first such line
   pub misspelt : IsTrue (is_read status) → Makes world world_new (λ made. (status ≡ 4) ↔ (line : ℕ) × IsFirstUnread (octets_read made) line)
   pub named : status ≡ 4 → Makes world world_new (λ made. (line : ℕ) × IsFirstUnread (octets_read made) line × Told (ScheduleLine line))
-  -- a run's record was put and then the status; but for 5 nothing more is to be done, and the status is that of the end which the record tells
-  pub ran : IsTrue (is_run status) → RanOn config world world_new status old new (λ schedule journal. status ≢ 5 → Finished config journal ×
-      (status ≡ code_of (outcome_of (end_of config (phase config journal)))))
-  -- with 5 it ceased at a call that may come next and fits no line, and the text names the line, the call, and the call of the line
+  -- a run's record was put and then the status; but for 5 it is that of a whole run, and the status is that of the end to which it came
+  pub ran : IsTrue (is_run status) → RanOn config world world_new status old new (λ schedule journal. status ≢ 5 → (end : End) × IsRun config end journal ×
+      (status ≡ code_of (outcome_of end)))
+  -- with 5 it ceased at the call that comes next and fits no line, and the text names the line, the call, and the call of the line
   pub diverged : status ≡ 5 → RanOn config world world_new 5 old new (λ schedule journal. (divergence : Divergence) × Ceased config schedule divergence journal × Told (Diverged divergence))
   -- with 0 a wait was told to stop, or the link ended between two frames
-  pub done : status ≡ 0 → RanOn config world world_new 0 old new (λ schedule journal. EndsBy Stopped journal ⊎ EndsBy LinkEnded journal)
+  pub done : status ≡ 0 → RanOn config world world_new 0 old new (λ schedule journal. let seen = seen_by_network config.control journal in EndsBy Stopped seen ⊎ EndsBy LinkEnded seen)
   -- with 6 a length over 69,632 was read, and the text has it
-  pub too_long : status ≡ 6 → RanOn config world world_new 6 old new (λ schedule journal. (size : ℕ) × EndsBy (LongFrame size) journal × (69632 < size) × Told (FrameTooLong size))
+  pub too_long : status ≡ 6 → RanOn config world world_new 6 old new (λ schedule journal. (size : ℕ) × EndsBy (LongFrame size) (seen_by_network config.control journal) × (69632 < size) × Told (FrameTooLong size))
   -- with 7 the link ended inside a length or frame, and the text has how many octets of it had come
-  pub cut : status ≡ 7 → RanOn config world world_new 7 old new (λ schedule journal. (octets : ℕ) × EndsBy (LinkCut octets) journal × Told (FrameCut octets))
+  pub cut : status ≡ 7 → RanOn config world world_new 7 old new (λ schedule journal. (octets : ℕ) × EndsBy (LinkCut octets) (seen_by_network config.control journal) × Told (FrameCut octets))
   -- with 8 a call on the link failed, with 9 a wait
-  pub link_fault : status ≡ 8 → RanOn config world world_new 8 old new (λ schedule journal. EndsBy LinkFailed journal)
-  pub wait_fault : status ≡ 9 → RanOn config world world_new 9 old new (λ schedule journal. EndsBy WaitFailed journal)
+  pub link_fault : status ≡ 8 → RanOn config world world_new 8 old new (λ schedule journal. EndsBy LinkFailed (seen_by_network config.control journal))
+  pub wait_fault : status ≡ 9 → RanOn config world world_new 9 old new (λ schedule journal. EndsBy WaitFailed (seen_by_network config.control journal))
   -- with 10 there were as many waits as the settings allow, and the text has their number
   pub spent : status ≡ 10 → RanOn config world world_new 10 old new (λ schedule journal. (waits journal ≡ config.turns) × Told (TurnsSpent config.turns))
   -- with 11 the host refused a forward, and the text has its number, counted from 0
-  pub forward_refused : status ≡ 11 → RanOn config world world_new 11 old new (λ schedule journal. (forward : ℕ) × (phase config journal ≡ Over (Refused forward)) × Told (ListenRefused forward))
+  pub forward_refused : status ≡ 11 → RanOn config world world_new 11 old new (λ schedule journal. (forward : ℕ) × (phase config (seen_by_network config.control journal) ≡ Over (Refused forward)) × Told (ListenRefused forward))
+  -- with 14 the host refused the control
+  pub control_refused : status ≡ 14 → RanOn config world world_new 14 old new (λ schedule journal. Refuses config journal)
 
--- What `serve --link AT` does: the link is opened, and then the calls are those of one lawful, finished run with the settings of the words; what the words ask
+-- What `serve --link AT` does: the link is opened, and then the calls are those of one whole run with the settings of the words; what the words ask
 -- for is put of these calls, the same ones whether `world` tells them or not; `err` got the text of the outcome; and the count of the fault that ended it
 -- rose.
 pub record ServesLink (config : Config) (at : Place) (tap : Tap) (status : ℕ) (world world_new : Telling) (old new : Option (List ℕ)) (Told : Outcome → Type 0) : Type 0 where
@@ -73,7 +76,7 @@ pub record ServesLink (config : Config) (at : Place) (tap : Tap) (status : ℕ) 
   pub is : status ≡ code_of outcome
   pub told : Told outcome
   pub makes : Makes world world_new (ServesAt config at tap outcome old new)
-  -- with 8 the count of the link's faults rose, with 9 that of the waits', with 11 that of the sockets'
+  -- with 8 the count of the link's faults rose, with 9 that of the waits', with 11 and 14 that of the sockets'
   pub counted : IsCounted outcome world.faults world_new.faults
 
 -- What `drive NUMBER OCTETS` does: the network runs on a World that is made from NUMBER, whose guest sends OCTETS octets.
@@ -93,10 +96,10 @@ pub record TellsText (text : List ℕ) (status : ℕ) (world world_new : Telling
   pub ends : (status ≡ 0) ⊎ (status ≡ 12)
   pub put : status ≡ 0 → new ≡ added text old
 
--- what comes of the outcome alone; the settings of a run are those of the words as far as they are built
+-- what comes of the outcome alone; the settings of a run are those of the words
 abbrev pub Does : Meaning → Outcome → (world world_new : Telling) → (old new : Option (List ℕ)) → Type 0
 Does (Replays file config) outcome world world_new old new = Makes world world_new (λ made. Follows (MayFetch file) made × Caused config outcome made old new)
-Does (Serves config at tap) outcome world world_new old new = Makes world world_new (ServesAt config at tap outcome old new)
+Does (Serves config at tap) outcome world world_new old new = Makes world world_new (ServesAt config at tap outcome old new) × IsCounted outcome world.faults world_new.faults
 Does (Drives number octets) outcome world world_new old new = DrivesRun number octets (code_of outcome) world world_new old new
 Does Helps outcome world world_new old new = TellsText help_text (code_of outcome) world world_new old new
 Does TellsVersion outcome world world_new old new = TellsText version_text (code_of outcome) world world_new old new

@@ -4,44 +4,32 @@ use Rattle.world_face.specs.Frames.{Ending, partial, ending}
 use Rattle.world_face.specs.Journal.{Entry, Call, call_of, AreAllowed}
 use Rattle.world_face.specs.Puts.{added}
 use Rattle.host_policy.specs.Addresses.{Config}
-use Rattle.slirp_laws.specs.Laws.{May, Lawful}
-use Rattle.slirp_laws.specs.Laws.{Finished}
-use Rattle.run_laws.specs.Shape.{phase}
-use Rattle.run_duties.specs.Duties.{Dutiful, Must}
-use Rattle.serve_loop.specs.Ends.{end_of}
+use Rattle.control_loop.specs.Runs.{BeginsRun, GoesOnWith}
 use Rattle.replay.specs.Fitting.{FitsNone}
 use Rattle.replay.specs.Names.{name_of}
 use Rattle.replay.specs.Rows.{Row, AreReadable, Fits, FitsBefore, schedule_text}
 use Rattle.replay.specs.Text.{text}
 use Rattle.replay.specs.declared.Divergence.{Divergence}
 use Rattle.app_edges.specs.Texts.{end_line}
-use Rattle.slirp_app.specs.Statuses.{outcome_of}
-use Rattle.app_edges.specs.declared.status.Outcome.{Outcome}
 
 -- There is one record of calls: it was put, and then the status; it fits the schedule's lines from the first; each answer is one that a World may give;
--- each call was lawful for these settings, and each wait attended to all that could be taken. P holds of it.
+-- and these calls begin a run with these settings. P holds of it.
 pub record Replayed (config : Config) (status : ℕ) (schedule : List ℕ) (old new : Option (List ℕ)) (P : List Entry → Type 0) : Type 0 where
   pub journal : List Entry
   pub put : new ≡ added (text journal ++ end_line status) old
   pub fits : Fits journal schedule
   pub allowed : AreAllowed journal
-  pub lawful : Lawful config journal
-  pub dutiful : Dutiful config journal
+  pub begins : BeginsRun config journal
   pub holds : P journal
 
--- The schedule was followed to the end of the run: nothing more is to be done, and the outcome is that of the end which the record tells.
-abbrev pub IsAtEnd : Config → Outcome → List Entry → Type 0
-IsAtEnd config outcome journal = Finished config journal × (outcome ≡ outcome_of (end_of config (phase config journal)))
-
--- The run ceased at a call that may come next, as it must where it is a wait, and that fits no line: of the lines that are left the first isn't of this call,
--- or its answer isn't one that a World may give.
+-- The run ceased at the call that comes next in it, and that fits no line: of the lines that are left the first isn't of this call, or its answer isn't one that
+-- a World may give.
 pub record Ceased (config : Config) (schedule : List ℕ) (divergence : Divergence) (journal : List Entry) : Type 0 where
   pub left : List Row
   pub readable : AreReadable left
   pub before : FitsBefore journal schedule (schedule_text left)
   pub call : Call
-  pub may : May config journal call
-  pub attends : Must config journal call
+  pub goes_on : GoesOnWith config journal call
   pub fits_none : FitsNone left 0 call
   pub line : divergence.line ≡ length journal + 1
   pub made : divergence.made ≡ name_of call

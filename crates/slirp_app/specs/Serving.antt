@@ -5,35 +5,33 @@ use Rattle.world_face.specs.Puts.{added}
 use Rattle.world_face.specs.Tells.{Counts, Rose}
 use Rattle.world_face.specs.declared.Made.TheVariants.{Done, Failed}
 use Rattle.host_policy.specs.Addresses.{Config}
-use Rattle.run_laws.specs.Shape.{phase}
-use Rattle.slirp_laws.specs.Laws.{Finished, Lawful}
-use Rattle.run_duties.specs.Duties.{Dutiful}
 use Rattle.replay.specs.Text.{text}
-use Rattle.serve_loop.specs.Ends.{end_of}
+use Rattle.serve_loop.specs.declared.service.End.{End}
+use Rattle.control_loop.specs.Runs.{IsRun}
 use Rattle.slirp_config.specs.declared.Tap.{Tap}
 use Rattle.slirp_config.specs.declared.Tap.TheVariants.{Off, Record, Capture}
 use Rattle.slirp_app.specs.Statuses.{outcome_of}
 use Rattle.app_edges.specs.declared.status.Outcome.{Outcome}
-use Rattle.app_edges.specs.declared.status.Outcome.TheVariants.{LinkFault, ListenRefused, NoMemory, SinkFault, WaitFault}
+use Rattle.app_edges.specs.declared.status.Outcome.TheVariants.{ControlRefused, LinkFault, ListenRefused, NoMemory, SinkFault, WaitFault}
 use Rattle.taps.specs.Capturing.{capture}
 
--- The calls of a whole run: each is lawful, each wait is as it must be, and nothing more is to be done; the outcome is that of the end which they tell.
-pub record IsRun (config : Config) (outcome : Outcome) (run : List Entry) : Type 0 where
-  pub lawful : Lawful config run
-  pub dutiful : Dutiful config run
-  pub finished : Finished config run
-  pub ends : outcome ≡ outcome_of (end_of config (phase config run))
+-- The calls of a whole run with these settings; the outcome is that of the end to which it came.
+pub record ComesTo (config : Config) (outcome : Outcome) (run : List Entry) : Type 0 where
+  pub end : End
+  pub ran : IsRun config end run
+  pub is : outcome ≡ outcome_of end
 
--- The count of the fault by which a run ended rose: of the link's, of the waits', or, where a port of the host was refused, of the sockets'.
+-- The count of the fault by which a run ended rose: of the link's, of the waits', or, where a port of the host was refused or that of the control, of the sockets'.
 abbrev pub IsCounted : Outcome → (old new : Counts) → Type 0
 IsCounted LinkFault old new = Rose old.link new.link
 IsCounted WaitFault old new = Rose old.wait new.wait
 IsCounted (ListenRefused forward) old new = Rose old.socket new.socket
+IsCounted ControlRefused old new = Rose old.socket new.socket
 IsCounted _ old new = Unit {0}
 
 -- The link was opened, and behind that a run was made; or it couldn't be opened.
 pub data OpensAt (config : Config) (at : Place) (outcome : Outcome) (made : List Entry) : Type 0 where
-  Runs : (run : List Entry) → made ≡ run ++ LinkOpen at Done ∷ [] → IsRun config outcome run → OpensAt config at outcome made
+  Runs : (run : List Entry) → made ≡ run ++ LinkOpen at Done ∷ [] → ComesTo config outcome run → OpensAt config at outcome made
   IsRefused : made ≡ LinkOpen at Failed ∷ [] → outcome ≡ LinkFault → OpensAt config at outcome made
 
 -- `out` got these octets, and the outcome is that of what was done; or it failed to take some of them, and the outcome is that.
@@ -44,7 +42,7 @@ pub data IsGiven (octets : List ℕ) (done outcome : Outcome) (old new : Option 
 -- A run was made, and the text of its calls given.
 pub record IsRecorded (config : Config) (outcome : Outcome) (old new : Option (List ℕ)) (run : List Entry) : Type 0 where
   pub done : Outcome
-  pub ran : IsRun config done run
+  pub ran : ComesTo config done run
   pub given : IsGiven (text run) done outcome old new
 
 -- With `--record`: the run that is made behind the opening of the link is recorded. Where the link couldn't be opened nothing is put.

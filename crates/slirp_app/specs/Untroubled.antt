@@ -1,9 +1,11 @@
 -- A run to whose outside nothing happened that ends it early.
-use Rattle.std.specs.Prelude.{◌≡◌, ◌<◌, ◌≤◌, ◌==◌, if◌then◌else◌, Bool, true, false, ℕ, List, [], ◌∷◌, ◌++◌, length}
+use Rattle.std.specs.Prelude.{◌≡◌, ◌<◌, ◌≤◌, ◌==◌, if◌then◌else◌, Bool, true, false, ℕ, List, [], ◌∷◌, ◌++◌, length, Option, Some, None}
 use Rattle.host_policy.specs.Addresses.{Config}
 use Rattle.replay.specs.Rows.{AreReadable, Fits, Row, schedule_text}
 use Rattle.run_laws.specs.Moments.{waits}
 use Rattle.slirp_laws.specs.Laws.{Lawful}
+use Rattle.net_octets.specs.declared.Endpoint.{Endpoint}
+use Rattle.control_loop.specs.Runs.{BeginsRun}
 use Rattle.world_face.specs.Faults.{failures, link_failed, socket_failed, wait_failed}
 use Rattle.world_face.specs.Frames.{spelling}
 use Rattle.world_face.specs.Journal.{AreAllowed, Entry, LinkOpen, LinkRead, Place}
@@ -36,7 +38,7 @@ abbrev pub MayCome : List (List ℕ) → Type 0
 MayCome [] = Unit {0}
 MayCome (frame ∷ frames) = (length frame ≤ most_from_link) × MayCome frames
 
--- the calls before the first wait: those by which the ports of the host are opened that are given to guests
+-- the calls before the first wait: those by which the ports of the host are opened that are given to guests, and that of the control
 abbrev pub before_waits : List Entry → List Entry
 before_waits [] = []
 before_waits (e ∷ past) = if waits (e ∷ past) == 0 then e ∷ past else before_waits past
@@ -51,7 +53,7 @@ pub record Untroubled (config : Config) (journal : List Entry) : Type 0 where
   -- no call on the link failed, and no wait
   pub link : failures link_failed journal ≡ 0
   pub wait : failures wait_failed journal ≡ 0
-  -- the host refused no port that is given to guests
+  -- the host refused no port that is given to guests, and not that of the control
   pub ports : failures socket_failed (before_waits journal) ≡ 0
   -- fewer waits were made than the settings allow
   pub fewer : waits journal < config.turns
@@ -62,9 +64,14 @@ pub record IsUntroubledBehind (config : Config) (at : Place) (made : List Entry)
   pub is : made ≡ run ++ LinkOpen at Opened ∷ []
   pub untroubled : Untroubled config run
 
--- so is each lawful run that fits the lines of a schedule from the first, however many of them
+-- calls that begin a run: without a control all that are lawful
+abbrev pub IsBegun : Option Endpoint → Config → List Entry → Type 0
+IsBegun None config journal = Lawful config journal
+IsBegun (Some at) config journal = BeginsRun config journal
+
+-- so are all that begin a run and fit the lines of a schedule from the first, however many of them
 abbrev pub CanBeFollowed : Config → List ℕ → Type 0
-CanBeFollowed config schedule = (journal : List Entry) → Fits journal schedule → AreAllowed journal → Lawful config journal → Untroubled config journal
+CanBeFollowed config schedule = (journal : List Entry) → Fits journal schedule → AreAllowed journal → IsBegun config.control config journal → Untroubled config journal
 
 -- the entries of a schedule's lines as a record, newest first, onto what came before them
 abbrev pub record_of : List Row → List Entry → List Entry

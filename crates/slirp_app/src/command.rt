@@ -14,7 +14,6 @@ ghost use Rattle.app_edges.specs.Statuses.{code_of, is_unrun};
 ghost use Rattle.app_edges.specs.Texts.{Got, help_text, version_text};
 ghost use Rattle.app_edges.specs.declared.status.Outcome.{Outcome as AnOutcome};
 ghost use Rattle.app_edges.specs.declared.status.Outcome.TheVariants.{BadConfig, Done, NoMemory as OfMemory, SinkFault, Usage};
-ghost use Rattle.serve_loop.specs.Served.{IsBuilt};
 ghost use Rattle.world_face.specs.Journal.{Place};
 ghost use Rattle.world_face.specs.Tells.{Makes, Rose};
 
@@ -120,7 +119,6 @@ fn follow<W: World, K: Sink>(
     out: &mut K,
 ) -> Outcome
     requires sound { IsSound (config_of (said command.now)) }
-    requires built { IsBuilt (config_of (said command.now)) }
     requires meant { CanBeDone (said command.now) }
     ensures does { Does (said command.now) result (W.tells world.old) (W.tells world.new) (K.holds out.old) (K.holds out.new) }
     ensures run { (code_of result ≢ 1) × (code_of result ≢ 2) }

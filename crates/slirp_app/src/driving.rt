@@ -2,15 +2,14 @@
 ghost use Rattle.std.specs.Prelude.{◌≡◌, ◌⊎◌, ◌≤◌, IsTrue};
 ghost use Rattle.drive_world.specs.Runs.{Run, summary_text};
 ghost use Rattle.app_edges.specs.Statuses.{code_of, is_unrun};
-ghost use Rattle.serve_loop.specs.Served.{IsNew};
 ghost use Rattle.world_face.specs.Puts.{Puts, added};
 ghost use Rattle.world_face.specs.Tells.{Rose};
 
-use crate::serving::run_service;
+use crate::serving::run_network;
 use app_edges::Outcome;
+use control_loop::Network;
 use drive_world::DriveWorld;
 use host_policy::SlirpConfig;
-use serve_loop::Service;
 use std::alloc::Global;
 use world_face::{Failed, Sink};
 
@@ -26,21 +25,20 @@ pub(crate) fn drive<K: Sink>(alloc: Global, number: u64, octets: u64, out: &mut 
     let Ok(world) = DriveWorld::open(alloc, number, octets) else {
         return Outcome::NoMemory;
     };
-    let Ok(service) = Service::open(alloc, &SlirpConfig::usual()) else {
+    let Ok(network) = Network::open(alloc, &SlirpConfig::usual()) else {
         return Outcome::NoMemory;
     };
-    match run_on(world, service, out) {
+    match run_on(world, network, out) {
         Ok(()) => Outcome::Done,
         Err(_) => Outcome::SinkFault,
     }
 }
 
-// Runs a service that has served nothing, and puts what it came to.
-fn run_on<K: Sink>(mut world: DriveWorld, service: Service, out: &mut K) -> Result<(), Failed>
-    requires { IsNew service }
+// Runs a network that has served nothing, and puts what it came to.
+fn run_on<K: Sink>(mut world: DriveWorld, network: Network, out: &mut K) -> Result<(), Failed>
     ensures { (run : Run) × (run.number ≡ world.number) × Puts (K.holds out.old) (K.holds out.new) (K.faults out.old) (K.faults out.new)
         (summary_text run) result }
 {
-    let _outcome = run_service(service, &mut world);
+    let _outcome = run_network(network, &mut world);
     world.summary(out)
 }

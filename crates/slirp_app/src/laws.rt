@@ -1,6 +1,6 @@
 // Laws of what the program comes to: where nothing happened to its outside that ends a run early, the run is made to its end; and a record that is replayed is
 // made again. Each contract is proved though its body is empty.
-ghost use Rattle.std.specs.Prelude.{◌≡◌, ◌≢◌, ◌⊎◌, ℕ, ◌≤◌, ◌++◌, List, [], ◌∷◌, Option, Some, IsTrue};
+ghost use Rattle.std.specs.Prelude.{◌≡◌, ◌≢◌, ◌⊎◌, ℕ, ◌≤◌, ◌++◌, List, [], ◌∷◌, Option, Some, None, IsTrue};
 ghost use Rattle.host_policy.specs.Addresses.{Config};
 ghost use Rattle.host_policy.specs.declared.Forward.{Forward};
 ghost use Rattle.replay.specs.Text.{text};
@@ -13,7 +13,7 @@ ghost use Rattle.slirp_app.specs.Causes.{RanOn};
 ghost use Rattle.slirp_app.specs.Doing.{ReplaysFile, ServesLink};
 ghost use Rattle.app_edges.specs.Fetching.{IsWhole, octets_read};
 ghost use Rattle.app_edges.specs.Texts.{end_line};
-ghost use Rattle.slirp_app.specs.Serving.{IsRun};
+ghost use Rattle.slirp_app.specs.Serving.{ComesTo};
 ghost use Rattle.app_edges.specs.Statuses.{code_of, is_run};
 ghost use Rattle.slirp_app.specs.Statuses.{outcome_of};
 ghost use Rattle.app_edges.specs.Texts.{Got};
@@ -27,13 +27,13 @@ ghost use Rattle.world_face.specs.Puts.{added};
 ghost use Rattle.world_face.specs.Tells.{Makes, Telling, Told};
 
 /// A run is untroubled where its link carried whole frames until it ended, no call on the link and no wait failed, the host
-/// opened each port that is given to a guest, and fewer waits were made than the settings allow. Where such a run is finished, its
+/// opened each port that is given to a guest, and the control's, and fewer waits were made than the settings allow. Where such a run is finished, its
 /// link ended or a wait was told to stop: it is done.
 pub fn an_untroubled_run_is_made_to_its_end()
     ensures run { (config : Config) (journal : List Entry) → AreAllowed journal → Lawful config journal → Finished config journal
         → Untroubled config journal → end_of config (phase config journal) ≡ AtEnd }
-    // So with `serve`, behind the opening of the link.
-    ensures served { (config : Config) (outcome : Outcome) (run : List Entry) → IsRun config outcome run → AreAllowed run → Untroubled config run
+    // So with `serve`, behind the opening of the link, and with a control.
+    ensures served { (config : Config) (outcome : Outcome) (run : List Entry) → ComesTo config outcome run → AreAllowed run → Untroubled config run
         → outcome ≡ Done }
 {}
 
@@ -66,27 +66,27 @@ pub fn a_schedule_that_can_be_followed_is_followed_to_its_end()
     ensures lines { (config : Config) (schedule : List ℕ) → SaysUntroubled config schedule → CanBeFollowed config schedule }
 {}
 
-/// A record, replayed with the same settings, prints itself where nothing diverged.
+/// A record, replayed with the same settings, prints itself where nothing diverged. The settings have no control.
 pub fn a_record_replays_to_itself()
     // FILE has the lines of a lawful record: a replay with its settings that made a run, and neither diverged (5) nor spent its turns (10), made just its calls
     // with their answers; so the record is that of a finished run, and the status is that of the end which it tells.
     ensures itself { (words : List (List ℕ)) (forwards : List Forward) (file : List ℕ) (config : Config) (status : ℕ) (world world_new : Telling) (old new err err_new : Option (List ℕ))
         (faults faults_new : ℕ)
         (run : List Entry)
-        → ReplaysFile file config status world world_new old new (Got words forwards err err_new faults faults_new) → AreAllowed run → Lawful config run
+        → config.control ≡ None → ReplaysFile file config status world world_new old new (Got words forwards err err_new faults faults_new) → AreAllowed run → Lawful config run
         → IsTrue (is_run status) → status ≢ 5 → status ≢ 10 → Makes world world_new (λ made. octets_read made ≡ text run
         → (new ≡ added (text run ++ end_line status) old) × Finished config run × (status ≡ code_of (outcome_of (end_of config (phase config run))))) }
     // One that spent its turns made the first calls of the record, those of a finished run with as many waits, and the record has no wait after them.
     ensures spent { (words : List (List ℕ)) (forwards : List Forward) (file : List ℕ) (config : Config) (status : ℕ) (world world_new : Telling) (old new err err_new : Option (List ℕ))
         (faults faults_new : ℕ)
         (run : List Entry)
-        → ReplaysFile file config status world world_new old new (Got words forwards err err_new faults faults_new) → AreAllowed run → Lawful config run
+        → config.control ≡ None → ReplaysFile file config status world world_new old new (Got words forwards err err_new faults faults_new) → AreAllowed run → Lawful config run
         → status ≡ 10 → Makes world world_new (λ made. octets_read made ≡ text run → (rest : List Entry) × (front : List Entry) × (run ≡ rest ++ front)
         × (new ≡ added (text front ++ end_line 10) old) × Finished config front × (waits front ≡ config.turns) × (waits run ≡ config.turns)) }
     // One that diverged (5) made the first calls of the record, and ceased at a lawful call that isn't the record's next; of a finished record whose turns weren't spent.
     ensures diverged { (words : List (List ℕ)) (forwards : List Forward) (file : List ℕ) (config : Config) (status : ℕ) (world world_new : Telling) (old new err err_new : Option (List ℕ))
         (faults faults_new : ℕ) (run : List Entry)
-        → ReplaysFile file config status world world_new old new (Got words forwards err err_new faults faults_new) → AreAllowed run → Lawful config run → Finished config run
+        → config.control ≡ None → ReplaysFile file config status world world_new old new (Got words forwards err err_new faults faults_new) → AreAllowed run → Lawful config run → Finished config run
         → code_of (outcome_of (end_of config (phase config run))) ≢ 10
         → status ≡ 5 → Makes world world_new (λ made. octets_read made ≡ text run → (rest : List Entry) × (entry : Entry) × (front : List Entry)
         × (call : Call) × (run ≡ rest ++ (entry ∷ front))
@@ -94,7 +94,7 @@ pub fn a_record_replays_to_itself()
     // So of all that `serve --record` put where the output held nothing and took it: such a replay prints it again, and comes to the same status.
     ensures recorded { (asked words : List (List ℕ)) (led forwards : List Forward) (config : Config) (at : Place) (status again : ℕ) (live live_new world world_new : Telling) (octets file : List ℕ)
         (old new said said_new err err_new : Option (List ℕ)) (told told_new faults faults_new : ℕ)
-        → ServesLink config at Record status live live_new (Some []) (Some octets) (Got asked led said said_new told told_new) → status ≢ 12
+        → config.control ≡ None → ServesLink config at Record status live live_new (Some []) (Some octets) (Got asked led said said_new told told_new) → status ≢ 12
         → ReplaysFile file config again world world_new old new (Got words forwards err err_new faults faults_new) → IsTrue (is_run again) → again ≢ 5 → again ≢ 10
         → Makes world world_new (λ made. octets_read made ≡ octets → (new ≡ added (octets ++ end_line again) old) × (again ≡ status)) }
 {}

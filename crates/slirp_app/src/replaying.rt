@@ -11,15 +11,14 @@ ghost use Rattle.slirp_app.specs.Causes.{Came, Caused};
 ghost use Rattle.app_edges.specs.Fetching.{MayFetch};
 ghost use Rattle.app_edges.specs.Statuses.{code_of, is_run, is_unrun};
 ghost use Rattle.app_edges.specs.declared.status.Outcome.TheVariants.{Diverged, NoMemory as OfMemory, ScheduleLine, ScheduleRead, ScheduleTooLarge};
-ghost use Rattle.serve_loop.specs.Served.{IsBuilt};
 ghost use Rattle.world_face.specs.Journal.{Follows};
 ghost use Rattle.world_face.specs.Tells.{Makes, Rose};
 
-use crate::serving::run_service;
+use crate::serving::run_network;
 use app_edges::{Outcome, Unread, put_record, read_file};
+use control_loop::Network;
 use host_policy::SlirpConfig;
 use replay::{ScriptFault, ScriptWorld};
-use serve_loop::Service;
 use std::alloc::Global;
 use world_face::{Sink, World};
 
@@ -32,7 +31,6 @@ pub(crate) fn replay_file<W: World, K: Sink>(
     out: &mut K,
 ) -> Outcome
     requires sound { IsSound (settings config.now) }
-    requires built { IsBuilt (settings config.now) }
     requires some { 0 < length name.now }
     requires fits { length name.now ≤ 1280 }
     ensures calls { Makes (W.tells world.old) (W.tells world.new)
@@ -51,7 +49,6 @@ pub(crate) fn replay_file<W: World, K: Sink>(
 // Runs on the octets of a schedule.
 fn replay<K: Sink>(alloc: Global, octets: Vec<u8>, config: &SlirpConfig, out: &mut K) -> Outcome
     requires sound { IsSound (settings config.now) }
-    requires built { IsBuilt (settings config.now) }
     requires short { length octets.items ≤ 67108864 }
     ensures came { Came (settings config.now) result octets.items (K.holds out.old) (K.holds out.new) }
     ensures nothing { IsTrue (is_unrun (code_of result)) → K.holds out.new ≡ K.holds out.old }
@@ -77,17 +74,16 @@ fn run<K: Sink>(
     out: &mut K,
 ) -> Outcome
     requires sound { IsSound (settings config.now) }
-    requires built { IsBuilt (settings config.now) }
     requires fresh { IsFresh script }
     ensures came { Came (settings config.now) result (schedule_text script.lines) (K.holds out.old) (K.holds out.new) }
     ensures nothing { IsTrue (is_unrun (code_of result)) → K.holds out.new ≡ K.holds out.old }
     ensures read { (code_of result ≢ 1) × (code_of result ≢ 2) × (code_of result ≢ 3) × (code_of result ≢ 4) }
     ensures refused { code_of result ≡ 12 → Rose (K.faults out.old) (K.faults out.new) }
 {
-    let Ok(service) = Service::open(alloc, config) else {
+    let Ok(network) = Network::open(alloc, config) else {
         return Outcome::NoMemory;
     };
-    let done = run_service(service, &mut script);
+    let done = run_network(network, &mut script);
     let outcome = ended(&script, done);
     match put_record(&script, outcome.code(), out) {
         Ok(()) => outcome,

@@ -2,17 +2,16 @@
 ghost use Rattle.std.specs.Prelude.{◌≡◌, IsTrue};
 ghost use Rattle.host_policy.specs.Ranges.{IsSound};
 ghost use Rattle.host_policy.specs.Settings.{settings};
-ghost use Rattle.slirp_app.specs.Serving.{IsRun, OpensAt, ServesAt};
+ghost use Rattle.slirp_app.specs.Serving.{ComesTo, IsCounted, OpensAt, ServesAt};
 ghost use Rattle.slirp_app.specs.Statuses.{outcome_of};
 ghost use Rattle.app_edges.specs.Statuses.{code_of, is_run};
-ghost use Rattle.serve_loop.specs.Served.{IsBuilt, IsNew};
 ghost use Rattle.world_face.specs.Journal.{IsPlace, place_of};
 ghost use Rattle.world_face.specs.Tells.{Makes, Rose};
 
 use crate::tapping::{capture_link, record_link};
 use app_edges::Outcome;
+use control_loop::{End, Network};
 use host_policy::SlirpConfig;
-use serve_loop::{End, Service};
 use slirp_config::Tap;
 use std::alloc::Global;
 use taps::{Framing, Lines};
@@ -28,62 +27,62 @@ pub(crate) fn serve<W: World, K: Sink>(
     out: &mut K,
 ) -> Outcome
     requires sound { IsSound (settings config.now) }
-    requires built { IsBuilt (settings config.now) }
     requires place { IsPlace (place_of at.now) }
     ensures serves { Makes (W.tells world.old) (W.tells world.new)
         (ServesAt (settings config.now) (place_of at.now) tap result (K.holds out.old) (K.holds out.new)) }
+    // Where it ended by a fault the count of the link's, of the waits' or of the sockets' rose.
+    ensures counted { IsCounted result (W.tells world.old).faults (W.tells world.new).faults }
     ensures refused { code_of result ≡ 12 → Rose (K.faults out.old) (K.faults out.new) }
 {
-    let Ok(service) = Service::open(alloc, config) else {
+    let Ok(network) = Network::open(alloc, config) else {
         return Outcome::NoMemory;
     };
     match tap {
-        Tap::Off => serve_link(service, at, world),
+        Tap::Off => serve_link(network, at, world),
         Tap::Record => match Lines::open(alloc) {
-            Ok(lines) => record_link(service, lines, at, world, out),
+            Ok(lines) => record_link(network, lines, at, world, out),
             Err(_) => {
-                let_go(service);
+                let_go(network);
                 Outcome::NoMemory
             }
         },
         Tap::Capture => match Framing::open(alloc) {
-            Ok(framing) => capture_link(service, framing, at, world, out),
+            Ok(framing) => capture_link(network, framing, at, world, out),
             Err(_) => {
-                let_go(service);
+                let_go(network);
                 Outcome::NoMemory
             }
         },
     }
 }
 
-// Opens the link, and runs a service that has served nothing on it.
-pub(crate) fn serve_link<W: World>(service: Service, at: &LinkAt, world: &mut W) -> Outcome
-    requires new { IsNew service }
+// Opens the link, and serves it by a network that has served nothing.
+pub(crate) fn serve_link<W: World>(network: Network, at: &LinkAt, world: &mut W) -> Outcome
     requires place { IsPlace (place_of at.now) }
-    ensures { Makes (W.tells world.old) (W.tells world.new) (OpensAt service.slirp.config (place_of at.now) result) }
+    ensures opens { Makes (W.tells world.old) (W.tells world.new) (OpensAt network (place_of at.now) result) }
+    ensures counted { IsCounted result (W.tells world.old).faults (W.tells world.new).faults }
 {
     match world.link_open(at) {
-        Made::Done => run_service(service, world),
+        Made::Done => run_network(network, world),
         Made::Failed => {
-            let_go(service);
+            let_go(network);
             Outcome::LinkFault
         }
     }
 }
 
-// Runs a service that has served nothing.
-pub(crate) fn run_service<W: World>(mut service: Service, world: &mut W) -> Outcome
-    requires { IsNew service }
-    ensures runs { Makes (W.tells world.old) (W.tells world.new) (IsRun service.slirp.config result) }
+// Runs a network that has served nothing.
+pub(crate) fn run_network<W: World>(network: Network, world: &mut W) -> Outcome
+    ensures runs { Makes (W.tells world.old) (W.tells world.new) (ComesTo network result) }
+    ensures counted { IsCounted result (W.tells world.old).faults (W.tells world.new).faults }
     ensures ran { IsTrue (is_run (code_of result)) }
 {
-    let end = service.serve(world);
-    let_go(service);
+    let end = network.serve(world);
     outcome_of(end)
 }
 
-// Lets go of a service. It is called wherever one goes, since what a function lets go of is proved in it, and a service is large.
-pub(crate) fn let_go(_service: Service) {}
+// Lets go of a network. It is called wherever one goes, since what a function lets go of is proved in it, and a network is large.
+pub(crate) fn let_go(_network: Network) {}
 
 // The outcome of a run that ended so.
 fn outcome_of(end: End) -> Outcome
@@ -97,5 +96,6 @@ fn outcome_of(end: End) -> Outcome
         End::WaitFault => Outcome::WaitFault,
         End::TurnsSpent(turns) => Outcome::TurnsSpent(turns),
         End::ListenRefused(forward) => Outcome::ListenRefused(forward),
+        End::ControlRefused => Outcome::ControlRefused,
     }
 }

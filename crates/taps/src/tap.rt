@@ -81,6 +81,7 @@ impl<W: World, B: Book> Tap<W, B> {
         // The calls that the book has are those that were made on the World, with their answers.
         ensures passed { ArePassed (W.tells self.began) (W.tells result.0) (B.made result.1) }
         ensures book { result.1 ≡ self.book }
+        ensures world { result.0 ≡ self.world }
     {
         let Tap {
             world,

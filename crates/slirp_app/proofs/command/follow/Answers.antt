@@ -29,7 +29,7 @@ returns-in-Drive-clause-does g c =
 pub returns-in-Serve-clause-does : goal.returns-in-Serve-clause-does
 returns-in-Serve-clause-does g c =
     subst (λ (k : Command). Does (said k) c.serve.result (g.W.World.tells c.args.world.now) (g.W.World.tells c.serve.new.world) (g.K.Sink.holds c.args.out.now)
-    (g.K.Sink.holds c.serve.new.out)) (sym c.in-Serve.is) c.serve.ensures.serves
+    (g.K.Sink.holds c.serve.new.out)) (sym c.in-Serve.is) (c.serve.ensures.serves, c.serve.ensures.counted)
 
 pub returns-in-Serve-clause-run : goal.returns-in-Serve-clause-run
 returns-in-Serve-clause-run g c = serves_read _ _ _ c.serve.result _ _ _ _ c.serve.ensures.serves

@@ -6,13 +6,8 @@ use Rattle.slirp_config.specs.declared.Command.{Command}
 use Rattle.slirp_config.specs.declared.WordFault.{WordFault}
 use Rattle.slirp_app.specs.Doing.{Course, Meant}
 use Rattle.app_edges.specs.declared.status.Outcome.{Outcome}
-use Rattle.slirp_app.proofs.Courses.{answered_by_none, built, can_be_done, none_broken, one_meaning, refused_course}
+use Rattle.slirp_app.proofs.Courses.{answered_by_none, can_be_done, none_broken, one_meaning, refused_course}
 use Rattle.slirp_app.proofs.command.run_words.Goals as goal
-
-pub follow-outcome-requires-clause-built : goal.follow-outcome-requires-clause-built
-follow-outcome-requires-clause-built g c =
-    let words = map string_bytes c.args.words.now.items in
-    built words (said c.in-Ok.command) (subst (λ (r : Result Command WordFault). IfOk r (λ (k : Command). Means words (said k))) c.in-Ok.is c.read_words.ensures.meant)
 
 pub follow-outcome-requires-clause-meant : goal.follow-outcome-requires-clause-meant
 follow-outcome-requires-clause-meant g c =

@@ -12,7 +12,6 @@ use Rattle.app_edges.specs.Texts.{Got, help_text, told_text, version_text}
 use Rattle.app_edges.specs.declared.status.Outcome.{Outcome}
 use Rattle.slirp_app.proofs.Causing as causing
 use Rattle.slirp_app.proofs.Courses as courses
-use Rattle.slirp_app.proofs.Risen.{fault_counted}
 use Rattle.slirp_app.proofs.command.slirp_main.Goals as goal
 
 -- what was told of these words and forwards
@@ -71,13 +70,13 @@ returns-clause-serves g c config at tap means sound =
     let words = map string_bytes c.args.words.now.items in
     let outcome = c.run_words-outcome.result.0 in
     let led = c.forwards_of.ensures ∙ c.run_words-outcome.ensures.forwards (Serves config at tap) means sound in
-    let makes = courses.does _ _ _ _ _ _ c.run_words-outcome.ensures.course (Serves config at tap) means sound in
+    let done = courses.does _ _ _ _ _ _ c.run_words-outcome.ensures.course (Serves config at tap) means sound in
     record {
       outcome = outcome;
       is = c.code.ensures;
       told = told words _ config.forwards _ _ _ _ _ outcome c.tell-told.result (ap (map string_bytes) c.as_slice.ensures.value) led c.tell-told.ensures.text;
-      makes = makes;
-      counted = fault_counted config at tap outcome _ _ _ _ makes;
+      makes = done.0;
+      counted = done.1;
     }
 
 pub returns-clause-drives : goal.returns-clause-drives

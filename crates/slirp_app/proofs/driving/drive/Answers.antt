@@ -1,11 +1,7 @@
 use Rattle.std.proofs.Common.{◌∙◌, ap}
 use Rattle.std.specs.Result.{is_ok, is_err}
 use Rattle.drive_world.specs.Runs.{Run}
-use Rattle.host_policy.specs.Addresses.{Config}
 use Rattle.slirp_app.proofs.driving.drive.Goals as goal
-
-pub open-requires-2-clause-built : goal.open-requires-2-clause-built
-open-requires-2-clause-built g c = record { control = ap (λ (k : Config). k.control) c.usual.ensures.usual }
 
 pub returns-in-Ok-run_on-clause-summary : goal.returns-in-Ok-run_on-clause-summary
 returns-in-Ok-run_on-clause-summary g c is = let ran = c.run_on.ensures in (ran.0, ran.1 ∙ ap (λ (r : Run). r.number) c.in-Ok.ensures, ran.2.ok (ap is_ok c.in-Ok-run_on.is))

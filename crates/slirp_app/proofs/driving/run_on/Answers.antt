@@ -6,4 +6,4 @@ same_number : (n m : ℕ) → ◌≡◌ {A = List ℕ} (n ∷ []) (m ∷ []) →
 same_number n m is = cc
 
 pub returns : goal.returns
-returns g c = (c.run_service-outcome.new.world, same_number c.run_service-outcome.new.world.number c.args.world.number c.run_service-outcome.ensures.runs.same, c.summary.ensures)
+returns g c = (c.run_network-outcome.new.world, same_number c.run_network-outcome.new.world.number c.args.world.number c.run_network-outcome.ensures.runs.same, c.summary.ensures)

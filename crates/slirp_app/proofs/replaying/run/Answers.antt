@@ -7,15 +7,15 @@ use Rattle.host_policy.specs.Settings.{settings}
 use Rattle.replay.specs.Script.{script_tells}
 use Rattle.replay.specs.Text.{text}
 use Rattle.app_edges.specs.Texts.{end_line}
-use Rattle.slirp_app.specs.Serving.{IsRun}
+use Rattle.slirp_app.specs.Serving.{ComesTo}
 use Rattle.slirp_app.proofs.Followed.{replayed}
 use Rattle.slirp_app.proofs.replaying.run.Goals as goal
 
 pub returns-in-Ok-put_record-clause-came : goal.returns-in-Ok-put_record-clause-came
 returns-in-Ok-put_record-clause-came g c =
-    let new = c.run_service-done.new.world in
-    let done = c.run_service-done.result in
-    let runs = subst (λ (k : Config). Makes (script_tells c.args.script) (script_tells new) (IsRun k done)) c.in-Ok.ensures.config c.run_service-done.ensures.runs in
+    let new = c.run_network-done.new.world in
+    let done = c.run_network-done.result in
+    let runs = subst (λ (k : Config). Makes (script_tells c.args.script) (script_tells new) (ComesTo k done)) c.in-Ok.ensures c.run_network-done.ensures.runs in
     let put = c.put_record.ensures.ok (ap is_ok c.in-Ok-put_record.is) ∙ ap (λ n. added (text (script_tells new).kept ++ end_line n) (g.K.Sink.holds c.args.out.now)) c.code.ensures in
     let left = c.ended-outcome.ensures in
     replayed (settings c.args.config.now) c.args.script new done c.ended-outcome.result (g.K.Sink.holds c.args.out.now)

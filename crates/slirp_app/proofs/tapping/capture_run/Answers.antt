@@ -1,4 +1,5 @@
 use Rattle.world_face.specs.Journal.{place_of}
+use Rattle.slirp_app.proofs.Risen.{counted_through}
 use Rattle.slirp_app.proofs.Tapped.{run_captured}
 use Rattle.slirp_app.proofs.tapping.capture_run.Goals as goal
 
@@ -7,17 +8,22 @@ returns-clause-captures g c =
     let tap = c.new-tap.result in
     let new = c.serve_link-outcome.new.world in
     let parts = c.into_parts-world in
-    (run_captured g.W.World.tells c.args.run.1.slirp.config (place_of c.args.run.3.now) c.serve_link-outcome.result c.unless_failed.result c.close-sink.result.1 c.args.run.0 parts.result.0
+    (run_captured g.W.World.tells c.args.run.1 (place_of c.args.run.3.now) c.serve_link-outcome.result c.unless_failed.result c.close-sink.result.1 c.args.run.0 parts.result.0
     (g.K.Sink.holds c.args.sink) (g.K.Sink.holds c.close-sink.result.0) (g.K.Sink.faults c.args.sink) (g.K.Sink.faults c.close-sink.result.0)
     (g.W.World.tells tap.world).faults (g.W.World.tells new.world).faults c.new.result tap new parts.result.1
-    c.new.ensures.made c.new.ensures.source c.new-tap.ensures c.serve_link-outcome.ensures parts.ensures.passed parts.ensures.book c.close-sink.ensures c.unless_failed.ensures).0
+    c.new.ensures.made c.new.ensures.source c.new-tap.ensures c.serve_link-outcome.ensures.opens parts.ensures.passed parts.ensures.book c.close-sink.ensures c.unless_failed.ensures).0
+
+pub returns-clause-counted : goal.returns-clause-counted
+returns-clause-counted g c =
+    counted_through g.W.World.tells c.serve_link-outcome.result c.unless_failed.result c.close-sink.result.1 c.args.run.0 c.into_parts-world.result.0 c.new.result
+    c.new-tap.result c.serve_link-outcome.new.world c.new-tap.ensures c.into_parts-world.ensures.world c.unless_failed.ensures c.serve_link-outcome.ensures.counted
 
 pub returns-clause-refused : goal.returns-clause-refused
 returns-clause-refused g c =
     let tap = c.new-tap.result in
     let new = c.serve_link-outcome.new.world in
     let parts = c.into_parts-world in
-    (run_captured g.W.World.tells c.args.run.1.slirp.config (place_of c.args.run.3.now) c.serve_link-outcome.result c.unless_failed.result c.close-sink.result.1 c.args.run.0 parts.result.0
+    (run_captured g.W.World.tells c.args.run.1 (place_of c.args.run.3.now) c.serve_link-outcome.result c.unless_failed.result c.close-sink.result.1 c.args.run.0 parts.result.0
     (g.K.Sink.holds c.args.sink) (g.K.Sink.holds c.close-sink.result.0) (g.K.Sink.faults c.args.sink) (g.K.Sink.faults c.close-sink.result.0)
     (g.W.World.tells tap.world).faults (g.W.World.tells new.world).faults c.new.result tap new parts.result.1
-    c.new.ensures.made c.new.ensures.source c.new-tap.ensures c.serve_link-outcome.ensures parts.ensures.passed parts.ensures.book c.close-sink.ensures c.unless_failed.ensures).1
+    c.new.ensures.made c.new.ensures.source c.new-tap.ensures c.serve_link-outcome.ensures.opens parts.ensures.passed parts.ensures.book c.close-sink.ensures c.unless_failed.ensures).1

@@ -8,10 +8,13 @@ use Rattle.slirp_app.proofs.tapping.record.Goals as goal
 pub returns-clause-recorded : goal.returns-clause-recorded
 returns-clause-recorded g c =
     let left = c.replace_with-outcome in
-    subst (λ k. Makes (g.W.World.tells c.args.world.now) (g.W.World.tells left.new.dest) (IsRecorded c.args.service.slirp.config left.result.0 (g.K.Sink.holds c.args.out.now) (g.K.Sink.holds k)))
-    (search (c.out-1.given.1, c.replace_with-outcome.ensures.1.1)) left.ensures.0
+    subst (λ k. Makes (g.W.World.tells c.args.world.now) (g.W.World.tells left.new.dest) (IsRecorded c.args.network left.result.0 (g.K.Sink.holds c.args.out.now) (g.K.Sink.holds k)))
+    (search (c.out-1.given.1, c.replace_with-outcome.ensures.1.1.1)) left.ensures.0
+
+pub returns-clause-counted : goal.returns-clause-counted
+returns-clause-counted g c = c.replace_with-outcome.ensures.1.0
 
 pub returns-clause-refused : goal.returns-clause-refused
 returns-clause-refused g c =
     let left = c.replace_with-outcome in
-    subst (λ k. code_of left.result.0 ≡ 12 → Rose (g.K.Sink.faults c.args.out.now) (g.K.Sink.faults k)) (search (c.out-1.given.1, c.replace_with-outcome.ensures.1.1)) left.ensures.1.0
+    subst (λ k. code_of left.result.0 ≡ 12 → Rose (g.K.Sink.faults c.args.out.now) (g.K.Sink.faults k)) (search (c.out-1.given.1, c.replace_with-outcome.ensures.1.1.1)) left.ensures.1.1.0
