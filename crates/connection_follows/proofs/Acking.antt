@@ -7,12 +7,12 @@ use Rattle.tcp_transmit.specs.Pieces.{OwesNothing, next, numbers, piece_owed}
 use Rattle.tcp_transmit.specs.Transmission.{Transmission, is_owed_again}
 use Rattle.tcp_transmit.specs.declared.Piece.{Piece}
 use Rattle.tcp_transmit.proofs.Owed.{next_none}
-use Rattle.tcp_guest.specs.Connection.{Connection, HasBuffers, has_gone, is_opening, is_synchronized}
-use Rattle.tcp_guest.specs.Owing.{ack_if, owed_by, owed_of, piece_or_ack, told}
-use Rattle.tcp_guest.specs.Windows.{is_update_owed, moves_far, our_shift, told_edge}
-use Rattle.tcp_guest.specs.declared.Owed.TheVariants.{Syn, SynAck, Ack}
-use Rattle.tcp_guest.specs.declared.Stage.{Stage}
-use Rattle.tcp_guest.specs.declared.Stage.TheVariants as stage
+use Rattle.tcp_connection.specs.Connection.{Connection, HasBuffers, has_gone, is_opening, is_synchronized}
+use Rattle.tcp_connection.specs.Owing.{ack_if, owed_by, owed_of, piece_or_ack, told}
+use Rattle.tcp_connection.specs.Windows.{is_update_owed, moves_far, our_shift, told_edge}
+use Rattle.tcp_connection.specs.declared.Owed.TheVariants.{Syn, SynAck, Ack}
+use Rattle.tcp_connection.specs.declared.Stage.{Stage}
+use Rattle.tcp_connection.specs.declared.Stage.TheVariants as stage
 use Rattle.flow_laws.specs.Settings.{Settings}
 use Rattle.flow_laws.specs.Event.{At, Departs, Segment, Story}
 use Rattle.flow_laws.specs.Host.{acked, answered, our_place, sent}

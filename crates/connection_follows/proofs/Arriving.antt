@@ -8,13 +8,13 @@ use Rattle.sock_buffers.specs.Downward.{Downward}
 use Rattle.sock_buffers.specs.Upward.{Upward}
 use Rattle.tcp_receive.specs.Received.{next_number}
 use Rattle.tcp_segment.specs.Tcp.{Tcp}
-use Rattle.tcp_guest.specs.Checks.{acknowledges_syn, is_ack, is_in_window, is_next, is_rst, is_same_syn, is_syn, verdict_answering, verdict_by, verdict_early, verdict_of, verdict_synchronized}
-use Rattle.tcp_guest.specs.Connection.{Connection, HasBuffers, has_gone, is_opening, is_synchronized}
-use Rattle.tcp_guest.specs.Segments.{after_segment, conn_by, down_after_segment, down_by, up_after_segment, up_by}
-use Rattle.tcp_guest.specs.declared.Stage.{Stage}
-use Rattle.tcp_guest.specs.declared.Stage.TheVariants as stage
-use Rattle.tcp_guest.specs.declared.Verdict.{Verdict}
-use Rattle.tcp_guest.specs.declared.Verdict.TheVariants.{Ignored, Resets, Unacceptable, Repeats, Challenged, Greets, Heeded}
+use Rattle.tcp_connection.specs.Checks.{acknowledges_syn, is_ack, is_in_window, is_next, is_rst, is_same_syn, is_syn, verdict_answering, verdict_by, verdict_early, verdict_of, verdict_synchronized}
+use Rattle.tcp_connection.specs.Connection.{Connection, HasBuffers, has_gone, is_opening, is_synchronized}
+use Rattle.tcp_connection.specs.Segments.{after_segment, conn_by, down_after_segment, down_by, up_after_segment, up_by}
+use Rattle.tcp_connection.specs.declared.Stage.{Stage}
+use Rattle.tcp_connection.specs.declared.Stage.TheVariants as stage
+use Rattle.tcp_connection.specs.declared.Verdict.{Verdict}
+use Rattle.tcp_connection.specs.declared.Verdict.TheVariants.{Ignored, Resets, Unacceptable, Repeats, Challenged, Greets, Heeded}
 use Rattle.flow_laws.specs.Settings.{Settings}
 use Rattle.flow_laws.specs.Event.{Arrives, At, Segment, Story}
 use Rattle.flow_laws.specs.Host.{acked, answered, is_acceptable, not_past_sent, our_first, our_place, sent}

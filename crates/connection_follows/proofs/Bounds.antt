@@ -8,7 +8,7 @@ use Rattle.retransmit.proofs.Steady.{steady_second}
 use Rattle.sock_buffers.specs.Downward.{Downward}
 use Rattle.sock_buffers.specs.Upward.{Upward}
 use Rattle.tcp_transmit.specs.Transmission.{Transmission}
-use Rattle.tcp_guest.specs.Connection.{Connection, has_gone, is_opening, is_synchronized}
+use Rattle.tcp_connection.specs.Connection.{Connection, has_gone, is_opening, is_synchronized}
 use Rattle.flow_laws.specs.Settings.{Settings}
 use Rattle.flow_laws.specs.Event.{IsStory, Story, newest_moment}
 use Rattle.flow_laws.specs.Host.{acked, answered, owned, sent}

@@ -2,12 +2,12 @@
 use Rattle.std.proofs.Common.{refl, ◌≡◌, ℕ, ◌^◌, ◌≤◌, ◌∷◌, length, Bool, true, false, ◌&&◌, ◌||◌, Option, None, Some, is_some, if◌then◌else◌, IsTrue, IfSome, arith, ap, subst, sym, ◌∙◌}
 use Rattle.sock_buffers.specs.Downward.{Downward}
 use Rattle.sock_buffers.specs.Upward.{Upward, room_of}
-use Rattle.tcp_guest.specs.Connection.{Connection, HasBuffers, is_opening}
-use Rattle.tcp_guest.specs.Owing.{syn_gone}
-use Rattle.tcp_guest.specs.Windows.{least_shift}
-use Rattle.tcp_guest.specs.declared.Owed.TheVariants.{Syn}
-use Rattle.tcp_guest.specs.declared.Stage.{Stage}
-use Rattle.tcp_guest.specs.declared.Stage.TheVariants as stage
+use Rattle.tcp_connection.specs.Connection.{Connection, HasBuffers, is_opening}
+use Rattle.tcp_connection.specs.Owing.{syn_gone}
+use Rattle.tcp_connection.specs.Windows.{least_shift}
+use Rattle.tcp_connection.specs.declared.Owed.TheVariants.{Syn}
+use Rattle.tcp_connection.specs.declared.Stage.{Stage}
+use Rattle.tcp_connection.specs.declared.Stage.TheVariants as stage
 use Rattle.flow_laws.specs.Settings.{Settings}
 use Rattle.flow_laws.specs.Event.{At, Departs, Segment, Story}
 use Rattle.flow_laws.specs.Flow.{is_closed, next_number as number_after, their_number}

@@ -10,11 +10,11 @@ use Rattle.tcp_receive.specs.Received.{next_number}
 use Rattle.tcp_transmit.specs.Transmission.{IsSentOf, is_sent, octets_read}
 use Rattle.tcp_transmit.specs.declared.End.{End}
 use Rattle.tcp_transmit.specs.declared.End.TheVariants as our_end
-use Rattle.tcp_guest.specs.Connection.{Connection, closes_first, is_opening, is_synchronized}
-use Rattle.tcp_guest.specs.Hosts.{is_open, reset}
-use Rattle.tcp_guest.specs.Segments.{is_done as takes_for_done, settled}
-use Rattle.tcp_guest.specs.declared.Stage.{Stage}
-use Rattle.tcp_guest.specs.declared.Stage.TheVariants as stage
+use Rattle.tcp_connection.specs.Connection.{Connection, closes_first, is_opening, is_synchronized}
+use Rattle.tcp_connection.specs.Hosts.{is_open, reset}
+use Rattle.tcp_connection.specs.Segments.{is_done as takes_for_done, settled}
+use Rattle.tcp_connection.specs.declared.Stage.{Stage}
+use Rattle.tcp_connection.specs.declared.Stage.TheVariants as stage
 use Rattle.flow_laws.specs.Settings.{Settings}
 use Rattle.flow_laws.proofs.GuestLaws.{honest_before}
 use Rattle.flow_laws.specs.Event.{Arrives, Closes, ConnectFails, WriteFails, ReadFails, EndFails, At, Event, Opens, Segment, Story}

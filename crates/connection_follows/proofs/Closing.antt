@@ -4,10 +4,10 @@ use Rattle.seq_space.specs.declared.Seq.{Seq}
 use Rattle.sock_buffers.specs.Downward.{Downward}
 use Rattle.sock_buffers.specs.Upward.{Upward}
 use Rattle.tcp_receive.specs.Received.{next_number, places_taken}
-use Rattle.tcp_guest.specs.Connection.{Connection, has_gone, is_opening, is_synchronized}
-use Rattle.tcp_guest.specs.Hosts.{numbers_sent, over_by, reset, resets}
-use Rattle.tcp_guest.specs.declared.Stage.{Stage}
-use Rattle.tcp_guest.specs.declared.Stage.TheVariants as stage
+use Rattle.tcp_connection.specs.Connection.{Connection, has_gone, is_opening, is_synchronized}
+use Rattle.tcp_connection.specs.Hosts.{numbers_sent, over_by, reset, resets}
+use Rattle.tcp_connection.specs.declared.Stage.{Stage}
+use Rattle.tcp_connection.specs.declared.Stage.TheVariants as stage
 use Rattle.flow_laws.specs.Settings.{Settings}
 use Rattle.connection_follows.proofs.Telling.{came_of}
 use Rattle.flow_laws.specs.Guest.{Acked, HasCome, Honest, ackd}

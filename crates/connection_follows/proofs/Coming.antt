@@ -9,7 +9,7 @@ use Rattle.sock_buffers.specs.Kept.{first_covered, first_octets, octet_at, octet
 use Rattle.sock_buffers.specs.Upward.{Upward, after_join, after_keep, after_take, fitting, keeps_none, range_of, room_of, within}
 use Rattle.tcp_receive.specs.Coming.{Comes}
 use Rattle.tcp_receive.specs.Received.{Fills, Received, StandsAt, gap, octets_from, place_in, placed, places_taken, up_after}
-use Rattle.tcp_guest.specs.Segments.{count_taken, is_end_taken, is_to_acknowledge}
+use Rattle.tcp_connection.specs.Segments.{count_taken, is_end_taken, is_to_acknowledge}
 use Rattle.halves_follow.specs.Received.{Has, next_octets}
 use Rattle.halves_follow.proofs.Segments.{octet_from}
 use Rattle.connection_follows.specs.Seen.{kept_at}

@@ -17,8 +17,8 @@ use Rattle.tcp_transmit.specs.declared.AckSeen.{AckSeen}
 use Rattle.tcp_transmit.specs.declared.AckSeen.TheVariants.{Old, Same, Forward, FinToo, TooFar}
 use Rattle.tcp_transmit.specs.declared.End.{End}
 use Rattle.tcp_transmit.specs.declared.Window.{Window}
-use Rattle.tcp_guest.specs.Hosts.{is_open}
-use Rattle.tcp_guest.specs.Segments.{is_fin_too}
+use Rattle.tcp_connection.specs.Hosts.{is_open}
+use Rattle.tcp_connection.specs.Segments.{is_fin_too}
 use Rattle.flow_laws.specs.Settings.{Settings}
 use Rattle.flow_laws.specs.Event.{Arrives, At, Segment, Story, newest_moment}
 use Rattle.flow_laws.specs.Host.{Confirmed, Down, acked, answered, is_acceptable, not_past_sent, our_place, sent}

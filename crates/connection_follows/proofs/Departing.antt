@@ -4,14 +4,14 @@ use Rattle.sock_buffers.specs.Downward.{Downward}
 use Rattle.sock_buffers.specs.Upward.{Upward}
 use Rattle.tcp_transmit.specs.Pieces.{numbers, piece_owed}
 use Rattle.tcp_transmit.specs.declared.Piece.{Piece}
-use Rattle.tcp_guest.specs.Connection.{Connection, HasBuffers, closes_first, is_opening, is_synchronized}
-use Rattle.tcp_guest.specs.Owing.{ack_if, gone, owed_by, owed_of, piece_or_ack}
-use Rattle.tcp_guest.specs.Segments.{is_done, settled}
-use Rattle.tcp_guest.specs.Windows.{is_update_owed}
-use Rattle.tcp_guest.specs.declared.Owed.{Owed}
-use Rattle.tcp_guest.specs.declared.Owed.TheVariants.{Syn, SynAck, Data, Ack}
-use Rattle.tcp_guest.specs.declared.Stage.{Stage}
-use Rattle.tcp_guest.specs.declared.Stage.TheVariants as stage
+use Rattle.tcp_connection.specs.Connection.{Connection, HasBuffers, closes_first, is_opening, is_synchronized}
+use Rattle.tcp_connection.specs.Owing.{ack_if, gone, owed_by, owed_of, piece_or_ack}
+use Rattle.tcp_connection.specs.Segments.{is_done, settled}
+use Rattle.tcp_connection.specs.Windows.{is_update_owed}
+use Rattle.tcp_connection.specs.declared.Owed.{Owed}
+use Rattle.tcp_connection.specs.declared.Owed.TheVariants.{Syn, SynAck, Data, Ack}
+use Rattle.tcp_connection.specs.declared.Stage.{Stage}
+use Rattle.tcp_connection.specs.declared.Stage.TheVariants as stage
 use Rattle.flow_laws.specs.Settings.{Settings}
 use Rattle.flow_laws.specs.Event.{At, Departs, Story}
 use Rattle.connection_follows.specs.Holding.{Holds, is_calls, is_live}

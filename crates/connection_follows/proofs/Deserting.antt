@@ -4,8 +4,8 @@ use Rattle.std.proofs.lemmas.Bool.Decides.{nat_tests}
 use Rattle.sock_buffers.specs.Downward.{Downward}
 use Rattle.sock_buffers.specs.Upward.{Upward}
 use Rattle.tcp_transmit.specs.Transmission.{octets_read}
-use Rattle.tcp_guest.specs.Connection.{Connection, is_opening, is_synchronized}
-use Rattle.tcp_guest.specs.Hosts.{is_open}
+use Rattle.tcp_connection.specs.Connection.{Connection, is_opening, is_synchronized}
+use Rattle.tcp_connection.specs.Hosts.{is_open}
 use Rattle.flow_laws.specs.Settings.{Settings}
 use Rattle.flow_laws.specs.Event.{Story}
 use Rattle.flow_laws.specs.Guest.{Up, is_empty, was_acked, written}

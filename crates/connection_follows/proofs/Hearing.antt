@@ -13,7 +13,7 @@ use Rattle.tcp_transmit.specs.declared.AckSeen.TheVariants.{Old, Same, Forward, 
 use Rattle.tcp_transmit.specs.declared.End.{End}
 use Rattle.tcp_transmit.specs.declared.End.TheVariants as our_end
 use Rattle.tcp_transmit.specs.declared.Window.{Window}
-use Rattle.tcp_guest.specs.Segments.{seen_of}
+use Rattle.tcp_connection.specs.Segments.{seen_of}
 
 -- ---- what an acknowledgement is
 

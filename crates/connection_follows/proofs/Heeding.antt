@@ -19,12 +19,12 @@ use Rattle.tcp_transmit.specs.Timing.{watched_over}
 use Rattle.tcp_transmit.specs.Transmission.{Feeds, Transmission, is_sent, octets_read, places}
 use Rattle.tcp_transmit.specs.declared.AckSeen.{AckSeen}
 use Rattle.tcp_transmit.specs.declared.AckSeen.TheVariants.{Old, Same, Forward, FinToo, TooFar}
-use Rattle.tcp_guest.specs.Checks.{is_fin}
-use Rattle.tcp_guest.specs.Connection.{Connection, HasBuffers, has_gone, has_gone_again, is_opening, is_synchronized, shift_of}
-use Rattle.tcp_guest.specs.Segments.{acknowledged, arrived, congested, established, is_bare, is_fin_too, is_to_acknowledge, is_too_far, received_after, seen_of}
-use Rattle.tcp_guest.specs.Windows.{window_in}
-use Rattle.tcp_guest.specs.declared.Stage.{Stage}
-use Rattle.tcp_guest.specs.declared.Stage.TheVariants as stage
+use Rattle.tcp_connection.specs.Checks.{is_fin}
+use Rattle.tcp_connection.specs.Connection.{Connection, HasBuffers, has_gone, has_gone_again, is_opening, is_synchronized, shift_of}
+use Rattle.tcp_connection.specs.Segments.{acknowledged, arrived, congested, established, is_bare, is_fin_too, is_to_acknowledge, is_too_far, received_after, seen_of}
+use Rattle.tcp_connection.specs.Windows.{window_in}
+use Rattle.tcp_connection.specs.declared.Stage.{Stage}
+use Rattle.tcp_connection.specs.declared.Stage.TheVariants as stage
 use Rattle.flow_laws.specs.Settings.{Settings}
 use Rattle.flow_laws.specs.Event.{Arrives, At, Segment, Story}
 use Rattle.flow_laws.specs.Guest.{is_empty}

@@ -8,9 +8,9 @@ use Rattle.tcp_receive.specs.Received.{next_number}
 use Rattle.tcp_transmit.specs.Transmission.{IsSentOf, Transmission, octets_read}
 use Rattle.tcp_transmit.specs.declared.End.{End}
 use Rattle.tcp_transmit.specs.declared.End.TheVariants as our_end
-use Rattle.tcp_guest.specs.Connection.{Connection, has_gone}
-use Rattle.tcp_guest.specs.Owing.{told}
-use Rattle.tcp_guest.specs.Windows.{field, our_shift}
+use Rattle.tcp_connection.specs.Connection.{Connection, has_gone}
+use Rattle.tcp_connection.specs.Owing.{told}
+use Rattle.tcp_connection.specs.Windows.{field, our_shift}
 use Rattle.flow_laws.specs.Settings.{Settings}
 use Rattle.flow_laws.specs.Event.{At, Departs, Segment, Story}
 use Rattle.flow_laws.specs.Host.{Down, Sent, StandAt, acked, answered, got, our_place, sent}

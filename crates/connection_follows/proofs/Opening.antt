@@ -4,7 +4,7 @@ use Rattle.retransmit.specs.Resending.{IsSteady, at_rest}
 use Rattle.sock_buffers.specs.Downward.{downward}
 use Rattle.sock_buffers.specs.Upward.{empty}
 use Rattle.tcp_segment.specs.Tcp.{Tcp}
-use Rattle.tcp_guest.specs.Connection.{HasBuffers, from_guest, to_guest}
+use Rattle.tcp_connection.specs.Connection.{HasBuffers, from_guest, to_guest}
 use Rattle.flow_laws.specs.Settings.{Settings}
 use Rattle.flow_laws.specs.Event.{Connects, Accepts, At}
 use Rattle.flow_laws.specs.Windows.{mss}

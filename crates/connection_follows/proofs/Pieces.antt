@@ -15,11 +15,11 @@ use Rattle.tcp_transmit.specs.declared.End.{End}
 use Rattle.tcp_transmit.specs.declared.End.TheVariants as our_end
 use Rattle.tcp_transmit.specs.declared.Piece.{Piece}
 use Rattle.tcp_transmit.proofs.Owed.{Lies, next_again, next_lies, next_probes, next_window}
-use Rattle.tcp_guest.specs.Connection.{Connection, HasBuffers, is_opening, is_synchronized}
-use Rattle.tcp_guest.specs.Hosts.{is_open}
-use Rattle.tcp_guest.specs.Owing.{data_gone, told}
-use Rattle.tcp_guest.specs.Windows.{our_shift}
-use Rattle.tcp_guest.specs.declared.Owed.TheVariants.{Data}
+use Rattle.tcp_connection.specs.Connection.{Connection, HasBuffers, is_opening, is_synchronized}
+use Rattle.tcp_connection.specs.Hosts.{is_open}
+use Rattle.tcp_connection.specs.Owing.{data_gone, told}
+use Rattle.tcp_connection.specs.Windows.{our_shift}
+use Rattle.tcp_connection.specs.declared.Owed.TheVariants.{Data}
 use Rattle.flow_laws.specs.Settings.{Settings}
 use Rattle.flow_laws.specs.Windows.{mss}
 use Rattle.flow_laws.specs.Event.{At, Departs, Segment, Story}

@@ -4,9 +4,9 @@ use Rattle.retransmit.specs.Resending.{IsSteady, Resending, is_expired, is_off}
 use Rattle.sock_buffers.specs.Downward.{Downward}
 use Rattle.sock_buffers.specs.Upward.{Upward}
 use Rattle.tcp_transmit.specs.Transmission.{Transmission, is_owed_again, is_sent, octets_read}
-use Rattle.tcp_guest.specs.Connection.{Connection, has_gone, is_opening, shift_of, is_synchronized}
-use Rattle.tcp_guest.specs.Owing.{told}
-use Rattle.tcp_guest.specs.declared.Sendings.{Sendings}
+use Rattle.tcp_connection.specs.Connection.{Connection, has_gone, is_opening, shift_of, is_synchronized}
+use Rattle.tcp_connection.specs.Owing.{told}
+use Rattle.tcp_connection.specs.declared.Sendings.{Sendings}
 use Rattle.flow_laws.specs.Settings.{Settings}
 use Rattle.flow_laws.specs.Event.{Segment, Event, At, Story}
 use Rattle.flow_laws.specs.Guest.{AckIsDue, Honest, Up, was_acked}

@@ -7,8 +7,8 @@ use Rattle.tcp_transmit.specs.Timing.{watched_over, watched}
 use Rattle.tcp_transmit.specs.Transmission.{IsSentOf, Transmission, is_sent, octets_read, places}
 use Rattle.tcp_transmit.specs.declared.End.{End}
 use Rattle.tcp_transmit.specs.declared.End.TheVariants as our_end
-use Rattle.tcp_guest.specs.Connection.{Connection, HasBuffers}
-use Rattle.tcp_guest.specs.Hosts.{is_open}
+use Rattle.tcp_connection.specs.Connection.{Connection, HasBuffers}
+use Rattle.tcp_connection.specs.Hosts.{is_open}
 use Rattle.flow_laws.specs.Settings.{Settings}
 use Rattle.flow_laws.specs.Event.{At, Reads, ReadsEnd, Story}
 use Rattle.flow_laws.specs.Host.{got_end}

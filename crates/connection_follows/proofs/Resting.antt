@@ -11,18 +11,18 @@ use Rattle.tcp_transmit.specs.Timing.{watched_over}
 use Rattle.tcp_transmit.specs.Transmission.{Transmission, is_sent, places}
 use Rattle.tcp_transmit.specs.declared.AckSeen.{AckSeen}
 use Rattle.tcp_transmit.specs.declared.End.{End}
-use Rattle.tcp_guest.specs.Connection.{Connection, closes_first, is_answering, is_synchronized}
-use Rattle.tcp_guest.specs.Checks.{is_ack, is_fin, is_in_window, is_next, is_rst, is_syn, verdict_by, verdict_of}
-use Rattle.tcp_guest.specs.Hosts.{numbers_sent}
-use Rattle.tcp_guest.specs.Segments.{acknowledged, after_segment, arrived, conn_by, established, is_bare, is_end_taken, is_fin_too, is_past, is_to_acknowledge, is_too_far, opened}
-use Rattle.tcp_guest.specs.Segments.{received_after, seen_of, settled, up_after_segment, up_by}
-use Rattle.tcp_guest.specs.Owing.{told}
-use Rattle.tcp_guest.specs.Windows.{field, our_shift, window_in}
-use Rattle.tcp_guest.specs.declared.Stage.{Stage}
-use Rattle.tcp_guest.specs.declared.Verdict.{Verdict}
-use Rattle.tcp_guest.specs.declared.Verdict.TheVariants.{Ignored, Resets, Challenged, Heeded}
-use Rattle.tcp_guest.specs.declared.Owed.TheVariants.{Ack}
-use Rattle.tcp_guest.specs.declared.Stage.TheVariants as stage
+use Rattle.tcp_connection.specs.Connection.{Connection, closes_first, is_answering, is_synchronized}
+use Rattle.tcp_connection.specs.Checks.{is_ack, is_fin, is_in_window, is_next, is_rst, is_syn, verdict_by, verdict_of}
+use Rattle.tcp_connection.specs.Hosts.{numbers_sent}
+use Rattle.tcp_connection.specs.Segments.{acknowledged, after_segment, arrived, conn_by, established, is_bare, is_end_taken, is_fin_too, is_past, is_to_acknowledge, is_too_far, opened}
+use Rattle.tcp_connection.specs.Segments.{received_after, seen_of, settled, up_after_segment, up_by}
+use Rattle.tcp_connection.specs.Owing.{told}
+use Rattle.tcp_connection.specs.Windows.{field, our_shift, window_in}
+use Rattle.tcp_connection.specs.declared.Stage.{Stage}
+use Rattle.tcp_connection.specs.declared.Verdict.{Verdict}
+use Rattle.tcp_connection.specs.declared.Verdict.TheVariants.{Ignored, Resets, Challenged, Heeded}
+use Rattle.tcp_connection.specs.declared.Owed.TheVariants.{Ack}
+use Rattle.tcp_connection.specs.declared.Stage.TheVariants as stage
 use Rattle.flow_laws.specs.Settings.{Settings}
 use Rattle.flow_laws.specs.Event.{Arrives, At, Departs, Segment, Story}
 use Rattle.flow_laws.specs.Guest.{Acked, HasCome, Honest, IsAcknowledged, Up, ackd, from_zero, written}

@@ -15,12 +15,12 @@ use Rattle.tcp_transmit.specs.declared.End.TheVariants as our_end
 use Rattle.tcp_transmit.specs.declared.Piece.{Piece}
 use Rattle.tcp_transmit.specs.declared.Window.{Window}
 use Rattle.tcp_transmit.proofs.Owed.{next_none}
-use Rattle.tcp_guest.specs.Connection.{Connection, has_gone, is_opening, is_synchronized}
-use Rattle.tcp_guest.specs.Hosts.{is_open}
-use Rattle.tcp_guest.specs.Owing.{owed_of, piece_or_ack}
-use Rattle.tcp_guest.specs.Timing.{due_of}
-use Rattle.tcp_guest.specs.Windows.{is_update_owed, moves_far, our_shift, told_edge}
-use Rattle.tcp_guest.specs.declared.Owed.TheVariants.{Ack}
+use Rattle.tcp_connection.specs.Connection.{Connection, has_gone, is_opening, is_synchronized}
+use Rattle.tcp_connection.specs.Hosts.{is_open}
+use Rattle.tcp_connection.specs.Owing.{owed_of, piece_or_ack}
+use Rattle.tcp_connection.specs.Timing.{due_of}
+use Rattle.tcp_connection.specs.Windows.{is_update_owed, moves_far, our_shift, told_edge}
+use Rattle.tcp_connection.specs.declared.Owed.TheVariants.{Ack}
 use Rattle.flow_laws.specs.Settings.{Settings}
 use Rattle.flow_laws.specs.Event.{Departs, Closes, At, Story, newest_moment}
 use Rattle.flow_laws.specs.Host.{answered, owned, sent}

@@ -8,14 +8,14 @@ use Rattle.retransmit.proofs.Steady.{steady_second, steady_sent}
 use Rattle.sock_buffers.specs.Downward.{Downward}
 use Rattle.sock_buffers.specs.Upward.{Upward}
 use Rattle.tcp_receive.specs.Received.{next_number, places_taken}
-use Rattle.tcp_guest.specs.Connection.{Connection, HasBuffers, has_gone, is_opening, is_synchronized, once_more, shift_of}
-use Rattle.tcp_guest.specs.Owing.{scale_if, syn_gone, told}
-use Rattle.tcp_guest.specs.Windows.{least_shift}
-use Rattle.tcp_guest.specs.declared.Owed.TheVariants.{SynAck}
-use Rattle.tcp_guest.specs.declared.Sendings.{Sendings}
-use Rattle.tcp_guest.specs.declared.Sendings.TheVariants.{Never, Once, Again}
-use Rattle.tcp_guest.specs.declared.Stage.{Stage}
-use Rattle.tcp_guest.specs.declared.Stage.TheVariants as stage
+use Rattle.tcp_connection.specs.Connection.{Connection, HasBuffers, has_gone, is_opening, is_synchronized, once_more, shift_of}
+use Rattle.tcp_connection.specs.Owing.{scale_if, syn_gone, told}
+use Rattle.tcp_connection.specs.Windows.{least_shift}
+use Rattle.tcp_connection.specs.declared.Owed.TheVariants.{SynAck}
+use Rattle.tcp_connection.specs.declared.Sendings.{Sendings}
+use Rattle.tcp_connection.specs.declared.Sendings.TheVariants.{Never, Once, Again}
+use Rattle.tcp_connection.specs.declared.Stage.{Stage}
+use Rattle.tcp_connection.specs.declared.Stage.TheVariants as stage
 use Rattle.flow_laws.specs.Settings.{Settings}
 use Rattle.flow_laws.specs.Event.{At, Departs, Segment, Story}
 use Rattle.flow_laws.specs.Host.{Down, acked, answered, our_place, sent}

@@ -9,10 +9,10 @@ use Rattle.tcp_receive.specs.Coming.{Comes}
 use Rattle.tcp_receive.specs.Received.{Fills, Received, next_number, place_in, places_taken, up_after}
 use Rattle.tcp_segment.specs.Tcp.{Tcp}
 use Rattle.tcp_transmit.specs.Transmission.{Transmission}
-use Rattle.tcp_guest.specs.Checks.{is_fin}
-use Rattle.tcp_guest.specs.Connection.{Connection}
-use Rattle.tcp_guest.specs.Segments.{count_taken, is_end_taken, is_to_acknowledge, received_after}
-use Rattle.tcp_guest.specs.declared.Stage.{Stage}
+use Rattle.tcp_connection.specs.Checks.{is_fin}
+use Rattle.tcp_connection.specs.Connection.{Connection}
+use Rattle.tcp_connection.specs.Segments.{count_taken, is_end_taken, is_to_acknowledge, received_after}
+use Rattle.tcp_connection.specs.declared.Stage.{Stage}
 use Rattle.flow_laws.specs.Settings.{Settings}
 use Rattle.flow_laws.specs.Event.{Arrives, At, Segment, Story}
 use Rattle.flow_laws.specs.Guest.{AckIsDue, Came, Honest, Up, ackd, is_empty, octet_at as octet_in, was_acked}

@@ -4,9 +4,9 @@ use Rattle.std.proofs.Common.{nat_eq, nat_le, arith, ap, subst, sym, ◌∙◌}
 use Rattle.sock_buffers.specs.Upward.{Upward, room_of}
 use Rattle.tcp_receive.specs.Received.{next_number}
 use Rattle.tcp_transmit.specs.Transmission.{is_sent}
-use Rattle.tcp_guest.specs.Connection.{Connection, closes_first, is_synchronized, shift_of}
-use Rattle.tcp_guest.specs.Owing.{told}
-use Rattle.tcp_guest.specs.Windows.{field, least_shift, our_shift, shift_within, told_edge}
+use Rattle.tcp_connection.specs.Connection.{Connection, closes_first, is_synchronized, shift_of}
+use Rattle.tcp_connection.specs.Owing.{told}
+use Rattle.tcp_connection.specs.Windows.{field, least_shift, our_shift, shift_within, told_edge}
 use Rattle.flow_laws.specs.Settings.{Settings}
 use Rattle.flow_laws.specs.Event.{At, Departs, Segment, Story}
 use Rattle.flow_laws.specs.Guest.{AckIsDue, Acked, Honest, HasCome, IsAcknowledged, Up, ackd, was_acked, written}

@@ -11,7 +11,7 @@ use Rattle.sock_buffers.specs.Downward.{Downward}
 use Rattle.sock_buffers.specs.Upward.{Upward}
 use Rattle.tcp_transmit.specs.Timing.{after_expired, cwnd_expired, timed_out}
 use Rattle.tcp_transmit.specs.Transmission.{Transmission, flight, is_sent, octets_read}
-use Rattle.tcp_guest.specs.Connection.{Connection, HasBuffers, has_gone, is_opening}
+use Rattle.tcp_connection.specs.Connection.{Connection, HasBuffers, has_gone, is_opening}
 use Rattle.flow_laws.specs.Settings.{Settings}
 use Rattle.flow_laws.specs.Event.{Story}
 use Rattle.flow_laws.specs.Flow.{host, is_under_way}

@@ -7,7 +7,7 @@ use Rattle.retransmit.specs.declared.Timer.TheVariants as timer
 use Rattle.sock_buffers.specs.Downward.{Downward}
 use Rattle.sock_buffers.specs.Upward.{Upward}
 use Rattle.tcp_transmit.specs.Transmission.{Transmission}
-use Rattle.tcp_guest.specs.Connection.{Connection, is_opening}
+use Rattle.tcp_connection.specs.Connection.{Connection, is_opening}
 use Rattle.flow_laws.specs.Event.{Arrives, At, Segment, Story}
 use Rattle.flow_laws.specs.Host.{acked, answered, sent}
 use Rattle.flow_laws.specs.Flow.{host, is_under_way, syn_is_out}

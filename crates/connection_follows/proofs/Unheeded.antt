@@ -4,7 +4,7 @@ use Rattle.std.specs.Option.{option_or, option_map}
 use Rattle.sock_buffers.specs.Downward.{Downward}
 use Rattle.sock_buffers.specs.Upward.{Upward}
 use Rattle.tcp_receive.specs.Received.{next_number}
-use Rattle.tcp_guest.specs.Connection.{Connection, HasBuffers}
+use Rattle.tcp_connection.specs.Connection.{Connection, HasBuffers}
 use Rattle.flow_laws.specs.Settings.{Settings}
 use Rattle.flow_laws.specs.Event.{Arrives, At, Segment, Story}
 use Rattle.flow_laws.specs.Guest.{AckIsDue, Came, Honest, Up, was_acked}

@@ -2,9 +2,9 @@
 use Rattle.std.proofs.Common.{refl, ◌≡◌, ℕ, ◌+◌, ◌-◌, ◌<◌, length, Bool, true, false, not, ◌&&◌, ◌||◌, max, min, nat_lt, ap, sym, ◌∙◌, inl, inr, ◌⊎◌}
 use Rattle.sock_buffers.specs.Downward.{Downward}
 use Rattle.sock_buffers.specs.Upward.{Upward}
-use Rattle.tcp_guest.specs.Connection.{Connection, is_opening, is_synchronized}
-use Rattle.tcp_guest.specs.Hosts.{is_open}
-use Rattle.tcp_guest.specs.Segments.{is_done as takes_for_done}
+use Rattle.tcp_connection.specs.Connection.{Connection, is_opening, is_synchronized}
+use Rattle.tcp_connection.specs.Hosts.{is_open}
+use Rattle.tcp_connection.specs.Segments.{is_done as takes_for_done}
 use Rattle.flow_laws.specs.Settings.{Settings}
 use Rattle.flow_laws.specs.Event.{Story}
 use Rattle.flow_laws.specs.Host.{acked, got, got_end}

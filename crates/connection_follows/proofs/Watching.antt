@@ -6,9 +6,9 @@ use Rattle.retransmit.proofs.Steady.{steady_second}
 use Rattle.sock_buffers.specs.Downward.{Downward}
 use Rattle.tcp_transmit.specs.Timing.{watched}
 use Rattle.tcp_transmit.specs.Transmission.{Transmission, is_closed, is_owed_again, is_sent, octets_read}
-use Rattle.tcp_guest.specs.Connection.{Connection, has_gone, is_opening, is_synchronized}
-use Rattle.tcp_guest.specs.declared.Stage.{Stage}
-use Rattle.tcp_guest.specs.declared.Stage.TheVariants as stage
+use Rattle.tcp_connection.specs.Connection.{Connection, has_gone, is_opening, is_synchronized}
+use Rattle.tcp_connection.specs.declared.Stage.{Stage}
+use Rattle.tcp_connection.specs.declared.Stage.TheVariants as stage
 use Rattle.flow_laws.specs.Settings.{Settings}
 use Rattle.flow_laws.specs.Event.{Story, newest_moment}
 use Rattle.flow_laws.specs.Dutiful.{oldest_unheard}

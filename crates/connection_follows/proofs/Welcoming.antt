@@ -16,11 +16,11 @@ use Rattle.tcp_transmit.specs.Timing.{watched_over}
 use Rattle.tcp_transmit.specs.Transmission.{Feeds, IsOfSegments, Transmission, is_sent, octets_read, places}
 use Rattle.tcp_transmit.specs.declared.AckSeen.{AckSeen}
 use Rattle.tcp_transmit.specs.declared.AckSeen.TheVariants.{Old, Same, Forward, FinToo, TooFar}
-use Rattle.tcp_guest.specs.Connection.{Connection, HasBuffers, has_gone, is_opening, is_synchronized, shift_of}
-use Rattle.tcp_guest.specs.Segments.{acknowledged, congested, established, greeted, is_fin_too, mss_of, seen_of}
-use Rattle.tcp_guest.specs.declared.Stage.{Stage}
-use Rattle.tcp_guest.specs.declared.Stage.TheVariants as stage
-use Rattle.tcp_guest.proofs.Keeping.{greeted_has}
+use Rattle.tcp_connection.specs.Connection.{Connection, HasBuffers, has_gone, is_opening, is_synchronized, shift_of}
+use Rattle.tcp_connection.specs.Segments.{acknowledged, congested, established, greeted, is_fin_too, mss_of, seen_of}
+use Rattle.tcp_connection.specs.declared.Stage.{Stage}
+use Rattle.tcp_connection.specs.declared.Stage.TheVariants as stage
+use Rattle.tcp_connection.proofs.Keeping.{greeted_has}
 use Rattle.flow_laws.specs.Settings.{Settings}
 use Rattle.flow_laws.specs.Event.{Arrives, At, Segment, Story}
 use Rattle.flow_laws.specs.Host.{answered, is_acceptable, our_place}

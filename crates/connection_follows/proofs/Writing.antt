@@ -3,8 +3,8 @@ use Rattle.std.proofs.Common.{refl, ◌≡◌, ℕ, zero, suc, ◌≤◌, List, 
 use Rattle.std.proofs.lemmas.Bool.Decides.{nat_tests}
 use Rattle.sock_buffers.specs.Downward.{Downward}
 use Rattle.sock_buffers.specs.Upward.{Upward}
-use Rattle.tcp_guest.specs.Connection.{Connection, HasBuffers}
-use Rattle.tcp_guest.specs.Windows.{our_shift, told_edge}
+use Rattle.tcp_connection.specs.Connection.{Connection, HasBuffers}
+use Rattle.tcp_connection.specs.Windows.{our_shift, told_edge}
 use Rattle.flow_laws.specs.Settings.{Settings}
 use Rattle.flow_laws.specs.Event.{At, EndsHost, Story, Writes}
 use Rattle.flow_laws.specs.Guest.{Ended, Wrote, is_empty}

@@ -7,10 +7,10 @@ use Rattle.sock_buffers.specs.Downward.{Downward}
 use Rattle.sock_buffers.specs.Upward.{Upward}
 use Rattle.tcp_receive.specs.Received.{next_number, received}
 use Rattle.tcp_transmit.specs.Transmission.{is_owed_again, is_sent, octets_read}
-use Rattle.tcp_guest.specs.Connection.{Connection, HasBuffers, has_gone, is_opening, is_synchronized, shift_of}
-use Rattle.tcp_guest.specs.Windows.{our_shift, told_edge}
-use Rattle.tcp_guest.specs.declared.Stage.{Stage}
-use Rattle.tcp_guest.specs.declared.Stage.TheVariants as stage
+use Rattle.tcp_connection.specs.Connection.{Connection, HasBuffers, has_gone, is_opening, is_synchronized, shift_of}
+use Rattle.tcp_connection.specs.Windows.{our_shift, told_edge}
+use Rattle.tcp_connection.specs.declared.Stage.{Stage}
+use Rattle.tcp_connection.specs.declared.Stage.TheVariants as stage
 use Rattle.flow_laws.specs.Settings.{Settings}
 use Rattle.flow_laws.specs.Event.{IsStory, Story, newest_moment}
 use Rattle.flow_laws.specs.Guest.{AckIsDue, Honest, was_acked}

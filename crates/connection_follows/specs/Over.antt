@@ -6,10 +6,10 @@ use Rattle.sock_buffers.specs.Upward.{Upward}
 use Rattle.tcp_receive.specs.Received.{next_number}
 use Rattle.tcp_transmit.specs.Transmission.{is_sent}
 use Rattle.flow_laws.specs.Host.{our_first, sent}
-use Rattle.tcp_guest.specs.Connection.{Connection}
-use Rattle.tcp_guest.specs.Windows.{our_shift}
-use Rattle.tcp_guest.specs.declared.Stage.{Stage}
-use Rattle.tcp_guest.specs.declared.Stage.TheVariants as stage
+use Rattle.tcp_connection.specs.Connection.{Connection}
+use Rattle.tcp_connection.specs.Windows.{our_shift}
+use Rattle.tcp_connection.specs.declared.Stage.{Stage}
+use Rattle.tcp_connection.specs.declared.Stage.TheVariants as stage
 use Rattle.flow_laws.specs.Settings.{Settings}
 use Rattle.flow_laws.specs.Event.{IsStory, Segment, Story, newest_moment}
 use Rattle.flow_laws.specs.Flow.{guest, has_connected, host, is_accepted, is_closed, syn_is_out, their_number}

@@ -8,8 +8,8 @@ use Rattle.sock_buffers.specs.Kept.{Octets, octet_at}
 use Rattle.sock_buffers.specs.Upward.{Upward}
 use Rattle.tcp_transmit.specs.Transmission.{Transmission}
 use Rattle.tcp_transmit.specs.declared.Window.{Window}
-use Rattle.tcp_guest.specs.Connection.{Connection, is_opening}
-use Rattle.tcp_guest.specs.Hosts.{is_open}
+use Rattle.tcp_connection.specs.Connection.{Connection, is_opening}
+use Rattle.tcp_connection.specs.Hosts.{is_open}
 pub use Rattle.flow_laws.specs.Segments.{segment_of}
 use Rattle.flow_laws.specs.Windows.{Window as ToldWindow}
 use Rattle.halves_follow.specs.Part.{Part, part}

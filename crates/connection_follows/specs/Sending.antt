@@ -3,11 +3,11 @@ use Rattle.std.specs.Prelude.{ℕ, ◌-◌, Bool, true, false, List, [], take, d
 use Rattle.sock_buffers.specs.Downward.{Downward}
 use Rattle.sock_buffers.specs.Upward.{Upward}
 use Rattle.tcp_transmit.specs.declared.Piece.{Piece}
-use Rattle.tcp_guest.specs.Connection.{Connection}
-use Rattle.tcp_guest.specs.Owing.{head_of}
-use Rattle.tcp_guest.specs.declared.Head.{Head}
-use Rattle.tcp_guest.specs.declared.Owed.{Owed}
-use Rattle.tcp_guest.specs.declared.Owed.TheVariants.{Syn, SynAck, Data, Ack, Reset}
+use Rattle.tcp_connection.specs.Connection.{Connection}
+use Rattle.tcp_connection.specs.Owing.{head_of}
+use Rattle.tcp_connection.specs.declared.Head.{Head}
+use Rattle.tcp_connection.specs.declared.Owed.{Owed}
+use Rattle.tcp_connection.specs.declared.Owed.TheVariants.{Syn, SynAck, Data, Ack, Reset}
 use Rattle.flow_laws.specs.Event.{Segment}
 
 -- the octets of a piece, of those that are held

@@ -11,12 +11,12 @@
 ghost use Rattle.std.specs.Prelude.{◌≡◌, ℕ, ◌^◌, ◌<◌, ◌≤◌, List, ◌∷◌, length, take, min, Bool, true, false, Some, None};
 ghost use Rattle.sock_buffers.specs.Downward.{Downward};
 ghost use Rattle.sock_buffers.specs.Upward.{Upward};
-ghost use Rattle.tcp_guest.specs.Connection.{Connection, HasBuffers};
-ghost use Rattle.tcp_guest.specs.Owing.{gone, owed_of};
-ghost use Rattle.tcp_guest.specs.Segments.{settled};
-ghost use Rattle.tcp_guest.specs.Timing.{due_of};
-ghost use Rattle.tcp_guest.specs.declared.Owed.{Owed};
-ghost use Rattle.tcp_guest.specs.declared.Stage.TheVariants as stage;
+ghost use Rattle.tcp_connection.specs.Connection.{Connection, HasBuffers};
+ghost use Rattle.tcp_connection.specs.Owing.{gone, owed_of};
+ghost use Rattle.tcp_connection.specs.Segments.{settled};
+ghost use Rattle.tcp_connection.specs.Timing.{due_of};
+ghost use Rattle.tcp_connection.specs.declared.Owed.{Owed};
+ghost use Rattle.tcp_connection.specs.declared.Stage.TheVariants as stage;
 ghost use Rattle.flow_laws.specs.Settings.{Settings};
 ghost use Rattle.flow_laws.specs.Event.{Story, At, Departs, Writes};
 ghost use Rattle.flow_laws.specs.Lawful.{May, Send, Write};

@@ -12,16 +12,16 @@ use Rattle.sock_buffers.specs.Upward.{Upward}
 use Rattle.tcp_transmit.specs.Timing.{after_expired as transmission_expired, goes_again, timed_out}
 use Rattle.tcp_transmit.specs.Transmission.{Transmission}
 use Rattle.tcp_transmit.specs.declared.Piece.{Piece}
-use Rattle.tcp_guest.specs.Connection.{Connection, HasBuffers, closes_first, has_gone, is_opening}
-use Rattle.tcp_guest.specs.Hosts.{reset}
-use Rattle.tcp_guest.specs.Owing.{after_gone, change_gone, data_gone, gone, syn_gone, told}
-use Rattle.tcp_guest.specs.Segments.{is_done, settled}
-use Rattle.tcp_guest.specs.Timing.{after_tick, again, due_by, due_of, is_due, is_spent}
-use Rattle.tcp_guest.specs.Windows.{our_shift}
-use Rattle.tcp_guest.specs.declared.Owed.{Owed}
-use Rattle.tcp_guest.specs.declared.Owed.TheVariants.{Syn, SynAck, Data, Ack, Reset}
-use Rattle.tcp_guest.specs.declared.Stage.{Stage}
-use Rattle.tcp_guest.specs.declared.Stage.TheVariants as stage
+use Rattle.tcp_connection.specs.Connection.{Connection, HasBuffers, closes_first, has_gone, is_opening}
+use Rattle.tcp_connection.specs.Hosts.{reset}
+use Rattle.tcp_connection.specs.Owing.{after_gone, change_gone, data_gone, gone, syn_gone, told}
+use Rattle.tcp_connection.specs.Segments.{is_done, settled}
+use Rattle.tcp_connection.specs.Timing.{after_tick, again, due_by, due_of, is_due, is_spent}
+use Rattle.tcp_connection.specs.Windows.{our_shift}
+use Rattle.tcp_connection.specs.declared.Owed.{Owed}
+use Rattle.tcp_connection.specs.declared.Owed.TheVariants.{Syn, SynAck, Data, Ack, Reset}
+use Rattle.tcp_connection.specs.declared.Stage.{Stage}
+use Rattle.tcp_connection.specs.declared.Stage.TheVariants as stage
 use Rattle.world_face.specs.Journal.{Entry}
 use Rattle.stream_netdev.specs.declared.Offered.{Offered}
 use Rattle.stream_netdev.specs.declared.Offered.TheVariants.{Taken, Blocked, Failed}

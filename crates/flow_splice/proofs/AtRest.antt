@@ -6,22 +6,22 @@ use Rattle.tcp_segment.specs.Tcp.{Tcp}
 use Rattle.tcp_receive.specs.Received.{next_number}
 use Rattle.tcp_transmit.specs.Timing.{watched}
 use Rattle.tcp_transmit.specs.declared.End.TheVariants as our_end
-use Rattle.tcp_guest.specs.Checks.{is_ack, is_in_window, is_next, is_rst, is_syn, verdict_by}
-use Rattle.tcp_guest.specs.Connection.{Connection, closes_first, is_answering, is_synchronized}
-use Rattle.tcp_guest.specs.Hosts.{after_news, connected_by, host_ended, is_open as is_open_end, over_by, write_ended}
-use Rattle.tcp_guest.specs.Owing.{ack_if, after_gone, change_gone, owed_by, owed_of, told}
-use Rattle.tcp_guest.specs.Segments.{after_segment, arrived, conn_by, established, heard, heeded, is_done, is_past, opened, settled}
-use Rattle.tcp_guest.specs.Timing.{after_tick, due_by, expired, is_due}
-use Rattle.tcp_guest.specs.Windows.{our_shift}
-use Rattle.tcp_guest.specs.declared.Change.{Change}
-use Rattle.tcp_guest.specs.declared.Change.TheVariants.{Nothing, Finished}
-use Rattle.tcp_guest.specs.declared.HostNews.{HostNews}
-use Rattle.tcp_guest.specs.declared.HostNews.TheVariants.{Connected, Refused, Ended, WriteEnded, Failed as HostFailed}
-use Rattle.tcp_guest.specs.declared.Owed.{Owed}
-use Rattle.tcp_guest.specs.declared.Owed.TheVariants.{Ack}
-use Rattle.tcp_guest.specs.declared.Stage.{Stage}
-use Rattle.tcp_guest.specs.declared.Stage.TheVariants as stage
-use Rattle.tcp_guest.specs.declared.Verdict.TheVariants.{Ignored, Resets, Challenged, Heeded}
+use Rattle.tcp_connection.specs.Checks.{is_ack, is_in_window, is_next, is_rst, is_syn, verdict_by}
+use Rattle.tcp_connection.specs.Connection.{Connection, closes_first, is_answering, is_synchronized}
+use Rattle.tcp_connection.specs.Hosts.{after_news, connected_by, host_ended, is_open as is_open_end, over_by, write_ended}
+use Rattle.tcp_connection.specs.Owing.{ack_if, after_gone, change_gone, owed_by, owed_of, told}
+use Rattle.tcp_connection.specs.Segments.{after_segment, arrived, conn_by, established, heard, heeded, is_done, is_past, opened, settled}
+use Rattle.tcp_connection.specs.Timing.{after_tick, due_by, expired, is_due}
+use Rattle.tcp_connection.specs.Windows.{our_shift}
+use Rattle.tcp_connection.specs.declared.Change.{Change}
+use Rattle.tcp_connection.specs.declared.Change.TheVariants.{Nothing, Finished}
+use Rattle.tcp_connection.specs.declared.HostNews.{HostNews}
+use Rattle.tcp_connection.specs.declared.HostNews.TheVariants.{Connected, Refused, Ended, WriteEnded, Failed as HostFailed}
+use Rattle.tcp_connection.specs.declared.Owed.{Owed}
+use Rattle.tcp_connection.specs.declared.Owed.TheVariants.{Ack}
+use Rattle.tcp_connection.specs.declared.Stage.{Stage}
+use Rattle.tcp_connection.specs.declared.Stage.TheVariants as stage
+use Rattle.tcp_connection.specs.declared.Verdict.TheVariants.{Ignored, Resets, Challenged, Heeded}
 use Rattle.world_face.specs.Journal.{Entry}
 use Rattle.stream_netdev.specs.declared.Offered.{Offered}
 use Rattle.stream_netdev.specs.declared.Offered.TheVariants.{Taken, Blocked, Failed}

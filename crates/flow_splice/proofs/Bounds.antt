@@ -4,12 +4,12 @@ use Rattle.std.proofs.lemmas.Bool.Decides.{nat_tests}
 use Rattle.net_octets.specs.declared.Mac.{Mac}
 use Rattle.retransmit.specs.Resending.{due_by as due_by_timer, due_of as resend_due}
 use Rattle.retransmit.specs.declared.Timer.{Timer}
-use Rattle.tcp_guest.specs.Connection.{has_gone, is_opening, is_synchronized}
-use Rattle.tcp_guest.specs.Owing.{ack_if, owed_by, owed_of}
-use Rattle.tcp_guest.specs.Timing.{due_by as conn_due_by, due_of as conn_due}
-use Rattle.tcp_guest.specs.declared.Owed.TheVariants.{Syn, SynAck}
-use Rattle.tcp_guest.specs.declared.Stage.{Stage}
-use Rattle.tcp_guest.specs.declared.Stage.TheVariants as stage
+use Rattle.tcp_connection.specs.Connection.{has_gone, is_opening, is_synchronized}
+use Rattle.tcp_connection.specs.Owing.{ack_if, owed_by, owed_of}
+use Rattle.tcp_connection.specs.Timing.{due_by as conn_due_by, due_of as conn_due}
+use Rattle.tcp_connection.specs.declared.Owed.TheVariants.{Syn, SynAck}
+use Rattle.tcp_connection.specs.declared.Stage.{Stage}
+use Rattle.tcp_connection.specs.declared.Stage.TheVariants as stage
 use Rattle.flow_laws.specs.Settings.{Settings}
 use Rattle.flow_laws.specs.Event.{Story, newest_moment}
 use Rattle.flow_laws.specs.Flow.{has_connected, is_accepted, is_closed, is_connecting, is_under_way, opened_at, syn_is_out}

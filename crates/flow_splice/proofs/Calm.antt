@@ -7,13 +7,13 @@ use Rattle.sock_buffers.specs.Downward.{Downward}
 use Rattle.sock_buffers.specs.Upward.{Upward}
 use Rattle.tcp_receive.specs.Received.{next_number}
 use Rattle.tcp_segment.specs.Tcp.{Tcp}
-use Rattle.tcp_guest.specs.Checks.{acknowledges_syn, is_rst, verdict_by, verdict_of}
-use Rattle.tcp_guest.specs.Connection.{Connection}
-use Rattle.tcp_guest.specs.Segments.{after_segment, conn_by}
-use Rattle.tcp_guest.specs.declared.Stage.{Stage}
-use Rattle.tcp_guest.specs.declared.Stage.TheVariants as stage
-use Rattle.tcp_guest.specs.declared.Verdict.{Verdict}
-use Rattle.tcp_guest.specs.declared.Verdict.TheVariants.{Resets}
+use Rattle.tcp_connection.specs.Checks.{acknowledges_syn, is_rst, verdict_by, verdict_of}
+use Rattle.tcp_connection.specs.Connection.{Connection}
+use Rattle.tcp_connection.specs.Segments.{after_segment, conn_by}
+use Rattle.tcp_connection.specs.declared.Stage.{Stage}
+use Rattle.tcp_connection.specs.declared.Stage.TheVariants as stage
+use Rattle.tcp_connection.specs.declared.Verdict.{Verdict}
+use Rattle.tcp_connection.specs.declared.Verdict.TheVariants.{Resets}
 use Rattle.flow_laws.specs.Settings.{Settings}
 use Rattle.flow_laws.specs.Event.{Arrives, At, Segment, Story}
 use Rattle.flow_laws.specs.Guest.{ack_is_due, ackd}

@@ -5,13 +5,13 @@ use Rattle.sock_buffers.specs.Upward.{Upward}
 use Rattle.tcp_receive.specs.Received.{up_after}
 use Rattle.tcp_segment.specs.Tcp.{Tcp}
 use Rattle.tcp_transmit.specs.Acks.{octets_acked, without}
-use Rattle.tcp_guest.specs.Checks.{is_ack, verdict_of}
-use Rattle.tcp_guest.specs.Connection.{Connection}
-use Rattle.tcp_guest.specs.Segments.{after_segment, arrived, change_at, change_by, conn_by, down_after_segment, down_by, established, greeted, heard as conn_heard, is_past, opened}
-use Rattle.tcp_guest.specs.Segments.{seen_of, settled, settling, up_after_segment, up_by}
-use Rattle.tcp_guest.specs.declared.Change.TheVariants.{Nothing}
-use Rattle.tcp_guest.specs.declared.Verdict.{Verdict}
-use Rattle.tcp_guest.specs.declared.Verdict.TheVariants.{Ignored, Resets, Unacceptable, Repeats, Challenged, Greets, Heeded}
+use Rattle.tcp_connection.specs.Checks.{is_ack, verdict_of}
+use Rattle.tcp_connection.specs.Connection.{Connection}
+use Rattle.tcp_connection.specs.Segments.{after_segment, arrived, change_at, change_by, conn_by, down_after_segment, down_by, established, greeted, heard as conn_heard, is_past, opened}
+use Rattle.tcp_connection.specs.Segments.{seen_of, settled, settling, up_after_segment, up_by}
+use Rattle.tcp_connection.specs.declared.Change.TheVariants.{Nothing}
+use Rattle.tcp_connection.specs.declared.Verdict.{Verdict}
+use Rattle.tcp_connection.specs.declared.Verdict.TheVariants.{Ignored, Resets, Unacceptable, Repeats, Challenged, Greets, Heeded}
 use Rattle.connection_follows.specs.Holding.{is_live}
 use Rattle.connection_follows.proofs.Coming.{sized}
 use Rattle.flow_splice.specs.Guests.{heard}

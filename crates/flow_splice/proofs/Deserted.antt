@@ -3,8 +3,8 @@ use Rattle.std.proofs.Common.{refl, ◌≡◌, ℕ, zero, suc, ◌+◌, ◌<◌,
 use Rattle.std.proofs.lemmas.Bool.Decides.{nat_tests}
 use Rattle.sock_buffers.specs.Downward.{Downward}
 use Rattle.tcp_transmit.specs.Transmission.{octets_read}
-use Rattle.tcp_guest.specs.Connection.{is_opening}
-use Rattle.tcp_guest.specs.Hosts.{is_open as host_is_open}
+use Rattle.tcp_connection.specs.Connection.{is_opening}
+use Rattle.tcp_connection.specs.Hosts.{is_open as host_is_open}
 use Rattle.connection_follows.specs.Holding.{is_connects}
 use Rattle.flow_laws.specs.Settings.{Settings}
 use Rattle.flow_laws.specs.Event.{Story}

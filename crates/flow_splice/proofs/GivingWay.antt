@@ -2,7 +2,7 @@
 use Rattle.std.proofs.Common.{refl, ◌≡◌, ℕ, ◌+◌, ◌-◌, ◌^◌, ◌<◌, ◌≤◌, ◌∷◌, Bool, true, false, not, ◌&&◌, ◌||◌, nat_eq, nat_le, if◌then◌else◌, arith, sym, ◌∙◌}
 use Rattle.std.proofs.lemmas.Bool.Decides.{nat_tests}
 use Rattle.tcp_transmit.specs.Transmission.{octets_read}
-use Rattle.tcp_guest.specs.Hosts.{is_open as host_is_open, reset}
+use Rattle.tcp_connection.specs.Hosts.{is_open as host_is_open, reset}
 use Rattle.flow_laws.specs.Settings.{Settings}
 use Rattle.flow_laws.specs.Event.{At, Closes, Story}
 use Rattle.flow_laws.specs.Flow.{guest, host, is_closed, is_connecting}

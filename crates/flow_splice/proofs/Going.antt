@@ -11,19 +11,19 @@ use Rattle.world_face.specs.declared.Io.TheVariants.{Done, End, NotYet, Failed a
 use Rattle.stream_netdev.specs.Offers.{offered}
 use Rattle.stream_netdev.specs.declared.Offered.{Offered}
 use Rattle.stream_netdev.specs.declared.Offered.TheVariants.{Taken, Blocked, Failed}
-use Rattle.tcp_guest.specs.Connection.{Connection, HasBuffers, is_synchronized}
-use Rattle.tcp_guest.specs.Owing.{ack_if, gone, owed_by, owed_of, piece_or_ack, told}
-use Rattle.tcp_guest.specs.Segments.{is_done, settling}
-use Rattle.tcp_guest.specs.Windows.{is_update_owed, our_shift}
+use Rattle.tcp_connection.specs.Connection.{Connection, HasBuffers, is_synchronized}
+use Rattle.tcp_connection.specs.Owing.{ack_if, gone, owed_by, owed_of, piece_or_ack, told}
+use Rattle.tcp_connection.specs.Segments.{is_done, settling}
+use Rattle.tcp_connection.specs.Windows.{is_update_owed, our_shift}
 use Rattle.tcp_transmit.specs.Pieces.{piece_owed}
 use Rattle.tcp_transmit.specs.declared.Piece.{Piece}
 use Rattle.sock_buffers.specs.Downward.{Downward}
 use Rattle.sock_buffers.specs.Upward.{Upward}
-use Rattle.tcp_guest.specs.declared.Change.TheVariants.{Nothing, Finished}
-use Rattle.tcp_guest.specs.declared.Owed.{Owed}
-use Rattle.tcp_guest.specs.declared.Owed.TheVariants.{Syn, SynAck, Data, Ack, Reset}
-use Rattle.tcp_guest.specs.declared.Stage.{Stage}
-use Rattle.tcp_guest.specs.declared.Stage.TheVariants as stage
+use Rattle.tcp_connection.specs.declared.Change.TheVariants.{Nothing, Finished}
+use Rattle.tcp_connection.specs.declared.Owed.{Owed}
+use Rattle.tcp_connection.specs.declared.Owed.TheVariants.{Syn, SynAck, Data, Ack, Reset}
+use Rattle.tcp_connection.specs.declared.Stage.{Stage}
+use Rattle.tcp_connection.specs.declared.Stage.TheVariants as stage
 use Rattle.flow_laws.specs.Settings.{Settings}
 use Rattle.flow_laws.specs.Event.{At, Closes, Departs, Segment, Story}
 use Rattle.flow_laws.specs.Lawful.{HasOwnCause, IsLawful}

@@ -11,16 +11,16 @@ use Rattle.tcp_transmit.specs.Acks.{IsSeenAs, octets_acked, place_acked, without
 use Rattle.tcp_transmit.specs.Transmission.{Feeds, Transmission}
 use Rattle.tcp_transmit.specs.declared.AckSeen.{AckSeen}
 use Rattle.tcp_transmit.specs.declared.AckSeen.TheVariants.{Old, Same, Forward, FinToo, TooFar}
-use Rattle.tcp_guest.specs.Checks.{is_ack, verdict_of}
-use Rattle.tcp_guest.specs.Connection.{Connection, HasBuffers, has_gone, is_answering, is_opening, is_synchronized}
-use Rattle.tcp_guest.specs.Segments.{acknowledged, after_segment, arrived, change_at, change_by, conn_by, congested, down_after_segment, down_by, established, greeted, heard as conn_heard}
-use Rattle.tcp_guest.specs.Segments.{is_bare, is_fin_too, is_done, is_past, is_too_far, opened, seen_of, settled, settling, up_after_segment, up_by}
-use Rattle.tcp_guest.specs.Windows.{window_in}
-use Rattle.tcp_guest.specs.declared.Change.TheVariants.{Nothing, Finished}
-use Rattle.tcp_guest.specs.declared.Stage.{Stage}
-use Rattle.tcp_guest.specs.declared.Stage.TheVariants as stage
-use Rattle.tcp_guest.specs.declared.Verdict.{Verdict}
-use Rattle.tcp_guest.specs.declared.Verdict.TheVariants.{Resets, Greets, Heeded}
+use Rattle.tcp_connection.specs.Checks.{is_ack, verdict_of}
+use Rattle.tcp_connection.specs.Connection.{Connection, HasBuffers, has_gone, is_answering, is_opening, is_synchronized}
+use Rattle.tcp_connection.specs.Segments.{acknowledged, after_segment, arrived, change_at, change_by, conn_by, congested, down_after_segment, down_by, established, greeted, heard as conn_heard}
+use Rattle.tcp_connection.specs.Segments.{is_bare, is_fin_too, is_done, is_past, is_too_far, opened, seen_of, settled, settling, up_after_segment, up_by}
+use Rattle.tcp_connection.specs.Windows.{window_in}
+use Rattle.tcp_connection.specs.declared.Change.TheVariants.{Nothing, Finished}
+use Rattle.tcp_connection.specs.declared.Stage.{Stage}
+use Rattle.tcp_connection.specs.declared.Stage.TheVariants as stage
+use Rattle.tcp_connection.specs.declared.Verdict.{Verdict}
+use Rattle.tcp_connection.specs.declared.Verdict.TheVariants.{Resets, Greets, Heeded}
 use Rattle.world_face.specs.Journal.{Close, Entry}
 use Rattle.flow_laws.specs.Settings.{Settings}
 use Rattle.flow_laws.specs.Lawful.{HasOwnCause}

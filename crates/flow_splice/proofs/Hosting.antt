@@ -7,12 +7,12 @@ use Rattle.world_face.specs.declared.Io.TheVariants.{Done, End, NotYet, Failed}
 use Rattle.world_face.specs.declared.Joined.TheVariants.{Yes, NotYet as NotJoined, Failed as JoinFailed}
 use Rattle.world_face.specs.declared.Made.{Made}
 use Rattle.world_face.specs.declared.Made.TheVariants.{Done as MadeDone, Failed as MadeFailed}
-use Rattle.tcp_guest.specs.Connection.{Connection, HasBuffers, is_opening, is_synchronized}
-use Rattle.tcp_guest.specs.Hosts.{connected_by, host_ended, is_open as is_host_open, reset, write_ended}
-use Rattle.tcp_guest.specs.Segments.{is_done, settled, settling}
-use Rattle.tcp_guest.specs.declared.Change.TheVariants.{Nothing, Finished}
-use Rattle.tcp_guest.specs.declared.Stage.{Stage}
-use Rattle.tcp_guest.specs.declared.Stage.TheVariants as stage
+use Rattle.tcp_connection.specs.Connection.{Connection, HasBuffers, is_opening, is_synchronized}
+use Rattle.tcp_connection.specs.Hosts.{connected_by, host_ended, is_open as is_host_open, reset, write_ended}
+use Rattle.tcp_connection.specs.Segments.{is_done, settled, settling}
+use Rattle.tcp_connection.specs.declared.Change.TheVariants.{Nothing, Finished}
+use Rattle.tcp_connection.specs.declared.Stage.{Stage}
+use Rattle.tcp_connection.specs.declared.Stage.TheVariants as stage
 use Rattle.tcp_transmit.specs.Timing.{watched}
 use Rattle.flow_laws.specs.Settings.{Settings}
 use Rattle.flow_laws.specs.Event.{At, Closes, Connected as HostConnected, ConnectsYet, ConnectFails, Writes, WriteFails, Reads, ReadsEnd, ReadFails, EndsHost, EndFails, Story}

@@ -8,15 +8,15 @@ use Rattle.sock_buffers.specs.Upward.{Upward}
 use Rattle.stream_netdev.specs.declared.Offered.{Offered}
 use Rattle.stream_netdev.specs.declared.Offered.TheVariants.{Taken, Blocked, Failed}
 use Rattle.tcp_transmit.specs.Timing.{after_expired as transmission_expired}
-use Rattle.tcp_guest.specs.Connection.{Connection, closes_first, is_opening}
-use Rattle.tcp_guest.specs.Hosts.{reset}
-use Rattle.tcp_guest.specs.Owing.{change_gone, gone}
-use Rattle.tcp_guest.specs.Segments.{is_done, settled}
-use Rattle.tcp_guest.specs.Timing.{after_tick, due_of as conn_due, is_due, is_spent}
-use Rattle.tcp_guest.specs.declared.Owed.{Owed}
-use Rattle.tcp_guest.specs.declared.Owed.TheVariants.{Syn, SynAck, Data, Ack, Reset}
-use Rattle.tcp_guest.specs.declared.Stage.{Stage}
-use Rattle.tcp_guest.specs.declared.Stage.TheVariants as stage
+use Rattle.tcp_connection.specs.Connection.{Connection, closes_first, is_opening}
+use Rattle.tcp_connection.specs.Hosts.{reset}
+use Rattle.tcp_connection.specs.Owing.{change_gone, gone}
+use Rattle.tcp_connection.specs.Segments.{is_done, settled}
+use Rattle.tcp_connection.specs.Timing.{after_tick, due_of as conn_due, is_due, is_spent}
+use Rattle.tcp_connection.specs.declared.Owed.{Owed}
+use Rattle.tcp_connection.specs.declared.Owed.TheVariants.{Syn, SynAck, Data, Ack, Reset}
+use Rattle.tcp_connection.specs.declared.Stage.{Stage}
+use Rattle.tcp_connection.specs.declared.Stage.TheVariants as stage
 use Rattle.world_face.specs.Journal.{Entry}
 use Rattle.flow_laws.specs.Guest.{is_empty}
 use Rattle.connection_follows.specs.Holding.{is_connects, is_live}

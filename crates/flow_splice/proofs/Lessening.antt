@@ -11,14 +11,14 @@ use Rattle.tcp_transmit.specs.Timing.{after_sent, goes_again}
 use Rattle.tcp_transmit.specs.Pieces.{end_of, fresh, next, numbers, oldest, piece_owed, probe}
 use Rattle.tcp_transmit.specs.declared.Piece.{Piece}
 use Rattle.tcp_transmit.proofs.Feeding.{owed_ends}
-use Rattle.tcp_guest.specs.Connection.{Connection, HasBuffers, closes_first, is_synchronized}
-use Rattle.tcp_guest.specs.Owing.{ack_if, after_gone, gone, owed_by, owed_of, piece_or_ack, told}
-use Rattle.tcp_guest.specs.Segments.{is_done, settled}
-use Rattle.tcp_guest.specs.Windows.{is_update_owed, moves_far, our_shift, told_edge}
-use Rattle.tcp_guest.specs.declared.Owed.{Owed}
-use Rattle.tcp_guest.specs.declared.Owed.TheVariants.{Syn, SynAck, Data, Ack, Reset}
-use Rattle.tcp_guest.specs.declared.Stage.{Stage}
-use Rattle.tcp_guest.specs.declared.Stage.TheVariants as stage
+use Rattle.tcp_connection.specs.Connection.{Connection, HasBuffers, closes_first, is_synchronized}
+use Rattle.tcp_connection.specs.Owing.{ack_if, after_gone, gone, owed_by, owed_of, piece_or_ack, told}
+use Rattle.tcp_connection.specs.Segments.{is_done, settled}
+use Rattle.tcp_connection.specs.Windows.{is_update_owed, moves_far, our_shift, told_edge}
+use Rattle.tcp_connection.specs.declared.Owed.{Owed}
+use Rattle.tcp_connection.specs.declared.Owed.TheVariants.{Syn, SynAck, Data, Ack, Reset}
+use Rattle.tcp_connection.specs.declared.Stage.{Stage}
+use Rattle.tcp_connection.specs.declared.Stage.TheVariants as stage
 use Rattle.connection_follows.proofs.Pieces.{some_numbers}
 use Rattle.flow_splice.specs.Left.{count_if, left_by}
 

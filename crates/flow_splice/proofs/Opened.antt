@@ -2,8 +2,8 @@
 use Rattle.std.proofs.Common.{refl, ◌≡◌, ℕ, ◌≤◌, ◌∷◌, Bool, true, false, not, ◌&&◌, None, List, if◌then◌else◌, arith, ap, ◌∙◌}
 use Rattle.sock_buffers.specs.Downward.{Downward}
 use Rattle.sock_buffers.specs.Upward.{Upward}
-use Rattle.tcp_guest.specs.Connection.{Connection, has_gone}
-use Rattle.tcp_guest.specs.Segments.{is_done}
+use Rattle.tcp_connection.specs.Connection.{Connection, has_gone}
+use Rattle.tcp_connection.specs.Segments.{is_done}
 use Rattle.flow_laws.specs.Settings.{Settings}
 use Rattle.flow_laws.specs.Event.{Accepts, At, Connects, Departs, Event, Opens, Story}
 use Rattle.flow_laws.specs.Flow.{add_if, is_accepted, newest_of, opened_at, syn_sendings}

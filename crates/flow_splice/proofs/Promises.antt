@@ -6,13 +6,13 @@ use Rattle.net_octets.specs.declared.Mac.{Mac}
 use Rattle.retransmit.specs.Resending.{due_by as due_by_timer, is_off}
 use Rattle.retransmit.specs.declared.Timer.{Timer}
 use Rattle.retransmit.specs.declared.Timer.TheVariants as timer
-use Rattle.tcp_guest.specs.Connection.{Connection, has_gone, is_opening, is_synchronized}
-use Rattle.tcp_guest.specs.Hosts.{is_open as is_host_open}
-use Rattle.tcp_guest.specs.Owing.{ack_if, owed_by, owed_of}
-use Rattle.tcp_guest.specs.Timing.{due_by}
-use Rattle.tcp_guest.specs.declared.Owed.TheVariants.{Syn, SynAck}
-use Rattle.tcp_guest.specs.declared.Stage.{Stage}
-use Rattle.tcp_guest.specs.declared.Stage.TheVariants as stage
+use Rattle.tcp_connection.specs.Connection.{Connection, has_gone, is_opening, is_synchronized}
+use Rattle.tcp_connection.specs.Hosts.{is_open as is_host_open}
+use Rattle.tcp_connection.specs.Owing.{ack_if, owed_by, owed_of}
+use Rattle.tcp_connection.specs.Timing.{due_by}
+use Rattle.tcp_connection.specs.declared.Owed.TheVariants.{Syn, SynAck}
+use Rattle.tcp_connection.specs.declared.Stage.{Stage}
+use Rattle.tcp_connection.specs.declared.Stage.TheVariants as stage
 use Rattle.flow_laws.specs.Settings.{Settings}
 use Rattle.flow_laws.specs.Event.{Story}
 use Rattle.flow_laws.specs.Guest.{Honest, IsAcknowledged, Up, ackd, front, has_ended, written}

@@ -7,8 +7,8 @@ use Rattle.sock_buffers.specs.Downward.{Downward}
 use Rattle.sock_buffers.specs.Upward.{Upward}
 use Rattle.tcp_segment.specs.Tcp.{Tcp}
 use Rattle.tcp_receive.specs.Received.{next_number}
-use Rattle.tcp_guest.specs.Connection.{Connection}
-use Rattle.tcp_guest.specs.Segments.{after_segment, down_after_segment, up_after_segment}
+use Rattle.tcp_connection.specs.Connection.{Connection}
+use Rattle.tcp_connection.specs.Segments.{after_segment, down_after_segment, up_after_segment}
 use Rattle.flow_laws.specs.Settings.{Settings}
 use Rattle.flow_laws.specs.Lawful.{HasNumberThatCame}
 use Rattle.flow_laws.specs.Event.{Arrives, At, Segment, Story}

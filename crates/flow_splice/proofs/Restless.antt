@@ -4,7 +4,7 @@ use Rattle.seq_space.specs.Places.{number_of}
 use Rattle.sock_buffers.specs.Downward.{Downward}
 use Rattle.sock_buffers.specs.Upward.{Upward}
 use Rattle.tcp_receive.specs.Received.{next_number}
-use Rattle.tcp_guest.specs.Connection.{Connection}
+use Rattle.tcp_connection.specs.Connection.{Connection}
 use Rattle.flow_laws.specs.Settings.{Settings}
 use Rattle.flow_laws.specs.Event.{Arrives, At, Closes, Departs, Segment, Story}
 use Rattle.flow_laws.specs.Flow.{is_accepted, is_closed, next_number as number_after, our_number, syn_is_out}

@@ -8,11 +8,11 @@ use Rattle.tcp_transmit.specs.Pieces.{IsOfStream, fresh, next, oldest, piece, pr
 use Rattle.tcp_transmit.specs.declared.Piece.{Piece}
 use Rattle.tcp_transmit.proofs.Feeding.{sent_feeds}
 use Rattle.tcp_transmit.proofs.Owed.{next_of_stream}
-use Rattle.tcp_guest.specs.Connection.{Connection, HasBuffers}
-use Rattle.tcp_guest.specs.Owing.{after_gone, gone, head_of, owed_of}
-use Rattle.tcp_guest.specs.declared.Owed.{Owed}
-use Rattle.tcp_guest.specs.declared.Owed.TheVariants.{Syn, SynAck, Data, Ack, Reset}
-use Rattle.tcp_guest.proofs.Keeping.{data_owed, gone_has, settled_has}
+use Rattle.tcp_connection.specs.Connection.{Connection, HasBuffers}
+use Rattle.tcp_connection.specs.Owing.{after_gone, gone, head_of, owed_of}
+use Rattle.tcp_connection.specs.declared.Owed.{Owed}
+use Rattle.tcp_connection.specs.declared.Owed.TheVariants.{Syn, SynAck, Data, Ack, Reset}
+use Rattle.tcp_connection.proofs.Keeping.{data_owed, gone_has, settled_has}
 use Rattle.connection_follows.proofs.Pieces.{some_numbers}
 use Rattle.flow_splice.specs.Frames.{IsHeld, frame_length}
 

@@ -7,7 +7,7 @@ use Rattle.world_face.specs.declared.Made.{Made}
 use Rattle.stream_netdev.specs.Offers.{offered}
 use Rattle.stream_netdev.specs.declared.Offered.{Offered}
 use Rattle.stream_netdev.specs.declared.Offered.TheVariants.{Failed}
-use Rattle.tcp_guest.specs.declared.Owed.{Owed}
+use Rattle.tcp_connection.specs.declared.Owed.{Owed}
 use Rattle.flow_splice.specs.Hosts.{Sees, is_for_writing, shuts}
 use Rattle.flow_splice.specs.Sends.{Marks}
 use Rattle.stream_netdev.specs.Offers.{pumped_of}

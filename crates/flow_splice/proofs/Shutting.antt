@@ -3,12 +3,12 @@ use Rattle.std.proofs.Common.{refl, ◌≡◌, ℕ, ◌∷◌, Bool, true, false
 use Rattle.std.proofs.lemmas.Bool.Decides.{nat_tests}
 use Rattle.tcp_receive.specs.Received.{next_number}
 use Rattle.tcp_transmit.specs.Transmission.{is_sent}
-use Rattle.tcp_guest.specs.Connection.{Connection, closes_first, has_gone, is_synchronized}
-use Rattle.tcp_guest.specs.Hosts.{numbers_sent, over_by, reset, resets}
-use Rattle.tcp_guest.specs.Segments.{is_done, settled, settling}
-use Rattle.tcp_guest.specs.declared.Change.TheVariants.{Nothing, Finished}
-use Rattle.tcp_guest.specs.declared.Stage.{Stage}
-use Rattle.tcp_guest.specs.declared.Stage.TheVariants as stage
+use Rattle.tcp_connection.specs.Connection.{Connection, closes_first, has_gone, is_synchronized}
+use Rattle.tcp_connection.specs.Hosts.{numbers_sent, over_by, reset, resets}
+use Rattle.tcp_connection.specs.Segments.{is_done, settled, settling}
+use Rattle.tcp_connection.specs.declared.Change.TheVariants.{Nothing, Finished}
+use Rattle.tcp_connection.specs.declared.Stage.{Stage}
+use Rattle.tcp_connection.specs.declared.Stage.TheVariants as stage
 use Rattle.flow_laws.specs.Settings.{Settings}
 use Rattle.flow_laws.specs.Event.{At, Closes, Story}
 use Rattle.flow_laws.specs.Host.{answered}

@@ -1,8 +1,8 @@
 -- The fields of a segment that goes out have their sizes.
 use Rattle.std.proofs.Common.{ℕ, ◌-◌, ◌<◌, ◌≤◌, ◌^◌, length, drop, IfSome, length-take, arith}
 use Rattle.sock_buffers.specs.Downward.{Downward}
-use Rattle.tcp_guest.specs.declared.Owed.{Owed}
-use Rattle.tcp_guest.specs.declared.Owed.TheVariants.{Syn, SynAck, Data, Ack, Reset}
+use Rattle.tcp_connection.specs.declared.Owed.{Owed}
+use Rattle.tcp_connection.specs.declared.Owed.TheVariants.{Syn, SynAck, Data, Ack, Reset}
 use Rattle.connection_follows.specs.Sending.{carried, mss_in}
 use Rattle.flow_splice.specs.Frames.{IsHeld}
 

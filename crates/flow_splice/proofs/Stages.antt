@@ -1,9 +1,9 @@
 -- What follows from the stage of a connection, from where its flow stands, and from tests of these.
 use Rattle.std.proofs.Common.{refl, ◌≡◌, ◌+◌, [], ◌++◌, nat_lt, ◌∙◌, not, ◌&&◌, ◌||◌, Bool, true, false, Option, None, Some, if◌then◌else◌, ap}
-use Rattle.tcp_guest.specs.Connection.{is_opening}
-use Rattle.tcp_guest.specs.declared.Owed.{Owed}
-use Rattle.tcp_guest.specs.declared.Stage.{Stage}
-use Rattle.tcp_guest.specs.declared.Stage.TheVariants as stage
+use Rattle.tcp_connection.specs.Connection.{is_opening}
+use Rattle.tcp_connection.specs.declared.Owed.{Owed}
+use Rattle.tcp_connection.specs.declared.Stage.{Stage}
+use Rattle.tcp_connection.specs.declared.Stage.TheVariants as stage
 use Rattle.flow_laws.specs.Event.{Story, newest_moment}
 use Rattle.flow_laws.specs.Close.{asked_at, times_asked}
 use Rattle.flow_laws.specs.Flow.{is_accepted, is_closed, is_under_way, syn_is_out, host}

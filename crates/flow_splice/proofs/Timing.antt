@@ -6,13 +6,13 @@ use Rattle.retransmit.specs.Resending.{after_expired as resend_expired, due_of a
 use Rattle.net_octets.specs.declared.Mac.{Mac}
 use Rattle.tcp_transmit.specs.Timing.{after_expired as transmission_expired}
 use Rattle.halves_follow.specs.Resends.{Seeks}
-use Rattle.tcp_guest.specs.Connection.{Connection, HasBuffers, has_gone, is_opening}
-use Rattle.tcp_guest.specs.Hosts.{reset}
-use Rattle.tcp_guest.specs.Segments.{is_done}
-use Rattle.tcp_guest.specs.Timing.{after_tick, again, change_at_tick, due_by, due_of as conn_due, is_due, is_spent}
-use Rattle.tcp_guest.specs.declared.Change.TheVariants.{Nothing, Finished}
-use Rattle.tcp_guest.specs.declared.Stage.{Stage}
-use Rattle.tcp_guest.specs.declared.Stage.TheVariants as stage
+use Rattle.tcp_connection.specs.Connection.{Connection, HasBuffers, has_gone, is_opening}
+use Rattle.tcp_connection.specs.Hosts.{reset}
+use Rattle.tcp_connection.specs.Segments.{is_done}
+use Rattle.tcp_connection.specs.Timing.{after_tick, again, change_at_tick, due_by, due_of as conn_due, is_due, is_spent}
+use Rattle.tcp_connection.specs.declared.Change.TheVariants.{Nothing, Finished}
+use Rattle.tcp_connection.specs.declared.Stage.{Stage}
+use Rattle.tcp_connection.specs.declared.Stage.TheVariants as stage
 use Rattle.world_face.specs.Journal.{Close, Entry}
 use Rattle.flow_laws.specs.Settings.{Settings}
 use Rattle.flow_laws.specs.Lawful.{HasOwnCause}

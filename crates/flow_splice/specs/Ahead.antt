@@ -1,7 +1,7 @@
 -- When a flow's connection is to be looked at.
 use Rattle.std.specs.Prelude.{◌≡◌, ℕ, ◌<◌, false, true, Some}
-use Rattle.tcp_guest.specs.Connection.{Connection, is_opening}
-use Rattle.tcp_guest.specs.Timing.{due_of}
+use Rattle.tcp_connection.specs.Connection.{Connection, is_opening}
+use Rattle.tcp_connection.specs.Timing.{due_of}
 use Rattle.flow_splice.specs.Splice.{Splice, is_open}
 use Rattle.flow_splice.specs.Wants.{seeks}
 

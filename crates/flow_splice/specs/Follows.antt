@@ -1,7 +1,7 @@
 -- A flow that is spliced, against its story.
 use Rattle.std.specs.Prelude.{◌≡◌, ℕ, ◌<◌, ◌≤◌, Bool, true, false, None}
-use Rattle.tcp_guest.specs.Connection.{has_gone}
-use Rattle.tcp_guest.specs.Segments.{is_done}
+use Rattle.tcp_connection.specs.Connection.{has_gone}
+use Rattle.tcp_connection.specs.Segments.{is_done}
 use Rattle.flow_laws.specs.Settings.{Settings}
 use Rattle.flow_laws.specs.Event.{Story}
 use Rattle.flow_laws.specs.Flow.{is_accepted, newest_of, opened_at, syn_sendings}

@@ -8,9 +8,9 @@ use Rattle.ether_frame.specs.Ether.{ether_octets}
 use Rattle.ipv4_head.specs.Ip.{ip_octets}
 use Rattle.tcp_segment.specs.Tcp.{Tcp, mss_octets, scale_octets, tcp_octets}
 use Rattle.sock_buffers.specs.Downward.{Downward}
-use Rattle.tcp_guest.specs.declared.Head.{Head}
-use Rattle.tcp_guest.specs.declared.Owed.{Owed}
-use Rattle.tcp_guest.specs.declared.Owed.TheVariants.{Syn, SynAck, Data, Ack, Reset}
+use Rattle.tcp_connection.specs.declared.Head.{Head}
+use Rattle.tcp_connection.specs.declared.Owed.{Owed}
+use Rattle.tcp_connection.specs.declared.Owed.TheVariants.{Syn, SynAck, Data, Ack, Reset}
 use Rattle.flow_laws.specs.Event.{Segment}
 use Rattle.flow_laws.specs.Guest.{is_empty}
 use Rattle.connection_follows.specs.Sending.{carried, mss_in}

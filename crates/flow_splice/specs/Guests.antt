@@ -2,11 +2,11 @@
 use Rattle.std.specs.Prelude.{ℕ, ◌≤◌, List, ◌∷◌, Bool, true, false, ◌&&◌, ◌||◌, not, nat_eq, if◌then◌else◌}
 use Rattle.tcp_segment.specs.Tcp.{Tcp}
 use Rattle.tcp_receive.specs.Received.{next_number}
-use Rattle.tcp_guest.specs.Checks.{is_ack, is_fin, is_rst, is_syn}
-use Rattle.tcp_guest.specs.Connection.{Connection}
-use Rattle.tcp_guest.specs.Segments.{after_segment, change_at, down_after_segment, up_after_segment}
-use Rattle.tcp_guest.specs.declared.Change.{Change}
-use Rattle.tcp_guest.specs.declared.Change.TheVariants.{Nothing, GuestReset, Finished, Unfit}
+use Rattle.tcp_connection.specs.Checks.{is_ack, is_fin, is_rst, is_syn}
+use Rattle.tcp_connection.specs.Connection.{Connection}
+use Rattle.tcp_connection.specs.Segments.{after_segment, change_at, down_after_segment, up_after_segment}
+use Rattle.tcp_connection.specs.declared.Change.{Change}
+use Rattle.tcp_connection.specs.declared.Change.TheVariants.{Nothing, GuestReset, Finished, Unfit}
 use Rattle.world_face.specs.Journal.{Entry}
 use Rattle.flow_laws.specs.Settings.{Settings}
 use Rattle.flow_laws.specs.Event.{Arrives, At, Story}

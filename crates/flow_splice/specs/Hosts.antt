@@ -1,9 +1,9 @@
 -- What calls on the host's socket change of a flow.
 use Rattle.std.specs.Prelude.{◌≡◌, ℕ, List, [], ◌∷◌, ◌++◌, Bool, true, false, ◌||◌, not, if◌then◌else◌}
 use Rattle.sock_buffers.specs.Downward.{Downward}
-use Rattle.tcp_guest.specs.Connection.{Connection}
-use Rattle.tcp_guest.specs.declared.Change.{Change}
-use Rattle.tcp_guest.specs.declared.Change.TheVariants.{Nothing, GuestReset, Finished, Unfit}
+use Rattle.tcp_connection.specs.Connection.{Connection}
+use Rattle.tcp_connection.specs.declared.Change.{Change}
+use Rattle.tcp_connection.specs.declared.Change.TheVariants.{Nothing, GuestReset, Finished, Unfit}
 use Rattle.tcp_transmit.specs.Timing.{watched_over}
 use Rattle.world_face.specs.Journal.{Entry, Close, Connected, TcpRead, TcpWrite, TcpEnd}
 use Rattle.world_face.specs.declared.Io.{Io}

@@ -1,9 +1,9 @@
 -- What a flow waits for.
 use Rattle.std.specs.Prelude.{◌≡◌, ℕ, ◌+◌, ◌-◌, ◌^◌, ◌<◌, Bool, true, ◌&&◌, ◌||◌, not, nat_eq, nat_le, nat_lt, length, max, min, Option, None, Some, is_some, if◌then◌else◌}
 use Rattle.sock_buffers.specs.Downward.{Downward}
-use Rattle.tcp_guest.specs.Connection.{is_opening}
-use Rattle.tcp_guest.specs.Hosts.{is_open as host_is_open}
-use Rattle.tcp_guest.specs.Timing.{due_of as conn_due}
+use Rattle.tcp_connection.specs.Connection.{is_opening}
+use Rattle.tcp_connection.specs.Hosts.{is_open as host_is_open}
+use Rattle.tcp_connection.specs.Timing.{due_of as conn_due}
 use Rattle.connection_follows.specs.Holding.{is_connects}
 use Rattle.flow_splice.specs.Splice.{Splice, is_open}
 

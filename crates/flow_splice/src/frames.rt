@@ -7,7 +7,7 @@ ghost use Rattle.net_octets.specs.Kinds.{ipv4_kind, tcp_proto};
 ghost use Rattle.ether_frame.specs.Ether.{ether_octets};
 ghost use Rattle.ipv4_head.specs.Ip.{head_with, summed_head};
 ghost use Rattle.sock_buffers.specs.Downward.{Downward};
-ghost use Rattle.tcp_guest.specs.declared.Head.{Head as Header};
+ghost use Rattle.tcp_connection.specs.declared.Head.{Head as Header};
 ghost use Rattle.tcp_segment.specs.Tcp.{head_octets, mss_octets, scale_octets, tcp_length, tcp_octets, tcp_of};
 ghost use Rattle.connection_follows.specs.Sending.{carried, mss_in, with_head};
 ghost use Rattle.flow_splice.specs.Frames.{IsHeld, IsSized, bit_if, flags_of, frame_length, request_frame, segment_frame, tcp_out};
@@ -22,7 +22,7 @@ use net_octets::{
     ARP_KIND, Endpoint, IPV4_KIND, Ip4, Mac, TCP_PROTO, checksum, checksum_after, pseudo,
 };
 use sock_buffers::Down;
-use tcp_guest::{Head, Owed};
+use tcp_connection::{Head, Owed};
 use tcp_segment::{ACK, FIN, PSH, RST, SYN, TcpView, head_size, put_head};
 
 /// The hardware address of everyone.

@@ -1,7 +1,7 @@
 // A segment of the guest is taken in.
 ghost use Rattle.std.specs.Prelude.{◌≡◌, ℕ, ◌+◌, ◌^◌, ◌<◌, ◌≤◌, length, true, false, if◌then◌else◌};
-ghost use Rattle.tcp_guest.specs.Connection.{HasBuffers};
-ghost use Rattle.tcp_guest.specs.Segments.{change_at};
+ghost use Rattle.tcp_connection.specs.Connection.{HasBuffers};
+ghost use Rattle.tcp_connection.specs.Segments.{change_at};
 ghost use Rattle.tcp_receive.specs.Coming.{Comes};
 ghost use Rattle.tcp_segment.specs.Tcp.{tcp_of};
 ghost use Rattle.tcp_transmit.specs.Transmission.{octets_read};
@@ -10,7 +10,7 @@ ghost use Rattle.flow_laws.specs.Flow.{is_ahead};
 
 use crate::{Place, Spliced};
 use seq_space::Seq;
-use tcp_guest::{Change, Owed};
+use tcp_connection::{Change, Owed};
 use tcp_segment::TcpView;
 use world_face::World;
 

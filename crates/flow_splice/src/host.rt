@@ -1,10 +1,10 @@
 // The calls on the host's socket: whether it connected, what it takes, and what it gives.
 ghost use Rattle.std.specs.Prelude.{◌≡◌, ℕ, ◌+◌, ◌-◌, ◌^◌, ◌<◌, ◌≤◌, List, ◌∷◌, [], length, take, min, nat_lt, true, false, if◌then◌else◌};
 ghost use Rattle.sock_buffers.specs.Upward.{Upward};
-ghost use Rattle.tcp_guest.specs.Connection.{HasBuffers};
-ghost use Rattle.tcp_guest.specs.Hosts.{connected_by, host_ended, is_open as is_host_open, reset, write_ended};
-ghost use Rattle.tcp_guest.specs.Segments.{settled, settling};
-ghost use Rattle.tcp_guest.specs.declared.Change.{Change as Changes};
+ghost use Rattle.tcp_connection.specs.Connection.{HasBuffers};
+ghost use Rattle.tcp_connection.specs.Hosts.{connected_by, host_ended, is_open as is_host_open, reset, write_ended};
+ghost use Rattle.tcp_connection.specs.Segments.{settled, settling};
+ghost use Rattle.tcp_connection.specs.declared.Change.{Change as Changes};
 ghost use Rattle.tcp_transmit.specs.Transmission.{octets_read};
 ghost use Rattle.world_face.specs.Journal.{TcpRead, TcpWrite, Close, count_of};
 ghost use Rattle.world_face.specs.Tells.{Answers, Makes};
@@ -15,7 +15,7 @@ use crate::Spliced;
 use crate::guest::later_if;
 use crate::scratch::Scratch;
 use sock_buffers::Down;
-use tcp_guest::{Change, Conn, HostNews};
+use tcp_connection::{Change, Conn, HostNews};
 use world_face::{Io, Joined, MOST_TO_FLOW, Made, World};
 
 impl Spliced {

@@ -1,4 +1,4 @@
-//! One flow: a connection with a guest (`tcp_guest`) and a socket of the host, over any World.
+//! One flow: a connection with a guest (`tcp_connection`) and a socket of the host, over any World.
 //!
 //! What the guest sends goes to the socket, and what is read from the socket goes to the guest. A flow connects, where the guest's SYN came and a
 //! socket of the host began to connect, or it was accepted, where a peer came to a listener and its guest is called. Its calls are one socket's alone,
@@ -21,7 +21,7 @@ ghost use Rattle.world_face.specs.Journal.{Close};
 ghost use Rattle.world_face.specs.Tells.{Answers, Makes};
 ghost use Rattle.sock_buffers.specs.Downward.{downward};
 ghost use Rattle.sock_buffers.specs.Upward.{empty};
-ghost use Rattle.tcp_guest.specs.Connection.{HasBuffers, from_guest, to_guest};
+ghost use Rattle.tcp_connection.specs.Connection.{HasBuffers, from_guest, to_guest};
 ghost use Rattle.tcp_segment.specs.Tcp.{Tcp};
 ghost use Rattle.flow_laws.specs.Settings.{Settings};
 ghost use Rattle.flow_laws.specs.Event.{Story, Connects, Accepts, At};
@@ -37,7 +37,7 @@ use seq_space::Seq;
 use sock_buffers::{Down, Up};
 use std::alloc::Global;
 use std::marker::Model;
-use tcp_guest::{Change, Conn};
+use tcp_connection::{Change, Conn};
 use world_face::World;
 
 /// How long a socket may take to connect, in milliseconds.

@@ -5,8 +5,8 @@ ghost use Rattle.world_face.specs.Journal.{Entry};
 ghost use Rattle.world_face.specs.Tells.{Makes, Rose};
 ghost use Rattle.stream_netdev.specs.Keeps.{Keeps, Settles, Writes};
 ghost use Rattle.stream_netdev.specs.State.{under_way};
-ghost use Rattle.tcp_guest.specs.Connection.{HasBuffers};
-ghost use Rattle.tcp_guest.specs.Owing.{change_gone, owed_of};
+ghost use Rattle.tcp_connection.specs.Connection.{HasBuffers};
+ghost use Rattle.tcp_connection.specs.Owing.{change_gone, owed_of};
 ghost use Rattle.connection_follows.specs.Sending.{is_rst, is_syn, segment_out, with_head};
 ghost use Rattle.flow_splice.specs.Frames.{IsHeld, IsSized, frame_length, request_frame, segment_frame};
 ghost use Rattle.flow_laws.specs.Settings.{Settings};
@@ -23,7 +23,7 @@ use crate::{Place, Spliced};
 use net_octets::{Ip4, Mac};
 use sock_buffers::Down;
 use stream_netdev::{Link, Offered, Pumped, outcome};
-use tcp_guest::{Change, Head, Owed};
+use tcp_connection::{Change, Head, Owed};
 use world_face::World;
 
 impl Spliced {

@@ -1,8 +1,8 @@
 // What time does to a flow.
 ghost use Rattle.std.specs.Prelude.{◌≡◌, ◌^◌, ◌<◌, ◌≤◌, ◌&&◌, ◌⊎◌, ◌∷◌, [], Bool, ℕ, nat_eq, nat_le, true, false};
-ghost use Rattle.tcp_guest.specs.Connection.{HasBuffers};
-ghost use Rattle.tcp_guest.specs.Hosts.{reset};
-ghost use Rattle.tcp_guest.specs.Timing.{after_tick, change_at_tick};
+ghost use Rattle.tcp_connection.specs.Connection.{HasBuffers};
+ghost use Rattle.tcp_connection.specs.Hosts.{reset};
+ghost use Rattle.tcp_connection.specs.Timing.{after_tick, change_at_tick};
 ghost use Rattle.world_face.specs.Journal.{Close};
 ghost use Rattle.world_face.specs.Tells.{Makes};
 ghost use Rattle.flow_laws.specs.Settings.{Settings};
@@ -11,7 +11,7 @@ ghost use Rattle.flow_laws.specs.Event.{At, Closes, Story};
 ghost use Rattle.connection_follows.specs.Holding.{is_connects};
 
 use crate::Spliced;
-use tcp_guest::Change;
+use tcp_connection::Change;
 use world_face::World;
 
 /// How often the guest's hardware address is asked for.

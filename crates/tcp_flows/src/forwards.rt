@@ -7,7 +7,7 @@ ghost use Rattle.flow_table.specs.declared.Slot.TheVariants.{InUse as SlotInUse}
 ghost use Rattle.flow_splice.specs.Splice.{Splice, is_in_use as is_in_use_by};
 ghost use Rattle.sock_buffers.specs.Downward.{downward};
 ghost use Rattle.sock_buffers.specs.Upward.{empty};
-ghost use Rattle.tcp_guest.specs.Connection.{HasBuffers, to_guest};
+ghost use Rattle.tcp_connection.specs.Connection.{HasBuffers, to_guest};
 ghost use Rattle.tcp_flows.specs.Rows.{AreSized};
 
 use crate::flows::{Sizes, TcpFlows};
@@ -17,7 +17,7 @@ use arp_table::ArpTable;
 use flow_splice::Place;
 use flow_table::Tuple;
 use net_octets::Mac;
-use tcp_guest::Conn;
+use tcp_connection::Conn;
 
 impl TcpFlows {
     ghost use Rattle.record_flows.specs.Book.{book};

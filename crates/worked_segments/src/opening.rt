@@ -1,11 +1,11 @@
 ghost use Rattle.std.specs.Prelude.{ℕ, ◌≤◌, []};
 ghost use Rattle.sock_buffers.specs.Downward.{downward};
 ghost use Rattle.sock_buffers.specs.Upward.{empty};
-ghost use Rattle.tcp_guest.specs.Connection.{HasBuffers};
+ghost use Rattle.tcp_connection.specs.Connection.{HasBuffers};
 
 use crate::steps::{Said, head_of};
 use seq_space::Seq;
-use tcp_guest::Conn;
+use tcp_connection::Conn;
 
 /// How a connection is opened.
 #[derive(Clone, Copy)]

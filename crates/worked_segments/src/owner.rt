@@ -5,7 +5,7 @@ use seq_space::Seq;
 use sock_buffers::{Down, Up};
 use std::alloc::{AllocError, Global};
 use std::marker::Model;
-use tcp_guest::{Change, Conn, HostNews, Owed, State};
+use tcp_connection::{Change, Conn, HostNews, Owed, State};
 use tcp_segment::TcpView;
 
 /// The moment at which a connection is opened, and the one up to which its socket may connect.
@@ -39,7 +39,7 @@ pub struct Owner {
 
 impl Model for Owner {
     ghost use Rattle.std.specs.Prelude.{ℕ, ◌≤◌, ◌^◌};
-    ghost use Rattle.tcp_guest.specs.Connection.{HasBuffers};
+    ghost use Rattle.tcp_connection.specs.Connection.{HasBuffers};
 
     ghost Value = { ℕ };
 

@@ -1,4 +1,4 @@
-use tcp_guest::HostNews;
+use tcp_connection::HostNews;
 use tcp_segment::{ACK, FIN, PSH, RST, SYN};
 
 const URG: u8 = 0x20;

@@ -1,6 +1,6 @@
 // What went out and what is held, as it is written in a case.
 use std::alloc::{AllocError, Global};
-use tcp_guest::{Head, Owed};
+use tcp_connection::{Head, Owed};
 
 /// Puts a segment that goes out behind those that did.
 pub fn put_segment(

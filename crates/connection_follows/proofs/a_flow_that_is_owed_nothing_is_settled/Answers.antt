@@ -1,8 +1,8 @@
 use Rattle.std.proofs.Common.{ap}
-use Rattle.tcp_guest.specs.Connection.{is_opening, is_synchronized}
-use Rattle.tcp_guest.specs.Owing.{owed_by}
-use Rattle.tcp_guest.specs.Timing.{due_by}
-use Rattle.tcp_guest.specs.declared.Stage.{Stage}
+use Rattle.tcp_connection.specs.Connection.{is_opening, is_synchronized}
+use Rattle.tcp_connection.specs.Owing.{owed_by}
+use Rattle.tcp_connection.specs.Timing.{due_by}
+use Rattle.tcp_connection.specs.declared.Stage.{Stage}
 use Rattle.connection_follows.specs.Holding.{is_calls}
 use Rattle.connection_follows.proofs.Settling.{synchronized_settled}
 use Rattle.connection_follows.proofs.a_flow_that_is_owed_nothing_is_settled.Goals as goal

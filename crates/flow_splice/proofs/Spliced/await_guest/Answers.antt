@@ -1,7 +1,7 @@
 use Rattle.std.proofs.Common.{◌∷◌, [], ℕ, refl, ap, subst, sym, ◌∙◌}
 use Rattle.world_face.specs.Journal.{Close}
 use Rattle.world_face.proofs.Telling.{makes_none, makes_one}
-use Rattle.tcp_guest.specs.Hosts.{reset}
+use Rattle.tcp_connection.specs.Hosts.{reset}
 use Rattle.flow_splice.specs.Serves.{TicksOn}
 use Rattle.flow_splice.specs.Splice.{Splice, is_open}
 use Rattle.flow_splice.proofs.Shutting.{shut_is}

@@ -3,7 +3,7 @@ use Rattle.world_face.specs.Journal.{Close, Connected}
 use Rattle.world_face.specs.Tells.{Answers}
 use Rattle.world_face.specs.declared.Joined.TheVariants.{Yes, NotYet, Failed}
 use Rattle.world_face.proofs.Telling.{makes_one}
-use Rattle.tcp_guest.specs.Connection.{HasBuffers}
+use Rattle.tcp_connection.specs.Connection.{HasBuffers}
 use Rattle.flow_splice.specs.Serves.{GoesOn}
 use Rattle.flow_splice.specs.Splice.{Splice}
 use Rattle.flow_splice.proofs.Calls.{two_calls}

@@ -2,9 +2,9 @@ use Rattle.std.proofs.Common.{◌≡◌, ◌∷◌, [], ℕ, true, false, refl, 
 use Rattle.world_face.specs.Journal.{Close, TcpEnd}
 use Rattle.world_face.specs.Tells.{Answers}
 use Rattle.world_face.specs.declared.Made.TheVariants.{Done, Failed}
-use Rattle.tcp_guest.specs.Connection.{HasBuffers}
-use Rattle.tcp_guest.specs.Hosts.{write_ended}
-use Rattle.tcp_guest.specs.Segments.{settled}
+use Rattle.tcp_connection.specs.Connection.{HasBuffers}
+use Rattle.tcp_connection.specs.Hosts.{write_ended}
+use Rattle.tcp_connection.specs.Segments.{settled}
 use Rattle.flow_splice.specs.Hosts.{Sees, ends, serves_write}
 use Rattle.flow_splice.specs.Serves.{GoesOn}
 use Rattle.flow_splice.specs.Splice.{Splice}

@@ -1,6 +1,6 @@
 use Rattle.std.proofs.Common.{ap, ◌∙◌}
-use Rattle.tcp_guest.specs.Connection.{Connection}
-use Rattle.tcp_guest.specs.declared.HostNews.TheVariants.{Ended}
+use Rattle.tcp_connection.specs.Connection.{Connection}
+use Rattle.tcp_connection.specs.declared.HostNews.TheVariants.{Ended}
 use Rattle.flow_splice.proofs.AtRest.{news_rests, rests_on}
 use Rattle.flow_splice.proofs.Spliced.end_reading.Goals as goal
 

@@ -1,7 +1,7 @@
 use Rattle.std.proofs.Common.{◌≡◌, ℕ, ap, subst, sym, ◌∙◌}
 use Rattle.world_face.proofs.Telling.{makes_as}
-use Rattle.tcp_guest.specs.Connection.{HasBuffers}
-use Rattle.tcp_guest.specs.Timing.{after_tick}
+use Rattle.tcp_connection.specs.Connection.{HasBuffers}
+use Rattle.tcp_connection.specs.Timing.{after_tick}
 use Rattle.connection_follows.specs.Holding.{is_live}
 use Rattle.flow_splice.specs.Hosts.{Sees, ends}
 use Rattle.flow_splice.specs.Splice.{Splice}

@@ -1,6 +1,6 @@
 use Rattle.std.proofs.Common.{◌≡◌, ℕ, Bool, false, subst, sym, ◌∙◌}
 use Rattle.world_face.proofs.Telling.{makes_as}
-use Rattle.tcp_guest.specs.declared.Change.{Change}
+use Rattle.tcp_connection.specs.declared.Change.{Change}
 use Rattle.connection_follows.specs.Sending.{is_rst}
 use Rattle.flow_splice.specs.Hosts.{Sees, ends}
 use Rattle.flow_splice.specs.Sends.{GoesOut, went_out}

@@ -1,7 +1,7 @@
 use Rattle.std.proofs.Common.{◌&&◌, ℕ, [], Bool, refl, ap, subst, sym, ◌∙◌}
 use Rattle.world_face.proofs.Telling.{makes_none}
 use Rattle.tcp_segment.specs.Tcp.{Tcp, tcp_of}
-use Rattle.tcp_guest.specs.Segments.{change_at}
+use Rattle.tcp_connection.specs.Segments.{change_at}
 use Rattle.flow_splice.specs.Guests.{Hears, ends_rest, is_unfit}
 use Rattle.flow_splice.specs.Hosts.{IsAsOld}
 use Rattle.flow_splice.specs.Splice.{Splice}

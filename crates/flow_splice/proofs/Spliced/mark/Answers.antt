@@ -2,7 +2,7 @@ use Rattle.std.proofs.Common.{◌≡◌, ℕ, [], refl, subst, sym, inl, inr, �
 use Rattle.world_face.proofs.Telling.{makes_as, makes_none}
 use Rattle.stream_netdev.specs.declared.Offered.{Offered}
 use Rattle.stream_netdev.specs.declared.Offered.TheVariants.{Blocked, Failed}
-use Rattle.tcp_guest.specs.declared.Owed.{Owed}
+use Rattle.tcp_connection.specs.declared.Owed.{Owed}
 use Rattle.connection_follows.specs.Sending.{is_rst}
 use Rattle.flow_splice.specs.Sends.{GoesOut, Marks}
 use Rattle.flow_splice.specs.Splice.{Splice}

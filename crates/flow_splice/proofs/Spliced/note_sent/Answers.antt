@@ -1,6 +1,6 @@
 use Rattle.std.proofs.Common.{ℕ, ◌≤◌, ◌^◌, ap, subst, sym, ◌∙◌}
-use Rattle.tcp_guest.specs.Connection.{Connection}
-use Rattle.tcp_guest.specs.Owing.{owed_of}
+use Rattle.tcp_connection.specs.Connection.{Connection}
+use Rattle.tcp_connection.specs.Owing.{owed_of}
 use Rattle.flow_splice.specs.Splice.{Splice}
 use Rattle.flow_splice.proofs.AtRest.{gone_rests, rests_on}
 use Rattle.flow_splice.proofs.InTime.{either_moment}

@@ -3,10 +3,10 @@ use Rattle.world_face.specs.Frames.{spelling}
 use Rattle.world_face.specs.Journal.{Entry}
 use Rattle.world_face.specs.Tells.{Makes}
 use Rattle.stream_netdev.specs.Keeps.{Keeps, Writes}
-use Rattle.tcp_guest.specs.Connection.{HasBuffers}
-use Rattle.tcp_guest.specs.Owing.{owed_of}
-use Rattle.tcp_guest.specs.declared.Owed.{Owed}
-use Rattle.tcp_guest.specs.declared.Head.{Head}
+use Rattle.tcp_connection.specs.Connection.{HasBuffers}
+use Rattle.tcp_connection.specs.Owing.{owed_of}
+use Rattle.tcp_connection.specs.declared.Owed.{Owed}
+use Rattle.tcp_connection.specs.declared.Head.{Head}
 use Rattle.connection_follows.specs.Sending.{segment_out, with_head}
 use Rattle.flow_splice.specs.Frames.{IsSized, segment_frame}
 use Rattle.flow_splice.specs.Splice.{Splice}

@@ -5,7 +5,7 @@ use Rattle.flow_splice.specs.Asks.{AsksOnce}
 use Rattle.net_octets.specs.declared.Mac.{Mac}
 use Rattle.flow_splice.specs.Sends.{Acknowledges, IsClearBy, SendsOn}
 use Rattle.flow_splice.specs.Splice.{Splice, is_at_rest, is_open}
-use Rattle.tcp_guest.specs.Connection.{Connection}
+use Rattle.tcp_connection.specs.Connection.{Connection}
 use Rattle.flow_splice.specs.Ahead.{HasPatience, IsAhead, IsEarly}
 use Rattle.flow_splice.proofs.Ahead.{follows_waits}
 use Rattle.flow_splice.proofs.Asking.{known_asks, learn_asks, learn_then, unknown_asks}

@@ -4,8 +4,8 @@ use Rattle.world_face.specs.Tells.{Answers}
 use Rattle.world_face.specs.declared.Io.{Io}
 use Rattle.world_face.specs.declared.Io.TheVariants.{Done, End, NotYet, Failed}
 use Rattle.world_face.proofs.Telling.{makes_one}
-use Rattle.tcp_guest.specs.Connection.{HasBuffers}
-use Rattle.tcp_guest.specs.Hosts.{host_ended, reset}
+use Rattle.tcp_connection.specs.Connection.{HasBuffers}
+use Rattle.tcp_connection.specs.Hosts.{host_ended, reset}
 use Rattle.flow_splice.specs.Hosts.{given, gives_octets, read_by}
 use Rattle.flow_splice.specs.Serves.{GoesOn}
 use Rattle.flow_splice.specs.Splice.{Splice, closed}

@@ -1,8 +1,8 @@
 use Rattle.std.proofs.Common.{refl, ◌≡◌, ◌∷◌, [], Bool, true, ap, subst, sym, inl, inr, ◌⊎◌}
 use Rattle.world_face.specs.Journal.{Close}
 use Rattle.world_face.proofs.Telling.{makes_one}
-use Rattle.tcp_guest.specs.declared.Change.{Change}
-use Rattle.tcp_guest.specs.declared.Change.TheVariants.{GuestReset, Finished}
+use Rattle.tcp_connection.specs.declared.Change.{Change}
+use Rattle.tcp_connection.specs.declared.Change.TheVariants.{GuestReset, Finished}
 use Rattle.flow_splice.specs.Hosts.{Sees, ends}
 use Rattle.flow_splice.proofs.Spliced.see.Goals as goal
 

@@ -6,8 +6,8 @@ use Rattle.stream_netdev.specs.Keeps.{Keeps, Settles, Writes}
 use Rattle.stream_netdev.specs.State.{LinkState}
 use Rattle.stream_netdev.specs.declared.Offered.{Offered}
 use Rattle.stream_netdev.specs.declared.Offered.TheVariants.{Taken, Blocked, Failed as OfferFailed}
-use Rattle.tcp_guest.specs.Owing.{owed_of}
-use Rattle.tcp_guest.specs.declared.Owed.{Owed}
+use Rattle.tcp_connection.specs.Owing.{owed_of}
+use Rattle.tcp_connection.specs.declared.Owed.{Owed}
 use Rattle.connection_follows.specs.Sending.{segment_out}
 use Rattle.flow_splice.specs.Frames.{segment_frame}
 use Rattle.flow_splice.specs.Sends.{Marks, Sends, takes_part_at}

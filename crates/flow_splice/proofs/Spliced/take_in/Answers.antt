@@ -2,7 +2,7 @@ use Rattle.std.proofs.Common.{◌≡◌, false, true, arith, ap, subst, sym, ◌
 use Rattle.sock_buffers.specs.Downward.{Downward}
 use Rattle.sock_buffers.specs.Upward.{Upward}
 use Rattle.tcp_segment.specs.Tcp.{tcp_of}
-use Rattle.tcp_guest.specs.Connection.{Connection}
+use Rattle.tcp_connection.specs.Connection.{Connection}
 use Rattle.flow_splice.specs.Guests.{ends_rest}
 use Rattle.flow_splice.specs.Splice.{Splice, is_at_rest}
 use Rattle.flow_splice.proofs.AtRest.{rests_on, segment_rests}

@@ -3,7 +3,7 @@ use Rattle.world_face.proofs.Telling.{makes_as}
 use Rattle.sock_buffers.specs.Upward.{Upward}
 use Rattle.tcp_receive.specs.Coming.{Comes}
 use Rattle.tcp_segment.specs.Tcp.{Tcp, tcp_of}
-use Rattle.tcp_guest.specs.Connection.{HasBuffers}
+use Rattle.tcp_connection.specs.Connection.{HasBuffers}
 use Rattle.tcp_transmit.specs.Transmission.{octets_read}
 use Rattle.connection_follows.specs.Holding.{is_live}
 use Rattle.flow_splice.specs.Guests.{heard}

@@ -1,6 +1,6 @@
 use Rattle.std.proofs.Common.{◌≡◌, [], ◌∷◌, ℕ, false, refl, ap, subst, sym, ◌∙◌, ◌⊎◌, inl, inr}
-use Rattle.tcp_guest.specs.Connection.{Connection}
-use Rattle.tcp_guest.specs.Hosts.{reset}
+use Rattle.tcp_connection.specs.Connection.{Connection}
+use Rattle.tcp_connection.specs.Hosts.{reset}
 use Rattle.world_face.proofs.Telling.{makes_as, makes_none, makes_one}
 use Rattle.flow_splice.specs.Splice.{Splice, closed, is_open}
 use Rattle.flow_splice.specs.Ahead.{HasPatience, IsAhead}

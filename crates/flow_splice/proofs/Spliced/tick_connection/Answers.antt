@@ -1,5 +1,5 @@
 use Rattle.std.proofs.Common.{ap, ◌∙◌}
-use Rattle.tcp_guest.specs.Connection.{Connection}
+use Rattle.tcp_connection.specs.Connection.{Connection}
 use Rattle.flow_splice.proofs.AtRest.{rests_on, tick_rests}
 use Rattle.flow_splice.proofs.Spliced.tick_connection.Goals as goal
 

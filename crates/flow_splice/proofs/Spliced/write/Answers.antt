@@ -3,8 +3,8 @@ use Rattle.world_face.specs.Journal.{Close, Entry, TcpWrite, count_of}
 use Rattle.world_face.specs.Tells.{Answers}
 use Rattle.world_face.specs.declared.Io.{Io}
 use Rattle.world_face.specs.declared.Io.TheVariants.{Done, End, NotYet, Failed}
-use Rattle.tcp_guest.specs.Connection.{HasBuffers}
-use Rattle.tcp_guest.specs.Hosts.{reset}
+use Rattle.tcp_connection.specs.Connection.{HasBuffers}
+use Rattle.tcp_connection.specs.Hosts.{reset}
 use Rattle.connection_follows.specs.Holding.{without}
 use Rattle.sock_buffers.specs.Upward.{Upward}
 use Rattle.flow_splice.specs.Serves.{GoesOn}

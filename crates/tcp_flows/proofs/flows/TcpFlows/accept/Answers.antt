@@ -2,7 +2,7 @@ use Rattle.std.proofs.Common.{◌≡◌, ◌+◌, ◌-◌, ◌<◌, [], inl, inr
 use Rattle.flows_follow.specs.Seats.{in_use_slots}
 use Rattle.sock_buffers.specs.Downward.{downward}
 use Rattle.sock_buffers.specs.Upward.{empty}
-use Rattle.tcp_guest.specs.Connection.{HasBuffers, to_guest}
+use Rattle.tcp_connection.specs.Connection.{HasBuffers, to_guest}
 use Rattle.flow_laws.specs.Flow.{first_number}
 use Rattle.host_policy.specs.Addresses.{Config}
 use Rattle.tcp_flows.specs.Kept.{IsFor, Kept}

@@ -3,7 +3,7 @@ use Rattle.std.proofs.lemmas.List.{length-map, length-set, map-set}
 use Rattle.std.proofs.lemmas.Option.{slice_get_within}
 use Rattle.sock_buffers.specs.Downward.{downward}
 use Rattle.sock_buffers.specs.Upward.{empty}
-use Rattle.tcp_guest.specs.Connection.{HasBuffers}
+use Rattle.tcp_connection.specs.Connection.{HasBuffers}
 use Rattle.tcp_transmit.specs.Transmission.{octets_read}
 use Rattle.flow_table.specs.Slots.{AreKept, MayBeTaken, NoneHas, with_slot}
 use Rattle.flow_table.specs.declared.Slot.{Slot}

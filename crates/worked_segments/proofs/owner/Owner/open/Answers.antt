@@ -1,7 +1,7 @@
 use Rattle.std.proofs.Common.{sym, subst, arith}
 use Rattle.sock_buffers.specs.Downward.{Downward}
 use Rattle.sock_buffers.specs.Upward.{Upward, empty}
-use Rattle.tcp_guest.specs.Connection.{HasBuffers}
+use Rattle.tcp_connection.specs.Connection.{HasBuffers}
 use Rattle.worked_segments.proofs.owner.Owner.open.Goals as goal
 
 pub invariant_of-owner : goal.invariant_of-owner

@@ -1,5 +1,0 @@
-use Rattle.tcp_guest.proofs.Keeping.{written_has}
-use Rattle.tcp_guest.proofs.buffers_stay_while_octets_are_written.Goals as goal
-
-pub returns : goal.returns
-returns c = written_has

@@ -1,4 +1,0 @@
-use Rattle.tcp_guest.proofs.windows.+shift_within.Given as goal
-
-abbrev pub decreases-shift_within : goal.decreases-shift_within
-decreases-shift_within l = l.most
