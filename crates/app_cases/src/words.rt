@@ -1,6 +1,6 @@
 // Words that no line of a file can hold. All others are cases of `worked_runs` and `worked_words`.
+use command_words::{WordFault, read_words};
 use slirp_app::out_of_memory;
-use slirp_config::{WordFault, read_words};
 use std::alloc::Global;
 use std::test::Fail;
 use world_face::VecSink;

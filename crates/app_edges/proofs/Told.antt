@@ -6,9 +6,9 @@ use Rattle.std.proofs.lemmas.Bool.Decides.{nat_tests}
 use Rattle.std.proofs.lemmas.Option.{slice_get_past, slice_get_read}
 use Rattle.std.proofs.lemmas.Bool.{cases_lt}
 use Rattle.std.proofs.lemmas.List.{take_all}
-use Rattle.host_policy.specs.declared.Forward.{Forward}
-use Rattle.slirp_config.specs.declared.Stop.{Stop}
-use Rattle.slirp_config.specs.declared.Stop.TheVariants.{Word as AtWord, End as AtEnd}
+use Rattle.slirp_settings.specs.declared.Forward.{Forward}
+use Rattle.command_words.specs.declared.Stop.{Stop}
+use Rattle.command_words.specs.declared.Stop.TheVariants.{Word as AtWord, End as AtEnd}
 use Rattle.app_edges.specs.Texts.{mistake_text, missing_text, usage_text, with_feed, word_text}
 
 two_lines : (first second : List ℕ) → (first ++ 10 ∷ []) ++ (second ++ 10 ∷ []) ≡ (first ++ 10 ∷ second) ++ 10 ∷ []

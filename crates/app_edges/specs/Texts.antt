@@ -2,13 +2,13 @@
 use Rattle.std.specs.Prelude.{◌≡◌, ℕ, ◌+◌, ◌&&◌, nat_le, List, [], ◌∷◌, ◌++◌, map, take, slice_get, codes, decimal, Option, Some, None, if◌then◌else◌}
 use Rattle.std.specs.Option.{option_map_or}
 use Rattle.address_text.specs.Texts.{endpoint_text}
-use Rattle.host_policy.specs.declared.Forward.{Forward}
-use Rattle.host_policy.specs.declared.Proto.{Proto}
-use Rattle.host_policy.specs.declared.Proto.TheVariants.{Tcp, Udp}
-use Rattle.slirp_config.specs.declared.Stop.{Stop}
-use Rattle.slirp_config.specs.declared.Stop.TheVariants.{Word as AtWord, End as AtEnd}
+use Rattle.slirp_settings.specs.declared.Forward.{Forward}
+use Rattle.slirp_settings.specs.declared.Proto.{Proto}
+use Rattle.slirp_settings.specs.declared.Proto.TheVariants.{Tcp, Udp}
+use Rattle.command_words.specs.declared.Stop.{Stop}
+use Rattle.command_words.specs.declared.Stop.TheVariants.{Word as AtWord, End as AtEnd}
 use Rattle.world_face.specs.Puts.{added}
-use Rattle.host_policy.specs.Names.{field_name}
+use Rattle.command_words.specs.Meaning.{setting_name}
 use Rattle.replay.specs.Names.{name_text}
 use Rattle.replay.specs.declared.CallName.{CallName}
 use Rattle.world_face.specs.Tells.{Rose}
@@ -60,7 +60,7 @@ port_text (Some forward) = codes ": " ++ forward_text forward
 abbrev pub text_of : (words : List (List ℕ)) (forwards : List Forward) → Outcome → List ℕ
 text_of words forwards Done = []
 text_of words forwards (Usage stop) = mistake_text words stop ++ 10 ∷ usage_text
-text_of words forwards (BadConfig field) = codes "slirpd: config: " ++ field_name field
+text_of words forwards (BadConfig setting) = codes "slirpd: config: " ++ setting_name setting
 text_of words forwards ScheduleRead = codes "slirpd: schedule cannot be read"
 text_of words forwards ScheduleTooLarge = codes "slirpd: schedule cannot be read"
 text_of words forwards (ScheduleLine line) = codes "slirpd: schedule line " ++ decimal line

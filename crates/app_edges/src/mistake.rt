@@ -9,8 +9,8 @@ ghost use Rattle.app_edges.specs.Texts.{forward_text, mistake_text, shown, shown
 use crate::status::tell_number;
 use address_text::endpoint_string;
 use arrayvec::ArrayVec;
-use host_policy::{Forward, Proto};
-use slirp_config::Stop;
+use command_words::Stop;
+use slirp_settings::{Forward, Proto};
 use world_face::{Failed, Sink};
 
 /// The most octets of a word that are shown.

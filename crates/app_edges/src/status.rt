@@ -10,10 +10,10 @@ ghost use Rattle.app_edges.specs.Texts.{port_text, text_of, told_text, wanted_te
 ghost use Rattle.app_edges.specs.declared.status.Outcome.TheVariants.{Diverged as IsDiverged, Usage as IsUsage};
 
 use crate::mistake::{put_forward, tell_mistake};
-use host_policy::{Field, Forward};
+use command_words::{Setting, Stop};
 use itoa::Buffer;
 use replay::{CallName, Divergence};
-use slirp_config::Stop;
+use slirp_settings::Forward;
 use world_face::{Failed, Sink};
 
 /// What the program came to.
@@ -23,7 +23,7 @@ pub enum Outcome {
     /// The words have no reading, which stops here.
     Usage(Stop),
     /// This field of the settings isn't in its range.
-    BadConfig(Field),
+    BadConfig(Setting),
     ScheduleRead,
     /// Each line has a reading, but the room for stars passes its limit.
     ScheduleTooLarge,
@@ -80,8 +80,8 @@ impl Outcome {
         match self {
             Outcome::Done | Outcome::SinkFault => Ok(()),
             Outcome::Usage(stop) => tell_usage(err, words, *stop),
-            Outcome::BadConfig(field) => {
-                tell_named(err, b"slirpd: config: ", field.name(), b"\n")
+            Outcome::BadConfig(setting) => {
+                tell_named(err, b"slirpd: config: ", setting.name(), b"\n")
             }
             Outcome::ScheduleRead | Outcome::ScheduleTooLarge => {
                 err.put(b"slirpd: schedule cannot be read\n")

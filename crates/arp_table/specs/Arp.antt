@@ -1,7 +1,7 @@
 -- Packets of ARP for IPv4 over Ethernet (RFC 826): whose hardware address is asked or told.
-use Rattle.std.specs.Prelude.{◌≡◌, ℕ, ◌<◌, ◌^◌, ◌==◌, ◌&&◌, ◌||◌, not, nat_le, nat_lt, Bool, List, ◌∷◌, ◌++◌, length, Option, Some, None, if◌then◌else◌}
+use Rattle.std.specs.Prelude.{◌≡◌, ℕ, ◌<◌, ◌^◌, ◌==◌, ◌&&◌, ◌||◌, not, nat_le, nat_lt, Bool, false, List, [], ◌∷◌, ◌++◌, length, Option, Some, None, if◌then◌else◌}
 use Rattle.net_octets.specs.Kinds.{ipv4_kind}
-use Rattle.net_octets.specs.Octets.{one_at, two_at, four_at, part, two, four}
+use Rattle.net_octets.specs.Octets.{one_at, two_at, four_at, our_mac, part, two, four}
 use Rattle.net_octets.specs.declared.Fault.{Fault}
 use Rattle.net_octets.specs.declared.FaultKind.TheVariants.{Short, BadKind, BadLength}
 use Rattle.arp_table.specs.declared.ArpView.{ArpView}
@@ -18,6 +18,17 @@ abbrev pub arp_octets : Arp → List ℕ
 arp_octets arp =
     two 1 ++ two ipv4_kind ++ 6 ∷ 4 ∷ two (if arp.is_reply then 2 else 1)
     ++ arp.sender_mac ++ four arp.sender ++ arp.target_mac ++ four arp.target
+
+-- the hardware address to which all listen (RFC 894), and the one that stands where none is known yet
+abbrev pub everyone : List ℕ
+everyone = 255 ∷ 255 ∷ 255 ∷ 255 ∷ 255 ∷ 255 ∷ []
+
+abbrev pub nobody : List ℕ
+nobody = 0 ∷ 0 ∷ 0 ∷ 0 ∷ 0 ∷ 0 ∷ []
+
+-- an address of ours asks for the hardware address of another, of everyone
+abbrev pub asking : (ours other : ℕ) → Arp
+asking ours other = record { is_reply = false; sender_mac = our_mac ours; sender = ours; target_mac = nobody; target = other }
 
 -- the grammar: the fields in their order, and octets that belong to no packet
 pub record IsArp (octets : List ℕ) (arp : Arp) : Type 0 where

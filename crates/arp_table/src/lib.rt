@@ -4,7 +4,7 @@
 
 ghost use Rattle.std.specs.Prelude.{◌≡◌, ℕ, List, [], None, ◌+◌, ◌≤◌, ◌↔◌, ◌++◌, length, take, drop, IsOk, IfOk, OnErr, MatchResult, Some, if◌then◌else◌};
 ghost use Rattle.std.specs.Result.{result_ok, result_err};
-ghost use Rattle.arp_table.specs.Arp.{Arp, IsArp, read_arp, arp_fault, arp_octets, arp_of};
+ghost use Rattle.arp_table.specs.Arp.{Arp, IsArp, asking, read_arp, arp_fault, arp_octets, arp_of};
 ghost use Rattle.arp_table.specs.Table.{learnt, mac_of};
 ghost use Rattle.net_octets.specs.Octets.{IsOctets};
 
@@ -16,6 +16,12 @@ use std::marker::Model;
 /// The octets of a packet.
 const LENGTH: usize = 28;
 
+/// The hardware address to which all listen (RFC 894).
+pub const EVERYONE: Mac = Mac([255; 6]);
+
+/// The hardware address that stands where none is known yet.
+const NOBODY: Mac = Mac([0; 6]);
+
 /// A packet: a reply or else a request, and the addresses of who sends it and of who is asked or
 /// told.
 #[derive(Clone, Copy, Debug, PartialEq, Eq)]
@@ -25,6 +31,19 @@ pub struct ArpView {
     pub sender_ip: Ip4,
     pub target_mac: Mac,
     pub target_ip: Ip4,
+}
+
+/// The request of an address of ours for the hardware address of another, which goes to everyone.
+pub fn asking(ours: Ip4, other: Ip4) -> ArpView
+    ensures { arp_of result ≡ asking ours.0 other.0 }
+{
+    ArpView {
+        reply: false,
+        sender_mac: Mac::of_ours(ours),
+        sender_ip: ours,
+        target_mac: NOBODY,
+        target_ip: other,
+    }
 }
 
 /// Reads a packet for IPv4 over Ethernet; octets behind it are passed over. The fault is the first

@@ -15,7 +15,7 @@ use Rattle.flow_laws.specs.Host.{acked, answered, owned, sent}
 use Rattle.flow_laws.specs.Flow.{acknowledged_at, host, is_accepted, is_closed, is_under_way, oldest_sendings, opened_at, sendings, syn_is_out, syn_sendings, newest_of}
 use Rattle.flow_laws.specs.Close.{asked_at, times_asked}
 use Rattle.flow_laws.specs.Dutiful.{back_off, closing_moments, moment_if, oldest_unheard, resend_deadline, seeks_guest, waits_for_window, waits_since, wakes}
-use Rattle.halves_follow.specs.Bounds.{IsBy, IsFrom}
+use Rattle.flow_laws.specs.Bounds.{IsBy, IsFrom}
 use Rattle.halves_follow.specs.Resends.{Resends}
 use Rattle.halves_follow.proofs.Edges.{owned_is}
 use Rattle.halves_follow.proofs.InTime.{not_woken, opened_by, seeks_none}

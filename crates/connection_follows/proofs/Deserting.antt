@@ -14,7 +14,7 @@ use Rattle.flow_laws.specs.Flow.{guest, host, is_accepted, is_closed, is_connect
 use Rattle.flow_laws.specs.Close.{is_deserted, patience_end, syn_is_due}
 use Rattle.flow_laws.specs.Lawful.{is_prompted}
 use Rattle.flow_laws.specs.Dutiful.{closing_moments, moment_if, seeks_guest, wakes}
-use Rattle.halves_follow.specs.Bounds.{IsFrom}
+use Rattle.flow_laws.specs.Bounds.{IsFrom}
 use Rattle.connection_follows.specs.Holding.{Holds, is_calls}
 use Rattle.connection_follows.proofs.Bounds.{from_first, from_if, from_second}
 use Rattle.connection_follows.proofs.Watching.{opening_is, synchronized_is}

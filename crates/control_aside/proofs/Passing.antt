@@ -6,7 +6,7 @@ use Rattle.world_face.specs.Journal.{Allowed, Entry, Wait}
 use Rattle.world_face.specs.Tells.{Telling, Answers, on}
 use Rattle.world_face.specs.declared.Waited.{Waited}
 use Rattle.world_face.proofs.Telling.{makes_next}
-use Rattle.control_session.specs.Apart.{others, reported_of}
+use Rattle.control_rules.specs.Apart.{others, reported_of}
 use Rattle.control_aside.specs.Stretches.{ArePassed, Asided, IsKept, IsSeen, last_reported, marked_for, tells_seen}
 use Rattle.control_aside.specs.Waits.{with_item}
 

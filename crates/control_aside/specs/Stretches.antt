@@ -8,7 +8,7 @@ use Rattle.world_face.specs.Journal.{Entry, Wait}
 use Rattle.world_face.specs.Limits.{most_ready, most_wants}
 use Rattle.world_face.specs.Tells.{Telling, Makes}
 use Rattle.taps.specs.Recording.{marked, numbers_of, telling}
-use Rattle.control_session.specs.Apart.{is_of_control, others, reported_of}
+use Rattle.control_rules.specs.Apart.{is_of_control, others, reported_of}
 use Rattle.control_aside.specs.Waits.{with_item}
 
 -- The World, what it was when the stretch began, what the control waits for in it, what the last wait reported of that, and the calls of the stretch as the network sees them, newest first.

@@ -5,7 +5,7 @@ use Rattle.poll_list.specs.declared.Want.{Want}
 use Rattle.poll_list.specs.declared.Who.{Who}
 use Rattle.poll_list.specs.declared.Who.TheVariants.{Link, Listener, Tcp, Udp}
 use Rattle.world_face.specs.Limits.{most_wants}
-use Rattle.control_session.specs.Apart.{is_of_control}
+use Rattle.control_rules.specs.Apart.{is_of_control}
 
 -- The link and the listeners stand in front: how many wants do.
 abbrev pub stands_in_front : Who → Bool

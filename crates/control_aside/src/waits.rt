@@ -4,10 +4,10 @@ ghost use Rattle.std.specs.List.{list_any};
 ghost use Rattle.poll_list.specs.Listing.{reads, writes};
 ghost use Rattle.poll_list.specs.Picks.{as_list, part_in};
 ghost use Rattle.world_face.specs.Limits.{most_wants};
-ghost use Rattle.control_session.specs.Apart.{is_of_control, others, reported_of};
+ghost use Rattle.control_rules.specs.Apart.{is_of_control, others, reported_of};
 ghost use Rattle.control_aside.specs.Waits.{front_length, place_for, stands_in_front, takes_item, with_item};
 
-use control_session::LISTENER;
+use control_rules::LISTENER;
 use poll_list::{ReadyList, Want, Wants, Who};
 use world_face::MOST_WANTS;
 

@@ -3,7 +3,7 @@ use Rattle.std.proofs.Common.{◌≡◌, ℕ, ◌==◌, Bool, true, false, List,
 use Rattle.std.specs.Option.{option_or}
 use Rattle.net_octets.specs.declared.Endpoint.{Endpoint}
 use Rattle.world_face.specs.Journal.{Entry, Call, CallClose, CallListen, CallNow, CallUdpOpen}
-use Rattle.host_policy.specs.Addresses.{Config, forward_on}
+use Rattle.slirp_settings.specs.Addresses.{Config, forward_on}
 use Rattle.record_flows.specs.Book.{port_of}
 use Rattle.run_laws.specs.Shape.{Opening, Over, Phase, Started, Woken, Working, due_in, is_opening, phase}
 use Rattle.run_laws.specs.Sockets.{first, next_number, open_sockets}

@@ -9,13 +9,13 @@ use Rattle.world_face.specs.declared.Accepted.TheVariants.{From}
 use Rattle.world_face.specs.declared.Io.TheVariants.{Done, End, Failed}
 use Rattle.world_face.specs.declared.Made.TheVariants.{Done as MadeDone, Failed as MadeFailed}
 use Rattle.world_face.specs.declared.Waited.TheVariants.{Ready}
-use Rattle.host_policy.specs.Addresses.{Config, endpoint}
-use Rattle.host_policy.specs.Settings.{usual}
-use Rattle.host_policy.specs.declared.Forward.{Forward}
-use Rattle.host_policy.specs.declared.Proto.TheVariants.{Tcp}
-use Rattle.control_session.specs.Apart.{without_control}
-use Rattle.control_session.specs.Talk.{listener}
-use Rattle.control_words.specs.declared.Command.TheVariants.{Add, Remove, List as Lists, What}
+use Rattle.slirp_settings.specs.Addresses.{Config, endpoint}
+use Rattle.slirp_settings.specs.Settings.{usual}
+use Rattle.slirp_settings.specs.declared.Forward.{Forward}
+use Rattle.slirp_settings.specs.declared.Proto.TheVariants.{Tcp}
+use Rattle.control_rules.specs.Apart.{without_control}
+use Rattle.control_rules.specs.Talk.{listener}
+use Rattle.control_rules.specs.declared.Command.TheVariants.{Add, Remove, List as Lists, What}
 use Rattle.control_laws.specs.Desk.{Nothing, Opening, Shutting, Reads, desk}
 use Rattle.control_laws.specs.Laws.{MayControl, reported, wants_of}
 

@@ -9,17 +9,17 @@ use Rattle.world_face.specs.declared.Io.{Io}
 use Rattle.world_face.specs.declared.Io.TheVariants.{Done, End, NotYet, Failed}
 use Rattle.world_face.specs.declared.Made.{Made}
 use Rattle.world_face.specs.declared.Made.TheVariants.{Done as MadeDone, Failed as MadeFailed}
-use Rattle.host_policy.specs.Addresses.{Config}
-use Rattle.host_policy.specs.declared.Forward.{Forward}
-use Rattle.host_policy.specs.declared.Proto.{Proto}
-use Rattle.port_forward.specs.Adding.{fault_of}
-use Rattle.port_forward.specs.Opened.{socket_at}
-use Rattle.port_forward.specs.declared.FwdFault.{FwdFault}
-use Rattle.port_forward.specs.declared.FwdFault.TheVariants.{Taken}
-use Rattle.control_session.specs.Apart.{is_controls, is_on_control, without_control}
-use Rattle.control_session.specs.Talk.{Talk, after_accept, after_line, after_listen, after_read, after_write, deaf, fails, first_line, hung_up, is_last, is_out, listener, next_peer, with_kept}
-use Rattle.control_words.specs.declared.Command.{Command}
-use Rattle.control_words.specs.declared.Command.TheVariants.{Add, Remove, List as Lists, What}
+use Rattle.slirp_settings.specs.Addresses.{Config}
+use Rattle.slirp_settings.specs.declared.Forward.{Forward}
+use Rattle.slirp_settings.specs.declared.Proto.{Proto}
+use Rattle.forward_rules.specs.Adding.{fault_of}
+use Rattle.forward_rules.specs.Opened.{socket_at}
+use Rattle.forward_rules.specs.declared.FwdFault.{FwdFault}
+use Rattle.forward_rules.specs.declared.FwdFault.TheVariants.{Taken}
+use Rattle.control_rules.specs.Apart.{is_controls, is_on_control, without_control}
+use Rattle.control_rules.specs.Talk.{Talk, after_accept, after_line, after_listen, after_read, after_write, deaf, fails, first_line, hung_up, is_last, is_out, listener, next_peer, with_kept}
+use Rattle.control_rules.specs.declared.Command.{Command}
+use Rattle.control_rules.specs.declared.Command.TheVariants.{Add, Remove, List as Lists, What}
 use Rattle.control_laws.specs.Desk.{AreOffControl, Awaited, Nothing, Opening, Shutting, Desk, Reads, adds_unless, after_call, after_entry, answers, answers_line, awaits, desk, is_its_own, is_peer, opened, opens_awaited, removes, serves}
 use Rattle.control_laws.specs.Desk.{shut, with_changes, with_talk}
 

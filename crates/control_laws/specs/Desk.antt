@@ -5,24 +5,24 @@ use Rattle.net_octets.specs.declared.Endpoint.{Endpoint}
 use Rattle.world_face.specs.Journal.{Entry, Listen, Accept, TcpRead, TcpWrite, Close, UdpOpen}
 use Rattle.world_face.specs.declared.Made.{Made}
 use Rattle.world_face.specs.declared.Made.TheVariants.{Done as MadeDone, Failed as MadeFailed}
-use Rattle.host_policy.specs.Addresses.{Config}
-use Rattle.host_policy.specs.Ranges.{same_proto}
-use Rattle.host_policy.specs.Targets.{same_endpoint}
-use Rattle.host_policy.specs.declared.Forward.{Forward}
-use Rattle.host_policy.specs.declared.Proto.{Proto}
-use Rattle.host_policy.specs.declared.Proto.TheVariants.{Tcp}
-use Rattle.port_forward.specs.Adding.{fault_of}
-use Rattle.port_forward.specs.Opened.{Opened, socket_at, without}
-use Rattle.port_forward.specs.declared.FwdFault.{FwdFault}
-use Rattle.port_forward.specs.declared.FwdFault.TheVariants.{Taken, Refused}
-use Rattle.flow_table.specs.declared.Tuple.{Tuple}
+use Rattle.slirp_settings.specs.Addresses.{Config}
+use Rattle.slirp_settings.specs.Ranges.{same_proto}
+use Rattle.slirp_settings.specs.Classes.{same_endpoint}
+use Rattle.slirp_settings.specs.declared.Forward.{Forward}
+use Rattle.slirp_settings.specs.declared.Proto.{Proto}
+use Rattle.slirp_settings.specs.declared.Proto.TheVariants.{Tcp}
+use Rattle.forward_rules.specs.Adding.{fault_of}
+use Rattle.forward_rules.specs.Opened.{Opened, socket_at, without}
+use Rattle.forward_rules.specs.declared.FwdFault.{FwdFault}
+use Rattle.forward_rules.specs.declared.FwdFault.TheVariants.{Taken, Refused}
+use Rattle.record_flows.specs.declared.Tuple.{Tuple}
 use Rattle.flow_laws.specs.Close.{is_in_use}
 use Rattle.record_flows.specs.Book.{book}
 use Rattle.record_flows.specs.Flows.{Flow}
-use Rattle.control_session.specs.Talk.{Talk, after_accept, after_line, after_listen, after_read, after_write, deaf, fails, first_line, hung_up, is_last, is_out, listener, silent, with_left}
-use Rattle.control_session.specs.Apart.{is_controls, is_on_control, without_control}
-use Rattle.control_words.specs.declared.Command.{Command}
-use Rattle.control_words.specs.declared.Command.TheVariants.{Add, Remove, List as Lists, What}
+use Rattle.control_rules.specs.Talk.{Talk, after_accept, after_line, after_listen, after_read, after_write, deaf, fails, first_line, hung_up, is_last, is_out, listener, silent, with_left}
+use Rattle.control_rules.specs.Apart.{is_controls, is_on_control, without_control}
+use Rattle.control_rules.specs.declared.Command.{Command}
+use Rattle.control_rules.specs.declared.Command.TheVariants.{Add, Remove, List as Lists, What}
 use Rattle.control_laws.specs.Replies.{fault_text, list_reply, reply_line}
 
 -- how lines are read

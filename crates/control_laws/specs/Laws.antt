@@ -10,14 +10,14 @@ use Rattle.poll_list.specs.declared.Who.TheVariants.{Listener as AListener, Tcp}
 use Rattle.world_face.specs.Journal.{Entry, Call, Follows, Wait, Accept, Close, TcpRead, TcpWrite, Listen}
 use Rattle.world_face.specs.Journal.{CallNow, CallWait, CallConnect, CallConnected, CallListen, CallAccept, CallTcpRead, CallTcpWrite, CallTcpEnd, CallClose, CallUdpOpen, CallUdpSend, CallUdpRecv}
 use Rattle.world_face.specs.declared.Made.TheVariants.{Failed as MadeFailed}
-use Rattle.host_policy.specs.Addresses.{Config}
+use Rattle.slirp_settings.specs.Addresses.{Config}
 use Rattle.run_laws.specs.Shape.{Opening as OpeningPorts, opening_of, phase, is_ended, is_opening}
 use Rattle.run_laws.specs.Sockets.{is_forward, is_listener, kind_of, next_number, open_sockets}
 use Rattle.slirp_laws.specs.Laws.{Finished, Lawful}
 use Rattle.run_duties.specs.Duties.{Dutiful}
-use Rattle.control_session.specs.Talk.{Talk, free, is_out, listener, most_at_once, next_peer, want_of}
-use Rattle.control_session.specs.Apart.{controls, is_controls, reported_of, without_control}
-use Rattle.control_words.specs.Commands.{Means}
+use Rattle.control_rules.specs.Talk.{Talk, free, is_out, listener, most_at_once, next_peer, want_of}
+use Rattle.control_rules.specs.Apart.{controls, is_controls, reported_of, without_control}
+use Rattle.control_rules.specs.Commands.{Means}
 use Rattle.control_laws.specs.Desk.{Awaited, Nothing, Opening, Shutting, Reads, by_control, desk}
 
 -- ---- what it waits for

@@ -1,3 +1,4 @@
 pub mod Desk
 pub mod Laws
 pub mod Replies
+pub mod Asked

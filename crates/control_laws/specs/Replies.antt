@@ -1,12 +1,12 @@
 -- What the control answers, each line with its line feed.
 use Rattle.std.specs.Prelude.{ℕ, List, [], ◌∷◌, ◌++◌, codes, decimal}
-use Rattle.host_policy.specs.declared.Forward.{Forward}
-use Rattle.port_forward.specs.Opened.{Opened}
-use Rattle.port_forward.specs.declared.FwdFault.{FwdFault}
-use Rattle.port_forward.specs.declared.FwdFault.TheVariants.{Taken, BadGuest, Full, Refused}
-use Rattle.flow_table.specs.declared.Tuple.{Tuple}
+use Rattle.slirp_settings.specs.declared.Forward.{Forward}
+use Rattle.forward_rules.specs.Opened.{Opened}
+use Rattle.forward_rules.specs.declared.FwdFault.{FwdFault}
+use Rattle.forward_rules.specs.declared.FwdFault.TheVariants.{Taken, BadGuest, Full, Refused}
+use Rattle.record_flows.specs.declared.Tuple.{Tuple}
 use Rattle.address_text.specs.Texts.{endpoint_text}
-use Rattle.control_words.specs.Commands.{proto_text}
+use Rattle.control_rules.specs.Commands.{proto_text}
 
 abbrev pub reply_line : List ℕ → List ℕ
 reply_line text = text ++ (10 ∷ [])

@@ -2,8 +2,8 @@
 use Rattle.std.proofs.Common.{◌≡◌, ℕ, ◌+◌, ◌≤◌, ◌==◌, ◌||◌, Bool, true, false, cond, List, [], ◌∷◌, ◌++◌, find, slice_get, Option, Some, None, option_map, refl, ◌∙◌, ap, arith}
 use Rattle.std.proofs.lemmas.Bool.Decides.{nat_tests}
 use Rattle.std.specs.Option.{option_or}
-use Rattle.host_policy.specs.Addresses.{Config, forward_on}
-use Rattle.host_policy.specs.declared.Forward.{Forward}
+use Rattle.slirp_settings.specs.Addresses.{Config, forward_on}
+use Rattle.slirp_settings.specs.declared.Forward.{Forward}
 use Rattle.run_laws.specs.Sockets.{is_among}
 use Rattle.slirp_laws.proofs.Bools.{among_last}
 use Rattle.slirp_core.specs.Holds.{as_given}

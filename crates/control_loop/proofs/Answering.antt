@@ -6,14 +6,14 @@ use Rattle.poll_list.specs.declared.Want.{Want}
 use Rattle.world_face.specs.Journal.{Call, Entry, Follows, call_of, CallClose, Close}
 use Rattle.world_face.specs.declared.Made.{Made}
 use Rattle.world_face.specs.declared.Made.TheVariants.{Done, Failed}
-use Rattle.host_policy.specs.Addresses.{Config, forward_on}
-use Rattle.host_policy.specs.declared.Forward.{Forward}
-use Rattle.host_policy.specs.declared.Proto.{Proto}
-use Rattle.host_policy.specs.declared.Proto.TheVariants.{Tcp, Udp}
-use Rattle.port_forward.specs.Adding.{AddsBy, opening_of}
-use Rattle.port_forward.specs.Opened.{without}
-use Rattle.port_forward.specs.declared.FwdFault.{FwdFault}
-use Rattle.port_forward.specs.declared.FwdFault.TheVariants.{Refused}
+use Rattle.slirp_settings.specs.Addresses.{Config, forward_on}
+use Rattle.slirp_settings.specs.declared.Forward.{Forward}
+use Rattle.slirp_settings.specs.declared.Proto.{Proto}
+use Rattle.slirp_settings.specs.declared.Proto.TheVariants.{Tcp, Udp}
+use Rattle.forward_rules.specs.Adding.{AddsBy, opening_of}
+use Rattle.forward_rules.specs.Opened.{without}
+use Rattle.forward_rules.specs.declared.FwdFault.{FwdFault}
+use Rattle.forward_rules.specs.declared.FwdFault.TheVariants.{Refused}
 use Rattle.run_laws.specs.Shape.{opening_of as opening_call}
 use Rattle.run_laws.specs.Sockets.{is_among, next_number, open_sockets}
 use Rattle.slirp_laws.specs.Laws.{Lawful, May}
@@ -23,8 +23,8 @@ use Rattle.stream_netdev.specs.State.{LinkState}
 use Rattle.slirp_core.specs.Holds.{after, as_given}
 use Rattle.slirp_core.specs.State.{SlirpState}
 use Rattle.serve_loop.specs.Turns.{AttendsNow}
-use Rattle.control_session.specs.Apart.{is_controls, is_on_control, seen as seen_of, without_control}
-use Rattle.control_session.specs.Talk.{Talk, after_listen, deaf, hung_up, listener, with_left}
+use Rattle.control_rules.specs.Apart.{is_controls, is_on_control, seen as seen_of, without_control}
+use Rattle.control_rules.specs.Talk.{Talk, after_listen, deaf, hung_up, listener, with_left}
 use Rattle.control_laws.specs.Desk.{Awaited, Desk, Nothing, Opening, Shutting, Reads, after_entry, awaits, desk, is_peer, opened, removes, says, shut, with_changes, with_talk}
 use Rattle.control_laws.specs.Laws.{MayControl, MayWhere, reported}
 use Rattle.control_laws.specs.Replies.{fault_text, reply_line}

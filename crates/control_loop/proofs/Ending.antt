@@ -7,7 +7,7 @@ use Rattle.poll_list.specs.declared.Want.{Want}
 use Rattle.net_octets.specs.declared.Endpoint.{Endpoint}
 use Rattle.world_face.specs.Journal.{AreAllowed, Entry, Wait}
 use Rattle.world_face.proofs.Telling.{allowed_then}
-use Rattle.host_policy.specs.Addresses.{Config}
+use Rattle.slirp_settings.specs.Addresses.{Config}
 use Rattle.run_laws.specs.Shape.{Over, Refused, phase}
 use Rattle.run_duties.proofs.Ended.{dutiful_to_the_end, ended_yet}
 use Rattle.stream_netdev.specs.State.{LinkState}
@@ -19,8 +19,8 @@ use Rattle.serve_loop.specs.Ends.{end_of}
 use Rattle.serve_loop.specs.Served.{ServiceState}
 use Rattle.serve_loop.proofs.Serving.{spent}
 use Rattle.serve_loop.specs.declared.service.End.TheVariants.{ListenRefused, TurnsSpent}
-use Rattle.control_session.specs.Apart.{reported_of, without_control}
-use Rattle.control_session.specs.Talk.{Talk, listener, want_of}
+use Rattle.control_rules.specs.Apart.{reported_of, without_control}
+use Rattle.control_rules.specs.Talk.{Talk, listener, want_of}
 use Rattle.control_aside.specs.Stretches.{AreSeen, IsItem, IsSeen, last_reported}
 use Rattle.control_laws.specs.Desk.{Reads, desk}
 use Rattle.control_loop.specs.Runs.{RunsWith}

@@ -4,7 +4,7 @@ use Rattle.std.proofs.lemmas.Bool.Decides.{nat_tests}
 use Rattle.std.proofs.lemmas.Bool.{true≢false}
 use Rattle.net_octets.specs.declared.Endpoint.{Endpoint}
 use Rattle.world_face.specs.Journal.{CallUdpOpen, Entry, call_of, Accept, Close, Connect, Listen, Now, UdpOpen}
-use Rattle.host_policy.specs.Addresses.{Config, forward_on}
+use Rattle.slirp_settings.specs.Addresses.{Config, forward_on}
 use Rattle.run_laws.specs.Moments.{waits}
 use Rattle.run_laws.specs.Sockets.{Kind, Association, Flow, Forward, Listener, datagram_kind, is_among, is_forward, is_listener, kind_of, next_number}
 use Rattle.slirp_laws.specs.Datagrams.{Errand}

@@ -3,7 +3,7 @@ use Rattle.std.proofs.Common.{ℕ, List, ◌++◌, sym, subst, append_assoc}
 use Rattle.world_face.specs.Journal.{Entry}
 use Rattle.world_face.specs.Tells.{Makes, Telling}
 use Rattle.world_face.proofs.Telling.{makes_none, makes_then}
-use Rattle.host_policy.specs.Addresses.{Config}
+use Rattle.slirp_settings.specs.Addresses.{Config}
 use Rattle.control_laws.specs.Desk.{Reads}
 use Rattle.control_loop.specs.Standing.{Leads}
 

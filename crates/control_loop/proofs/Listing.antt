@@ -7,10 +7,10 @@ use Rattle.net_octets.specs.declared.Endpoint.{Endpoint}
 use Rattle.world_face.specs.Journal.{Entry, call_of, Accept, Connect}
 use Rattle.world_face.specs.declared.Accepted.TheVariants.{From, NotYet as NoPeer, Failed as AcceptFailed}
 use Rattle.world_face.specs.declared.Made.TheVariants.{Done, Failed}
-use Rattle.host_policy.specs.Addresses.{Config}
+use Rattle.slirp_settings.specs.Addresses.{Config}
 use Rattle.flow_table.specs.declared.Slot.{Slot}
 use Rattle.flow_table.specs.declared.Slot.TheVariants.{Free, InUse, Resting}
-use Rattle.flow_table.specs.declared.Tuple.{Tuple}
+use Rattle.record_flows.specs.declared.Tuple.{Tuple}
 use Rattle.flow_laws.specs.Close.{is_in_use}
 use Rattle.flow_laws.specs.Event.{Accepts, Arrives}
 use Rattle.flow_laws.specs.Flow.{first_number}
@@ -36,7 +36,7 @@ use Rattle.stream_netdev.specs.State.{LinkState}
 use Rattle.serve_loop.specs.Turns.{AttendsNow}
 use Rattle.control_laws.specs.Desk.{flow_entry, flows_in_use}
 use Rattle.control_laws.specs.Replies.{flow_lines, flow_text, forward_lines, forward_text, reply_line}
-use Rattle.port_forward.specs.Opened.{Opened}
+use Rattle.forward_rules.specs.Opened.{Opened}
 
 -- ---- the flows of a record stand by falling number
 

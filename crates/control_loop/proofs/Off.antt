@@ -7,7 +7,7 @@ use Rattle.poll_list.specs.declared.Who.{Who}
 use Rattle.poll_list.specs.declared.Who.TheVariants.{Link, Listener, Tcp, Udp}
 use Rattle.world_face.specs.Journal.{Allowed, AreAllowed, Entry, call_of, Accept, Close, Connect, Connected, Listen, TcpEnd, TcpRead, TcpWrite, UdpOpen, UdpRecv, UdpSend, Wait}
 use Rattle.world_face.specs.declared.Accepted.TheVariants.{From, NotYet as NoPeer, Failed as AcceptFailed}
-use Rattle.host_policy.specs.Addresses.{Config}
+use Rattle.slirp_settings.specs.Addresses.{Config}
 use Rattle.run_laws.specs.Sockets.{is_among, is_listener, kind_of, next_number, open_sockets}
 use Rattle.record_flows.specs.Book.{book}
 use Rattle.record_flows.specs.Flows.{Flow, flow_of, has_room_for_peer}
@@ -17,8 +17,8 @@ use Rattle.slirp_laws.proofs.OpenSockets.{closes_open, hears_on_open, joins_open
 use Rattle.flows_follow.proofs.Sockets.{open_is_young}
 use Rattle.run_duties.specs.Duties.{Dutiful, Must}
 use Rattle.run_duties.specs.Waiting.{MayBeWritten, MayWriteFlow, WaitsFor, is_for_datagrams, is_read, reads_flow, takes_datagrams, takes_in}
-use Rattle.control_session.specs.Apart.{controls, is_controls, is_of_control}
-use Rattle.control_session.specs.Talk.{listener}
+use Rattle.control_rules.specs.Apart.{controls, is_controls, is_of_control}
+use Rattle.control_rules.specs.Talk.{listener}
 use Rattle.control_aside.proofs.Apartness.{AreFew, AreOff, IsFew, IsOff}
 
 pub below_off : (l n : ℕ) → n < l → nat_le l n ≡ false

@@ -7,7 +7,7 @@ use Rattle.world_face.specs.Frames.{Ending, ending, partial}
 use Rattle.world_face.specs.Journal.{Call, CallClose, CallListen, CallNow, CallUdpOpen, Entry, call_of, Close, Listen, Now, UdpOpen, Wait}
 use Rattle.world_face.specs.declared.Made.{Made}
 use Rattle.world_face.specs.declared.Made.TheVariants.{Done, Failed}
-use Rattle.host_policy.specs.Addresses.{Config}
+use Rattle.slirp_settings.specs.Addresses.{Config}
 use Rattle.record_flows.specs.Book.{port_of}
 use Rattle.run_laws.specs.Moments.{waits}
 use Rattle.run_laws.specs.Shape.{By, Opening, Over, Phase, Refused, Started, Woken, Working, clocked, due_in, is_ended, is_opening, is_over, is_working, opened, phase, phase_after, phase_by}

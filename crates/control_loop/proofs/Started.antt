@@ -7,8 +7,8 @@ use Rattle.net_octets.specs.declared.Endpoint.{Endpoint}
 use Rattle.world_face.specs.Journal.{AreAllowed, CallListen, Close, Entry, Follows, Listen, Wait}
 use Rattle.world_face.specs.declared.Made.{Made}
 use Rattle.world_face.specs.declared.Made.TheVariants.{Done, Failed}
-use Rattle.host_policy.specs.Addresses.{Config, forward_on}
-use Rattle.host_policy.specs.declared.Forward.{Forward}
+use Rattle.slirp_settings.specs.Addresses.{Config, forward_on}
+use Rattle.slirp_settings.specs.declared.Forward.{Forward}
 use Rattle.run_laws.specs.Moments.{waits}
 use Rattle.run_laws.specs.Shape.{Opening as OpeningPorts, Over, Refused, phase}
 use Rattle.run_laws.specs.Sockets.{next_number, open_sockets}
@@ -25,8 +25,8 @@ use Rattle.slirp_core.specs.State.{SlirpState}
 use Rattle.serve_loop.specs.Ends.{end_of}
 use Rattle.serve_loop.specs.Turns.{AttendsNow}
 use Rattle.serve_loop.specs.declared.service.End.TheVariants.{ControlRefused, ListenRefused}
-use Rattle.control_session.specs.Apart.{without_control}
-use Rattle.control_session.specs.Talk.{after_listen, listener, silent}
+use Rattle.control_rules.specs.Apart.{without_control}
+use Rattle.control_rules.specs.Talk.{after_listen, listener, silent}
 use Rattle.control_aside.specs.Stretches.{AreSeen, IsItem, last_reported}
 use Rattle.control_aside.proofs.Apartness.{is_wait, passed_as_they_are}
 use Rattle.control_laws.specs.Desk.{AreOffControl, Desk, Nothing, Reads, at_first, by_control, desk, numbered_from, with_changes, with_talk}

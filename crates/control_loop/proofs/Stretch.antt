@@ -10,11 +10,11 @@ use Rattle.poll_list.specs.declared.Who.{Who}
 use Rattle.poll_list.specs.declared.Who.TheVariants.{Listener as AListener, Tcp}
 use Rattle.world_face.specs.Journal.{Call, Entry, Follows, call_of, Accept, Close, Connect, Connected, Listen, Now, TcpEnd, TcpRead, TcpWrite, UdpOpen, UdpRecv, UdpSend, Wait}
 use Rattle.run_duties.proofs.Checks.{same_is}
-use Rattle.host_policy.specs.Addresses.{Config}
+use Rattle.slirp_settings.specs.Addresses.{Config}
 use Rattle.run_laws.specs.Moments.{waits}
 use Rattle.run_laws.specs.Shape.{is_ended, is_opening, phase}
 use Rattle.run_laws.specs.Sockets.{is_forward, is_listener, kind_of}
-use Rattle.control_session.specs.Apart.{is_controls, is_of_control, is_on_control, reported_of, seen as seen_of, without_control}
+use Rattle.control_rules.specs.Apart.{is_controls, is_of_control, is_on_control, reported_of, seen as seen_of, without_control}
 use Rattle.control_laws.specs.Desk.{AreOffControl, Desk, Nothing, Reads, desk, with_changes}
 use Rattle.control_laws.specs.Laws.{Either, MayByItself, MayControl, MayGiveUp, MayOpen, MayWhere, reported, wants_of, without_read, without_write}
 use Rattle.control_laws.proofs.Staying.{desk_stays}

@@ -8,11 +8,11 @@ use Rattle.world_face.specs.Journal.{Call, CallAccept, CallClose, CallTcpRead, C
 use Rattle.world_face.specs.declared.Accepted.{Accepted}
 use Rattle.world_face.specs.declared.Io.{Io}
 use Rattle.world_face.specs.declared.Io.TheVariants.{Done, End, NotYet, Failed}
-use Rattle.host_policy.specs.Addresses.{Config}
+use Rattle.slirp_settings.specs.Addresses.{Config}
 use Rattle.stream_netdev.specs.State.{LinkState}
 use Rattle.slirp_core.specs.State.{SlirpState}
-use Rattle.control_session.specs.Apart.{is_controls, seen as seen_of, without_control}
-use Rattle.control_session.specs.Talk.{Talk, after_accept, after_read, after_write, closed_if, deaf, fails, first_line, free, hung_up, is_last, is_out, listener, most_at_once, next_peer, with_kept}
+use Rattle.control_rules.specs.Apart.{is_controls, seen as seen_of, without_control}
+use Rattle.control_rules.specs.Talk.{Talk, after_accept, after_read, after_write, closed_if, deaf, fails, first_line, free, hung_up, is_last, is_out, listener, most_at_once, next_peer, with_kept}
 use Rattle.control_laws.specs.Desk.{Desk, Nothing, Shutting, Reads, after_call, answers_line, awaits, desk, is_peer, serves, shut, with_changes, with_talk}
 use Rattle.control_laws.specs.Laws.{Either, MayControl, MayRead, MayWhere, MayWrite, reported, without_read, without_write}
 use Rattle.control_loop.specs.Standing.{Agrees, Owes, Stands}

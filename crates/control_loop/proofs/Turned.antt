@@ -6,8 +6,8 @@ use Rattle.poll_list.specs.declared.Want.{Want}
 use Rattle.world_face.specs.Frames.{ending, partial}
 use Rattle.world_face.specs.Journal.{AreAllowed, Entry, Follows}
 use Rattle.net_octets.specs.declared.Endpoint.{Endpoint}
-use Rattle.host_policy.specs.Addresses.{Config}
-use Rattle.host_policy.specs.declared.Forward.{Forward}
+use Rattle.slirp_settings.specs.Addresses.{Config}
+use Rattle.slirp_settings.specs.declared.Forward.{Forward}
 use Rattle.run_laws.specs.Moments.{waits}
 use Rattle.run_laws.specs.Shape.{phase, phase_after}
 use Rattle.run_laws.specs.Sockets.{next_number}
@@ -19,8 +19,8 @@ use Rattle.slirp_core.specs.State.{SlirpState}
 use Rattle.serve_loop.specs.Ends.{end_of}
 use Rattle.serve_loop.specs.Turns.{AttendsNow}
 use Rattle.serve_loop.specs.declared.service.End.{End}
-use Rattle.control_session.specs.Apart.{without_control}
-use Rattle.control_session.specs.Talk.{Talk, listener, want_of}
+use Rattle.control_rules.specs.Apart.{without_control}
+use Rattle.control_rules.specs.Talk.{Talk, listener, want_of}
 use Rattle.control_aside.specs.Stretches.{AreSeen, IsItem, last_reported}
 use Rattle.control_laws.specs.Desk.{Desk, Nothing, Reads, by_control, desk, with_changes}
 use Rattle.control_laws.specs.Laws.{MayControl, reported, wants_of}

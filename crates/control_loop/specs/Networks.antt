@@ -1,8 +1,8 @@
 -- A network that has served nothing, with a control or without one.
 use Rattle.std.specs.Prelude.{◌≡◌, ◌≤◌, Option, None, Some}
 use Rattle.world_face.specs.Limits.{most_ready, most_wants}
-use Rattle.host_policy.specs.Addresses.{Config}
-use Rattle.control_session.specs.Talk.{silent}
+use Rattle.slirp_settings.specs.Addresses.{Config}
+use Rattle.control_rules.specs.Talk.{silent}
 use Rattle.control_loop.specs.declared.network.Control.{Control}
 
 -- There is one exactly where the settings have it: nobody listens yet, and the lists have room.

@@ -2,11 +2,11 @@
 use Rattle.std.specs.Prelude.{◌≡◌, List, ◌∷◌, ◌++◌, Option, None, Some}
 use Rattle.net_octets.specs.declared.Endpoint.{Endpoint}
 use Rattle.world_face.specs.Journal.{Call, Entry, call_of}
-use Rattle.host_policy.specs.Addresses.{Config}
+use Rattle.slirp_settings.specs.Addresses.{Config}
 use Rattle.run_laws.specs.Shape.{phase}
 use Rattle.slirp_laws.specs.Laws.{Finished, Lawful}
 use Rattle.run_duties.specs.Duties.{Dutiful}
-use Rattle.control_session.specs.Apart.{without_control}
+use Rattle.control_rules.specs.Apart.{without_control}
 use Rattle.control_laws.specs.Desk.{Reads}
 use Rattle.control_laws.specs.Laws.{IsReading, Refuses, RunsBy}
 use Rattle.serve_loop.specs.Ends.{end_of}

@@ -2,17 +2,17 @@
 use Rattle.std.specs.Prelude.{◌≡◌, ◌≢◌, ℕ, ◌+◌, ◌*◌, ◌<◌, ◌≤◌, ◌&&◌, if◌then◌else◌, true, false, List, [], ◌++◌, length, Option, Some, None}
 use Rattle.poll_list.specs.declared.Want.{Want}
 use Rattle.world_face.specs.Journal.{Entry, Follows}
-use Rattle.host_policy.specs.Addresses.{Config, forward_on}
-use Rattle.host_policy.specs.Ranges.{same_proto}
-use Rattle.host_policy.specs.Targets.{same_endpoint}
-use Rattle.host_policy.specs.declared.Forward.{Forward}
-use Rattle.host_policy.specs.declared.Proto.TheVariants.{Tcp}
+use Rattle.slirp_settings.specs.Addresses.{Config, forward_on}
+use Rattle.slirp_settings.specs.Ranges.{same_proto}
+use Rattle.slirp_settings.specs.Classes.{same_endpoint}
+use Rattle.slirp_settings.specs.declared.Forward.{Forward}
+use Rattle.slirp_settings.specs.declared.Proto.TheVariants.{Tcp}
 use Rattle.net_octets.specs.declared.Endpoint.{Endpoint}
 use Rattle.net_octets.specs.declared.Ip4.{Ip4}
-use Rattle.port_forward.specs.Adding.{fault_of}
-use Rattle.port_forward.specs.Opened.{Opened}
-use Rattle.port_forward.specs.declared.FwdFault.{FwdFault}
-use Rattle.port_forward.specs.declared.FwdFault.TheVariants.{Taken}
+use Rattle.forward_rules.specs.Adding.{fault_of}
+use Rattle.forward_rules.specs.Opened.{Opened}
+use Rattle.forward_rules.specs.declared.FwdFault.{FwdFault}
+use Rattle.forward_rules.specs.declared.FwdFault.TheVariants.{Taken}
 use Rattle.run_laws.specs.Shape.{phase}
 use Rattle.run_laws.specs.Sockets.{is_among, next_number, open_sockets}
 use Rattle.slirp_laws.specs.Laws.{Finished, Lawful}
@@ -27,10 +27,10 @@ use Rattle.serve_loop.specs.Turns.{AttendsNow, IsCalm}
 use Rattle.serve_loop.specs.declared.service.End.{End}
 use Rattle.serve_loop.specs.declared.service.Turn.{Turn}
 use Rattle.serve_loop.specs.declared.service.Turn.TheVariants.{Again, Ended}
-use Rattle.control_session.specs.Apart.{without_control}
-use Rattle.control_session.specs.Talk.{Talk, has_line, is_out, listener}
-use Rattle.control_words.specs.declared.Command.{Command}
-use Rattle.control_words.specs.declared.Command.TheVariants.{Add}
+use Rattle.control_rules.specs.Apart.{without_control}
+use Rattle.control_rules.specs.Talk.{Talk, has_line, is_out, listener}
+use Rattle.control_rules.specs.declared.Command.{Command}
+use Rattle.control_rules.specs.declared.Command.TheVariants.{Add}
 use Rattle.control_laws.specs.Desk.{Desk, Nothing, Reads, answers, by_control, desk, serves, with_changes}
 use Rattle.control_laws.specs.Laws.{IsReading, MayControl, reported}
 

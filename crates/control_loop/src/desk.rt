@@ -3,13 +3,13 @@ ghost use Rattle.std.specs.Prelude.{◌≡◌, ◌≤◌, ◌<◌, ◌+◌, ◌^
 ghost use Rattle.world_face.specs.Journal.{AreAllowed, Close, Entry as AnEntry, Listen};
 ghost use Rattle.world_face.specs.Tells.{Makes, Rose};
 ghost use Rattle.world_face.specs.declared.Made.TheVariants.{Failed as IsRefused};
-ghost use Rattle.host_policy.specs.Addresses.{Config};
+ghost use Rattle.slirp_settings.specs.Addresses.{Config};
 ghost use Rattle.control_aside.specs.Stretches.{AreSeen, last_reported};
 ghost use Rattle.control_laws.specs.Desk.{Reads};
 ghost use Rattle.control_laws.specs.Laws.{IsReading};
 ghost use Rattle.control_loop.specs.Runs.{RunsWith};
 ghost use Rattle.control_loop.specs.Standing.{AfterTurnBy, Closes, IsFit, IsReady, IsSet, Stands};
-ghost use Rattle.control_session.specs.Talk.{after_listen, all_closed, listener, over, silent, want_of};
+ghost use Rattle.control_rules.specs.Talk.{after_listen, all_closed, listener, over, silent, want_of};
 ghost use Rattle.serve_loop.specs.Ends.{IsCounted};
 ghost use Rattle.serve_loop.specs.Served.{IsNew};
 ghost use Rattle.serve_loop.specs.Turns.{AttendsAfterWholeTurn, AttendsNow, IsStep};

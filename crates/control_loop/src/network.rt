@@ -2,8 +2,8 @@
 ghost use Rattle.std.specs.Prelude.{◌≡◌, List, IfOk};
 ghost use Rattle.world_face.specs.Journal.{Entry as AnEntry};
 ghost use Rattle.world_face.specs.Tells.{Makes};
-ghost use Rattle.host_policy.specs.Ranges.{IsSound};
-ghost use Rattle.host_policy.specs.Settings.{settings};
+ghost use Rattle.slirp_settings.specs.Ranges.{IsSound};
+ghost use Rattle.slirp_settings.specs.Settings.{settings};
 ghost use Rattle.serve_loop.specs.Ends.{IsCounted};
 ghost use Rattle.serve_loop.specs.Served.{IsNew};
 ghost use Rattle.control_laws.specs.Desk.{Reads};
@@ -15,10 +15,10 @@ use crate::desk::Desk;
 use control_aside::Aside;
 use control_session::Session;
 use core::mem::replace_with;
-use host_policy::SlirpConfig;
 use net_octets::{Endpoint, Ip4, NoMemory};
 use poll_list::{ReadyList, Wants};
 use serve_loop::{End, Service, Turn};
+use slirp_settings::SlirpConfig;
 use std::alloc::Global;
 use std::marker::Model;
 use world_face::{MOST_READY, MOST_WANTS, World};
@@ -43,7 +43,7 @@ pub(crate) struct Control {
 }
 
 impl Model for Network {
-    ghost use Rattle.host_policy.specs.Addresses.{Config};
+    ghost use Rattle.slirp_settings.specs.Addresses.{Config};
     ghost use Rattle.serve_loop.specs.Served.{IsNew};
     ghost use Rattle.control_loop.specs.Networks.{IsControl};
 

@@ -4,16 +4,16 @@
 ghost use Rattle.std.specs.Prelude.{◌≡◌, ◌≤◌, ◌+◌, ◌++◌, codes, decimal, length};
 ghost use Rattle.arrayvec.specs.ArrayString.{array_string_len};
 ghost use Rattle.address_text.specs.Texts.{endpoint_text};
-ghost use Rattle.control_words.specs.Commands.{proto_text};
+ghost use Rattle.control_rules.specs.Commands.{proto_text};
 ghost use Rattle.control_laws.specs.Replies.{fault_text, flow_text, forward_text, reply_line};
 
 use address_text::endpoint_string;
 use arrayvec::ArrayString;
-use flow_table::Tuple;
-use host_policy::{Forward, Proto};
+use forward_rules::FwdFault;
 use itoa::Buffer;
 use net_octets::Endpoint;
-use port_forward::FwdFault;
+use record_flows::Tuple;
+use slirp_settings::{Forward, Proto};
 
 /// Why a port of the host isn't given to a guest.
 pub fn fault_text(fault: FwdFault) -> &'static str

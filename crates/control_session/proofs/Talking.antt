@@ -5,7 +5,7 @@ use Rattle.world_face.specs.Tells.{Telling, Answers, Makes}
 use Rattle.world_face.specs.declared.Io.{Io}
 use Rattle.world_face.specs.declared.Io.TheVariants.{Done, End, NotYet, Failed}
 use Rattle.world_face.proofs.Telling.{makes_next, makes_one}
-use Rattle.control_session.specs.Talk.{Talk, after_write, closed_if, fails, with_left}
+use Rattle.control_rules.specs.Talk.{Talk, after_write, closed_if, fails, with_left}
 
 -- the connection goes on
 pub goes_on : (a b : Telling) (e : Entry) (socket : ℕ) (last : Bool) → last ≡ false → Answers a b e → Makes a b (λ made. made ≡ closed_if last socket ++ (e ∷ []))

@@ -14,19 +14,17 @@ ghost use Rattle.world_face.specs.Journal.{Listen, Accept, Close, TcpRead, TcpWr
 ghost use Rattle.world_face.specs.declared.Accepted.{Accepted as AnAccepted};
 ghost use Rattle.world_face.specs.declared.Io.{Io as AnIo};
 ghost use Rattle.world_face.specs.Tells.{Answers, Makes};
-ghost use Rattle.control_session.specs.Talk.{after_accept, after_line, after_listen, after_read, after_write, all_closed, closed_if, deaf, fails, first_line, free, has_line};
-ghost use Rattle.control_session.specs.Talk.{hung_up, is_last, is_out, listener, listener_want, longest_reply, most_at_once, next_peer, over, peer_closed, peer_want, silent, want_of};
+ghost use Rattle.control_rules.specs.Talk.{after_accept, after_line, after_listen, after_read, after_write, all_closed, closed_if, deaf, fails, first_line, free, has_line};
+ghost use Rattle.control_rules.specs.Talk.{hung_up, is_last, is_out, listener, listener_want, longest_reply, most_at_once, next_peer, over, peer_closed, peer_want, silent, want_of};
 
 use crate::line::Line;
 use crate::reply::Reply;
+use control_rules::LISTENER;
 use net_octets::{Endpoint, NoMemory};
 use poll_list::{Want, Who};
 use std::alloc::Global;
 use std::marker::Model;
 use world_face::{Accepted, Io, Made, World};
-
-/// The number of the listener; those of connections are drawn upward behind it.
-pub const LISTENER: u64 = 1 << 63;
 
 /// The octets of one reply at most.
 pub const LONGEST_REPLY: usize = 280_000;
@@ -44,7 +42,7 @@ pub struct Session {
 }
 
 impl Model for Session {
-    ghost use Rattle.control_session.specs.Talk.{Talk};
+    ghost use Rattle.control_rules.specs.Talk.{Talk};
 
     ghost Value = { Talk };
 

@@ -2,7 +2,7 @@
 ghost use Rattle.std.specs.Prelude.{◌≡◌, ◌+◌, ◌≤◌, ◌<◌, ◌++◌, [], length, take, drop, IfOk};
 ghost use Rattle.world_face.specs.Journal.{TcpWrite, count_of};
 ghost use Rattle.world_face.specs.Tells.{Answers};
-ghost use Rattle.control_session.specs.Talk.{longest_reply, most_at_once};
+ghost use Rattle.control_rules.specs.Talk.{longest_reply, most_at_once};
 
 use crate::LONGEST_REPLY;
 use net_octets::NoMemory;
@@ -19,7 +19,7 @@ pub(crate) struct Reply {
 
 impl Model for Reply {
     ghost use Rattle.std.specs.Prelude.{◌≡◌, ◌-◌, ◌≤◌, length, take, drop};
-    ghost use Rattle.control_session.specs.Talk.{Pending};
+    ghost use Rattle.control_rules.specs.Talk.{Pending};
 
     ghost Value = { Pending };
 

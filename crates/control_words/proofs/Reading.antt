@@ -2,16 +2,16 @@
 use Rattle.std.proofs.Common.{◌≡◌, ◌≢◌, ◌⊎◌, inl, inr, ℕ, zero, suc, ◌<◌, ◌^◌, ◌==◌, Bool, true, false, List, [], ◌∷◌, ◌++◌, codes, decimal, refl, sym, ◌∙◌, ap, subst, append_assoc, arith}
 use Rattle.std.proofs.lemmas.Bool.Decides.{nat_tests}
 use Rattle.net_octets.specs.declared.Endpoint.{Endpoint}
-use Rattle.host_policy.specs.declared.Forward.{Forward}
-use Rattle.host_policy.specs.declared.Proto.{Proto}
-use Rattle.host_policy.specs.declared.Proto.TheVariants.{Tcp, Udp}
+use Rattle.slirp_settings.specs.declared.Forward.{Forward}
+use Rattle.slirp_settings.specs.declared.Proto.{Proto}
+use Rattle.slirp_settings.specs.declared.Proto.TheVariants.{Tcp, Udp}
 use Rattle.address_text.specs.Texts.{IsAddress, IsEndpointText, IsNumber, address_text, endpoint_text}
 use Rattle.address_text.proofs.Addresses.{made_of}
-use Rattle.slirp_config.specs.Rules.{IsAddressOr, IsForward, IsPortAt, IsRule, IsType}
-use Rattle.slirp_config.proofs.Ruled.{bare_refused, behind_refused, spelt_forward}
-use Rattle.control_words.specs.Commands.{IsAdd, IsRemove, Means, has_no_port, removal}
-use Rattle.control_words.specs.declared.Command.{Command}
-use Rattle.control_words.specs.declared.Command.TheVariants.{Add, Remove, List as Lists, What}
+use Rattle.address_text.specs.Rules.{IsAddressOr, IsForward, IsPortAt, IsRule, IsType}
+use Rattle.command_words.proofs.Ruled.{bare_refused, behind_refused, spelt_forward}
+use Rattle.control_rules.specs.Commands.{IsAdd, IsRemove, Means, has_no_port, removal}
+use Rattle.control_rules.specs.declared.Command.{Command}
+use Rattle.control_rules.specs.declared.Command.TheVariants.{Add, Remove, List as Lists, What}
 use Rattle.control_words.proofs.Spelling.{endpoint_of, no_removal, portless, rule_of}
 
 -- it is so, or it isn't

@@ -2,15 +2,15 @@
 use Rattle.std.proofs.Common.{◌≡◌, ℕ, List, ◌++◌, ◌∷◌, [], length, codes, inl, inr, refl, sym, ap, subst, arith, length-append}
 use Rattle.std.specs.Fmt.{digits}
 use Rattle.net_octets.specs.declared.Endpoint.{Endpoint}
-use Rattle.host_policy.specs.Addresses.{endpoint}
-use Rattle.host_policy.specs.declared.Forward.{Forward}
-use Rattle.host_policy.specs.declared.Proto.{Proto}
-use Rattle.host_policy.specs.declared.Proto.TheVariants.{Tcp, Udp}
+use Rattle.slirp_settings.specs.Addresses.{endpoint}
+use Rattle.slirp_settings.specs.declared.Forward.{Forward}
+use Rattle.slirp_settings.specs.declared.Proto.{Proto}
+use Rattle.slirp_settings.specs.declared.Proto.TheVariants.{Tcp, Udp}
 use Rattle.address_text.specs.Texts.{address_text, endpoint_text}
-use Rattle.slirp_config.specs.Rules.{IsRule, IsType}
-use Rattle.slirp_config.proofs.Ruled.{forward_parts}
-use Rattle.control_words.specs.Commands.{IsAdd, IsRemove, IsWhat, Means}
-use Rattle.control_words.specs.declared.Command.TheVariants.{Add, Remove, List as Lists, What}
+use Rattle.address_text.specs.Rules.{IsRule, IsType}
+use Rattle.command_words.proofs.Ruled.{forward_parts}
+use Rattle.control_rules.specs.Commands.{IsAdd, IsRemove, IsWhat, Means}
+use Rattle.control_rules.specs.declared.Command.TheVariants.{Add, Remove, List as Lists, What}
 use Rattle.control_words.proofs.Spelling.{add_or_list, add_or_remove, portless, rule_of}
 
 -- the first address that is lent

@@ -1,16 +1,16 @@
 -- Each line has one command: how it begins says which, and what stands behind that says the rest.
 use Rattle.std.proofs.Common.{◌≡◌, ℕ, Bool, true, false, List, [], ◌∷◌, ◌++◌, codes, refl, sym, ◌∙◌, ap, subst, arith}
 use Rattle.net_octets.specs.declared.Endpoint.{Endpoint}
-use Rattle.host_policy.specs.declared.Forward.{Forward}
-use Rattle.host_policy.specs.declared.Proto.{Proto}
-use Rattle.host_policy.specs.declared.Proto.TheVariants.{Tcp, Udp}
+use Rattle.slirp_settings.specs.declared.Forward.{Forward}
+use Rattle.slirp_settings.specs.declared.Proto.{Proto}
+use Rattle.slirp_settings.specs.declared.Proto.TheVariants.{Tcp, Udp}
 use Rattle.address_text.specs.Texts.{IsEndpointText}
 use Rattle.address_text.proofs.Addresses.{same_endpoint}
-use Rattle.slirp_config.specs.Rules.{IsRule}
-use Rattle.slirp_config.proofs.Ruled.{same_rule}
-use Rattle.control_words.specs.Commands.{IsAdd, IsRemove, Means, has_no_port, removal}
-use Rattle.control_words.specs.declared.Command.{Command}
-use Rattle.control_words.specs.declared.Command.TheVariants.{Add, Remove, List as Lists, What}
+use Rattle.address_text.specs.Rules.{IsRule}
+use Rattle.command_words.proofs.Ruled.{same_rule}
+use Rattle.control_rules.specs.Commands.{IsAdd, IsRemove, Means, has_no_port, removal}
+use Rattle.control_rules.specs.declared.Command.{Command}
+use Rattle.control_rules.specs.declared.Command.TheVariants.{Add, Remove, List as Lists, What}
 
 -- what stands behind a front is one text
 pub same_rule_text : (a b : List ℕ) → codes "add " ++ a ≡ codes "add " ++ b → a ≡ b

@@ -2,7 +2,7 @@
 //!
 //! | Line, without its line feed | What it asks for |
 //! |---|---|
-//! | `add RULE` | a port of the host is to lead to a guest's: RULE as on a command line (`slirp_config`), with `hostfwd=` in front or without, and neither port 0 |
+//! | `add RULE` | a port of the host is to lead to a guest's: RULE as on a command line (`command_words`), with `hostfwd=` in front or without, and neither port 0 |
 //! | `remove tcp ENDPOINT`, `remove udp ENDPOINT` | that port of the host is to be taken back |
 //! | `list` | what there is |
 //! | any other | nothing of these; so also a blank more, a carriage return at the end, and `guestfwd=` |
@@ -11,28 +11,16 @@
 #![tactic(auto)]
 
 ghost use Rattle.std.specs.Prelude.{◌≡◌, ◌++◌, ◌↔◌, ◌==◌, ◌||◌, ℕ, List, IfOk, IsTrue, OnErr, codes};
-ghost use Rattle.host_policy.specs.declared.Forward.{Forward as AForward};
+ghost use Rattle.slirp_settings.specs.declared.Forward.{Forward as AForward};
 ghost use Rattle.net_octets.specs.declared.Endpoint.{Endpoint as AnEndpoint};
-ghost use Rattle.control_words.specs.Commands.{IsAdd, IsRemove, Means, has_no_port, removal};
-ghost use Rattle.control_words.specs.declared.Command.{Command as ACommand};
+ghost use Rattle.control_rules.specs.Commands.{IsAdd, IsRemove, Means, has_no_port, removal};
+ghost use Rattle.control_rules.specs.declared.Command.{Command as ACommand};
 
 use address_text::{NoReading, read_endpoint};
-use host_policy::{Forward, Proto};
+use command_words::read_rule;
+use control_rules::Command;
 use net_octets::{Endpoint, Ip4};
-use slirp_config::read_rule;
-
-/// What a line asks for.
-#[derive(Clone, Copy)]
-pub enum Command {
-    /// A port of the host is to be given to a guest.
-    Add(Forward),
-    /// A port of the host that was given to a guest is to be taken back.
-    Remove(Proto, Endpoint),
-    /// The ports that are given to guests are to be told, and the connections.
-    List,
-    /// Nothing that is known here.
-    What,
-}
+use slirp_settings::{Forward, Proto};
 
 /// What a line asks for, which has no line feed. In a RULE without an address of a guest it is `guest`.
 pub fn read_command(line: &[u8], guest: Ip4) -> Command

@@ -1,6 +1,2 @@
 mod Adding
 mod Mapping
-pub mod Owning
-mod Holding
-mod Lasting
-mod HistoryRows

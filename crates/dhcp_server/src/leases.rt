@@ -1,18 +1,17 @@
 //! The addresses that are lent, and who has each.
 ghost use Rattle.std.specs.Prelude.{◌≡◌, ℕ, ◌+◌, ◌^◌, ◌<◌, ◌≤◌, ◌++◌, length, drop, map};
-ghost use Rattle.host_policy.specs.Ranges.{IsSound};
-ghost use Rattle.dhcp_server.specs.Leases.{lease_time};
-ghost use Rattle.dhcp_server.specs.declared.leases.Lease.TheVariants.{Bound};
+ghost use Rattle.slirp_settings.specs.Ranges.{IsSound};
+ghost use Rattle.dhcp_rules.specs.Leases.{at_moment, can_have, freed, is_free, is_of, is_reserved_for, lease_time, not_reserved, reserved};
+ghost use Rattle.dhcp_rules.specs.declared.Lease.TheVariants.{Bound};
 
-use crate::message::Message;
+use crate::message::read_message;
 use crate::reply::write_reply;
 use crate::serving::outcome_of;
-use host_policy::{Reply, SlirpConfig};
+use dhcp_rules::{Lease, POOL};
 use net_octets::Mac;
+use slirp_settings::SlirpConfig;
 use std::marker::Model;
-
-/// How many addresses are lent.
-pub const POOL: usize = 16;
+use udp_rules::Reply;
 
 /// How many milliseconds an address is kept for whom it was offered to.
 const OFFER_TIME: u64 = 60_000;
@@ -20,115 +19,104 @@ const OFFER_TIME: u64 = 60_000;
 /// How many milliseconds an address is lent.
 const LEASE_TIME: u64 = 86_400_000;
 
-/// What has become of an address, and until which moment, in milliseconds.
-#[derive(Clone, Copy, Debug, PartialEq, Eq)]
-pub enum Lease {
-    /// Nobody has it.
-    Free,
-    /// It was offered to this hardware address.
-    Reserved(Mac, u64),
-    /// It is lent to this hardware address.
-    Bound(Mac, u64),
-    /// A client found it in use, and nobody gets it.
-    Declined(u64),
+/// What is left of it at a moment: it is over at its very moment.
+pub(crate) fn at_moment(lease: Lease, now: u64) -> Lease
+    ensures { result ≡ at_moment now lease }
+{
+    match lease {
+        Lease::Free => Lease::Free,
+        Lease::Reserved(mac, until) => {
+            if now < until {
+                Lease::Reserved(mac, until)
+            } else {
+                Lease::Free
+            }
+        }
+        Lease::Bound(mac, until) => {
+            if now < until {
+                Lease::Bound(mac, until)
+            } else {
+                Lease::Free
+            }
+        }
+        Lease::Declined(until) => {
+            if now < until {
+                Lease::Declined(until)
+            } else {
+                Lease::Free
+            }
+        }
+    }
 }
 
-impl Lease {
-    ghost use Rattle.dhcp_server.specs.Leases.{at_moment, is_free, is_of, is_reserved_for, freed, not_reserved, can_have, reserved};
-
-    /// What is left of it at a moment: it is over at its very moment.
-    pub(crate) fn at_moment(self, now: u64) -> Lease
-        ensures { result ≡ at_moment now self }
-    {
-        match self {
-            Lease::Free => Lease::Free,
-            Lease::Reserved(mac, until) => {
-                if now < until {
-                    Lease::Reserved(mac, until)
-                } else {
-                    Lease::Free
-                }
-            }
-            Lease::Bound(mac, until) => {
-                if now < until {
-                    Lease::Bound(mac, until)
-                } else {
-                    Lease::Free
-                }
-            }
-            Lease::Declined(until) => {
-                if now < until {
-                    Lease::Declined(until)
-                } else {
-                    Lease::Free
-                }
-            }
-        }
+/// Whether nobody has it.
+pub(crate) fn is_free(lease: Lease) -> bool
+    ensures { result ≡ is_free lease }
+{
+    match lease {
+        Lease::Free => true,
+        Lease::Reserved(_, _) | Lease::Bound(_, _) | Lease::Declined(_) => false,
     }
+}
 
-    pub(crate) fn is_free(self) -> bool
-        ensures { result ≡ is_free self }
-    {
-        match self {
-            Lease::Free => true,
-            Lease::Reserved(_, _) | Lease::Bound(_, _) | Lease::Declined(_) => false,
-        }
+/// Whether it is bound or reserved to a hardware address.
+pub(crate) fn is_of(lease: Lease, mac: Mac) -> bool
+    ensures { result ≡ is_of mac lease }
+{
+    match lease {
+        Lease::Free | Lease::Declined(_) => false,
+        Lease::Reserved(owner, _) | Lease::Bound(owner, _) => owner == mac,
     }
+}
 
-    /// Whether it is bound or reserved to a hardware address.
-    pub(crate) fn is_of(self, mac: Mac) -> bool
-        ensures { result ≡ is_of mac self }
-    {
-        match self {
-            Lease::Free | Lease::Declined(_) => false,
-            Lease::Reserved(owner, _) | Lease::Bound(owner, _) => owner == mac,
-        }
+// Whether it is reserved to a hardware address.
+fn is_reserved_for(lease: Lease, mac: Mac) -> bool
+    ensures { result ≡ is_reserved_for mac lease }
+{
+    match lease {
+        Lease::Reserved(owner, _) => owner == mac,
+        Lease::Free | Lease::Bound(_, _) | Lease::Declined(_) => false,
     }
+}
 
-    fn is_reserved_for(self, mac: Mac) -> bool
-        ensures { result ≡ is_reserved_for mac self }
-    {
-        match self {
-            Lease::Reserved(owner, _) => owner == mac,
-            Lease::Free | Lease::Bound(_, _) | Lease::Declined(_) => false,
-        }
+/// Free where it was the hardware address's.
+pub(crate) fn freed(lease: Lease, mac: Mac) -> Lease
+    ensures { result ≡ freed mac lease }
+{
+    if is_of(lease, mac) {
+        Lease::Free
+    } else {
+        lease
     }
+}
 
-    /// Free where it was the hardware address's.
-    pub(crate) fn freed(self, mac: Mac) -> Lease
-        ensures { result ≡ freed mac self }
-    {
-        if self.is_of(mac) { Lease::Free } else { self }
+/// Free where it was offered to the hardware address.
+pub(crate) fn not_reserved(lease: Lease, mac: Mac) -> Lease
+    ensures { result ≡ not_reserved mac lease }
+{
+    if is_reserved_for(lease, mac) {
+        Lease::Free
+    } else {
+        lease
     }
+}
 
-    /// Free where it was offered to the hardware address.
-    pub(crate) fn not_reserved(self, mac: Mac) -> Lease
-        ensures { result ≡ not_reserved mac self }
-    {
-        if self.is_reserved_for(mac) {
-            Lease::Free
-        } else {
-            self
-        }
-    }
+/// Whether it can be lent to the hardware address.
+pub(crate) fn can_have(lease: Lease, mac: Mac) -> bool
+    ensures { result ≡ can_have mac lease }
+{
+    is_free(lease) || is_of(lease, mac)
+}
 
-    /// Whether it can be lent to the hardware address.
-    pub(crate) fn can_have(self, mac: Mac) -> bool
-        ensures { result ≡ can_have mac self }
-    {
-        self.is_free() || self.is_of(mac)
-    }
-
-    /// Reserved from a moment on, unless it is bound.
-    pub(crate) fn reserved(self, now: u64, mac: Mac) -> Lease
-        requires { now ≤ 2 ^ 62 }
-        ensures { result ≡ reserved now mac self }
-    {
-        match self {
-            Lease::Bound(owner, until) => Lease::Bound(owner, until),
-            Lease::Free | Lease::Reserved(_, _) | Lease::Declined(_) => {
-                Lease::Reserved(mac, now + OFFER_TIME)
-            }
+/// Reserved from a moment on, unless it is bound.
+pub(crate) fn reserved(lease: Lease, now: u64, mac: Mac) -> Lease
+    requires { now ≤ 2 ^ 62 }
+    ensures { result ≡ reserved now mac lease }
+{
+    match lease {
+        Lease::Bound(owner, until) => Lease::Bound(owner, until),
+        Lease::Free | Lease::Reserved(_, _) | Lease::Declined(_) => {
+            Lease::Reserved(mac, now + OFFER_TIME)
         }
     }
 }
@@ -150,8 +138,8 @@ pub struct Leases {
 
 impl Model for Leases {
     ghost use Rattle.std.specs.Prelude.{◌≡◌, ◌+◌, ◌<◌, ◌^◌};
-    ghost use Rattle.host_policy.specs.Settings.{settings};
-    ghost use Rattle.dhcp_server.specs.Leases.{IsOneToOne};
+    ghost use Rattle.slirp_settings.specs.Settings.{settings};
+    ghost use Rattle.dhcp_rules.specs.Leases.{IsOneToOne};
     ghost use Rattle.dhcp_server.specs.Lending.{Lending};
 
     ghost Value = { Lending };
@@ -163,12 +151,12 @@ impl Model for Leases {
 
 impl Leases {
     ghost use Rattle.std.specs.Prelude.{replicate};
-    ghost use Rattle.host_policy.specs.Settings.{settings};
-    ghost use Rattle.dhcp_server.specs.Leases.{IsOneToOne};
-    ghost use Rattle.dhcp_server.specs.Messages.{read_message};
-    ghost use Rattle.dhcp_server.specs.Serving.{leases_after};
-    ghost use Rattle.dhcp_server.specs.Replies.{reply_to, replied_octets};
-    ghost use Rattle.dhcp_server.specs.declared.leases.Lease.TheVariants.{Free};
+    ghost use Rattle.slirp_settings.specs.Settings.{settings};
+    ghost use Rattle.dhcp_rules.specs.Leases.{IsOneToOne};
+    ghost use Rattle.dhcp_rules.specs.Messages.{read_message};
+    ghost use Rattle.dhcp_rules.specs.Serving.{leases_after};
+    ghost use Rattle.dhcp_rules.specs.Replies.{reply_to, replied_octets};
+    ghost use Rattle.dhcp_rules.specs.declared.Lease.TheVariants.{Free};
 
     /// No address is lent yet. The settings are some of which `check` answers Ok.
     pub fn new(c: &SlirpConfig) -> Leases
@@ -196,7 +184,7 @@ impl Leases {
         ensures one_to_one { IsOneToOne self.new.leases }
     {
         let leases = self.leases;
-        let Some(message) = Message::read(body) else {
+        let Some(message) = read_message(body) else {
             return Reply::Nothing;
         };
         let outcome = outcome_of(&self.config, now, &message, leases);

@@ -3,10 +3,11 @@ ghost use Rattle.std.specs.Prelude.{◌≡◌, ◌+◌, ◌≤◌, length, Ok};
 ghost use Rattle.std.specs.Option.{option_and_then};
 ghost use Rattle.net_octets.specs.Octets.{part};
 ghost use Rattle.tlv_table.specs.Reading.{first_body};
-ghost use Rattle.dhcp_server.specs.Messages.{is_request, one_in, address_in, options_in, message_of, read_message};
+ghost use Rattle.dhcp_rules.specs.Messages.{is_request, one_in, address_in, options_in, message_of, read_message};
 
 use crate::options_read;
 use byteorder::{BigEndian, ByteOrder};
+use dhcp_rules::Message;
 use net_octets::{Ip4, Mac};
 use tlv_table::Fields;
 
@@ -16,34 +17,15 @@ const HEAD: usize = 240;
 /// What begins the options: 99, 130, 83, 99 (RFC 2131, 3).
 const COOKIE: u32 = 0x63825363;
 
-/// What a message of a client says.
-#[derive(Clone, Copy, Debug, PartialEq, Eq)]
-pub struct Message {
-    /// The number by which the client knows its reply.
-    pub ident: [u8; 4],
-    pub flags: [u8; 2],
-    /// The address that the client has, or 0.
-    pub client: Ip4,
-    pub mac: Mac,
-    /// Option 53.
-    pub kind: u8,
-    /// Option 50, the address that the client asks for.
-    pub asked: Option<Ip4>,
-    /// Option 54, the server that it chose.
-    pub server: Option<Ip4>,
-}
-
-impl Message {
-    /// What the octets say. None where they are no message of a client to a server: the fixed part and the cookie aren't there, it isn't a request over
-    /// Ethernet, a relay passed it on, or its options are no list with a kind.
-    pub fn read(octets: &[u8]) -> Option<Message>
-        ensures { result ≡ read_message octets.now }
-    {
-        if is_request(octets) {
-            message_in(octets)
-        } else {
-            None
-        }
+/// What the octets say. None where they are no message of a client to a server: the fixed part and the cookie aren't there, it isn't a request over
+/// Ethernet, a relay passed it on, or its options are no list with a kind.
+pub fn read_message(octets: &[u8]) -> Option<Message>
+    ensures { result ≡ read_message octets.now }
+{
+    if is_request(octets) {
+        message_in(octets)
+    } else {
+        None
     }
 }
 

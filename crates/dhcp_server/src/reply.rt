@@ -1,20 +1,20 @@
 //! The octets of a reply, and where it goes (RFC 2131, 2 and 4.1).
 ghost use Rattle.std.specs.Prelude.{ℕ, List, if◌then◌else◌, ◌≡◌, ◌+◌, ◌-◌, ◌≤◌, ◌<◌, ◌^◌, ◌++◌, [], ◌∷◌, length, drop};
 ghost use Rattle.net_octets.specs.Octets.{four};
-ghost use Rattle.host_policy.specs.Settings.{settings};
+ghost use Rattle.slirp_settings.specs.Settings.{settings};
 ghost use Rattle.tlv_table.specs.Putting.{CanPut, put_octets};
-ghost use Rattle.dhcp_server.specs.Messages.{form};
-ghost use Rattle.dhcp_server.specs.Replies.{rows_written, kind_of, is_ack, is_silence, is_refusal, IsPlaced, given, zeros, filled, front, addresses, back, text_option, router};
-ghost use Rattle.dhcp_server.specs.Replies.{name_server, lease_option, network_options, further_options, options, goes_to_all, datagram_of, reply_octets, reply_of, octets_of_reply};
+ghost use Rattle.dhcp_rules.specs.Messages.{form};
+ghost use Rattle.dhcp_rules.specs.Replies.{rows_written, kind_of, is_ack, is_silence, is_refusal, IsPlaced, given, zeros, filled, front, addresses, back, text_option, router};
+ghost use Rattle.dhcp_rules.specs.Replies.{name_server, lease_option, network_options, further_options, options, goes_to_all, datagram_of, reply_octets, reply_of, octets_of_reply};
 ghost use Rattle.dhcp_server.specs.Writing.{Adds};
 
-use crate::message::Message;
 use crate::options_written;
-use crate::serving::Answer;
 use arrayvec::ArrayVec;
-use host_policy::{Reply, SlirpConfig};
+use dhcp_rules::{Answer, Message};
 use net_octets::{Endpoint, Ip4, Mac};
+use slirp_settings::{CLIENT_PORT, LEASES_PORT, SlirpConfig};
 use tlv_table::Table;
+use udp_rules::Reply;
 
 /// The least length of a reply (RFC 1542, 2.1).
 const LEAST: usize = 300;
@@ -24,10 +24,6 @@ const COOKIE: [u8; 4] = [99, 130, 83, 99];
 
 /// How long an address is lent, in seconds.
 const LEASE_SECONDS: u32 = 86_400;
-
-const SERVER: u16 = 67;
-
-const CLIENT: u16 = 68;
 
 /// Writes the reply, and says where it goes.
 pub fn write_reply(config: &SlirpConfig, m: &Message, answer: Answer, into: &mut [u8]) -> Reply
@@ -51,7 +47,7 @@ fn datagram(config: &SlirpConfig, m: &Message, answer: Answer, length: usize) ->
 {
     let from = Endpoint {
         addr: config.vhost,
-        port: SERVER,
+        port: LEASES_PORT,
     };
     if goes_to_all(m, answer) {
         Reply::Datagram {
@@ -59,7 +55,7 @@ fn datagram(config: &SlirpConfig, m: &Message, answer: Answer, length: usize) ->
             from,
             to: Endpoint {
                 addr: Ip4(u32::MAX),
-                port: CLIENT,
+                port: CLIENT_PORT,
             },
             mac: Some(Mac([255; 6])),
         }
@@ -69,7 +65,7 @@ fn datagram(config: &SlirpConfig, m: &Message, answer: Answer, length: usize) ->
             from,
             to: Endpoint {
                 addr: m.client,
-                port: CLIENT,
+                port: CLIENT_PORT,
             },
             mac: Some(m.mac),
         }

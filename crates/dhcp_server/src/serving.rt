@@ -1,38 +1,16 @@
 //! What becomes of the leases by a message, and what is answered (RFC 2131, 4.3).
 ghost use Rattle.std.specs.Prelude.{◌≡◌, ◌≤◌, ◌<◌, ◌+◌, ◌^◌, length, map, position, Some, IfSome};
-ghost use Rattle.host_policy.specs.Settings.{settings};
-ghost use Rattle.dhcp_server.specs.Leases.{at_moment, is_free, is_of, place_of, offered, reserve, not_reserved, freed, lend, replaced};
-ghost use Rattle.dhcp_server.specs.Serving.{asked_place, discovered, is_for_another, wanted, lends, requested, given_up, outcome_of};
+ghost use Rattle.slirp_settings.specs.Settings.{settings};
+ghost use Rattle.dhcp_rules.specs.Leases.{at_moment, is_free, is_of, place_of, offered, reserve, not_reserved, freed, lend, replaced};
+ghost use Rattle.dhcp_rules.specs.Serving.{asked_place, discovered, is_for_another, wanted, lends, requested, given_up, outcome_of};
 
-use crate::leases::{Lease, POOL, bound};
-use crate::message::Message;
-use host_policy::SlirpConfig;
+use crate::leases::{at_moment, bound, can_have, freed, is_free, is_of, not_reserved, reserved};
+use dhcp_rules::{Answer, Lease, Message, Outcome, POOL};
 use net_octets::{Ip4, Mac};
+use slirp_settings::SlirpConfig;
 
 /// How many milliseconds an address that a client declined is kept from use.
 const DECLINED_TIME: u64 = 3_600_000;
-
-/// How a message is answered.
-#[derive(Clone, Copy, Debug, PartialEq, Eq)]
-pub enum Answer {
-    /// Not at all.
-    Silence,
-    /// By an OFFER of the address at this place.
-    Offers(usize),
-    /// By an ACK with the address at this place.
-    Lends(usize),
-    /// By an ACK without an address.
-    Informs,
-    /// By a NAK.
-    Refuses,
-}
-
-/// What a message leaves of the leases, and how it is answered.
-#[derive(Clone, Copy, Debug, PartialEq, Eq)]
-pub struct Outcome {
-    pub leases: [Lease; POOL],
-    pub answer: Answer,
-}
 
 /// What a message does at a moment, by its kind: DISCOVER (1), REQUEST (3), DECLINE (4), RELEASE (7) or INFORM (8).
 pub fn outcome_of(config: &SlirpConfig, now: u64, m: &Message, leases: [Lease; POOL]) -> Outcome
@@ -91,7 +69,7 @@ fn lends(now: u64, mac: Mac, leases: [Lease; POOL], place: usize) -> Outcome
     requires place { place < 16 }
     ensures { result ≡ lends now mac leases (Some place) }
 {
-    if leases[place].can_have(mac) {
+    if can_have(leases[place], mac) {
         leaves(lend(leases, now, mac, place), Answer::Lends(place))
     } else {
         leaves(leases, Answer::Refuses)
@@ -163,7 +141,7 @@ fn offered(leases: &[Lease], mac: Mac, asked: Option<usize>) -> Option<usize>
         return Some(place);
     }
     if let Some(place) = asked {
-        if leases[place].is_free() {
+        if is_free(leases[place]) {
             return Some(place);
         }
     }
@@ -175,7 +153,7 @@ fn owned(leases: &[Lease], mac: Mac) -> Option<usize>
     ensures place { result ≡ position (is_of mac) leases.now }
     ensures within { IfSome result (λ k. k < length leases.now) }
 {
-    leases.iter().position(|lease| lease.is_of(mac))
+    leases.iter().position(|lease| is_of(*lease, mac))
 }
 
 // The lowest free place.
@@ -183,7 +161,7 @@ fn free(leases: &[Lease]) -> Option<usize>
     ensures place { result ≡ position is_free leases.now }
     ensures within { IfSome result (λ k. k < length leases.now) }
 {
-    leases.iter().position(|lease| lease.is_free())
+    leases.iter().position(|lease| is_free(*lease))
 }
 
 // The leases after an offer.
@@ -193,7 +171,7 @@ fn reserve(leases: [Lease; POOL], now: u64, mac: Mac, place: usize) -> [Lease; P
     ensures { result ≡ reserve now mac place leases }
 {
     let mut after = leases;
-    after[place] = leases[place].reserved(now, mac);
+    after[place] = reserved(leases[place], now, mac);
     after
 }
 
@@ -213,7 +191,7 @@ fn replaced(leases: [Lease; POOL], mac: Mac, place: usize, lease: Lease) -> [Lea
     requires { place < 16 }
     ensures { result ≡ replaced mac place lease leases }
 {
-    if leases[place].is_of(mac) {
+    if is_of(leases[place], mac) {
         let mut after = leases;
         after[place] = lease;
         after
@@ -228,7 +206,7 @@ fn leases_at(leases: [Lease; POOL], now: u64) -> [Lease; POOL]
 {
     let mut after = leases;
     for lease in after.iter_mut() {
-        *lease = lease.at_moment(now);
+        *lease = at_moment(*lease, now);
     }
     after
 }
@@ -239,7 +217,7 @@ fn without(leases: [Lease; POOL], mac: Mac) -> [Lease; POOL]
 {
     let mut after = leases;
     for lease in after.iter_mut() {
-        *lease = lease.freed(mac);
+        *lease = freed(*lease, mac);
     }
     after
 }
@@ -250,7 +228,7 @@ fn without_offers(leases: [Lease; POOL], mac: Mac) -> [Lease; POOL]
 {
     let mut after = leases;
     for lease in after.iter_mut() {
-        *lease = lease.not_reserved(mac);
+        *lease = not_reserved(*lease, mac);
     }
     after
 }

@@ -1,4 +1,4 @@
 pub mod Below
-pub mod Counting
-pub mod Moving
+pub mod Keeping
+pub mod Numbering
 pub mod Yielding

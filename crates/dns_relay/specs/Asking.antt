@@ -1,9 +1,9 @@
 -- At which address of the host the sockets of questions are opened, and a question that goes out.
 use Rattle.std.specs.Prelude.{◌≡◌, ℕ, false, List, [], ◌∷◌, unwrap_or, if◌then◌else◌}
 use Rattle.std.specs.Option.{option_map_or}
-use Rattle.host_policy.specs.Addresses.{Config, address}
-use Rattle.host_policy.specs.Targets.{is_loopback}
-use Rattle.host_policy.specs.declared.Reply.{Reply}
+use Rattle.slirp_settings.specs.Addresses.{Config, address}
+use Rattle.slirp_settings.specs.Classes.{is_loopback}
+use Rattle.udp_rules.specs.declared.Reply.{Reply}
 use Rattle.world_face.specs.Journal.{Entry, UdpSend}
 use Rattle.world_face.specs.declared.Sent.{Sent}
 use Rattle.dns_relay.specs.Relaying.{Asked, told}

@@ -2,25 +2,24 @@
 ghost use Rattle.std.specs.Prelude.{◌≡◌, ◌+◌, ◌-◌, ◌^◌, ◌<◌, ◌≤◌, [], All, IsPermutation, is_some, length, min, true, false, slice_get};
 ghost use Rattle.std.specs.List.Sorted.{IsNonDecreasing};
 ghost use Rattle.std.specs.Option.{option_map};
-ghost use Rattle.host_policy.specs.Settings.{settings};
+ghost use Rattle.slirp_settings.specs.Settings.{settings};
 ghost use Rattle.world_face.specs.Limits.{most_to_udp};
 ghost use Rattle.world_face.specs.Tells.{Makes};
 ghost use Rattle.dns_relay.specs.Asking.{asked_of, bind_for, SendsOn};
-ghost use Rattle.dns_relay.specs.Questions.{is_over, is_question, most_questions, numbers, question_life};
+ghost use Rattle.dns_relay.specs.Kept.{as_question};
+ghost use Rattle.dns_rules.specs.Questions.{is_over, is_question, most_questions, numbers, question_life, socket_of};
 
 use crate::messages::{ident_in, is_answered};
-use crate::questions::Questions;
-use crate::{QUESTION_LIFE, Question};
-use host_policy::{Reply, SlirpConfig};
+use dns_rules::{QUESTION_LIFE, Question};
+use idle_sockets::{IdleSocket, IdleSockets};
 use net_octets::{Endpoint, Ip4, Mac};
+use slirp_settings::{NAMES_PORT, SlirpConfig};
 use std::marker::Model;
+use udp_rules::Reply;
 use world_face::{Got, Made, Sent, World};
 
 /// Why a destination can't be reached: the network can't (RFC 792).
 const NO_NETWORK: u8 = 0;
-
-/// The port of a name server (RFC 1035, 4.2).
-const PORT: u16 = 53;
 
 /// A question of a guest: its endpoint, the hardware address from which it came, the resolver, and the message.
 #[derive(Clone, Copy, Debug, PartialEq, Eq)]
@@ -41,25 +40,26 @@ pub struct Relay {
     bind: Ip4,
     resolver: Option<Endpoint>,
     name_server: Ip4,
-    list: Questions,
+    list: IdleSockets,
 }
 
 impl Model for Relay {
     ghost use Rattle.dns_relay.specs.State.{RelayState};
+    ghost use Rattle.dns_relay.specs.Kept.{questions};
 
     ghost Value = { RelayState };
 
-    ghost view = { λ s. record { bind = s.bind.0; resolver = s.resolver; name_server = s.name_server.0; list = s.list } };
+    ghost view = { λ s. record { bind = s.bind.0; resolver = s.resolver; name_server = s.name_server.0; list = questions s.list } };
 }
 
 impl Relay {
-    ghost use Rattle.std.specs.Prelude.{ℕ, ◌++◌, ◌∷◌, Option};
+    ghost use Rattle.std.specs.Prelude.{ℕ, None, Option};
     ghost use Rattle.net_octets.specs.declared.Endpoint.{Endpoint as AnEndpoint};
     ghost use Rattle.net_octets.specs.declared.Mac.{Mac as AMac};
-    ghost use Rattle.host_policy.specs.declared.Reply.TheVariants.{Datagram};
+    ghost use Rattle.udp_rules.specs.declared.Reply.TheVariants.{Datagram};
     ghost use Rattle.world_face.specs.declared.Got.TheVariants.{From};
-    ghost use Rattle.dns_relay.specs.Questions.{asked_from, ident_in, moved_last, numbered};
-    ghost use Rattle.dns_relay.specs.Relaying.{calls_after, calls_for_room, list_after, passed, with_room, ClosesLeast, Hears, OpensFor, Relays, Ticks};
+    ghost use Rattle.dns_rules.specs.Questions.{asked_from, ident_in, moved_last, numbered};
+    ghost use Rattle.dns_relay.specs.Relaying.{calls_after, list_after, passed, ClosesLeast, Hears, OpensFor, Relays, Ticks};
 
     /// No socket is open. Sockets will be opened at port 0, where the system chooses the port: at `outbound` where the settings have it, else at 0.0.0.0, every
     /// address; where the resolver is on the host itself, in 127/8, at 0.0.0.0. All room for questions is in the value itself, so nothing is taken later.
@@ -75,7 +75,7 @@ impl Relay {
             bind: bind_for(c),
             resolver: c.resolver,
             name_server: c.vnameserver,
-            list: Questions::new(),
+            list: IdleSockets::new(),
         }
     }
 
@@ -107,26 +107,11 @@ impl Relay {
             body,
         };
         let ident = ident_in(body);
-        match self.list.same_question(from, ident) {
-            Some(question) => self.send_on(world, now, question.number, &asked),
+        match self.list.socket_of(from, ident) {
+            Some(socket) => self.send_on(world, now, socket, &asked),
             None => {
-                self.make_room(world);
+                self.list.make_room(world);
                 self.open_for(world, now, number, ident, &asked)
-            }
-        }
-    }
-
-    // Where as many questions wait as may, the socket of the longest unused one is closed.
-    fn make_room<W: World>(&mut self, world: &mut W)
-        ensures calls { Makes (W.tells world.old) (W.tells world.new) (λ made. made ≡ calls_for_room self.old.list) }
-        ensures list { self.new ≡ record self.old { list = with_room self.old.list } }
-        ensures room { length self.new.list < most_questions }
-        ensures above { (bound : ℕ) → All (λ n. n < bound) (numbers self.old.list) → All (λ n. n < bound) (numbers self.new.list) }
-    {
-        if self.list.is_full() {
-            if let Some(oldest) = self.list.oldest() {
-                world.close(oldest.number);
-                self.list.close(oldest.number);
             }
         }
     }
@@ -145,6 +130,7 @@ impl Relay {
         requires numbers { number.old + 1 < 2 ^ 64 }
         requires above { All (λ n. n < number.old) (numbers self.old.list) }
         requires room { length self.old.list < most_questions }
+        requires fresh { socket_of asked.now.from ident self.old.list ≡ None }
         ensures opens { Makes (W.tells world.old) (W.tells world.new)
             (OpensFor self.old.bind (asked_of asked.now) now number.old self.old.list self.new.list result) }
         ensures rest { self.new ≡ record self.old { list = self.new.list } }
@@ -158,11 +144,11 @@ impl Relay {
         };
         match world.udp_open(socket, at) {
             Made::Done => {
-                self.list.open(Question {
+                self.list.open(IdleSocket {
                     number: socket,
                     guest: asked.from,
-                    mac: asked.mac,
                     ident,
+                    mac: asked.mac,
                     used: now,
                 });
                 self.send_on(world, now, socket, asked)
@@ -184,7 +170,7 @@ impl Relay {
         ensures list { self.new ≡ record self.old { list = moved_last (asked_from asked.now.mac now) socket self.old.list } }
     {
         let reply = send(world, socket, asked);
-        self.list.asked(socket, asked.mac, now);
+        self.list.sent(socket, asked.mac, now);
         reply
     }
 
@@ -197,9 +183,10 @@ impl Relay {
         ensures fits { (count : ℕ) (from to : AnEndpoint) (mac : Option AMac) → result ≡ Datagram count from to mac → count ≤ length into.new }
         ensures room { length into.new ≡ length into.old }
     {
-        let Some(question) = self.list.numbered(s) else {
+        let Some(socket) = self.list.numbered(s) else {
             return Reply::Nothing;
         };
+        let question = as_question(&socket);
         match world.udp_recv(s, into) {
             Got::From(peer, length) => {
                 self.receive_answer(world, now, &question, peer, &into[..length])
@@ -233,7 +220,7 @@ impl Relay {
             length: octets.len(),
             from: Endpoint {
                 addr: self.name_server,
-                port: PORT,
+                port: NAMES_PORT,
             },
             to: question.guest,
             mac: Some(question.mac),
@@ -260,15 +247,15 @@ impl Relay {
     pub fn oldest(&self) -> Option<Question>
         ensures { result ≡ slice_get self.now.list 0 }
     {
-        self.list.oldest()
+        let oldest = self.list.oldest()?;
+        Some(as_question(&oldest))
     }
 
     /// The moment at which the longest unused question has waited for long enough, at most 2^64 - 1. None exactly where there is none.
     pub fn next_due(&self) -> Option<u64>
         ensures { result ≡ option_map (λ q. min (2 ^ 64 - 1) (q.used + question_life)) (slice_get self.now.list 0) }
     {
-        let oldest = self.list.oldest()?;
-        Some(oldest.used.saturating_add(QUESTION_LIFE))
+        self.list.next_due(QUESTION_LIFE)
     }
 
     /// Closes the sockets of questions that have waited for long enough, by rising number.
@@ -277,22 +264,7 @@ impl Relay {
         ensures none { All (λ q. is_over now q ≡ false) self.new.list }
         ensures rest { self.new ≡ record self.old { list = self.new.list } }
     {
-        while self.close_idle(world, now) {}
-    }
-
-    // Closes the socket with the least number of those that have waited for long enough, and answers whether there was one.
-    fn close_idle<W: World>(&mut self, world: &mut W, now: u64) -> bool
-        ensures closes { Makes (W.tells world.old) (W.tells world.new) (ClosesLeast (is_over now) result self.old.list self.new.list) }
-        ensures fewer { result ≡ true → length self.new.list < length self.old.list }
-        ensures none { result ≡ false → All (λ q. is_over now q ≡ false) self.new.list }
-        ensures rest { self.new ≡ record self.old { list = self.new.list } }
-    {
-        let Some(number) = self.list.idle(now) else {
-            return false;
-        };
-        world.close(number);
-        self.list.close(number);
-        true
+        self.list.close_idle(world, now, QUESTION_LIFE);
     }
 
     /// Closes the socket with the least number, and answers whether there was one.
@@ -301,12 +273,20 @@ impl Relay {
         ensures fewer { result ≡ true → length self.new.list < length self.old.list }
         ensures rest { self.new ≡ record self.old { list = self.new.list } }
     {
-        let Some(number) = self.list.least() else {
-            return false;
-        };
-        world.close(number);
-        self.list.close(number);
-        true
+        self.list.close_first(world)
+    }
+}
+
+// A socket as the question that waits on it.
+fn as_question(socket: &IdleSocket) -> Question
+    ensures { result ≡ as_question socket.now }
+{
+    Question {
+        number: socket.number,
+        guest: socket.guest,
+        mac: socket.mac,
+        ident: socket.ident,
+        used: socket.used,
     }
 }
 

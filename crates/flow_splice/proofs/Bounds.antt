@@ -16,7 +16,7 @@ use Rattle.flow_laws.specs.Flow.{has_connected, is_accepted, is_closed, is_conne
 use Rattle.flow_laws.specs.Close.{asked_at, is_deserted as is_deserted_by, last_at, patience_end as patience_by, times_asked}
 use Rattle.flow_laws.specs.Dutiful.{close_deadline, closing_moments, moment_if, resend_deadline, seeks_guest, waits_for_window, waits_since, wakes}
 use Rattle.flow_laws.specs.Lawful.{is_prompted}
-use Rattle.halves_follow.specs.Bounds.{IsBy, IsFrom}
+use Rattle.flow_laws.specs.Bounds.{IsBy, IsFrom}
 use Rattle.halves_follow.proofs.InTime.{not_before, seeks_none}
 use Rattle.halves_follow.proofs.Moments.{by_both}
 use Rattle.connection_follows.specs.Holding.{is_calls, is_connects, is_live}

@@ -14,7 +14,7 @@ use Rattle.flow_laws.specs.Host.{answered, got, got_end}
 use Rattle.flow_laws.specs.Close.{is_deserted as is_deserted_by, last_at, patience_end as patience_by, syn_is_due}
 use Rattle.flow_laws.specs.Lawful.{is_prompted}
 use Rattle.flow_laws.specs.Dutiful.{close_deadline, moment_if, wakes}
-use Rattle.halves_follow.specs.Bounds.{IsBy, IsFrom}
+use Rattle.flow_laws.specs.Bounds.{IsBy, IsFrom}
 use Rattle.connection_follows.proofs.Deserting.{deserted_is, deserted_only, patience_from}
 use Rattle.flow_splice.specs.Follows.{Follows, IsOpen}
 use Rattle.flow_splice.specs.Splice.{Splice, is_open}

@@ -1,9 +1,9 @@
 -- The frames of a flow.
-use Rattle.std.specs.Prelude.{◌≡◌, ℕ, ◌+◌, ◌^◌, ◌<◌, ◌≤◌, length, List, [], ◌∷◌, Bool, false, not, IfSome, if◌then◌else◌}
+use Rattle.std.specs.Prelude.{◌≡◌, ℕ, ◌+◌, ◌^◌, ◌<◌, ◌≤◌, length, List, Bool, not, IfSome, if◌then◌else◌}
 use Rattle.net_octets.specs.Kinds.{arp_kind, ipv4_kind, tcp_proto}
 use Rattle.net_octets.specs.Octets.{our_mac}
 use Rattle.net_octets.specs.declared.Mac.{Mac}
-use Rattle.arp_table.specs.Arp.{Arp, arp_octets}
+use Rattle.arp_table.specs.Arp.{Arp, arp_octets, asking, everyone}
 use Rattle.ether_frame.specs.Ether.{ether_octets}
 use Rattle.ipv4_head.specs.Ip.{ip_octets}
 use Rattle.tcp_segment.specs.Tcp.{Tcp, mss_octets, scale_octets, tcp_octets}
@@ -43,15 +43,9 @@ segment_frame face mac ident seg =
     ether_octets mac.0 (our_mac face.vhost.0) ipv4_kind
     (ip_octets ident 0 tcp_proto face.other.addr.0 face.guest.addr.0 (tcp_octets face.other.addr.0 face.guest.addr.0 (tcp_out face seg)))
 
-abbrev pub everyone : List ℕ
-everyone = 255 ∷ 255 ∷ 255 ∷ 255 ∷ 255 ∷ 255 ∷ []
-
-abbrev pub nobody : List ℕ
-nobody = 0 ∷ 0 ∷ 0 ∷ 0 ∷ 0 ∷ 0 ∷ []
-
 -- the request for the guest's hardware address (RFC 826), from the virtual host to everyone
 abbrev pub request : Face → Arp
-request face = record { is_reply = false; sender_mac = our_mac face.vhost.0; sender = face.vhost.0; target_mac = nobody; target = face.guest.addr.0 }
+request face = asking face.vhost.0 face.guest.addr.0
 
 abbrev pub request_frame : Face → List ℕ
 request_frame face = ether_octets everyone (our_mac face.vhost.0) arp_kind (arp_octets (request face))

@@ -5,7 +5,7 @@
 ghost use Rattle.std.specs.Prelude.{◌≡◌, ℕ, ◌+◌, ◌^◌, ◌<◌, ◌≤◌, ◌++◌, [], length, take, drop};
 ghost use Rattle.net_octets.specs.Kinds.{ipv4_kind, tcp_proto};
 ghost use Rattle.ether_frame.specs.Ether.{ether_octets};
-ghost use Rattle.ipv4_head.specs.Ip.{head_with, summed_head};
+ghost use Rattle.ipv4_head.specs.Ip.{summed_head};
 ghost use Rattle.sock_buffers.specs.Downward.{Downward};
 ghost use Rattle.tcp_connection.specs.declared.Head.{Head as Header};
 ghost use Rattle.tcp_segment.specs.Tcp.{head_octets, mss_octets, scale_octets, tcp_length, tcp_octets, tcp_of};
@@ -15,21 +15,14 @@ ghost use Rattle.net_octets.specs.declared.Endpoint.{Endpoint as AnEndpoint};
 ghost use Rattle.net_octets.specs.Sizes.{most_frame};
 ghost use Rattle.net_octets.specs.Octets.{our_mac};
 
-use arp_table::ArpView;
+use arp_table::{EVERYONE, asking};
 use byteorder::{BigEndian, ByteOrder};
 use ether_frame::EtherView;
-use net_octets::{
-    ARP_KIND, Endpoint, IPV4_KIND, Ip4, Mac, TCP_PROTO, checksum, checksum_after, pseudo,
-};
+use ipv4_head::{IpView, LIFE};
+use net_octets::{ARP_KIND, Endpoint, IPV4_KIND, Ip4, Mac, TCP_PROTO, checksum_after, pseudo};
 use sock_buffers::Down;
 use tcp_connection::{Head, Owed};
 use tcp_segment::{ACK, FIN, PSH, RST, SYN, TcpView, head_size, put_head};
-
-/// The hardware address of everyone.
-const EVERYONE: Mac = Mac([255; 6]);
-
-/// The hardware address of nobody.
-const NOBODY: Mac = Mac([0; 6]);
 
 /// The octets of the headers of Ethernet and IPv4.
 const FRONT: usize = 34;
@@ -138,31 +131,23 @@ fn write_segment(v: &TcpView<'_>, from: Ip4, to: Ip4, what: &Owed, down: &Down, 
     BigEndian::write_u16(&mut segment[16..18], sum);
 }
 
-/// The header of a datagram with so many octets behind it, with this sum.
-fn ip_header(route: &Route, size: u16, sum: u16) -> [u8; 20]
-    requires { size ≤ 1488 }
-    ensures { result ≡ head_with 64 sum route.now.ident 0 tcp_proto route.now.other.addr.0 route.now.guest.addr.0 size }
-{
-    let (ident, from, to) = (route.ident, route.other.addr.0, route.guest.addr.0);
-    let mut head = [0; 20];
-    head[0] = 0x45;
-    BigEndian::write_u16(&mut head[2..4], 20 + size);
-    BigEndian::write_u16(&mut head[4..6], ident);
-    head[8] = 64;
-    head[9] = TCP_PROTO;
-    BigEndian::write_u16(&mut head[10..12], sum);
-    BigEndian::write_u32(&mut head[12..16], from);
-    BigEndian::write_u32(&mut head[16..], to);
-    head
-}
-
-/// The header of a datagram with so many octets behind it, with the sum that holds.
-fn summed_header(route: &Route, size: u16) -> [u8; 20]
+/// The header of a datagram with so many octets behind it.
+fn ip_header(route: &Route, size: usize) -> [u8; 20]
     requires { size ≤ 1488 }
     ensures { result ≡ summed_head 64 route.now.ident 0 tcp_proto route.now.other.addr.0 route.now.guest.addr.0 size }
 {
-    let sum = checksum(&ip_header(route, size, 0));
-    ip_header(route, size, sum)
+    let datagram = IpView {
+        ident: route.ident,
+        more: false,
+        offset: 0,
+        ttl: LIFE,
+        proto: TCP_PROTO,
+        from: route.other.addr,
+        to: route.guest.addr,
+        head: &[],
+        body: &[],
+    };
+    ipv4_head::header(&datagram, size)
 }
 
 /// Writes the header of a frame at the front of `into`.
@@ -203,7 +188,7 @@ fn write_at(route: &Route, v: &TcpView<'_>, what: &Owed, down: &Down, size: usiz
     ensures room { length into.new ≡ length into.old }
 {
     put_ether(route, into);
-    into[14..FRONT].copy_from_slice(&summed_header(route, size as u16));
+    into[14..FRONT].copy_from_slice(&ip_header(route, size));
     write_segment(
         v,
         route.other.addr,
@@ -253,19 +238,11 @@ pub(crate) fn write_request(vhost: Ip4, guest: Ip4, into: &mut [u8]) -> usize
     ensures short { result ≤ most_frame }
     ensures room { length into.new ≡ length into.old }
 {
-    let ours = Mac::of_ours(vhost);
     let mut packet = [0; 28];
-    let request = ArpView {
-        reply: false,
-        sender_mac: ours,
-        sender_ip: vhost,
-        target_mac: NOBODY,
-        target_ip: guest,
-    };
-    let written = arp_table::write(&request, &mut packet);
+    let written = arp_table::write(&asking(vhost, guest), &mut packet);
     let ether = EtherView {
         to: EVERYONE,
-        from: ours,
+        from: Mac::of_ours(vhost),
         kind: ARP_KIND,
         body: &packet[..written],
     };

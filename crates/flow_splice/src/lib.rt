@@ -135,7 +135,7 @@ impl Spliced {
     ghost use Rattle.flow_splice.specs.declared.Place.TheVariants.{Empty};
     ghost use Rattle.poll_list.specs.declared.Who.TheVariants.{Tcp as OnTcp};
     ghost use Rattle.flow_laws.specs.Dutiful.{MayWaitToWrite, close_deadline, must_wait_to_write, resend_deadline, waits_to_read, wakes};
-    ghost use Rattle.halves_follow.specs.Bounds.{IsBy, IsFrom};
+    ghost use Rattle.flow_laws.specs.Bounds.{IsBy, IsFrom};
     ghost use Rattle.flow_splice.specs.Sends.{IsClear};
     ghost use Rattle.flow_splice.specs.Held.{IsFront};
     ghost use Rattle.flow_laws.specs.Flow.{guest};

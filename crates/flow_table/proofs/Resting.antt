@@ -8,7 +8,7 @@ use Rattle.row_lists.proofs.Places.{set_from, set_to, set_at, removed_from, remo
 use Rattle.flow_table.specs.declared.Rest.{Rest}
 use Rattle.flow_table.specs.declared.Slot.{Slot}
 use Rattle.flow_table.specs.declared.Slot.TheVariants.{Free, Resting}
-use Rattle.flow_table.specs.declared.Tuple.{Tuple}
+use Rattle.record_flows.specs.declared.Tuple.{Tuple}
 use Rattle.flow_table.specs.Slots.{AreKept, HasRestedLongest, NoneRests, RestsSince, Stands, StandsBefore, flows, moved_last}
 use Rattle.flow_table.specs.Rows.{AreRests, DoNotFall, IsFirstAfter, IsLonger, rest_of}
 use Rattle.flow_table.proofs.Keeping.{first_place, gone}

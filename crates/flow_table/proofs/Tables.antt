@@ -14,7 +14,7 @@ use Rattle.flow_table.specs.declared.Entry.{Entry}
 use Rattle.flow_table.specs.declared.Rest.{Rest}
 use Rattle.flow_table.specs.declared.Slot.{Slot}
 use Rattle.flow_table.specs.declared.Slot.TheVariants.{Free, InUse, Resting}
-use Rattle.flow_table.specs.declared.Tuple.{Tuple}
+use Rattle.record_flows.specs.declared.Tuple.{Tuple}
 use Rattle.flow_table.specs.Slots.{AreKept, HasTuple, NoneHas, RestsSince, moved_last}
 use Rattle.flow_table.specs.Rows.{AreEntries, AreFree, AreRests, BelongsAt, IsFirstAfter, IsSlotIn, IsTable, IsVacated, entry_of, rest_of}
 use Rattle.flow_table.proofs.Freeing.{all_are_free, freed, last_taken, still_free}

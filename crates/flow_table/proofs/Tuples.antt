@@ -16,7 +16,7 @@ use Rattle.row_lists.proofs.Places.{set_from, set_to, set_at, removed_from, remo
 use Rattle.flow_table.specs.declared.Entry.{Entry}
 use Rattle.flow_table.specs.declared.Slot.{Slot}
 use Rattle.flow_table.specs.declared.Slot.TheVariants.{Free, InUse}
-use Rattle.flow_table.specs.declared.Tuple.{Tuple}
+use Rattle.record_flows.specs.declared.Tuple.{Tuple}
 use Rattle.flow_table.specs.Slots.{HasTuple, IsFree, NoneHas, tuple_of}
 use Rattle.flow_table.specs.Rows.{AreEntries, BelongsAt, Rise, StandsAt, entry_of, tuple_cmp}
 use Rattle.flow_table.proofs.Keeping.{free_has_none}

@@ -2,10 +2,11 @@
 ghost use Rattle.std.specs.Prelude.{◌≡◌, ℕ, ◌+◌, ◌^◌, ◌<◌, ◌≤◌, Some, length, slice_get, vec_len};
 ghost use Rattle.std.specs.List.{insert, remove};
 ghost use Rattle.std.specs.Vec.{vec_capacity};
-ghost use Rattle.flow_table.specs.declared.Tuple.{Tuple};
+ghost use Rattle.record_flows.specs.declared.Tuple.{Tuple};
 ghost use Rattle.flow_table.specs.Rows.{BelongsAt, IsPlaceOf, IsSlotIn, Rise, StandsAt, entry_of};
 
-use crate::{Entry, Steps, Tuple};
+use crate::{Entry, Steps};
+use record_flows::Tuple;
 use std::cmp::Ordering;
 use std::marker::Brand;
 use std::sync::ledger::{Blank, Ledger};
@@ -25,7 +26,7 @@ pub(crate) fn search<L: Ledger>(
     while size > 0 {
         let half = size / 2;
         let middle = low + half;
-        match entries[middle].tuple.order(t, steps) {
+        match steps.order(&entries[middle].tuple, t) {
             Ordering::Equal => return Ok(middle),
             Ordering::Less => {
                 low = middle + 1;

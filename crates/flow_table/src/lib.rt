@@ -2,7 +2,7 @@
 #![tactic(auto)]
 
 ghost use Rattle.std.specs.Prelude.{◌≡◌, ℕ, ◌+◌, ◌^◌, ◌<◌, ◌≤◌, List, [], ◌∷◌, ◌++◌, length, slice_set, vec_len, IfOk, IfSome, IfNone, Some};
-ghost use Rattle.flow_table.specs.declared.Tuple.{Tuple};
+ghost use Rattle.record_flows.specs.declared.Tuple.{Tuple};
 ghost use Rattle.flow_table.specs.declared.Slot.TheVariants.{Free, InUse, Resting};
 ghost use Rattle.flow_table.specs.Slots.{AreKept, HasTuple, HasSome, NoneHas, NoneIsFree, NoneRests, MayBeTaken, all_free, flows, moved_last, tuple_of, with_slot};
 ghost use Rattle.flow_table.specs.Rows.{AreEntries, AreFree, AreRests, IsVacated, tuple_cmp};
@@ -15,20 +15,14 @@ mod rests;
 
 use entries::{insert_entry, place_of, remove_entry, search, slot_found};
 use net_octets::{Endpoint, NoMemory};
+use record_flows::Tuple;
 use rests::{end_rest, insert_rest, move_last};
 use std::alloc::{AllocError, Global};
 use std::cmp::Ordering;
 use std::marker::Model;
 use std::sync::ledger::{Blank, Book, Ledger, Share};
 
-/// The two ends of a flow: the guest's, and the other that the guest sees.
-#[derive(Clone, Copy, Debug, PartialEq, Eq)]
-pub struct Tuple {
-    pub guest: Endpoint,
-    pub other: Endpoint,
-}
-
-/// How many comparisons of tuples were made. It takes no octets, and only `tick` changes it.
+/// How many comparisons of tuples were made. It takes no octets, and `tick` alone changes it.
 #[derive(Drop)]
 pub struct Steps<L: Ledger> {
     book: Book<L>,
@@ -63,17 +57,15 @@ impl<L: Ledger> Steps<L> {
     {
         self.book.add(&mut self.share, 1);
     }
-}
 
-impl Tuple {
     /// Which of two tuples stands first: by guest address, guest port, other address and other
     /// port. It is one step.
-    pub fn order<L: Ledger>(&self, other: &Tuple, steps: &mut Steps<L>) -> Ordering
-        ensures order { result ≡ tuple_cmp self.now other.now }
-        ensures step { steps.new ≡ steps.old + 1 }
+    pub fn order(&mut self, one: &Tuple, other: &Tuple) -> Ordering
+        ensures order { result ≡ tuple_cmp one.now other.now }
+        ensures step { self.new ≡ self.old + 1 }
     {
-        steps.tick();
-        compare(self, other)
+        self.tick();
+        compare(one, other)
     }
 }
 

@@ -8,13 +8,13 @@ use Rattle.net_octets.specs.declared.Endpoint.{Endpoint}
 use Rattle.net_octets.specs.declared.Mac.{Mac}
 use Rattle.world_face.specs.Journal.{Entry, Accept, CallClose}
 use Rattle.world_face.specs.declared.Accepted.TheVariants.{From}
-use Rattle.host_policy.specs.Addresses.{Config}
+use Rattle.slirp_settings.specs.Addresses.{Config}
 use Rattle.run_laws.specs.Moments.{moment}
 use Rattle.run_laws.specs.Sockets.{next_number}
 use Rattle.flow_table.specs.Slots.{AreKept, HasTuple, MayBeTaken, NoneHas, flows, tuple_of}
 use Rattle.flow_table.specs.declared.Slot.{Slot}
 use Rattle.flow_table.specs.declared.Slot.TheVariants.{Free, InUse, Resting}
-use Rattle.flow_table.specs.declared.Tuple.{Tuple}
+use Rattle.record_flows.specs.declared.Tuple.{Tuple}
 use Rattle.flow_laws.specs.Event.{Accepts, At}
 use Rattle.flow_laws.specs.Close.{is_in_use}
 use Rattle.flow_laws.specs.Flow.{first_number}

@@ -8,7 +8,7 @@ use Rattle.net_octets.specs.declared.Mac.{Mac}
 use Rattle.world_face.specs.Journal.{Entry, LinkWrite, CallLinkWrite}
 use Rattle.world_face.specs.Frames.{MayFrame, goes_out, opens, tail}
 use Rattle.world_face.specs.declared.Io.TheVariants.{Done}
-use Rattle.host_policy.specs.Addresses.{Config, address}
+use Rattle.slirp_settings.specs.Addresses.{Config, address}
 use Rattle.run_laws.specs.Moments.{moment}
 use Rattle.run_laws.specs.Shape.{is_working}
 use Rattle.run_laws.specs.Sockets.{is_among, next_number}

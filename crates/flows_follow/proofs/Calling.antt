@@ -4,7 +4,7 @@ use Rattle.std.specs.Option.{option_or}
 use Rattle.poll_list.specs.Listing.{reads, writes}
 use Rattle.poll_list.specs.declared.Who.TheVariants.{Tcp}
 use Rattle.world_face.specs.Journal.{Entry, Call, Close, CallConnected, CallTcpRead, CallTcpWrite, CallTcpEnd, CallClose}
-use Rattle.host_policy.specs.Addresses.{Config}
+use Rattle.slirp_settings.specs.Addresses.{Config}
 use Rattle.run_laws.specs.Moments.{moment}
 use Rattle.run_laws.specs.Shape.{Phase, due_in, is_ended, is_over, is_working, phase}
 use Rattle.run_laws.specs.Sockets.{Kind, Association, DnsSocket, Forward, Listener, Flow as AFlow, is_among, is_flow, kind_of, next_number, open_sockets, first}

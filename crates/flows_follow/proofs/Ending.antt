@@ -1,7 +1,7 @@
 -- At the end of a run the open sockets are closed by rising number, those of flows among them.
 use Rattle.std.proofs.Common.{◌≡◌, ℕ, ◌==◌, ◌||◌, Bool, true, false, List, ◌∷◌, MatchOption, Option, Some, None, IsTrue, if◌then◌else◌, inl, refl, sym, ◌∙◌, ap, subst}
 use Rattle.world_face.specs.Journal.{Entry, Close, CallClose}
-use Rattle.host_policy.specs.Addresses.{Config}
+use Rattle.slirp_settings.specs.Addresses.{Config}
 use Rattle.run_laws.specs.Moments.{moment}
 use Rattle.run_laws.specs.Shape.{is_ended, is_over, is_working, phase}
 use Rattle.run_laws.specs.Sockets.{first, is_among, next_number, open_sockets}

@@ -4,13 +4,13 @@ use Rattle.std.specs.Prelude.{Contains}
 use Rattle.std.proofs.lemmas.List.{length-set}
 use Rattle.net_octets.specs.declared.Mac.{Mac}
 use Rattle.world_face.specs.Journal.{Entry}
-use Rattle.host_policy.specs.Addresses.{Config}
+use Rattle.slirp_settings.specs.Addresses.{Config}
 use Rattle.run_laws.specs.Moments.{moment}
 use Rattle.run_laws.specs.Sockets.{next_number}
 use Rattle.flow_table.specs.Slots.{flows, moved_last}
 use Rattle.flow_table.specs.declared.Slot.{Slot}
 use Rattle.flow_table.specs.declared.Slot.TheVariants.{Free, Resting}
-use Rattle.flow_table.specs.declared.Tuple.{Tuple}
+use Rattle.record_flows.specs.declared.Tuple.{Tuple}
 use Rattle.flow_laws.specs.Event.{Arrives, At, Story}
 use Rattle.flow_laws.specs.Close.{ends_rest, host_failed, is_in_use, renewed, renews, rests_since}
 use Rattle.record_flows.specs.Book.{after_segment, book, rest, scene, turned, without}

@@ -1,11 +1,11 @@
 -- A socket connects, or a peer is accepted: a flow more in the record, and the slot that the table gives it.
 use Rattle.std.proofs.Common.{◌≡◌, ℕ, suc, true, false, List, [], ◌∷◌, length, set, slice_get, Option, Some, None, option_map, ◌⊎◌, inl, inr, refl, sym, ◌∙◌, ap, subst}
 use Rattle.std.specs.Prelude.{option_and_then}
-use Rattle.host_policy.specs.Addresses.{Config}
+use Rattle.slirp_settings.specs.Addresses.{Config}
 use Rattle.flow_table.specs.Slots.{AreKept, Flows, flows, IsFree, MayBeTaken, NoneHas, tuple_of}
 use Rattle.flow_table.specs.declared.Slot.{Slot}
 use Rattle.flow_table.specs.declared.Slot.TheVariants.{Free, InUse, Resting}
-use Rattle.flow_table.specs.declared.Tuple.{Tuple}
+use Rattle.record_flows.specs.declared.Tuple.{Tuple}
 use Rattle.flow_laws.specs.Event.{Event, At, Story}
 use Rattle.flow_laws.specs.Close.{is_in_use}
 use Rattle.record_flows.specs.Book.{make_room, opens, without}

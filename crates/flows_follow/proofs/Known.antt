@@ -8,7 +8,7 @@ use Rattle.world_face.specs.Journal.{Entry}
 use Rattle.net_octets.specs.declared.Endpoint.{Endpoint}
 use Rattle.net_octets.specs.declared.Ip4.{Ip4}
 use Rattle.net_octets.specs.declared.Mac.{Mac}
-use Rattle.host_policy.specs.Addresses.{Config, address}
+use Rattle.slirp_settings.specs.Addresses.{Config, address}
 use Rattle.arp_table.specs.Table.{is_for, mac_of}
 use Rattle.run_laws.specs.Guests.{known, with_arrival, with_pair}
 use Rattle.run_laws.specs.Happenings.{Arrival, happens}

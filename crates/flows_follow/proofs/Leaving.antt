@@ -1,7 +1,7 @@
 -- The newest entry takes a flow out of use: its socket was closed, or the reset that it owed went out. It rests or is gone.
 use Rattle.std.proofs.Common.{◌≡◌, ℕ, ◌==◌, true, false, List, [], ◌∷◌, ◌++◌, Option, Some, None, is_some, if◌then◌else◌, sym, ◌∙◌, ap, subst}
 use Rattle.world_face.specs.Journal.{Entry}
-use Rattle.host_policy.specs.Addresses.{Config}
+use Rattle.slirp_settings.specs.Addresses.{Config}
 use Rattle.flow_laws.specs.Close.{rests_since}
 use Rattle.record_flows.specs.Book.{after_close, rest, turned, scene, book}
 use Rattle.record_flows.specs.Doings.{Shuts, doing}

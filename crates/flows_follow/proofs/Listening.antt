@@ -7,10 +7,10 @@ use Rattle.world_face.specs.Frames.{Ending, ending, partial}
 use Rattle.world_face.specs.declared.Made.{Made}
 use Rattle.world_face.specs.declared.Made.TheVariants.{Done, Failed}
 use Rattle.net_octets.specs.declared.Endpoint.{Endpoint}
-use Rattle.host_policy.specs.declared.Forward.{Forward}
-use Rattle.host_policy.specs.declared.Proto.{Proto}
-use Rattle.host_policy.specs.declared.Proto.TheVariants.{Tcp, Udp as ByUdp}
-use Rattle.host_policy.specs.Addresses.{Config, forward_on}
+use Rattle.slirp_settings.specs.declared.Forward.{Forward}
+use Rattle.slirp_settings.specs.declared.Proto.{Proto}
+use Rattle.slirp_settings.specs.declared.Proto.TheVariants.{Tcp, Udp as ByUdp}
+use Rattle.slirp_settings.specs.Addresses.{Config, forward_on}
 use Rattle.run_laws.specs.Moments.{waits}
 use Rattle.run_laws.specs.Shape.{Phase, Opening, Started, Woken, Working, Over, clocked, due_in, opened, opening_of, phase, phase_after, phase_by, unless_over, GivesNone}
 use Rattle.run_laws.specs.Sockets.{Kind, Association, Forward as OfForward, Listener, Flow, datagram_kind, first, kind_of, next_number, open_sockets}
@@ -18,8 +18,8 @@ use Rattle.record_flows.specs.Book.{book, port_by, port_of}
 use Rattle.record_flows.specs.Lots.{connects_to, due_by, due_for_flows}
 use Rattle.slirp_laws.specs.Asking.{step}
 use Rattle.slirp_laws.specs.Names.{answered}
-use Rattle.tftp_server.specs.Asking.{call_for}
-use Rattle.tftp_server.specs.Transfers.{Quest, Settled as SeeksNothing, SeeksLength, SeeksOctets}
+use Rattle.tftp_rules.specs.Asking.{call_for}
+use Rattle.tftp_rules.specs.Transfers.{Quest, Settled as SeeksNothing, SeeksLength, SeeksOctets}
 use Rattle.slirp_laws.specs.Datagrams.{Step, NeedsNothing, NeedsRoom, NeedsSocket, NeedsSending, due_for}
 use Rattle.slirp_laws.specs.Laws.{Lawful, May, due_for_services}
 use Rattle.slirp_laws.specs.Answers.{serving}

@@ -7,7 +7,7 @@ use Rattle.std.specs.List.{cons_option, list_any}
 use Rattle.flow_table.specs.Slots.{Flows, HasTuple, NoneHas, tuple_of}
 use Rattle.flow_table.specs.declared.Slot.{Slot}
 use Rattle.flow_table.specs.declared.Slot.TheVariants.{Free, InUse, Resting}
-use Rattle.flow_table.specs.declared.Tuple.{Tuple}
+use Rattle.record_flows.specs.declared.Tuple.{Tuple}
 use Rattle.flow_laws.specs.Event.{Story}
 use Rattle.flow_laws.specs.Close.{is_in_use}
 use Rattle.run_laws.specs.Sockets.{is_among}

@@ -8,8 +8,8 @@ use Rattle.world_face.specs.declared.Accepted.{Accepted}
 use Rattle.world_face.specs.declared.Accepted.TheVariants.{From, NotYet as NotYetAccepted, Failed as AcceptFailed}
 use Rattle.world_face.specs.declared.Made.{Made}
 use Rattle.world_face.specs.declared.Made.TheVariants.{Done, Failed}
-use Rattle.host_policy.specs.Addresses.{Config}
-use Rattle.flow_table.specs.declared.Tuple.{Tuple}
+use Rattle.slirp_settings.specs.Addresses.{Config}
+use Rattle.record_flows.specs.declared.Tuple.{Tuple}
 use Rattle.run_laws.specs.Moments.{moment, waits}
 use Rattle.run_laws.specs.Sockets.{Kind, Association, DnsSocket, Forward, Listener, Flow as OfFlow, datagram_kind, is_among, is_association, is_flow, kind_of, next_number, open_sockets}
 use Rattle.run_laws.specs.Sockets.{with_made, with_peer}

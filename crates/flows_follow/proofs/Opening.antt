@@ -7,10 +7,10 @@ use Rattle.net_octets.specs.declared.Endpoint.{Endpoint}
 use Rattle.flow_table.specs.Slots.{Flows, flows}
 use Rattle.flow_table.specs.declared.Slot.{Slot}
 use Rattle.flow_table.specs.declared.Slot.TheVariants.{Free, InUse, Resting}
-use Rattle.flow_table.specs.declared.Tuple.{Tuple}
+use Rattle.record_flows.specs.declared.Tuple.{Tuple}
 use Rattle.flow_laws.specs.Event.{Story}
 use Rattle.flow_laws.specs.Close.{is_in_use}
-use Rattle.host_policy.specs.Targets.{same_endpoint}
+use Rattle.slirp_settings.specs.Classes.{same_endpoint}
 use Rattle.record_flows.specs.Segments.{same_tuple}
 use Rattle.record_flows.specs.Flows.{Flow, Rest, owner, flow_of, uses}
 use Rattle.flows_follow.specs.Seats.{number_in, number_at, rests_at, count_used, in_use_slots, Seats}

@@ -4,7 +4,7 @@ use Rattle.net_octets.specs.declared.Mac.{Mac}
 use Rattle.world_face.specs.Journal.{Entry, Call, Wait}
 use Rattle.world_face.specs.declared.Waited.{Waited}
 use Rattle.poll_list.specs.declared.Want.{Want}
-use Rattle.host_policy.specs.Addresses.{Config}
+use Rattle.slirp_settings.specs.Addresses.{Config}
 use Rattle.flow_table.specs.Slots.{Flows}
 use Rattle.run_laws.specs.Sockets.{next_number}
 use Rattle.flow_laws.specs.Event.{Story}

@@ -3,9 +3,9 @@ use Rattle.std.proofs.Common.{◌≡◌, ℕ, ◌+◌, ◌&&◌, ◌||◌, not, 
 use Rattle.std.specs.Prelude.{Contains}
 use Rattle.net_octets.specs.declared.Mac.{Mac}
 use Rattle.world_face.specs.Journal.{Call, CallClose, Close, Entry}
-use Rattle.host_policy.specs.Addresses.{Config}
+use Rattle.slirp_settings.specs.Addresses.{Config}
 use Rattle.run_laws.specs.Moments.{moment}
-use Rattle.flow_table.specs.declared.Tuple.{Tuple}
+use Rattle.record_flows.specs.declared.Tuple.{Tuple}
 use Rattle.flow_laws.specs.Event.{Closes, At, Story}
 use Rattle.flow_laws.specs.Close.{ended_first, finds_no_guest, follows_reset, gives_up, host_failed, host_was_ended, is_done, last_at, may_give_way, newest_rst, our_fin_is_acked, owes_reset, quiet_time, waits_too_long}
 use Rattle.flow_laws.specs.Flow.{is_closed}

@@ -9,7 +9,7 @@ use Rattle.std.proofs.lemmas.List.Elements.{filter-append}
 use Rattle.net_octets.specs.declared.Mac.{Mac}
 use Rattle.world_face.specs.Journal.{Entry, AreAllowed, Call, CallClose, Follows as AreFollowing}
 use Rattle.world_face.specs.Frames.{MayFrame, is_blocked, tail}
-use Rattle.host_policy.specs.Addresses.{Config, address}
+use Rattle.slirp_settings.specs.Addresses.{Config, address}
 use Rattle.arp_table.specs.Table.{mac_of as learnt_for}
 use Rattle.run_laws.specs.Guests.{known as known_guests}
 use Rattle.run_laws.specs.Moments.{moment}
@@ -17,7 +17,7 @@ use Rattle.run_laws.specs.Sockets.{next_number}
 use Rattle.flow_table.specs.Slots.{Flows}
 use Rattle.flow_table.specs.declared.Slot.{Slot}
 use Rattle.flow_table.specs.declared.Slot.TheVariants.{Free, InUse, Resting}
-use Rattle.flow_table.specs.declared.Tuple.{Tuple}
+use Rattle.record_flows.specs.declared.Tuple.{Tuple}
 use Rattle.flow_laws.specs.Event.{Story}
 use Rattle.flow_laws.specs.Close.{host_failed, is_in_use, owes_reset, rests_since}
 use Rattle.flow_laws.specs.Flow.{is_closed}

@@ -9,7 +9,7 @@ use Rattle.world_face.specs.Journal.{Entry, AreAllowed, Follows, LinkWrite, Clos
 use Rattle.world_face.specs.Frames.{LinkFailed, MayFrame, goes_out, is_blocked, opens, tail}
 use Rattle.world_face.specs.declared.Io.{Io}
 use Rattle.world_face.specs.declared.Io.TheVariants.{Done, End, NotYet, Failed}
-use Rattle.host_policy.specs.Addresses.{Config, address}
+use Rattle.slirp_settings.specs.Addresses.{Config, address}
 use Rattle.arp_table.specs.Table.{mac_of as learnt_for}
 use Rattle.run_laws.specs.Guests.{known as known_guests}
 use Rattle.run_laws.specs.Happenings.{happens}

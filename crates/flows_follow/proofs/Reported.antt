@@ -4,9 +4,9 @@ use Rattle.std.specs.Prelude.{Contains}
 use Rattle.net_octets.specs.declared.Mac.{Mac}
 use Rattle.poll_list.specs.declared.Want.{Want}
 use Rattle.world_face.specs.Journal.{Entry}
-use Rattle.host_policy.specs.Addresses.{Config}
+use Rattle.slirp_settings.specs.Addresses.{Config}
 use Rattle.run_laws.specs.Moments.{moment}
-use Rattle.flow_table.specs.declared.Tuple.{Tuple}
+use Rattle.record_flows.specs.declared.Tuple.{Tuple}
 use Rattle.flow_laws.specs.Event.{Story}
 use Rattle.record_flows.specs.Book.{book, scene}
 use Rattle.record_flows.specs.Flows.{Flow, comes_directly, comes_last, flow_of, guest_is_known}

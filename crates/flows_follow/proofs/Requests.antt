@@ -4,7 +4,7 @@ use Rattle.std.proofs.Common.{if◌then◌else◌, ◌⊎◌, inl, inr, refl, sy
 use Rattle.std.proofs.lemmas.List.{length-map}
 use Rattle.world_face.specs.Journal.{Entry}
 use Rattle.world_face.specs.Frames.{goes_out}
-use Rattle.host_policy.specs.Addresses.{Config, address}
+use Rattle.slirp_settings.specs.Addresses.{Config, address}
 use Rattle.flow_laws.specs.Event.{AsksAddress, At}
 use Rattle.flow_laws.specs.Close.{is_in_use}
 use Rattle.flow_laws.specs.Flow.{is_accepted}

@@ -7,13 +7,13 @@ use Rattle.net_octets.specs.declared.Endpoint.{Endpoint}
 use Rattle.net_octets.specs.Kinds.{icmp_proto, tcp_proto, udp_proto}
 use Rattle.net_octets.specs.Octets.{one_at, part, two_at, our_mac}
 use Rattle.world_face.specs.Journal.{Entry, AreAllowed}
-use Rattle.host_policy.specs.Addresses.{address, Config, is_answered_for, is_ours}
+use Rattle.slirp_settings.specs.Addresses.{address, Config, is_answered_for, is_ours}
 use Rattle.host_policy.specs.Targets.{is_hidden}
 use Rattle.ipv4_head.specs.Ip.{Ip, ip_octets, is_unbroken, read_ip}
 use Rattle.icmp_echo.specs.Icmp.{Icmp, echo, unreachable, other as another}
 use Rattle.tcp_segment.specs.declared.TheConstants.{ACK}
 use Rattle.tcp_segment.specs.Tcp.{Tcp, has, read_tcp, tcp_octets}
-use Rattle.flow_table.specs.declared.Tuple.{Tuple}
+use Rattle.record_flows.specs.declared.Tuple.{Tuple}
 use Rattle.flow_laws.specs.Event.{Segment}
 use Rattle.record_flows.specs.Lots.{reset_to}
 use Rattle.record_flows.specs.Segments.{OnTuple, from_guest, segment_by, segment_in, tcp_of, to_guest}
@@ -22,8 +22,8 @@ use Rattle.slirp_laws.specs.Answers.{Serving, answers_of, served_file, told_of_f
 use Rattle.slirp_laws.specs.Answers.{owed_for_icmp, owed_for_packet, owed_for_segment, part_frame, reply_for, told_about, uncut}
 use Rattle.slirp_laws.specs.Datagrams.{Fate, Ignored, Refused, ForLeases, ForFiles, GoesTo, fate}
 use Rattle.slirp_laws.specs.Leasing.{Sending, lease_reply}
-use Rattle.tftp_server.specs.Transfers.{Said}
-use Rattle.dns_relay.specs.Questions.{is_answered}
+use Rattle.tftp_rules.specs.Transfers.{Said}
+use Rattle.dns_rules.specs.Questions.{is_answered}
 use Rattle.slirp_laws.specs.Laws.{Lawful}
 use Rattle.slirp_laws.specs.Ports.{opened_for, mac_for}
 use Rattle.slirp_laws.specs.Said.{Carries, Occasion, NoOccasion, Came, Heard, HeardOfName, OfFile, Unsent, Unconnected, identification_with, last_occasion, owed_for}

@@ -1,7 +1,7 @@
 -- What is about a flow in use leaves the flows that rest as they are.
 use Rattle.std.proofs.Common.{◌≡◌, ℕ, ◌==◌, ◌&&◌, ◌||◌, Bool, true, false, not, List, [], ◌∷◌, ◌++◌, Option, Some, None, is_some, if◌then◌else◌, refl, sym, ◌∙◌, ap}
 use Rattle.world_face.specs.Journal.{Entry}
-use Rattle.host_policy.specs.Addresses.{Config}
+use Rattle.slirp_settings.specs.Addresses.{Config}
 use Rattle.flow_laws.specs.Event.{Segment, Connects, Accepts, Arrives, Departs, Closes, At, Story}
 use Rattle.flow_laws.specs.Flow.{is_accepted, is_closed, syn_is_out}
 use Rattle.flow_laws.specs.Close.{is_done, follows_reset, host_failed, gives_up, must_part, waits_too_long, owes_reset, is_owed_reset, is_in_use, ended_first, ends_rest, renews, renewed, rests_since}

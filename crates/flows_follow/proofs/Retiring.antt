@@ -5,7 +5,7 @@ use Rattle.std.proofs.lemmas.List.Elements.{Contains-append_left, Contains-push}
 use Rattle.flow_table.specs.Slots.{Flows, flows, moved_last}
 use Rattle.flow_table.specs.declared.Slot.{Slot}
 use Rattle.flow_table.specs.declared.Slot.TheVariants.{Free, InUse, Resting}
-use Rattle.flow_table.specs.declared.Tuple.{Tuple}
+use Rattle.record_flows.specs.declared.Tuple.{Tuple}
 use Rattle.flow_laws.specs.Event.{Story}
 use Rattle.record_flows.specs.Book.{rest}
 use Rattle.record_flows.specs.Flows.{Flow, Rest, flow_of, uses, used}

@@ -5,7 +5,7 @@ use Rattle.std.proofs.lemmas.Bool.Decides.{nat_tests}
 use Rattle.net_octets.specs.declared.Endpoint.{Endpoint}
 use Rattle.world_face.specs.Journal.{Entry, Now, Wait, LinkOpen, LinkRead, LinkWrite, Connect, Connected, Listen, Accept, TcpRead, TcpWrite, TcpEnd, Close, UdpOpen, UdpSend, UdpRecv}
 use Rattle.world_face.specs.Journal.{FileLen, FileRead}
-use Rattle.host_policy.specs.Addresses.{Config}
+use Rattle.slirp_settings.specs.Addresses.{Config}
 use Rattle.flow_laws.specs.Event.{Segment, Accepts}
 use Rattle.flow_laws.specs.Flow.{first_number}
 use Rattle.flow_laws.specs.Close.{ends_rest, renews, rests_since}

@@ -1,6 +1,6 @@
 -- A request for a guest's hardware address is told to each flow that was accepted for the guest.
 use Rattle.std.proofs.Common.{◌≡◌, ℕ, suc, ◌==◌, ◌&&◌, Bool, true, false, cond, List, [], ◌∷◌, length, map, filter, Option, Some, None, option_map, if◌then◌else◌, refl, sym, ◌∙◌, ap}
-use Rattle.host_policy.specs.Addresses.{address}
+use Rattle.slirp_settings.specs.Addresses.{address}
 use Rattle.flow_table.specs.Slots.{Flows}
 use Rattle.flow_table.specs.declared.Slot.{Slot}
 use Rattle.flow_table.specs.declared.Slot.TheVariants.{Free, InUse, Resting}

@@ -4,7 +4,7 @@ use Rattle.std.specs.Prelude.{Contains, filter_map}
 use Rattle.flow_table.specs.Slots.{Flows, flows, moved_last}
 use Rattle.flow_table.specs.declared.Slot.{Slot}
 use Rattle.flow_table.specs.declared.Slot.TheVariants.{Free, InUse, Resting}
-use Rattle.flow_table.specs.declared.Tuple.{Tuple}
+use Rattle.record_flows.specs.declared.Tuple.{Tuple}
 use Rattle.flow_laws.specs.Event.{Story}
 use Rattle.flow_laws.specs.Close.{is_in_use, rests_since}
 use Rattle.flow_laws.specs.Settings.{Settings}

@@ -11,8 +11,8 @@ use Rattle.world_face.specs.declared.Io.{Io}
 use Rattle.world_face.specs.declared.Io.TheVariants.{Done as IoDone, End, NotYet, Failed as IoFailed}
 use Rattle.world_face.specs.declared.Joined.{Joined}
 use Rattle.world_face.specs.declared.Joined.TheVariants.{Yes, NotYet as NotJoined, Failed as JoinFailed}
-use Rattle.host_policy.specs.Addresses.{Config, address}
-use Rattle.flow_table.specs.declared.Tuple.{Tuple}
+use Rattle.slirp_settings.specs.Addresses.{Config, address}
+use Rattle.record_flows.specs.declared.Tuple.{Tuple}
 use Rattle.run_laws.specs.Happenings.{Arrival, happens}
 use Rattle.run_laws.specs.Sockets.{Kind, Listener, Flow as AFlow, is_among, is_flow, kind_of, next_number, open_sockets, with_made, with_peer}
 use Rattle.flow_laws.specs.Event.{Segment, Event, Connects, Accepts, Arrives, Departs, AsksAddress, At, Story, Closes}

@@ -4,12 +4,12 @@ use Rattle.std.specs.Prelude.{Contains}
 use Rattle.std.proofs.lemmas.List.{length-map}
 use Rattle.net_octets.specs.declared.Mac.{Mac}
 use Rattle.world_face.specs.Journal.{Entry, Call}
-use Rattle.host_policy.specs.Addresses.{Config, address}
+use Rattle.slirp_settings.specs.Addresses.{Config, address}
 use Rattle.run_laws.specs.Moments.{moment}
 use Rattle.run_laws.specs.Sockets.{next_number}
 use Rattle.flow_laws.specs.Event.{AsksAddress, At, Story}
 use Rattle.flow_laws.specs.Flow.{is_accepted}
-use Rattle.flow_table.specs.declared.Tuple.{Tuple}
+use Rattle.record_flows.specs.declared.Tuple.{Tuple}
 use Rattle.record_flows.specs.Book.{book, is_young, scene, turned}
 use Rattle.record_flows.specs.Doings.{Doing, Seeks, doing}
 use Rattle.record_flows.specs.Flows.{Book, Flow, Rest, flow_of, seeks_for, with_event}

@@ -1,7 +1,7 @@
 -- Where the core's relation holds, no flow is one that the next call must close; nor is one after a close where none was before.
 use Rattle.std.proofs.Common.{◌≡◌, ℕ, Bool, true, false, List, ◌∷◌, Option, Some, None, sym, ◌∙◌}
 use Rattle.world_face.specs.Journal.{Entry, Call, Close}
-use Rattle.host_policy.specs.Addresses.{Config}
+use Rattle.slirp_settings.specs.Addresses.{Config}
 use Rattle.flow_laws.specs.Settings.{Settings}
 use Rattle.flow_laws.specs.Event.{Story}
 use Rattle.flow_laws.specs.Dutiful.{MustClose}

@@ -20,9 +20,9 @@ use Rattle.world_face.specs.declared.Joined.{Joined}
 use Rattle.world_face.specs.declared.Joined.TheVariants.{Yes, NotYet as NotYetJoined, Failed as JoinFailed}
 use Rattle.world_face.specs.declared.Accepted.{Accepted}
 use Rattle.world_face.specs.declared.Accepted.TheVariants.{From as PeerFrom, NotYet as NotYetAccepted, Failed as AcceptFailed}
-use Rattle.host_policy.specs.Addresses.{Config}
+use Rattle.slirp_settings.specs.Addresses.{Config}
 use Rattle.host_policy.specs.Targets.{target}
-use Rattle.host_policy.specs.declared.Proto.TheVariants.{Tcp as OverTcp}
+use Rattle.slirp_settings.specs.declared.Proto.TheVariants.{Tcp as OverTcp}
 use Rattle.host_policy.specs.declared.Verdict.{Verdict}
 use Rattle.host_policy.specs.declared.Verdict.TheVariants.{Go, Denied}
 use Rattle.flow_laws.specs.Event.{AsksAddress, At, Segment, Story}
@@ -46,10 +46,10 @@ use Rattle.run_laws.specs.Packets.{Datagram, Packet, Unheard, ArpPacket, Message
 use Rattle.run_laws.specs.Sockets.{next_number as next_socket}
 use Rattle.slirp_laws.specs.Asking.{step}
 use Rattle.slirp_laws.specs.Names.{questions}
-use Rattle.dns_relay.specs.declared.Question.{Question}
-use Rattle.dns_relay.specs.Questions.{numbered}
-use Rattle.tftp_server.specs.Asking.{by_answer}
-use Rattle.tftp_server.specs.Transfers.{Outcome, Said}
+use Rattle.dns_rules.specs.declared.Question.{Question}
+use Rattle.dns_rules.specs.Questions.{numbered}
+use Rattle.tftp_rules.specs.Asking.{by_answer}
+use Rattle.tftp_rules.specs.Transfers.{Outcome, Said}
 use Rattle.slirp_laws.specs.Answers.{Serving, is_flows, starts, again_frames, begins_again, is_first, is_out, ledger, left_by_file, left_by_outcome, may_go_again, serving, told_of_files}
 use Rattle.slirp_laws.specs.Answers.{frames_of, identification, left, left_after, owed_for_packet, owed_for_segment, strays, taken, unsent}
 use Rattle.slirp_laws.specs.Datagrams.{Step, NeedsNothing, NeedsRoom, NeedsSocket, NeedsSending}

@@ -4,7 +4,7 @@ use Rattle.std.specs.Prelude.{Contains}
 use Rattle.net_octets.specs.declared.Mac.{Mac}
 use Rattle.arp_table.specs.Table.{mac_of as learnt_for}
 use Rattle.world_face.specs.Journal.{Entry, Call}
-use Rattle.host_policy.specs.Addresses.{Config}
+use Rattle.slirp_settings.specs.Addresses.{Config}
 use Rattle.run_laws.specs.Guests.{known}
 use Rattle.run_laws.specs.Sockets.{next_number}
 use Rattle.flow_laws.specs.Close.{is_in_use}

@@ -7,7 +7,7 @@ use Rattle.std.specs.List.{cons_option}
 use Rattle.flow_table.specs.Slots.{AreKept, Flows, flows, HasRestedLongest, RestsSince}
 use Rattle.flow_table.specs.declared.Slot.{Slot}
 use Rattle.flow_table.specs.declared.Slot.TheVariants.{Free, InUse, Resting}
-use Rattle.flow_table.specs.declared.Tuple.{Tuple}
+use Rattle.record_flows.specs.declared.Tuple.{Tuple}
 use Rattle.flow_laws.specs.Event.{Story}
 use Rattle.run_laws.specs.Sockets.{is_among}
 use Rattle.record_flows.specs.Book.{without}

@@ -1,7 +1,7 @@
 -- Which flows were accepted, and how often their guests were asked for, against what is kept of each flow.
 use Rattle.std.specs.Prelude.{◌≡◌, ℕ, ◌+◌, ◌≤◌, ◌==◌, ◌&&◌, ◌||◌, Bool, false, List, [], ◌∷◌, map, slice_get, Option, Some}
 use Rattle.world_face.specs.Journal.{Entry}
-use Rattle.host_policy.specs.Addresses.{Config}
+use Rattle.slirp_settings.specs.Addresses.{Config}
 use Rattle.flow_laws.specs.Flow.{is_accepted}
 use Rattle.record_flows.specs.Book.{book}
 use Rattle.record_flows.specs.Flows.{Flow}

@@ -2,8 +2,8 @@
 use Rattle.std.specs.Prelude.{ℕ, Bool, List, Option}
 use Rattle.net_octets.specs.declared.Mac.{Mac}
 use Rattle.world_face.specs.Journal.{Entry, Call}
-use Rattle.host_policy.specs.Addresses.{Config}
-use Rattle.flow_table.specs.declared.Tuple.{Tuple}
+use Rattle.slirp_settings.specs.Addresses.{Config}
+use Rattle.record_flows.specs.declared.Tuple.{Tuple}
 use Rattle.flow_laws.specs.Event.{Story}
 use Rattle.record_flows.specs.Laws.{flow_settings}
 use Rattle.flows_follow.specs.FlowsHold.{FlowsHold, FlowsState}

@@ -2,7 +2,7 @@
 use Rattle.std.specs.Prelude.{◌≡◌, ℕ, Bool, List, filter, length, Contains, slice_get, Option, Some, if◌then◌else◌}
 use Rattle.net_octets.specs.declared.Mac.{Mac}
 use Rattle.world_face.specs.Journal.{Entry, Call}
-use Rattle.host_policy.specs.Addresses.{Config}
+use Rattle.slirp_settings.specs.Addresses.{Config}
 use Rattle.flow_table.specs.Slots.{Flows}
 use Rattle.flow_laws.specs.Event.{Story}
 use Rattle.record_flows.specs.Lots.{due_for_flows}

@@ -1,8 +1,8 @@
 -- Two books between which one flow alone has changed.
 use Rattle.std.specs.Prelude.{◌≡◌, ℕ, ◌+◌, ◌==◌, Bool, true, false, List, [], ◌∷◌, ◌++◌, map, if◌then◌else◌}
 use Rattle.world_face.specs.Journal.{Entry}
-use Rattle.host_policy.specs.Addresses.{Config}
-use Rattle.flow_table.specs.declared.Tuple.{Tuple}
+use Rattle.slirp_settings.specs.Addresses.{Config}
+use Rattle.record_flows.specs.declared.Tuple.{Tuple}
 use Rattle.record_flows.specs.Book.{book}
 use Rattle.record_flows.specs.Flows.{Flow, Book, owner, flow_of, uses, used}
 use Rattle.record_flows.specs.Doings.{Doing, Nothing, Comes, Goes, Calls, Shuts, doing}

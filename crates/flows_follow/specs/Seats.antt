@@ -3,7 +3,7 @@ use Rattle.std.specs.Prelude.{◌≡◌, ℕ, suc, ◌≤◌, true, false, List,
 use Rattle.flow_table.specs.Slots.{Flows}
 use Rattle.flow_table.specs.declared.Slot.{Slot}
 use Rattle.flow_table.specs.declared.Slot.TheVariants.{Free, InUse, Resting}
-use Rattle.flow_table.specs.declared.Tuple.{Tuple}
+use Rattle.record_flows.specs.declared.Tuple.{Tuple}
 use Rattle.flow_laws.specs.Event.{Story}
 use Rattle.flow_laws.specs.Close.{is_in_use}
 use Rattle.record_flows.specs.Flows.{Flow, Rest, owner, flow_of, uses, used}

@@ -1,7 +1,7 @@
 -- Lists of moments, one behind another.
 use Rattle.std.proofs.Common.{ℕ, List, [], ◌∷◌, ◌++◌, Option, None, Some}
 use Rattle.flow_laws.specs.Dutiful.{AreAhead}
-use Rattle.halves_follow.specs.Bounds.{IsBy}
+use Rattle.flow_laws.specs.Bounds.{IsBy}
 
 pub both_ahead : (now : ℕ) (one other : List ℕ) → AreAhead now one → AreAhead now other → AreAhead now (one ++ other)
 both_ahead now [] other is_one is_other = is_other

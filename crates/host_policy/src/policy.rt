@@ -1,15 +1,22 @@
 //! Whose the addresses of the virtual network are, and where packets of guests may go.
 ghost use Rattle.std.specs.Prelude.{◌≡◌, ◌≤◌, ◌==◌, ◌||◌, not, Some, None, if◌then◌else◌};
-ghost use Rattle.host_policy.specs.Ranges.{IsSound};
-ghost use Rattle.host_policy.specs.Targets.{is_group_or_reserved};
+ghost use Rattle.std.specs.List.{list_any};
+ghost use Rattle.slirp_settings.specs.Ranges.{IsSound};
+ghost use Rattle.slirp_settings.specs.Classes.{is_group_or_reserved};
+ghost use Rattle.host_policy.specs.Targets.{is_in};
 
-use crate::config::{LOOPBACK, first_octet, is_group_or_reserved, is_loopback};
-use crate::{Proto, Rule, SlirpConfig, Verdict};
-use net_octets::{Endpoint, Ip4};
+use crate::{Rule, Verdict};
+use net_octets::{Endpoint, Ip4, Prefix};
+use slirp_settings::{
+    NAMES_PORT, Proto, SlirpConfig, first_octet, is_group_or_reserved, is_loopback, is_same,
+};
 use std::marker::Model;
 
-/// The port at which names are asked for (RFC 1035, 4.2).
-const NAMES: u16 = 53;
+/// 127.0.0.1, by which the host reaches itself (RFC 1122, 3.2.1.3).
+const LOOPBACK: Ip4 = Ip4(0x7f00_0001);
+
+/// 0.0.0.0, for every address of the host.
+const EVERY: Ip4 = Ip4(0);
 
 /// Whose the addresses of the virtual network are, and where packets of guests may go.
 #[derive(Drop)]
@@ -19,8 +26,8 @@ pub struct Policy {
 
 impl Model for Policy {
     ghost use Rattle.std.specs.Prelude.{◌≤◌};
-    ghost use Rattle.host_policy.specs.Addresses.{Config};
-    ghost use Rattle.host_policy.specs.Settings.{settings};
+    ghost use Rattle.slirp_settings.specs.Addresses.{Config};
+    ghost use Rattle.slirp_settings.specs.Settings.{settings};
 
     ghost Value = { Config };
 
@@ -30,9 +37,9 @@ impl Model for Policy {
 }
 
 impl Policy {
-    ghost use Rattle.host_policy.specs.Addresses.{is_guest, in_network, is_answered_for, is_ours, last_address};
-    ghost use Rattle.host_policy.specs.Settings.{settings};
-    ghost use Rattle.host_policy.specs.Targets.{target, led_to, resolver_on, by_rules, shown, is_hidden};
+    ghost use Rattle.slirp_settings.specs.Addresses.{address, is_guest, in_network, is_answered_for, is_ours, last_address};
+    ghost use Rattle.slirp_settings.specs.Settings.{settings};
+    ghost use Rattle.host_policy.specs.Targets.{target, leads, led_to, resolver_on, by_rules, has_control, is_denied, shown, is_hidden};
 
     /// The policy of these settings, of which `check` answers Ok.
     pub fn new(c: &SlirpConfig) -> Policy
@@ -53,7 +60,7 @@ impl Policy {
     pub fn answers_for(&self, a: Ip4) -> bool
         ensures { result ≡ is_answered_for self.now a.0 }
     {
-        self.is_ours(a) || self.config.is_led(a)
+        self.is_ours(a) || self.is_led(a)
     }
 
     /// Whether the address is the name server's.
@@ -103,9 +110,43 @@ impl Policy {
         ensures { result ≡ led_to self.now proto to }
     {
         match proto {
-            Proto::Tcp => self.config.leads(to),
+            Proto::Tcp => self.leads(to),
             Proto::Udp => None,
         }
+    }
+
+    // Where the first of the forwards of guests with this port of the network leads.
+    fn leads(&self, to: Endpoint) -> Option<Endpoint>
+        ensures { result ≡ leads self.now to }
+    {
+        let forwards = self.config.guestfwds.as_slice();
+        let found = forwards.iter().find(|f| is_same(f.guest, to));
+        found.map(|f| f.host)
+    }
+
+    // Whether a forward of guests has this address of the network.
+    fn is_led(&self, a: Ip4) -> bool
+        ensures { result ≡ list_any (λ f. address f.guest == a.0) self.now.guest_forwards }
+    {
+        let forwards = self.config.guestfwds.as_slice();
+        forwards.iter().any(|f| f.guest.addr == a)
+    }
+
+    // Whether the control is reached at this port of the host's loopback.
+    fn has_control(&self, port: u16) -> bool
+        ensures { result ≡ has_control self.now port }
+    {
+        match self.config.control {
+            Some(at) => at.port == port && (at.addr == LOOPBACK || at.addr == EVERY),
+            None => false,
+        }
+    }
+
+    // Whether the address is in a network that guests don't reach.
+    fn is_denied(&self, a: Ip4) -> bool
+        ensures { result ≡ is_denied self.now a.0 }
+    {
+        self.config.denied.as_slice().iter().any(|d| is_in(&d.0, a))
     }
 
     fn by_rules(&self, to: Endpoint) -> Verdict
@@ -121,7 +162,7 @@ impl Policy {
                 None => Verdict::Denied(Rule::NameServer),
             }
         } else if to.addr == self.config.vhost {
-            if self.config.disable_host_loopback || self.config.has_control(to.port) {
+            if self.config.disable_host_loopback || self.has_control(to.port) {
                 Verdict::Denied(Rule::HostLoopback)
             } else {
                 Verdict::Go(Endpoint {
@@ -136,7 +177,7 @@ impl Policy {
             || is_group_or_reserved(to.addr)
         {
             Verdict::Denied(Rule::Reserved)
-        } else if self.config.is_denied(to.addr) {
+        } else if self.is_denied(to.addr) {
             Verdict::Denied(Rule::DeniedNetwork)
         } else {
             Verdict::Go(to)
@@ -147,7 +188,7 @@ impl Policy {
     fn resolver_on(&self, port: u16) -> Option<Endpoint>
         ensures { result ≡ resolver_on self.now port }
     {
-        if port == NAMES && !self.config.disable_dns {
+        if port == NAMES_PORT && !self.config.disable_dns {
             self.config.resolver
         } else {
             None
@@ -193,4 +234,11 @@ impl Policy {
     {
         self.config.is_guest(a.0 as u64)
     }
+}
+
+// Whether the address is in a network.
+fn is_in(network: &Prefix, a: Ip4) -> bool
+    ensures { result ≡ is_in network.now a.0 }
+{
+    network.length <= 32 && network.holds(a)
 }

@@ -3,7 +3,7 @@
 
 ghost use Rattle.std.specs.Prelude.{◌≡◌, ℕ, List, None, ◌+◌, ◌*◌, ◌≤◌, ◌<◌, ◌^◌, ◌↔◌, ◌++◌, length, take, drop, IsOk, IfOk, OnErr, MatchResult, Some, if◌then◌else◌};
 ghost use Rattle.std.specs.Result.{result_ok, result_err};
-ghost use Rattle.ipv4_head.specs.Ip.{Ip, IsIp, IsPlain, IsDatagram, SameFields, sent, read_ip, ip_fault, ip_with, head_with, fragment_of, ip_of, head_length};
+ghost use Rattle.ipv4_head.specs.Ip.{Ip, IsIp, IsPlain, IsDatagram, SameFields, sent, read_ip, ip_fault, ip_with, head_with, summed_head, fragment_of, ip_of, head_length};
 ghost use Rattle.net_octets.specs.Octets.{IsOctets, one_at};
 
 use byteorder::{BigEndian, ByteOrder};
@@ -98,6 +98,9 @@ fn octets_of_head(octets: &[u8]) -> usize
     (octets[0] % 16) as usize * 4
 }
 
+/// The time to live of the datagrams that we write (RFC 1122, 3.2.1.7).
+pub const LIFE: u8 = 64;
+
 /// Writes a datagram at the front of `into`, with a header of 20 octets, service 0 and no flag
 /// but the one for more fragments, and answers its length in octets. `head` isn't read. The whole
 /// has under 65,536 octets, and `offset` is under 8,192. `into` is unchanged where it is too
@@ -131,17 +134,29 @@ pub fn write(v: &IpView<'_>, into: &mut [u8]) -> usize
     ensures length { result ≡ 20 + length v.now.body.now }
     ensures packet { IsDatagram (take result into.new) v.now.ttl (sent v.now) }
 {
-    let sum = checksum(&head(v, 0));
-    write_packet(&head(v, sum), v.body, into)
+    write_packet(&header(v, v.body.len()), v.body, into)
 }
 
-/// The header of a datagram, with this sum.
-fn head(v: &IpView<'_>, sum: u16) -> [u8; HEAD]
-    requires size { 20 + length v.now.body.now < 2 ^ 16 }
+/// The header that `write` writes, for a datagram with so many octets behind it. `head` and `body` aren't read.
+pub fn header(v: &IpView<'_>, size: usize) -> [u8; HEAD]
+    requires size { 20 + size < 2 ^ 16 }
+    requires place { v.now.offset < 2 ^ 13 }
+    ensures octets { result ≡ summed_head v.now.ttl v.now.ident (fragment_of v.now.more v.now.offset)
+        v.now.proto v.now.from.0 v.now.to.0 size }
+    ensures ident { v.now.ident < 2 ^ 16 }
+    ensures from { v.now.from.0 < 2 ^ 32 }
+    ensures to { v.now.to.0 < 2 ^ 32 }
+{
+    let sum = checksum(&head(v, size, 0));
+    head(v, size, sum)
+}
+
+/// The header of a datagram with so many octets behind it, with this sum.
+fn head(v: &IpView<'_>, size: usize, sum: u16) -> [u8; HEAD]
+    requires size { 20 + size < 2 ^ 16 }
     requires place { v.now.offset < 2 ^ 13 }
     ensures octets { result ≡ head_with v.now.ttl sum v.now.ident
-        (fragment_of v.now.more v.now.offset) v.now.proto v.now.from.0 v.now.to.0
-        (length v.now.body.now) }
+        (fragment_of v.now.more v.now.offset) v.now.proto v.now.from.0 v.now.to.0 size }
     ensures ident { v.now.ident < 2 ^ 16 }
     ensures from { v.now.from.0 < 2 ^ 32 }
     ensures to { v.now.to.0 < 2 ^ 32 }
@@ -149,7 +164,7 @@ fn head(v: &IpView<'_>, sum: u16) -> [u8; HEAD]
     let (ident, from, to) = (v.ident, v.from.0, v.to.0);
     let mut head = [0; HEAD];
     head[0] = 0x45;
-    BigEndian::write_u16(&mut head[2..4], (HEAD + v.body.len()) as u16);
+    BigEndian::write_u16(&mut head[2..4], (HEAD + size) as u16);
     BigEndian::write_u16(&mut head[4..6], ident);
     BigEndian::write_u16(&mut head[6..8], fragment(v.more, v.offset));
     head[8] = v.ttl;

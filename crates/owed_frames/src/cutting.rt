@@ -1,11 +1,11 @@
 // A datagram that is owed to a guest, cut as it goes.
-ghost use Rattle.std.specs.Prelude.{◌≡◌, ℕ, ◌+◌, ◌≤◌, ◌<◌, List, length, take};
+ghost use Rattle.std.specs.Prelude.{◌≡◌, ℕ, ◌+◌, ◌++◌, ◌≤◌, ◌<◌, List, [], drop, length, take};
 ghost use Rattle.ether_frame.specs.Ether.{ether_octets};
 ghost use Rattle.net_octets.specs.Kinds.{ipv4_kind};
 ghost use Rattle.ipv4_head.specs.Cuts.{cut_at, cut_count};
 ghost use Rattle.ipv4_head.specs.Ip.{fragment_of, ip_with};
 ghost use Rattle.icmp_echo.specs.Icmp.{CanWrite, icmp_of, icmp_with, icmp_octets};
-ghost use Rattle.udp_assoc.specs.Udp.{udp_of, udp_octets};
+ghost use Rattle.udp_datagram.specs.Udp.{udp_of, udp_octets};
 ghost use Rattle.tcp_segment.specs.Tcp.{tcp_length, tcp_of};
 ghost use Rattle.owed_frames.specs.Outgoing.{MayBeCut, message_frames, segment_frames, segment_octets, udp_frames};
 ghost use Rattle.slirp_laws.specs.Answers.{part_frame, uncut};
@@ -15,19 +15,22 @@ ghost use Rattle.world_face.specs.Limits.{most_to_udp};
 use crate::outgoing::Course;
 use ether_frame::EtherView;
 use icmp_echo::IcmpView;
-use ipv4_head::IpView;
+use ipv4_head::{IpView, LIFE};
 use ipv4_reasm::cut;
 use net_octets::{ICMP_PROTO, IPV4_KIND, Ip4, MOST_CARRIED, Mac, NoMemory, TCP_PROTO, UDP_PROTO};
 use std::alloc::Global;
 use std::marker::Model;
 use tcp_segment::TcpView;
-use udp_assoc::UdpView;
+use udp_datagram::UdpView;
 
-/// The octets of a header without options.
+/// The octets of a header of IPv4 without options.
 const IP_HEAD: usize = 20;
 
-/// The time to live that we write.
-const LIFE: u8 = 64;
+/// The octets of a header of Ethernet.
+const ETHER_HEAD: usize = 14;
+
+/// Both.
+const HEADS: usize = ETHER_HEAD + IP_HEAD;
 
 /// How a datagram is cut: its course and protocol, the octets of its body, the part that is next, and how many there are from that one on.
 #[derive(Clone, Copy)]
@@ -127,18 +130,18 @@ impl Cutting {
         self.plan = plan_of(course, TCP_PROTO, size);
     }
 
-    /// Cuts the next part and writes its frame, and answers the length of that: 0 exactly where no part is left. `packet` is for writing what the frame carries.
-    pub fn write_next(&mut self, frame: &mut [u8], packet: &mut [u8]) -> usize
-        requires room { (length frame.old ≡ most_frame) × (length packet.old ≡ most_frame) }
+    /// Cuts the next part and writes its frame, and answers the length of that: 0 exactly where no part is left.
+    pub fn write_next(&mut self, frame: &mut [u8]) -> usize
+        requires room { length frame.old ≡ most_frame }
         ensures frame { frames_in result frame.new ++ self.new ≡ self.old }
         ensures none { result ≡ 0 → self.new ≡ [] }
         ensures length { result ≤ most_frame }
-        ensures room { (length frame.new ≡ most_frame) × (length packet.new ≡ most_frame) }
+        ensures room { length frame.new ≡ most_frame }
     {
         if self.plan.left == 0 {
             return 0;
         }
-        let length = write_part(&self.plan, &self.body[..self.plan.size], frame, packet);
+        let length = write_part(&self.plan, &self.body[..self.plan.size], frame);
         self.plan.next += 1;
         self.plan.left -= 1;
         length
@@ -193,7 +196,7 @@ fn write_udp(course: &Course, datagram: &UdpView<'_>, body: &mut [u8]) -> usize
     ensures short { result ≤ most_carried }
     ensures room { length body.new ≡ most_carried }
 {
-    udp_assoc::write(datagram, course.from, course.to, body)
+    udp_datagram::write(datagram, course.from, course.to, body)
 }
 
 // Writes a segment of TCP, and answers its length.
@@ -210,8 +213,8 @@ fn write_segment(course: &Course, segment: &TcpView<'_>, body: &mut [u8]) -> usi
 }
 
 // Writes the frame of the part that is next of a datagram with this body, and answers its length.
-fn write_part(plan: &Plan, body: &[u8], frame: &mut [u8], packet: &mut [u8]) -> usize
-    requires room { (length frame.old ≡ most_frame) × (length packet.old ≡ most_frame) }
+fn write_part(plan: &Plan, body: &[u8], frame: &mut [u8]) -> usize
+    requires room { length frame.old ≡ most_frame }
     requires least { 28 ≤ plan.now.course.mtu }
     requires most { plan.now.course.mtu ≤ 1500 }
     requires short { length body.now ≤ most_carried }
@@ -219,7 +222,7 @@ fn write_part(plan: &Plan, body: &[u8], frame: &mut [u8], packet: &mut [u8]) -> 
     ensures frame { take result frame.new ≡ part_frame plan.now.course.to_mac.0 plan.now.course.from_mac.0 plan.now.course.ident plan.now.proto
         plan.now.course.from.0 plan.now.course.to.0 (cut_at plan.now.course.mtu (uncut body.now) plan.now.next) }
     ensures length { (0 < result) × (result ≤ most_frame) }
-    ensures room { (length frame.new ≡ most_frame) × (length packet.new ≡ most_frame) }
+    ensures room { length frame.new ≡ most_frame }
 {
     let course = plan.course;
     let datagram = IpView {
@@ -236,36 +239,39 @@ fn write_part(plan: &Plan, body: &[u8], frame: &mut [u8], packet: &mut [u8]) -> 
     let Some(part) = cut(&datagram, course.mtu.into(), plan.next) else {
         unreachable!()
     };
-    let carried = write_packet(&part, packet);
-    write_frame(&course, &packet[..carried], frame)
+    write_frame(&course, &part, frame)
 }
 
-// Writes a part of a datagram, and answers its length.
-fn write_packet(part: &IpView<'_>, packet: &mut [u8]) -> usize
-    requires room { length packet.old ≡ most_frame }
+// Writes the frame of a part, each header and what the part carries at their places, and answers its length.
+fn write_frame(course: &Course, part: &IpView<'_>, frame: &mut [u8]) -> usize
+    requires room { length frame.old ≡ most_frame }
     requires size { 20 + length part.now.body.now ≤ 1500 }
     requires place { part.now.offset < 8192 }
-    ensures packet { take result packet.new ≡ ip_with part.now.ttl part.now.ident (fragment_of part.now.more part.now.offset) part.now.proto
-        part.now.from.0 part.now.to.0 part.now.body.now }
-    ensures length { result ≡ 20 + length part.now.body.now }
-    ensures room { length packet.new ≡ most_frame }
-{
-    ipv4_head::write(part, packet)
-}
-
-// Writes the frame of a part, and answers its length.
-fn write_frame(course: &Course, packet: &[u8], frame: &mut [u8]) -> usize
-    requires room { length frame.old ≡ most_frame }
-    requires size { length packet.now ≤ 1500 }
-    ensures frame { take result frame.new ≡ ether_octets course.now.to_mac.0 course.now.from_mac.0 ipv4_kind packet.now }
+    ensures frame { take result frame.new ≡ ether_octets course.now.to_mac.0 course.now.from_mac.0 ipv4_kind
+        (ip_with part.now.ttl part.now.ident (fragment_of part.now.more part.now.offset) part.now.proto part.now.from.0 part.now.to.0 part.now.body.now) }
     ensures length { (0 < result) × (result ≤ most_frame) }
     ensures room { length frame.new ≡ most_frame }
 {
+    put_ether(course, frame);
+    let size = part.body.len();
+    frame[ETHER_HEAD..HEADS].copy_from_slice(&ipv4_head::header(part, size));
+    frame[HEADS..HEADS + size].copy_from_slice(part.body);
+    HEADS + size
+}
+
+// Writes the header of a frame on this course at the front of `frame`.
+fn put_ether(course: &Course, frame: &mut [u8])
+    requires { length frame.old ≡ most_frame }
+    ensures written { frame.new ≡ ether_octets course.now.to_mac.0 course.now.from_mac.0 ipv4_kind [] ++ drop 14 frame.old }
+    ensures to { length course.now.to_mac.0 ≡ 6 }
+    ensures from { length course.now.from_mac.0 ≡ 6 }
+{
+    let (to, from) = (course.to_mac, course.from_mac);
     let ether = EtherView {
-        to: course.to_mac,
-        from: course.from_mac,
+        to,
+        from,
         kind: IPV4_KIND,
-        body: packet,
+        body: &[],
     };
-    ether_frame::write(&ether, frame)
+    ether_frame::write(&ether, frame);
 }

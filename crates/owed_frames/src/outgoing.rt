@@ -4,7 +4,7 @@ ghost use Rattle.net_octets.specs.Kinds.{arp_kind};
 ghost use Rattle.arp_table.specs.Arp.{arp_of, arp_octets};
 ghost use Rattle.ether_frame.specs.Ether.{ether_octets};
 ghost use Rattle.icmp_echo.specs.Icmp.{CanWrite, icmp_of, icmp_with};
-ghost use Rattle.udp_assoc.specs.Udp.{udp_of};
+ghost use Rattle.udp_datagram.specs.Udp.{udp_of};
 ghost use Rattle.tcp_segment.specs.Tcp.{tcp_length, tcp_of};
 ghost use Rattle.owed_frames.specs.Outgoing.{MayBeCut, message_frames, segment_frames, udp_frames};
 ghost use Rattle.slirp_laws.specs.Answers.{datagrams_in};
@@ -20,13 +20,12 @@ use net_octets::{ARP_KIND, IPV4_KIND, Ip4, MOST_FRAME, Mac, NoMemory};
 use std::alloc::Global;
 use std::marker::Model;
 use tcp_segment::TcpView;
-use udp_assoc::UdpView;
+use udp_datagram::UdpView;
 
-/// The frame that is next, whole, and the datagram of which the parts behind it aren't cut yet. A second buffer is for writing what a frame carries.
+/// The frame that is next, whole, and the datagram of which the parts behind it aren't cut yet.
 #[derive(Drop)]
 pub struct Outgoing {
     frame: Vec<u8>,
-    packet: Vec<u8>,
     cutting: Cutting,
     used: usize,
 }
@@ -53,7 +52,7 @@ impl Model for Outgoing {
 
     ghost view = { λ o. frames_in o.used o.frame.items ++ o.cutting };
 
-    ghost invariant = { λ o. (o.used ≤ most_frame) × (length o.frame.items ≡ most_frame) × (length o.packet.items ≡ most_frame)
+    ghost invariant = { λ o. (o.used ≤ most_frame) × (length o.frame.items ≡ most_frame)
         × (o.used ≡ 0 → o.cutting ≡ []) };
 }
 
@@ -64,14 +63,12 @@ impl Outgoing {
     pub fn open(alloc: Global) -> Result<Outgoing, NoMemory>
         ensures { IfOk result (λ outgoing. outgoing ≡ []) }
     {
-        let (Ok(frame), Ok(packet)) = (vec![in alloc; 0; MOST_FRAME], vec![in alloc; 0; MOST_FRAME])
-        else {
+        let Ok(frame) = vec![in alloc; 0; MOST_FRAME] else {
             return Err(NoMemory);
         };
         let cutting = Cutting::open(alloc)?;
         Ok(Outgoing {
             frame,
-            packet,
             cutting,
             used: 0,
         })
@@ -98,7 +95,7 @@ impl Outgoing {
         requires { 0 < length self.old }
         ensures { self.new ≡ drop 1 self.old }
     {
-        self.used = self.cutting.write_next(&mut self.frame, &mut self.packet);
+        self.used = self.cutting.write_next(&mut self.frame);
     }
 
     /// From now on there is none.
@@ -114,7 +111,7 @@ impl Outgoing {
         ensures { self.new ≡ ether_octets to.0 packet.now.sender_mac.0 arp_kind (arp_octets (arp_of packet.now)) ∷ [] }
     {
         self.cutting.clear();
-        self.used = write_arp(to, packet, &mut self.frame, &mut self.packet);
+        self.used = write_arp(to, packet, &mut self.frame);
     }
 
     /// From now on the frames are those of a datagram with a message, which has at most 65,515 octets.
@@ -125,7 +122,7 @@ impl Outgoing {
         ensures { self.new ≡ message_frames course.now (icmp_of message.now) }
     {
         self.cutting.put_message(course, message);
-        self.used = self.cutting.write_next(&mut self.frame, &mut self.packet);
+        self.used = self.cutting.write_next(&mut self.frame);
     }
 
     /// From now on the frames are those of a datagram of UDP, whose payload has at most 65,507 octets.
@@ -135,7 +132,7 @@ impl Outgoing {
         ensures { self.new ≡ udp_frames course.now (udp_of datagram.now) }
     {
         self.cutting.put_udp(course, datagram);
-        self.used = self.cutting.write_next(&mut self.frame, &mut self.packet);
+        self.used = self.cutting.write_next(&mut self.frame);
     }
 
     /// From now on the frames are those of a datagram with a segment of TCP, which has at most 65,515 octets with its header.
@@ -145,18 +142,19 @@ impl Outgoing {
         ensures { self.new ≡ segment_frames course.now (tcp_of segment.now) }
     {
         self.cutting.put_segment(course, segment);
-        self.used = self.cutting.write_next(&mut self.frame, &mut self.packet);
+        self.used = self.cutting.write_next(&mut self.frame);
     }
 }
 
 // Writes the frame of an ARP packet, and answers its length.
-fn write_arp(to: Mac, packet: &ArpView, frame: &mut [u8], body: &mut [u8]) -> usize
-    requires room { (length frame.old ≡ most_frame) × (length body.old ≡ most_frame) }
+fn write_arp(to: Mac, packet: &ArpView, frame: &mut [u8]) -> usize
+    requires room { length frame.old ≡ most_frame }
     ensures frame { take result frame.new ≡ ether_octets to.0 packet.now.sender_mac.0 arp_kind (arp_octets (arp_of packet.now)) }
     ensures length { (0 < result) × (result ≤ most_frame) }
-    ensures room { (length frame.new ≡ most_frame) × (length body.new ≡ most_frame) }
+    ensures room { length frame.new ≡ most_frame }
 {
-    let written = arp_table::write(packet, body);
+    let mut body = [0; 28];
+    let written = arp_table::write(packet, &mut body);
     let ether = EtherView {
         to,
         from: packet.sender_mac,

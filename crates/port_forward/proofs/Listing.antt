@@ -4,14 +4,14 @@ use Rattle.std.proofs.lemmas.List.{length-map}
 use Rattle.std.specs.Bool.{beq}
 use Rattle.std.specs.Map.{lookup}
 use Rattle.net_octets.specs.declared.Endpoint.{Endpoint}
-use Rattle.host_policy.specs.declared.Forward.{Forward}
-use Rattle.host_policy.specs.declared.Proto.{Proto}
-use Rattle.host_policy.specs.declared.Proto.TheVariants.{Tcp, Udp}
-use Rattle.host_policy.specs.Addresses.{endpoint}
-use Rattle.host_policy.specs.Ranges.{same_proto}
-use Rattle.host_policy.specs.Targets.{same_endpoint}
+use Rattle.slirp_settings.specs.declared.Forward.{Forward}
+use Rattle.slirp_settings.specs.declared.Proto.{Proto}
+use Rattle.slirp_settings.specs.declared.Proto.TheVariants.{Tcp, Udp}
+use Rattle.slirp_settings.specs.Addresses.{endpoint}
+use Rattle.slirp_settings.specs.Ranges.{same_proto}
+use Rattle.slirp_settings.specs.Classes.{same_endpoint}
 use Rattle.port_forward.specs.Entries.{is_for_datagrams, opened_of, port_of, proto_of, same_port}
-use Rattle.port_forward.specs.Opened.{Opened, forward_with, is_at, is_on, is_taken, leads_to, socket_at, socket_for, socket_of, without}
+use Rattle.forward_rules.specs.Opened.{Opened, forward_with, is_at, is_on, is_taken, leads_to, socket_at, socket_for, socket_of, without}
 use Rattle.port_forward.specs.declared.ports.Lead.{Lead}
 use Rattle.port_forward.specs.declared.ports.Port.{Port}
 

@@ -6,9 +6,9 @@ use Rattle.std.proofs.lemmas.Map.Keys.{IsDistinct-tail}
 use Rattle.std.specs.List.{IsDistinct}
 use Rattle.std.specs.Map.{keys_of, lookup}
 use Rattle.net_octets.specs.declared.Endpoint.{Endpoint}
-use Rattle.host_policy.specs.declared.Proto.{Proto}
+use Rattle.slirp_settings.specs.declared.Proto.{Proto}
 use Rattle.port_forward.specs.Entries.{opened_of, port_of, same_port}
-use Rattle.port_forward.specs.Opened.{Opened, socket_at, without}
+use Rattle.forward_rules.specs.Opened.{Opened, socket_at, without}
 use Rattle.port_forward.specs.declared.ports.Lead.{Lead}
 use Rattle.port_forward.specs.declared.ports.Port.{Port}
 use Rattle.port_forward.proofs.Listing.{left_of, socket_there}

@@ -1,3 +1,1 @@
-pub mod Adding
 pub mod Entries
-pub mod Opened

@@ -10,34 +10,23 @@ ghost use Rattle.std.specs.Prelude.{◌≡◌, ◌≢◌, ◌≤◌, ℕ, ◌+�
 ghost use Rattle.std.specs.Result.{result_err};
 ghost use Rattle.world_face.specs.Journal.{Close};
 ghost use Rattle.world_face.specs.Tells.{Answers, Makes, Rose};
-ghost use Rattle.port_forward.specs.declared.FwdFault.TheVariants.{Refused};
-ghost use Rattle.port_forward.specs.Adding.{Adds, fault_of, opening_of};
-ghost use Rattle.port_forward.specs.Opened.{forward_with, socket_at, socket_for, without};
+ghost use Rattle.forward_rules.specs.declared.FwdFault.TheVariants.{Refused};
+ghost use Rattle.forward_rules.specs.Adding.{Adds, fault_of, opening_of};
+ghost use Rattle.forward_rules.specs.Opened.{forward_with, socket_at, socket_for, without};
 
 use crate::ports::{Lead, Port, forward_of, is_for, port_of, put, remove};
-pub use host_policy::Forward;
-use host_policy::{Policy, Proto};
+use forward_rules::FwdFault;
+use host_policy::Policy;
 use indexmap::IndexMap;
 use net_octets::{Endpoint, NoMemory};
+pub use slirp_settings::Forward;
+use slirp_settings::Proto;
 use std::alloc::Global;
 use std::marker::Model;
 use world_face::{Made, World};
 
 /// How many forwards are open at most.
 pub const MOST_FORWARDS: usize = 32;
-
-/// Why a forward isn't added, in the order in which the causes are asked.
-#[derive(Clone, Copy, Debug, PartialEq, Eq)]
-pub enum FwdFault {
-    /// That port of the host is forwarded already, with this protocol.
-    Taken,
-    /// The address that it is to lead to isn't a guest's.
-    BadGuest,
-    /// As many are open as may be.
-    Full,
-    /// The host doesn't open the socket.
-    Refused,
-}
 
 /// No forward has this port of the host, with this protocol.
 #[derive(Clone, Copy, Debug, PartialEq, Eq)]
@@ -53,7 +42,7 @@ impl Model for Forwards {
     ghost use Rattle.std.specs.Prelude.{◌≤◌, ◌+◌, List, map};
     ghost use Rattle.indexmap.specs.IndexMap.{index_map_len, spare};
     ghost use Rattle.port_forward.specs.Entries.{opened_of};
-    ghost use Rattle.port_forward.specs.Opened.{Opened, most_forwards};
+    ghost use Rattle.forward_rules.specs.Opened.{Opened, most_forwards};
 
     ghost Value = { List Opened };
 

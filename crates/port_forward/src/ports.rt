@@ -4,13 +4,13 @@ ghost use Rattle.std.specs.List.{IsDistinct};
 ghost use Rattle.std.specs.Map.{keys_of};
 ghost use Rattle.indexmap.specs.IndexMap.{get, index_map_len, spare};
 ghost use Rattle.port_forward.specs.Entries.{opened_of, port_of, same_port};
-ghost use Rattle.port_forward.specs.Opened.{leads_to, most_forwards};
+ghost use Rattle.forward_rules.specs.Opened.{leads_to, most_forwards};
 
 use crate::{Forward, MOST_FORWARDS};
 use arrayvec::ArrayVec;
-use host_policy::Proto;
 use indexmap::IndexMap;
 use net_octets::{Endpoint, Ip4};
+use slirp_settings::Proto;
 
 /// A port of the host with its protocol.
 #[derive(Clone, Copy, Debug, Default, PartialEq, Eq, Hash)]

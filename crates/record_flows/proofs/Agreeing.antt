@@ -12,7 +12,7 @@ use Rattle.world_face.specs.declared.Joined.{Joined}
 use Rattle.world_face.specs.declared.Joined.TheVariants.{Yes, NotYet as NotYetJoined, Failed as JoinFailed}
 use Rattle.world_face.specs.declared.Accepted.{Accepted}
 use Rattle.world_face.specs.declared.Accepted.TheVariants.{From, NotYet as NotYetAccepted, Failed as AcceptFailed}
-use Rattle.host_policy.specs.Addresses.{Config}
+use Rattle.slirp_settings.specs.Addresses.{Config}
 use Rattle.flow_laws.specs.Event.{Event}
 use Rattle.flow_laws.specs.Flow.{guest, host}
 use Rattle.flow_laws.specs.Guest.{written}

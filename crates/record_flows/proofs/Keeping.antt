@@ -10,7 +10,7 @@ use Rattle.world_face.specs.declared.Made.{Made}
 use Rattle.world_face.specs.declared.Made.TheVariants.{Done as MadeDone, Failed as MadeFailed}
 use Rattle.world_face.specs.declared.Accepted.{Accepted}
 use Rattle.world_face.specs.declared.Accepted.TheVariants.{From, NotYet as NotYetAccepted, Failed as AcceptFailed}
-use Rattle.host_policy.specs.Addresses.{Config}
+use Rattle.slirp_settings.specs.Addresses.{Config}
 use Rattle.flow_laws.specs.Event.{Event, Opens}
 use Rattle.flow_laws.specs.Dutiful.{MustClose}
 use Rattle.flow_laws.specs.Lawful.{Act, AskConnected, Write, EndHost, Read, act_of}

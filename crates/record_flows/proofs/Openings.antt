@@ -6,7 +6,7 @@ use Rattle.world_face.specs.declared.Made.TheVariants.{Done as MadeDone}
 use Rattle.world_face.specs.declared.Joined.TheVariants.{Yes}
 use Rattle.world_face.specs.declared.Waited.TheVariants.{Ready}
 use Rattle.world_face.specs.Journal.{Entry, Now, Wait, LinkRead, LinkWrite, Connect, Connected}
-use Rattle.host_policy.specs.Addresses.{endpoint}
+use Rattle.slirp_settings.specs.Addresses.{endpoint}
 use Rattle.record_flows.proofs.Writing.{hex, want}
 
 -- a guest asks for port 80 of a host, and a connection to it is begun

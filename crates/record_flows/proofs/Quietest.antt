@@ -3,7 +3,7 @@ use Rattle.std.proofs.Common.{◌≡◌, ℕ, zero, suc, ◌≤◌, ◌==◌, �
 use Rattle.std.proofs.lemmas.Bool.Decides.{nat_tests}
 use Rattle.std.proofs.lemmas.List.Elements.{Contains-append_right}
 use Rattle.std.specs.List.{list_any}
-use Rattle.host_policy.specs.Addresses.{Config}
+use Rattle.slirp_settings.specs.Addresses.{Config}
 use Rattle.flow_laws.specs.Close.{last_at, may_give_way, owes_reset}
 use Rattle.record_flows.specs.Flows.{Book, Flow}
 use Rattle.record_flows.specs.Lots.{Lot, OfFlow, Dropped, AsksFor, NeedsRoom, GetsReset, giving_way, goes_before, lot, needs_room, quietest, the_earlier}

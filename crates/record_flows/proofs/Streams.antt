@@ -11,7 +11,7 @@ use Rattle.world_face.specs.declared.Made.{Made}
 use Rattle.world_face.specs.declared.Made.TheVariants.{Done as MadeDone, Failed as MadeFailed}
 use Rattle.world_face.specs.declared.Accepted.{Accepted}
 use Rattle.world_face.specs.declared.Accepted.TheVariants.{From, NotYet as NotYetAccepted, Failed as AcceptFailed}
-use Rattle.host_policy.specs.Addresses.{Config, address}
+use Rattle.slirp_settings.specs.Addresses.{Config, address}
 use Rattle.flow_laws.specs.Event.{Segment, Event, Connects, Accepts, Arrives, Departs, AsksAddress, Closes, At, Story}
 use Rattle.flow_laws.specs.Flow.{first_number, guest, is_accepted}
 use Rattle.flow_laws.specs.Lawful.{Act, AskConnected, Write, EndHost, Read}

@@ -2,8 +2,8 @@
 use Rattle.std.proofs.Common.{◌≡◌, ℕ, false, List, take, Some, IsTrue, refl, arith}
 use Rattle.world_face.specs.Journal.{Entry, Call, CallNow, CallClose, CallLinkWrite, CallTcpRead, CallTcpWrite}
 use Rattle.world_face.specs.Frames.{spelling, missing, is_too_long, spelt_length}
-use Rattle.host_policy.specs.Addresses.{Config}
-use Rattle.host_policy.specs.Settings.{usual}
+use Rattle.slirp_settings.specs.Addresses.{Config}
+use Rattle.slirp_settings.specs.Settings.{usual}
 use Rattle.tlv_table.specs.Reading.{read_on}
 use Rattle.flow_laws.specs.CheckDuty.{must}
 use Rattle.flow_laws.specs.Computed.{is_honest}

@@ -8,13 +8,13 @@ use Rattle.world_face.specs.declared.Waited.TheVariants.{Ready, Stop}
 use Rattle.world_face.specs.Journal.{Entry, Now, Wait, LinkRead, LinkWrite, Listen, Accept, TcpRead, Close}
 use Rattle.world_face.specs.Frames.{spelling, missing, is_too_long, spelt_length}
 use Rattle.tlv_table.specs.Reading.{read_on}
-use Rattle.host_policy.specs.Addresses.{endpoint}
-use Rattle.host_policy.specs.Settings.{usual}
+use Rattle.slirp_settings.specs.Addresses.{endpoint}
+use Rattle.slirp_settings.specs.Settings.{usual}
 use Rattle.record_flows.specs.Laws.{KeepsFlows}
 use Rattle.record_flows.proofs.Checks.{is_sound}
 use Rattle.record_flows.proofs.Writing.{hex, want, run}
-use Rattle.host_policy.specs.Addresses.{Config}
-use Rattle.host_policy.specs.declared.Proto.TheVariants.{Tcp as TcpProto}
+use Rattle.slirp_settings.specs.Addresses.{Config}
+use Rattle.slirp_settings.specs.declared.Proto.TheVariants.{Tcp as TcpProto}
 
 -- a port of the host that is given to a guest
 abbrev pub forwarding : Config

@@ -5,7 +5,7 @@ use Rattle.world_face.specs.declared.Io.TheVariants.{Done, End}
 use Rattle.world_face.specs.declared.Waited.TheVariants.{Ready}
 use Rattle.world_face.specs.Journal.{Entry, CallConnected, CallLinkWrite, CallTcpEnd, CallTcpRead, Now, Wait, LinkRead, LinkWrite, TcpRead}
 use Rattle.world_face.specs.Frames.{spelling, missing, is_too_long, spelt_length}
-use Rattle.host_policy.specs.Settings.{usual}
+use Rattle.slirp_settings.specs.Settings.{usual}
 use Rattle.tlv_table.specs.Reading.{read_on}
 use Rattle.record_flows.specs.Laws.{MayFlow}
 use Rattle.record_flows.proofs.Openings.{called, connected_at, opened, ten_taken}

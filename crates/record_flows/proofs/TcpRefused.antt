@@ -2,8 +2,8 @@
 use Rattle.std.proofs.Common.{◌≡◌, ℕ, Bool, true, false, [], take, Option, Some, None, refl, ap, arith}
 use Rattle.world_face.specs.Journal.{Call, CallWait, CallLinkWrite, CallConnect, CallTcpWrite}
 use Rattle.world_face.specs.Frames.{spelling, missing, is_too_long, spelt_length}
-use Rattle.host_policy.specs.Addresses.{endpoint}
-use Rattle.host_policy.specs.Settings.{usual}
+use Rattle.slirp_settings.specs.Addresses.{endpoint}
+use Rattle.slirp_settings.specs.Settings.{usual}
 use Rattle.tlv_table.specs.Reading.{read_on}
 use Rattle.record_flows.specs.Laws.{MayFlow}
 use Rattle.record_flows.proofs.Writing.{hex, run}

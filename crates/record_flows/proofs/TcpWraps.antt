@@ -8,8 +8,8 @@ use Rattle.world_face.specs.declared.Waited.TheVariants.{Ready, Stop}
 use Rattle.world_face.specs.Journal.{Entry, Now, Wait, LinkRead, LinkWrite, Connect, Connected, TcpWrite, Close}
 use Rattle.world_face.specs.Frames.{spelling, missing, is_too_long, spelt_length}
 use Rattle.tlv_table.specs.Reading.{read_on}
-use Rattle.host_policy.specs.Addresses.{endpoint}
-use Rattle.host_policy.specs.Settings.{usual}
+use Rattle.slirp_settings.specs.Addresses.{endpoint}
+use Rattle.slirp_settings.specs.Settings.{usual}
 use Rattle.record_flows.specs.Laws.{KeepsFlows}
 use Rattle.record_flows.proofs.Checks.{is_sound}
 use Rattle.record_flows.proofs.Writing.{hex, want, run}

@@ -1,14 +1,14 @@
 -- What an entry makes of the book: each flow goes on to keep the law.
 use Rattle.std.proofs.Common.{◌≡◌, ℕ, ◌+◌, ◌<◌, ◌≤◌, ◌==◌, ◌&&◌, Bool, true, false, [], ◌∷◌, length, find, Option, Some, None, if◌then◌else◌, refl, sym, ◌∙◌, ap, subst, arith}
 use Rattle.net_octets.specs.declared.Endpoint.{Endpoint}
-use Rattle.host_policy.specs.Addresses.{Config, address}
+use Rattle.slirp_settings.specs.Addresses.{Config, address}
 use Rattle.flow_laws.specs.Event.{Event, Connects, Accepts, Arrives, AsksAddress, Closes, At, Opens, is_failure}
 use Rattle.flow_laws.specs.Close.{host_failed}
 use Rattle.flow_laws.specs.Flow.{first_number, is_accepted}
 use Rattle.flow_laws.specs.Dutiful.{Must, MustClose, MustHappen}
 use Rattle.flow_laws.specs.Lawful.{MayHappen}
 use Rattle.flow_laws.specs.Settings.{Settings}
-use Rattle.flow_table.specs.declared.Tuple.{Tuple}
+use Rattle.record_flows.specs.declared.Tuple.{Tuple}
 use Rattle.record_flows.specs.Book.{opens, port_of, tuple_for, is_refused, heard, joins_for, visits_for, doom, quiet, turned}
 use Rattle.record_flows.specs.Doings.{Comes, Goes, Seeks, Joins, Visits, Calls, Shuts}
 use Rattle.record_flows.specs.Flows.{Flow, Book, Scene, closing, is_on, is_numbered, owner, flow_of, tell, with_event, sends, seeks_for, shuts, comes_directly, comes_last, guest_is_known}

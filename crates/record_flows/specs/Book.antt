@@ -2,12 +2,12 @@
 use Rattle.std.specs.Prelude.{ℕ, ◌+◌, ◌==◌, ◌||◌, not, nat_le, nat_lt, Bool, List, [], ◌∷◌, ◌++◌, length, drop, filter, map, Option, Some, None, is_some, option_and_then, if◌then◌else◌}
 use Rattle.net_octets.specs.declared.Endpoint.{Endpoint}
 use Rattle.world_face.specs.Journal.{Entry}
-use Rattle.host_policy.specs.declared.Forward.{Forward}
-use Rattle.host_policy.specs.declared.Proto.{Proto}
-use Rattle.host_policy.specs.declared.Proto.TheVariants.{Tcp, Udp}
-use Rattle.host_policy.specs.Addresses.{Config, forward_on}
+use Rattle.slirp_settings.specs.declared.Forward.{Forward}
+use Rattle.slirp_settings.specs.declared.Proto.{Proto}
+use Rattle.slirp_settings.specs.declared.Proto.TheVariants.{Tcp, Udp}
+use Rattle.slirp_settings.specs.Addresses.{Config, forward_on}
 use Rattle.host_policy.specs.Targets.{shown, is_hidden}
-use Rattle.flow_table.specs.declared.Tuple.{Tuple}
+use Rattle.record_flows.specs.declared.Tuple.{Tuple}
 use Rattle.flow_laws.specs.Event.{Segment, Event, Connects, Accepts, Arrives, At, Story, is_failure}
 use Rattle.flow_laws.specs.Flow.{first_number}
 use Rattle.flow_laws.specs.Close.{renews, ends_rest, rests_since}

@@ -3,8 +3,8 @@ use Rattle.std.specs.Prelude.{ℕ, ◌==◌, ◌&&◌, ◌||◌, not, Bool, true
 use Rattle.net_octets.specs.declared.Endpoint.{Endpoint}
 use Rattle.world_face.specs.Journal.{Entry, Call, call_of, CallLinkWrite, CallConnect, CallConnected, CallAccept, CallTcpRead, CallTcpWrite, CallTcpEnd, CallClose}
 use Rattle.world_face.specs.Frames.{tail}
-use Rattle.host_policy.specs.Addresses.{Config}
-use Rattle.host_policy.specs.Targets.{same_endpoint}
+use Rattle.slirp_settings.specs.Addresses.{Config}
+use Rattle.slirp_settings.specs.Classes.{same_endpoint}
 use Rattle.flow_laws.specs.Check.{may}
 use Rattle.flow_laws.specs.CheckDuty.{must, must_close}
 use Rattle.flow_laws.specs.Dutiful.{read_size}

@@ -10,7 +10,7 @@ use Rattle.world_face.specs.declared.Joined.TheVariants.{Yes, NotYet as NotYetJo
 use Rattle.world_face.specs.declared.Accepted.{Accepted}
 use Rattle.world_face.specs.declared.Accepted.TheVariants.{From}
 use Rattle.net_octets.specs.declared.Endpoint.{Endpoint}
-use Rattle.host_policy.specs.Addresses.{Config}
+use Rattle.slirp_settings.specs.Addresses.{Config}
 use Rattle.flow_laws.specs.Event.{Event, Connected as HostConnected, ConnectsYet, ConnectFails, Writes, WriteFails, Reads, ReadsEnd, ReadFails, EndsHost, EndFails}
 use Rattle.run_laws.specs.Happenings.{Arrival, happens}
 use Rattle.record_flows.specs.Segments.{OnTuple, segment_came, segment_in, asked_in}

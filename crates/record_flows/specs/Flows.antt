@@ -3,9 +3,9 @@ use Rattle.std.specs.Prelude.{ℕ, ◌-◌, ◌/◌, ◌==◌, ◌&&◌, not, na
 use Rattle.std.specs.List.{list_any}
 use Rattle.net_octets.specs.declared.Ip4.{Ip4}
 use Rattle.net_octets.specs.declared.Mac.{Mac}
-use Rattle.host_policy.specs.Addresses.{address}
+use Rattle.slirp_settings.specs.Addresses.{address}
 use Rattle.arp_table.specs.Table.{mac_of}
-use Rattle.flow_table.specs.declared.Tuple.{Tuple}
+use Rattle.record_flows.specs.declared.Tuple.{Tuple}
 use Rattle.flow_laws.specs.Event.{Segment, Event, Departs, AsksAddress, Closes, At, Story}
 use Rattle.flow_laws.specs.Flow.{is_accepted}
 use Rattle.flow_laws.specs.Close.{owes_reset, is_owed_reset, is_in_use}

@@ -2,7 +2,7 @@
 use Rattle.std.specs.Prelude.{◌≡◌, ℕ, true, List, [], ◌∷◌, drop, MatchBool, MatchOption, Option, Some, None}
 use Rattle.world_face.specs.Journal.{Entry, Call, Follows, CallLinkWrite, CallConnect, CallConnected, CallAccept, CallTcpRead, CallTcpWrite, CallTcpEnd, CallClose}
 use Rattle.world_face.specs.Frames.{tail}
-use Rattle.host_policy.specs.Addresses.{Config}
+use Rattle.slirp_settings.specs.Addresses.{Config}
 use Rattle.flow_laws.specs.Event.{Segment}
 use Rattle.flow_laws.specs.Lawful.{Act, AskConnected, Write, EndHost, Read, Send, May}
 use Rattle.flow_laws.specs.Dutiful.{Must, MustClose, read_size}

@@ -3,13 +3,14 @@ use Rattle.std.specs.Prelude.{ℕ, ◌+◌, ◌%◌, ◌^◌, ◌==◌, ◌&&◌
 use Rattle.std.specs.List.{list_any}
 use Rattle.net_octets.specs.declared.Endpoint.{Endpoint}
 use Rattle.world_face.specs.Journal.{Call, CallConnect, CallClose}
-use Rattle.host_policy.specs.declared.Proto.TheVariants.{Tcp as OverTcp}
+use Rattle.slirp_settings.specs.declared.Proto.TheVariants.{Tcp as OverTcp}
 use Rattle.host_policy.specs.declared.Verdict.{Verdict}
 use Rattle.host_policy.specs.declared.Verdict.TheVariants.{Go, Denied}
-use Rattle.host_policy.specs.Addresses.{Config, address, last_address}
-use Rattle.host_policy.specs.Targets.{is_group_or_reserved, target}
+use Rattle.slirp_settings.specs.Addresses.{Config, address, last_address}
+use Rattle.host_policy.specs.Targets.{target}
+use Rattle.slirp_settings.specs.Classes.{is_group_or_reserved}
 use Rattle.tcp_segment.specs.Tcp.{Tcp}
-use Rattle.flow_table.specs.declared.Tuple.{Tuple}
+use Rattle.record_flows.specs.declared.Tuple.{Tuple}
 use Rattle.flow_laws.specs.Event.{Segment}
 use Rattle.flow_laws.specs.Host.{answered}
 use Rattle.flow_laws.specs.Close.{last_at, may_give_way, owes_reset}

@@ -4,9 +4,9 @@ use Rattle.world_face.specs.Journal.{Entry, TcpRead, TcpWrite}
 use Rattle.world_face.specs.declared.Io.{Io}
 use Rattle.world_face.specs.declared.Io.TheVariants.{Done, End, NotYet, Failed}
 use Rattle.net_octets.specs.declared.Endpoint.{Endpoint}
-use Rattle.host_policy.specs.Addresses.{Config}
+use Rattle.slirp_settings.specs.Addresses.{Config}
 use Rattle.host_policy.specs.Targets.{target}
-use Rattle.host_policy.specs.declared.Proto.TheVariants.{Tcp as OverTcp}
+use Rattle.slirp_settings.specs.declared.Proto.TheVariants.{Tcp as OverTcp}
 use Rattle.host_policy.specs.declared.Verdict.TheVariants.{Go, Denied}
 use Rattle.host_policy.specs.declared.Rule.{Rule}
 use Rattle.flow_laws.specs.Event.{IsStory, newest_moment}

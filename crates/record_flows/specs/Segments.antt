@@ -1,13 +1,13 @@
 -- Segments of TCP that come from a guest or go out to one, and requests for a guest's hardware address.
 use Rattle.std.specs.Prelude.{ℕ, ◌==◌, ◌&&◌, not, Bool, List, Option, Some, None, option_map, option_and_then, if◌then◌else◌}
 use Rattle.net_octets.specs.Kinds.{arp_kind, ipv4_kind, tcp_proto}
-use Rattle.host_policy.specs.Addresses.{endpoint}
-use Rattle.host_policy.specs.Targets.{same_endpoint}
+use Rattle.slirp_settings.specs.Addresses.{endpoint}
+use Rattle.slirp_settings.specs.Classes.{same_endpoint}
 use Rattle.ether_frame.specs.Ether.{Ether, read_ether}
 use Rattle.arp_table.specs.Arp.{Arp, read_arp}
 use Rattle.ipv4_head.specs.Ip.{Ip, read_ip, is_unbroken}
 use Rattle.tcp_segment.specs.Tcp.{Tcp, read_tcp}
-use Rattle.flow_table.specs.declared.Tuple.{Tuple}
+use Rattle.record_flows.specs.declared.Tuple.{Tuple}
 use Rattle.flow_laws.specs.Event.{Segment}
 pub use Rattle.flow_laws.specs.Segments.{segment_of}
 use Rattle.run_laws.specs.Happenings.{Arrival}

@@ -16,7 +16,7 @@ ghost use Rattle.net_octets.specs.declared.Endpoint.{Endpoint};
 ghost use Rattle.world_face.specs.Journal.{Entry, Close, Connect, TcpRead};
 ghost use Rattle.world_face.specs.declared.Io.{Io};
 ghost use Rattle.world_face.specs.declared.Made.{Made};
-ghost use Rattle.host_policy.specs.Addresses.{Config};
+ghost use Rattle.slirp_settings.specs.Addresses.{Config};
 ghost use Rattle.seq_space.specs.Places.{number_of};
 ghost use Rattle.flow_laws.specs.Event.{IsStory};
 ghost use Rattle.flow_laws.specs.Flow.{guest, host, their_number, has_connected, is_accepted};
@@ -36,6 +36,15 @@ ghost use Rattle.record_flows.specs.Lots.{Dropped, NeedsRoom, giving_way, is_ope
 ghost use Rattle.record_flows.specs.Said.{ConnectsAsAsked, Differ, IsDenied, IsIgnored, IsQuietest, given_on, taken_on};
 ghost use Rattle.record_flows.specs.Segments.{OnTuple, segment_came};
 ghost use Rattle.record_flows.specs.Touching.{AreApart};
+
+use net_octets::Endpoint;
+
+/// The two ends of a flow: the guest's, and the other that the guest sees.
+#[derive(Clone, Copy, Debug, PartialEq, Eq)]
+pub struct Tuple {
+    pub guest: Endpoint,
+    pub other: Endpoint,
+}
 
 /// Each flow of a run keeps the law of one flow: its story begins with what opened it, and whatever was done for it was allowed
 /// by what had happened to it, and done as it must be: each segment told the room that was left, each write offered all that was

@@ -6,7 +6,7 @@ use Rattle.poll_list.specs.declared.Who.{Who}
 use Rattle.poll_list.specs.declared.Who.TheVariants.{Link, Listener, Tcp, Udp}
 use Rattle.world_face.specs.Journal.{Entry, Call, call_of, CallWait, Wait}
 use Rattle.world_face.specs.Frames.{is_blocked}
-use Rattle.host_policy.specs.Addresses.{Config}
+use Rattle.slirp_settings.specs.Addresses.{Config}
 use Rattle.run_laws.specs.Moments.{moment}
 use Rattle.run_laws.specs.Sockets.{is_among, open_sockets}
 use Rattle.flow_laws.specs.CheckDuty.{all_ahead, may_wait}
@@ -16,7 +16,7 @@ use Rattle.flow_laws.proofs.Computing.{nat_within}
 use Rattle.flow_laws.proofs.Duties.{may_wait_to_write_is}
 use Rattle.flow_laws.proofs.Settled.{settled, waits}
 use Rattle.flow_laws.proofs.Refuting.{some_same}
-use Rattle.halves_follow.specs.Bounds.{IsBy, IsFrom}
+use Rattle.flow_laws.specs.Bounds.{IsBy, IsFrom}
 use Rattle.record_flows.specs.Book.{book, scene}
 use Rattle.record_flows.specs.Flows.{Flow, flow_of, guest_is_known, is_numbered}
 use Rattle.record_flows.specs.Laws.{flow_settings}

@@ -5,7 +5,7 @@ use Rattle.world_face.specs.Journal.{Entry, call_of, Now, Wait, LinkOpen, LinkRe
 use Rattle.world_face.specs.Journal.{UdpRecv, FileLen, FileRead}
 use Rattle.world_face.specs.Frames.{Ending, ending, partial}
 use Rattle.world_face.specs.declared.Made.TheVariants.{Done, Failed}
-use Rattle.host_policy.specs.Addresses.{Config}
+use Rattle.slirp_settings.specs.Addresses.{Config}
 use Rattle.run_laws.specs.Moments.{waits, waits_after}
 use Rattle.run_laws.specs.Shape.{Cause, Refused, Phase, Opening, Started, Woken, Working, Over, is_ended, is_over, may_turn, phase, phase_after}
 use Rattle.flow_laws.proofs.Refuting.{never_false}

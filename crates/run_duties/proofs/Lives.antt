@@ -3,14 +3,14 @@ use Rattle.std.proofs.Common.{◌≡◌, ℕ, zero, suc, ◌+◌, ◌⊎◌, inl
 use Rattle.std.proofs.Common.{◌∙◌, subst, arith, if◌then◌else◌}
 use Rattle.std.proofs.lemmas.Bool.Decides.{nat_tests}
 use Rattle.world_face.specs.Journal.{Entry, Now}
-use Rattle.host_policy.specs.Addresses.{Config}
+use Rattle.slirp_settings.specs.Addresses.{Config}
 use Rattle.ipv4_head.specs.Sets.{PartSet}
-use Rattle.udp_assoc.specs.Associations.{idle_life, is_over, numbered, numbers}
-use Rattle.udp_assoc.specs.declared.assocs.Association.{Association}
+use Rattle.udp_rules.specs.Associations.{idle_life, is_over, numbered, numbers}
+use Rattle.udp_rules.specs.declared.Association.{Association}
 use Rattle.run_laws.specs.Moments.{moment, moment_after}
 use Rattle.run_laws.specs.Sockets.{is_among}
 use Rattle.flow_laws.specs.Dutiful.{AreAhead}
-use Rattle.halves_follow.specs.Bounds.{IsBy, IsFrom}
+use Rattle.flow_laws.specs.Bounds.{IsBy, IsFrom}
 use Rattle.slirp_laws.specs.Laws.{Lawful}
 use Rattle.slirp_laws.specs.Ports.{associations_open, is_used_by, last_use, used_at}
 use Rattle.slirp_laws.specs.Relayed.{associations}

@@ -2,12 +2,12 @@
 use Rattle.std.proofs.Common.{◌≡◌, ℕ, suc, ◌+◌, ◌-◌, ◌<◌, ◌≤◌, ◌==◌, ◌||◌, nat_le, Bool, true, false, List, [], ◌∷◌, ◌++◌, All, Some, refl, sym, ap, ◌∙◌, subst, arith}
 use Rattle.std.proofs.lemmas.Bool.Decides.{nat_tests}
 use Rattle.world_face.specs.Journal.{Entry}
-use Rattle.host_policy.specs.Addresses.{Config}
-use Rattle.dns_relay.specs.Questions.{is_over, numbers, question_life}
-use Rattle.dns_relay.specs.declared.Question.{Question}
+use Rattle.slirp_settings.specs.Addresses.{Config}
+use Rattle.dns_rules.specs.Questions.{is_over, numbers, question_life}
+use Rattle.dns_rules.specs.declared.Question.{Question}
 use Rattle.run_laws.specs.Sockets.{is_among}
 use Rattle.flow_laws.specs.Dutiful.{AreAhead}
-use Rattle.halves_follow.specs.Bounds.{IsBy, IsFrom}
+use Rattle.flow_laws.specs.Bounds.{IsBy, IsFrom}
 use Rattle.slirp_laws.specs.Laws.{Lawful}
 use Rattle.slirp_laws.specs.Names.{questions}
 use Rattle.slirp_laws.specs.Ports.{used_at}

@@ -6,7 +6,7 @@ use Rattle.poll_list.specs.declared.Who.{Who}
 use Rattle.poll_list.specs.declared.Who.TheVariants.{Link, Listener, Tcp, Udp}
 use Rattle.world_face.specs.Journal.{Entry, Call, call_of, CallWait, Wait}
 use Rattle.world_face.specs.Frames.{is_blocked}
-use Rattle.host_policy.specs.Addresses.{Config}
+use Rattle.slirp_settings.specs.Addresses.{Config}
 use Rattle.run_laws.specs.Moments.{moment}
 use Rattle.run_laws.specs.Sockets.{open_sockets}
 use Rattle.flow_laws.specs.CheckDuty.{all_ahead, is_settled, may_wait, may_wait_to_write}

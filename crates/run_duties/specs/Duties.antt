@@ -5,10 +5,10 @@ use Rattle.world_face.specs.Journal.{Entry, Call, CallWait, Follows}
 use Rattle.world_face.specs.Frames.{is_blocked}
 use Rattle.world_face.specs.Heard.{Heard}
 use Rattle.world_face.specs.Tells.{Telling}
-use Rattle.host_policy.specs.Addresses.{Config}
+use Rattle.slirp_settings.specs.Addresses.{Config}
 use Rattle.run_laws.specs.Moments.{moment}
 use Rattle.flow_laws.specs.Dutiful.{AreAhead, IsSettled, MayWait}
-use Rattle.halves_follow.specs.Bounds.{IsBy, IsFrom}
+use Rattle.flow_laws.specs.Bounds.{IsBy, IsFrom}
 use Rattle.record_flows.specs.Book.{book, is_young, scene}
 use Rattle.record_flows.specs.Flows.{Flow, flow_of, guest_is_known, rests_among}
 use Rattle.record_flows.specs.Laws.{flow_settings}

@@ -2,10 +2,10 @@
 use Rattle.std.specs.Prelude.{ℕ, ◌+◌, nat_lt, Bool, true, false, List, [], ◌∷◌, ◌++◌, filter, map, Option, Some, None}
 use Rattle.world_face.specs.Journal.{Entry}
 use Rattle.world_face.specs.Frames.{is_blocked}
-use Rattle.host_policy.specs.Addresses.{Config}
-use Rattle.dns_relay.specs.Questions.{question_life}
+use Rattle.slirp_settings.specs.Addresses.{Config}
+use Rattle.dns_rules.specs.Questions.{question_life}
 use Rattle.ipv4_head.specs.Sets.{PartSet}
-use Rattle.udp_assoc.specs.Associations.{idle_life}
+use Rattle.udp_rules.specs.Associations.{idle_life}
 use Rattle.run_laws.specs.Fragments.{waiting}
 use Rattle.run_laws.specs.Moments.{moment}
 use Rattle.flow_laws.specs.Event.{Story}
@@ -15,7 +15,7 @@ use Rattle.record_flows.specs.Flows.{Flow, Rest}
 use Rattle.slirp_laws.specs.Answers.{is_free, ledger, serving}
 use Rattle.slirp_laws.specs.Ports.{associations_open, used_at}
 use Rattle.slirp_laws.specs.Questions.{questions_open}
-use Rattle.tftp_server.specs.Transfers.{Transfer, ticked}
+use Rattle.tftp_rules.specs.Transfers.{Transfer, ticked}
 
 -- the moments that each flow has
 abbrev pub of_flows : (Story → List ℕ) → List Flow → List ℕ

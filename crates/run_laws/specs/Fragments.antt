@@ -4,7 +4,7 @@ use Rattle.net_octets.specs.Kinds.{ipv4_kind}
 use Rattle.net_octets.specs.Octets.{one_at}
 use Rattle.world_face.specs.Journal.{Entry}
 use Rattle.world_face.specs.Frames.{arrives}
-use Rattle.host_policy.specs.Addresses.{Config, is_guest}
+use Rattle.slirp_settings.specs.Addresses.{Config, is_guest}
 use Rattle.ether_frame.specs.Ether.{Ether, read_ether}
 use Rattle.ipv4_head.specs.Ip.{Ip, read_ip, is_unbroken}
 use Rattle.ipv4_head.specs.Sets.{Key, Part, PartSet, sets_left, whole_with, young}

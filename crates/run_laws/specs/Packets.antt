@@ -2,15 +2,16 @@
 use Rattle.std.specs.Prelude.{ℕ, ◌==◌, ◌&&◌, ◌||◌, Bool, List, ◌++◌, take, Option, Some, None, option_and_then, option_map, unwrap_or, if◌then◌else◌}
 use Rattle.net_octets.specs.declared.Endpoint.{Endpoint}
 use Rattle.net_octets.specs.Kinds.{arp_kind, ipv4_kind, icmp_proto, udp_proto, tcp_proto}
-use Rattle.host_policy.specs.Addresses.{Config, endpoint, is_guest}
+use Rattle.slirp_settings.specs.Addresses.{Config, endpoint, is_guest}
 use Rattle.ether_frame.specs.Ether.{Ether, read_ether}
 use Rattle.arp_table.specs.Arp.{Arp, read_arp}
 use Rattle.ipv4_head.specs.Ip.{Ip, read_ip}
 use Rattle.ipv4_head.specs.Sets.{PartSet}
 use Rattle.icmp_echo.specs.Icmp.{Icmp, read_icmp}
-use Rattle.udp_assoc.specs.Udp.{Udp, read_udp}
+use Rattle.udp_datagram.specs.Udp.{Udp, read_udp}
 use Rattle.tcp_segment.specs.Tcp.{Tcp, read_tcp}
 use Rattle.run_laws.specs.Fragments.{arrived}
+use Rattle.slirp_settings.specs.Ports.{leases_port}
 
 -- a datagram from a guest: the hardware address from which its frame came, its endpoints, its payload, and what an unreachable quotes of it
 pub record Datagram : Type 0 where
@@ -27,9 +28,9 @@ quoted ip = ip.head ++ take 8 ip.body
 abbrev pub datagram_of : List ℕ → Ip → Udp → Datagram
 datagram_of mac ip udp = record { mac = mac; from = endpoint ip.from udp.from_port; to = endpoint ip.to udp.to_port; body = udp.body; quote = quoted ip }
 
--- its source is a guest; one that has no address yet speaks to port 67 alone (RFC 2131, 4.1)
+-- its source is a guest; one that has no address yet speaks to the port of leases alone (RFC 2131, 4.1)
 abbrev pub may_come : Config → Ip → Udp → Bool
-may_come config ip udp = is_guest config ip.from || ((ip.from == 0) && (udp.to_port == 67))
+may_come config ip udp = is_guest config ip.from || ((ip.from == 0) && (udp.to_port == leases_port))
 
 -- A packet of the guests: one of ARP, a message, a datagram, a segment between two ends, each whole, the last three with the hardware address from which the
 -- frame came by which it was whole; or nothing that anybody listens to.

@@ -8,7 +8,7 @@ use Rattle.world_face.specs.Frames.{arrived, is_whole, partial}
 use Rattle.world_face.specs.Journal.{Entry, LinkRead}
 use Rattle.world_face.specs.Tells.{Brings, Telling}
 use Rattle.world_face.specs.declared.Io.TheVariants.{Done as IoDone, End as IoEnd, NotYet as IoNotYet, Failed as IoFailed}
-use Rattle.host_policy.specs.Addresses.{Config}
+use Rattle.slirp_settings.specs.Addresses.{Config}
 use Rattle.run_laws.specs.Moments.{waits}
 use Rattle.slirp_laws.specs.Agenda.{wanted_of}
 use Rattle.run_duties.specs.Said.{some_reads}

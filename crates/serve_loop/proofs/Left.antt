@@ -9,7 +9,7 @@ use Rattle.poll_list.specs.declared.Who.TheVariants.{Link as TheLink, Listener, 
 use Rattle.world_face.specs.Journal.{Entry, Now, Wait}
 use Rattle.world_face.specs.Frames.{is_blocked}
 use Rattle.world_face.specs.declared.Waited.TheVariants.{Ready}
-use Rattle.host_policy.specs.Addresses.{Config}
+use Rattle.slirp_settings.specs.Addresses.{Config}
 use Rattle.run_laws.specs.Moments.{waits}
 use Rattle.slirp_laws.specs.Agenda.{all_wanted}
 use Rattle.slirp_laws.proofs.Bools.{first_of, same, second_of}

@@ -1,9 +1,9 @@
 -- A service that is opened.
 use Rattle.std.proofs.Common.{ℕ, ◌≤◌, ◌^◌, nat_le, ◌&&◌, IsTrue, arith}
 use Rattle.std.proofs.lemmas.Bool.Decides.{nat_tests}
-use Rattle.host_policy.specs.Addresses.{Config}
-use Rattle.host_policy.specs.Ranges.{IsSound}
-use Rattle.host_policy.specs.declared.config.Field.TheVariants.{IfMtu, Turns}
+use Rattle.slirp_settings.specs.Addresses.{Config}
+use Rattle.slirp_settings.specs.Ranges.{IsSound}
+use Rattle.slirp_settings.specs.declared.fields.Field.TheVariants.{IfMtu, Turns}
 
 -- a frame has room for a header and a unit of 8 octets
 pub has_room_for_a_unit : (config : Config) → IsSound config → 28 ≤ config.mtu

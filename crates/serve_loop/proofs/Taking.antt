@@ -4,7 +4,7 @@ use Rattle.poll_list.specs.declared.Want.{Want}
 use Rattle.poll_list.specs.declared.Who.TheVariants.{Link as TheLink}
 use Rattle.world_face.specs.Journal.{Entry, AreAllowed}
 use Rattle.world_face.specs.Frames.{Ending}
-use Rattle.host_policy.specs.Addresses.{Config}
+use Rattle.slirp_settings.specs.Addresses.{Config}
 use Rattle.record_flows.specs.Segments.{segment_by}
 use Rattle.run_laws.specs.Fragments.{waiting}
 use Rattle.run_laws.specs.Packets.{Unheard}

@@ -9,7 +9,7 @@ use Rattle.poll_list.specs.declared.Who.TheVariants.{Link as TheLink, Listener, 
 use Rattle.world_face.specs.Journal.{Entry}
 use Rattle.world_face.specs.Frames.{Ending, LinkFailed}
 use Rattle.world_face.specs.Tells.{Brings, Telling}
-use Rattle.host_policy.specs.Addresses.{Config}
+use Rattle.slirp_settings.specs.Addresses.{Config}
 use Rattle.run_laws.specs.Moments.{waits}
 use Rattle.run_laws.specs.Sockets.{next_number}
 use Rattle.run_duties.specs.Duties.{Dutiful}

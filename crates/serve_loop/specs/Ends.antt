@@ -1,7 +1,7 @@
 -- The ends of a run.
 use Rattle.world_face.specs.Tells.{Counts, Rose}
 use Rattle.world_face.specs.Frames.{Ending, LinkEnded, LinkCut, LongFrame, LinkFailed, Stopped, WaitFailed}
-use Rattle.host_policy.specs.Addresses.{Config}
+use Rattle.slirp_settings.specs.Addresses.{Config}
 use Rattle.run_laws.specs.Shape.{By, Refused, Phase, Opening, Started, Woken, Working, Over}
 use Rattle.slirp_core.specs.Counts.{AreGrown}
 use Rattle.stream_netdev.specs.declared.Pumped.{Pumped}

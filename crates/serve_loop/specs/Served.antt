@@ -1,10 +1,10 @@
 -- A service, and one that has served nothing.
 use Rattle.std.specs.Prelude.{◌≡◌, ◌^◌, ◌≤◌, List, [], replicate, false}
-use Rattle.host_policy.specs.Addresses.{Config}
-use Rattle.dhcp_server.specs.declared.leases.Lease.TheVariants.{Free}
+use Rattle.slirp_settings.specs.Addresses.{Config}
+use Rattle.dhcp_rules.specs.declared.Lease.TheVariants.{Free}
 use Rattle.poll_list.specs.declared.Want.{Want}
 use Rattle.stream_netdev.specs.State.{LinkState, under_way}
-use Rattle.host_policy.specs.Ranges.{IsSound}
+use Rattle.slirp_settings.specs.Ranges.{IsSound}
 use Rattle.slirp_core.specs.Holds.{as_given}
 use Rattle.slirp_core.specs.Numbers.{flows_for}
 use Rattle.slirp_core.specs.State.{SlirpState}

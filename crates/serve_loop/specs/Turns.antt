@@ -7,19 +7,19 @@ use Rattle.poll_list.specs.declared.Who.TheVariants.{Link, Tcp, Udp}
 use Rattle.world_face.specs.Journal.{Entry}
 use Rattle.world_face.specs.Frames.{Ending, Stopped, WaitFailed}
 use Rattle.world_face.specs.Tells.{Counts}
-use Rattle.host_policy.specs.Addresses.{Config}
+use Rattle.slirp_settings.specs.Addresses.{Config}
 use Rattle.run_laws.specs.Moments.{waits}
 use Rattle.run_laws.specs.Shape.{phase}
 use Rattle.run_laws.specs.Sockets.{next_number}
 use Rattle.flow_splice.specs.Splice.{Splice}
 use Rattle.slirp_laws.specs.Agenda.{all_wanted, wanted_of}
 use Rattle.slirp_laws.specs.Laws.{Finished, Lawful}
-use Rattle.udp_assoc.specs.Associations.{is_over as is_idle_association}
-use Rattle.dns_relay.specs.Questions.{is_over as is_idle_question}
-use Rattle.tftp_server.specs.Transfers.{next_again}
+use Rattle.udp_rules.specs.Associations.{is_over as is_idle_association}
+use Rattle.dns_rules.specs.Questions.{is_over as is_idle_question}
+use Rattle.tftp_rules.specs.Transfers.{next_again}
 use Rattle.stream_netdev.specs.Keeps.{ReadsOn}
 use Rattle.stream_netdev.specs.State.{LinkState, under_way}
-use Rattle.port_forward.specs.Opened.{Opened}
+use Rattle.forward_rules.specs.Opened.{Opened}
 use Rattle.slirp_core.specs.Forwards.{forward_sockets}
 use Rattle.slirp_core.specs.Holds.{Standing, after, standing, flowing, Holders, holders_of, Holds, Ended, Closing}
 use Rattle.slirp_core.specs.Calm.{AreClear}

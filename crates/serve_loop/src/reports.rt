@@ -18,7 +18,7 @@ use world_face::World;
 impl Service {
     ghost use Rattle.std.specs.Prelude.{ℕ, ◌+◌, ◌<◌, ◌≤◌, ◌^◌, ◌∷◌, Bool, if◌then◌else◌};
     ghost use Rattle.world_face.specs.Tells.{Makes, Brings};
-    ghost use Rattle.host_policy.specs.Addresses.{Config};
+    ghost use Rattle.slirp_settings.specs.Addresses.{Config};
     ghost use Rattle.stream_netdev.specs.Keeps.{ReadsOn};
     ghost use Rattle.stream_netdev.specs.State.{under_way};
     ghost use Rattle.slirp_core.specs.Counts.{AreGrown};
@@ -54,28 +54,28 @@ impl Service {
     }
 
     // The link: a frame is read where one is still to be read, or the link takes more.
-    fn attend_link<W: World>(&mut self, world: &mut W, item: &Want, to_read: bool) -> Turn
-        requires of { item.now.of ≡ TheLink }
+    fn attend_link<W: World>(&mut self, world: &mut W, report: &Want, to_read: bool) -> Turn
+        requires of { report.now.of ≡ TheLink }
         requires on { ReadsOn (under_way self.old.link) }
         requires number { self.old.slirp.number + 1 < 2 ^ 64 }
         ensures makes { (config : Config) (count : ℕ) (items : List AnItem) → (to_read ≡ true → reads TheLink self.old.wants ≡ true)
             → Brings (W.tells world.old) (W.tells world.new)
-            (ServesNow config count self.old.wants (item.now ∷ items) to_read self.old.slirp self.old.link)
-            (AfterItem result config count self.old.wants items (still to_read item.now) self.new.slirp self.new.link) }
+            (ServesNow config count self.old.wants (report.now ∷ items) to_read self.old.slirp self.old.link)
+            (AfterItem result config count self.old.wants items (still to_read report.now) self.new.slirp self.new.link) }
         ensures step { IsStep result (W.tells world.old).faults (W.tells world.new).faults self.new.link }
-        ensures calm { StaysCalm result self.old.wants item.now self.old.slirp self.old.link self.new.slirp self.new.link }
+        ensures calm { StaysCalm result self.old.wants report.now self.old.slirp self.old.link self.new.slirp self.new.link }
         ensures stays { Stays self.old self.new }
         ensures number { self.new.slirp.number ≤ self.old.slirp.number + 1 }
-        ensures passed { (to_read ≡ true → reads TheLink self.old.wants ≡ true) → is_passed_over self.old.wants item.now ≡ true → (result ≡ Turn.Again)
+        ensures passed { (to_read ≡ true → reads TheLink self.old.wants ≡ true) → is_passed_over self.old.wants report.now ≡ true → (result ≡ Turn.Again)
             × (self.new ≡ self.old) × (world.new ≡ world.old) }
     {
-        if is_read_now(to_read, item) {
+        if is_read_now(to_read, report) {
             return match self.receive_frame(world) {
                 Turn::Again => self.pump(world),
                 Turn::Ended(end) => Turn::Ended(end),
             };
         }
-        if item.write && writes_link(self.wants.items()) {
+        if report.write && writes_link(self.wants.items()) {
             return self.pump(world);
         }
         Turn::Again

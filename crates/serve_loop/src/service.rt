@@ -13,10 +13,10 @@ ghost use Rattle.world_face.specs.Limits.{most_ready, most_to_udp};
 
 use crate::reports::still;
 use arrayvec::ArrayVec;
-use host_policy::{Forward, SlirpConfig};
 use net_octets::NoMemory;
 use poll_list::{ReadyList, Want, Who};
 use slirp_core::{LONGEST_ASSEMBLED, Slirp, TurnWants};
+use slirp_settings::{Forward, SlirpConfig};
 use std::alloc::Global;
 use std::marker::Model;
 use stream_netdev::{Link, Pumped};
@@ -96,9 +96,9 @@ impl Service {
     ghost use Rattle.std.specs.Prelude.{ℕ, ◌+◌, ◌<◌, ◌≤◌, ◌^◌, ◌∷◌, Bool, drop, length, map, reverse, if◌then◌else◌, IfOk};
     ghost use Rattle.world_face.specs.Journal.{Close, Entry};
     ghost use Rattle.world_face.specs.Tells.{Makes, Brings, Rose};
-    ghost use Rattle.host_policy.specs.Addresses.{Config};
-    ghost use Rattle.host_policy.specs.Ranges.{IsSound};
-    ghost use Rattle.host_policy.specs.Settings.{settings};
+    ghost use Rattle.slirp_settings.specs.Addresses.{Config};
+    ghost use Rattle.slirp_settings.specs.Ranges.{IsSound};
+    ghost use Rattle.slirp_settings.specs.Settings.{settings};
     ghost use Rattle.slirp_laws.specs.Laws.{Finished, Lawful};
     ghost use Rattle.run_laws.specs.Shape.{phase};
     ghost use Rattle.slirp_laws.specs.Served.{Served};

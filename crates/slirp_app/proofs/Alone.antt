@@ -1,7 +1,7 @@
 -- Where there is no control a run is that of the network alone.
 use Rattle.std.proofs.Common.{◌≡◌, List, [], ◌∷◌, ◌++◌, Option, None, append_assoc, sym, subst}
 use Rattle.net_octets.specs.declared.Endpoint.{Endpoint}
-use Rattle.host_policy.specs.Addresses.{Config}
+use Rattle.slirp_settings.specs.Addresses.{Config}
 use Rattle.slirp_laws.specs.Laws.{Lawful, May}
 use Rattle.serve_loop.specs.declared.service.End.{End}
 use Rattle.control_loop.specs.Runs.{BeginsRun, GoesOnWith, IsRun, RunsAlone, RunsTo}

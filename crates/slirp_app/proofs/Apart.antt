@@ -5,7 +5,7 @@ use Rattle.run_laws.specs.Moments.{waits}
 use Rattle.world_face.specs.Faults.{failures, link_failed, socket_failed, wait_failed}
 use Rattle.world_face.specs.Frames.{partial, partial_after}
 use Rattle.world_face.specs.Journal.{Entry, LinkRead, Wait}
-use Rattle.control_session.specs.Apart.{is_on_control, seen, without_control}
+use Rattle.control_rules.specs.Apart.{is_on_control, seen, without_control}
 use Rattle.slirp_app.specs.Untroubled.{before_waits, link_ended, link_octets, tells_end}
 
 -- a call that is passed over changes nothing, and one that isn't changes nothing either

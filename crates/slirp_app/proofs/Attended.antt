@@ -4,9 +4,9 @@ use Rattle.std.proofs.lemmas.List.{append_cancel_right}
 use Rattle.world_face.specs.Journal.{AreAllowed, Entry, LinkOpen, Place}
 use Rattle.world_face.specs.Tells.{Makes, Telling}
 use Rattle.world_face.specs.declared.Made.TheVariants.{Done as MadeDone, Failed as MadeFailed}
-use Rattle.host_policy.specs.Addresses.{Config}
-use Rattle.slirp_config.specs.declared.Tap.{Tap}
-use Rattle.slirp_config.specs.declared.Tap.TheVariants.{Off, Record, Capture}
+use Rattle.slirp_settings.specs.Addresses.{Config}
+use Rattle.command_words.specs.declared.Tap.{Tap}
+use Rattle.command_words.specs.declared.Tap.TheVariants.{Off, Record, Capture}
 use Rattle.app_edges.specs.Statuses.{code_of}
 use Rattle.app_edges.specs.declared.status.Outcome.{Outcome}
 use Rattle.app_edges.specs.declared.status.Outcome.TheVariants.{Done, SinkFault}

@@ -6,18 +6,18 @@ use Rattle.world_face.specs.Journal.{Entry, Place}
 use Rattle.world_face.specs.Puts.{Puts, added}
 use Rattle.world_face.specs.Tells.{Telling, Makes, Rose}
 use Rattle.world_face.specs.declared.sink.Failed.{Failed}
-use Rattle.host_policy.specs.Addresses.{Config}
-use Rattle.host_policy.specs.declared.config.Field.{Field}
-use Rattle.host_policy.specs.declared.config.Field.TheVariants.{Octets}
-use Rattle.slirp_config.specs.Meaning.{AnswersBy, Drives, HasPlace, Helps, TellsVersion, Meaning, Means, MeansReplay, Replays, Serves, broken_in, said}
-use Rattle.slirp_config.specs.Options.{Word}
-use Rattle.slirp_config.specs.Stops.{StopsAt}
-use Rattle.slirp_config.specs.declared.Command.{Command}
-use Rattle.slirp_config.specs.declared.Stop.{Stop}
-use Rattle.slirp_config.specs.declared.Tap.{Tap}
-use Rattle.slirp_config.specs.declared.Tap.TheVariants.{Off, Record, Capture}
-use Rattle.slirp_config.specs.declared.WordFault.{WordFault}
-use Rattle.slirp_config.specs.declared.WordFault.TheVariants.{Usage as Misread, BadConfig as BadField}
+use Rattle.slirp_settings.specs.Addresses.{Config}
+use Rattle.command_words.specs.declared.Setting.{Setting}
+use Rattle.command_words.specs.declared.Setting.TheVariants.{Octets}
+use Rattle.command_words.specs.Meaning.{AnswersBy, Drives, HasPlace, Helps, TellsVersion, Meaning, Means, MeansReplay, Replays, Serves, broken_in, said}
+use Rattle.command_words.specs.Options.{Word}
+use Rattle.command_words.specs.Stops.{StopsAt}
+use Rattle.command_words.specs.declared.Command.{Command}
+use Rattle.command_words.specs.declared.Stop.{Stop}
+use Rattle.command_words.specs.declared.Tap.{Tap}
+use Rattle.command_words.specs.declared.Tap.TheVariants.{Off, Record, Capture}
+use Rattle.command_words.specs.declared.WordFault.{WordFault}
+use Rattle.command_words.specs.declared.WordFault.TheVariants.{Usage as Misread, BadConfig as BadField}
 use Rattle.serve_loop.specs.declared.service.End.{End}
 use Rattle.serve_loop.specs.declared.service.End.TheVariants.{Done as EndDone, TooLong, Cut, LinkFault as EndLink, WaitFault as EndWait, TurnsSpent as EndTurns, ListenRefused as EndRefused, ControlRefused as EndControl}
 use Rattle.slirp_app.specs.Doing.{CanBeDone, Course, Meant, Misset, Misused, Does, TellsText, refusal_of}
@@ -50,37 +50,37 @@ can_be_done words Helps means place none = tt
 can_be_done words TellsVersion means place none = tt
 
 -- what is answered is the one meaning of the words
-other_by : (other : Meaning) (o : Option Field) (result : Result Command WordFault) (command : Command) → result ≡ Ok command
-    → MatchOption o ((c : Command) × (result ≡ Ok c) × (said c ≡ other)) (λ field. result ≡ Err (BadField field)) → other ≡ said command
+other_by : (other : Meaning) (o : Option Setting) (result : Result Command WordFault) (command : Command) → result ≡ Ok command
+    → MatchOption o ((c : Command) × (result ≡ Ok c) × (said c ≡ other)) (λ setting. result ≡ Err (BadField setting)) → other ≡ said command
 other_by other None result command is (c, that, says) = (let same : command ≡ c = cc in sym says ∙ ap said (sym same))
-other_by other (Some field) result command is that = cc
+other_by other (Some setting) result command is that = cc
 
 pub one_meaning : (result : Result Command WordFault) (command : Command) (other : Meaning) → result ≡ Ok command → AnswersBy result other → other ≡ said command
 one_meaning result command other is answers = other_by other (broken_in other) result command is answers
 
--- a field that is named is the first that breaks its range, whatever the words mean
-field_by : (other : Meaning) (o : Option Field) (result : Result Command WordFault) (field : Field) → result ≡ Err (BadField field)
-    → MatchOption o ((c : Command) × (result ≡ Ok c) × (said c ≡ other)) (λ f. result ≡ Err (BadField f)) → o ≡ Some field
-field_by other None result field is (c, that, says) = cc
-field_by other (Some f) result field is that = (let same : field ≡ f = cc in ap Some (sym same))
+-- a setting that is named is the first that breaks its range, whatever the words mean
+field_by : (other : Meaning) (o : Option Setting) (result : Result Command WordFault) (setting : Setting) → result ≡ Err (BadField setting)
+    → MatchOption o ((c : Command) × (result ≡ Ok c) × (said c ≡ other)) (λ f. result ≡ Err (BadField f)) → o ≡ Some setting
+field_by other None result setting is (c, that, says) = cc
+field_by other (Some f) result setting is that = (let same : setting ≡ f = cc in ap Some (sym same))
 
-pub one_field : (result : Result Command WordFault) (field : Field) (other : Meaning) → result ≡ Err (BadField field) → AnswersBy result other → broken_in other ≡ Some field
-one_field result field other is answers = field_by other (broken_in other) result field is answers
+pub one_field : (result : Result Command WordFault) (setting : Setting) (other : Meaning) → result ≡ Err (BadField setting) → AnswersBy result other → broken_in other ≡ Some setting
+one_field result setting other is answers = field_by other (broken_in other) result setting is answers
 
 -- settings that are answered are in their ranges
-unbroken : (other : Meaning) (o : Option Field) (result : Result Command WordFault) (command : Command) → result ≡ Ok command
-    → MatchOption o ((c : Command) × (result ≡ Ok c) × (said c ≡ other)) (λ field. result ≡ Err (BadField field)) → o ≡ None
+unbroken : (other : Meaning) (o : Option Setting) (result : Result Command WordFault) (command : Command) → result ≡ Ok command
+    → MatchOption o ((c : Command) × (result ≡ Ok c) × (said c ≡ other)) (λ setting. result ≡ Err (BadField setting)) → o ≡ None
 unbroken other None result command is that = refl
-unbroken other (Some field) result command is that = cc
+unbroken other (Some setting) result command is that = cc
 
 pub none_broken : (result : Result Command WordFault) (command : Command) → result ≡ Ok command → AnswersBy result (said command) → broken_in (said command) ≡ None
 none_broken result command is answers = unbroken (said command) (broken_in (said command)) result command is answers
 
 -- words that mean what can be done are answered by a command
-pub answered_by_none : (other : Meaning) (o : Option Field) (result : Result Command WordFault) (fault : WordFault) → result ≡ Err fault → o ≡ None
-    → MatchOption o ((c : Command) × (result ≡ Ok c) × (said c ≡ other)) (λ field. result ≡ Err (BadField field)) → ⊥
+pub answered_by_none : (other : Meaning) (o : Option Setting) (result : Result Command WordFault) (fault : WordFault) → result ≡ Err fault → o ≡ None
+    → MatchOption o ((c : Command) × (result ≡ Ok c) × (said c ≡ other)) (λ setting. result ≡ Err (BadField setting)) → ⊥
 answered_by_none other None result fault is whole (c, that, says) = cc
-answered_by_none other (Some field) result fault is whole that = cc
+answered_by_none other (Some setting) result fault is whole that = cc
 
 -- what comes of a text that is put
 pub record Texted (text : List ℕ) (outcome : Outcome) (old new : Option (List ℕ)) (f g : ℕ) : Type 0 where
@@ -183,55 +183,55 @@ drives_read status (inl is) = (λ one. cc, λ two. cc)
 drives_read status (inr (inl is)) = (λ one. cc, λ two. cc)
 drives_read status (inr (inr is)) = (λ one. cc, λ two. cc)
 
-one_none : (o : Option Field) (field : Field) → o ≡ Some field → o ≡ None → ⊥
-one_none o field is none = cc
+one_none : (o : Option Setting) (setting : Setting) → o ≡ Some setting → o ≡ None → ⊥
+one_none o setting is none = cc
 
 module _ (words : List Word) (outcome : Outcome) (world world_new : Telling) (old new : Option (List ℕ)) where
   pub usage : Course words outcome world world_new old new → (code_of outcome ≡ 1) ↔ ((meaning : Meaning) → ¬ Means words meaning)
   usage (Meant m means one sound not_usage not_config does) = (λ code. absurd (not_usage code), λ none. absurd (none m means))
-  usage (Misset m field means all is makes) = (λ code. (let two : code_of outcome ≡ 2 = ap code_of is in absurd (other 1 2 (sym two ∙ code) refl refl)), λ none. absurd (none m means))
+  usage (Misset m setting means all is makes) = (λ code. (let two : code_of outcome ≡ 2 = ap code_of is in absurd (other 1 2 (sym two ∙ code) refl refl)), λ none. absurd (none m means))
   usage (Misused stop at none is makes) = (λ code. none, λ n. ap code_of is)
 
   -- where reading stops
   pub mistake : Course words outcome world world_new old new → code_of outcome ≡ 1 → (stop : Stop) × StopsAt words stop × (outcome ≡ Usage stop)
   mistake (Meant m means one sound not_usage not_config does) code = absurd (not_usage code)
-  mistake (Misset m field means all is makes) code = (let two : code_of outcome ≡ 2 = ap code_of is in absurd (other 1 2 (sym two ∙ code) refl refl))
+  mistake (Misset m setting means all is makes) code = (let two : code_of outcome ≡ 2 = ap code_of is in absurd (other 1 2 (sym two ∙ code) refl refl))
   mistake (Misused stop at none is makes) code = (stop, at, is)
 
-  pub bad_config : Course words outcome world world_new old new → (meaning : Meaning) (field : Field) → Means words meaning → broken_in meaning ≡ Some field → outcome ≡ BadConfig field
-  bad_config (Meant m means one sound not_usage not_config does) meaning field this broken =
-      absurd (one_none (broken_in meaning) field broken (ap broken_in (one meaning this) ∙ sound))
-  bad_config (Misset m f means all is makes) meaning field this broken = (let same : Some f ≡ Some field = sym (all meaning this) ∙ broken in let that : f ≡ field = cc in is ∙ ap BadConfig that)
-  bad_config (Misused stop at none is makes) meaning field this broken = absurd (none meaning this)
+  pub bad_config : Course words outcome world world_new old new → (meaning : Meaning) (setting : Setting) → Means words meaning → broken_in meaning ≡ Some setting → outcome ≡ BadConfig setting
+  bad_config (Meant m means one sound not_usage not_config does) meaning setting this broken =
+      absurd (one_none (broken_in meaning) setting broken (ap broken_in (one meaning this) ∙ sound))
+  bad_config (Misset m f means all is makes) meaning setting this broken = (let same : Some f ≡ Some setting = sym (all meaning this) ∙ broken in let that : f ≡ setting = cc in is ∙ ap BadConfig that)
+  bad_config (Misused stop at none is makes) meaning setting this broken = absurd (none meaning this)
 
-  pub only_config : Course words outcome world world_new old new → code_of outcome ≡ 2 → (meaning : Meaning) × (field : Field) × Means words meaning × (broken_in meaning ≡ Some field)
+  pub only_config : Course words outcome world world_new old new → code_of outcome ≡ 2 → (meaning : Meaning) × (setting : Setting) × Means words meaning × (broken_in meaning ≡ Some setting)
   only_config (Meant m means one sound not_usage not_config does) code = absurd (not_config code)
-  only_config (Misset m field means all is makes) code = (m, field, means, all m means)
+  only_config (Misset m setting means all is makes) code = (m, setting, means, all m means)
   only_config (Misused stop at none is makes) code = (let one : code_of outcome ≡ 1 = ap code_of is in absurd (other 2 1 (sym one ∙ code) refl refl))
 
   pub untouched : Course words outcome world world_new old new → (code_of outcome ≡ 1) ⊎ (code_of outcome ≡ 2) → Makes world world_new (λ made. made ≡ [])
   untouched (Meant m means one sound not_usage not_config does) (inl code) = absurd (not_usage code)
   untouched (Meant m means one sound not_usage not_config does) (inr code) = absurd (not_config code)
-  untouched (Misset m field means all is makes) code = makes
+  untouched (Misset m setting means all is makes) code = makes
   untouched (Misused stop at none is makes) code = makes
 
   pub does : Course words outcome world world_new old new → (meaning : Meaning) → Means words meaning → broken_in meaning ≡ None → Does meaning outcome world world_new old new
   does (Meant m means one sound not_usage not_config done) meaning this sound_too = subst (λ k. Does k outcome world world_new old new) (sym (one meaning this)) done
-  does (Misset m field means all is makes) meaning this sound_too = absurd (one_none (broken_in meaning) field (all meaning this) sound_too)
+  does (Misset m setting means all is makes) meaning this sound_too = absurd (one_none (broken_in meaning) setting (all meaning this) sound_too)
   does (Misused stop at none is makes) meaning this sound_too = absurd (none meaning this)
 
 -- words whose reading stops
-no_answer : (other : Meaning) (o : Option Field) (result : Result Command WordFault) (stop : Stop) → result ≡ Err (Misread stop)
-    → MatchOption o ((c : Command) × (result ≡ Ok c) × (said c ≡ other)) (λ field. result ≡ Err (BadField field)) → ⊥
+no_answer : (other : Meaning) (o : Option Setting) (result : Result Command WordFault) (stop : Stop) → result ≡ Err (Misread stop)
+    → MatchOption o ((c : Command) × (result ≡ Ok c) × (said c ≡ other)) (λ setting. result ≡ Err (BadField setting)) → ⊥
 no_answer other None result stop is (c, that, says) = cc
-no_answer other (Some field) result stop is that = cc
+no_answer other (Some setting) result stop is that = cc
 
 -- words that aren't followed
 pub refused_course : (words : List Word) (result : Result Command WordFault) (fault : WordFault) (world : Telling) (old : Option (List ℕ)) → result ≡ Err fault
-    → ((field : Field) → result ≡ Err (BadField field) → (meaning : Meaning) × Means words meaning × (broken_in meaning ≡ Some field))
+    → ((setting : Setting) → result ≡ Err (BadField setting) → (meaning : Meaning) × Means words meaning × (broken_in meaning ≡ Some setting))
     → ((stop : Stop) → result ≡ Err (Misread stop) → StopsAt words stop) → ((meaning : Meaning) → Means words meaning → AnswersBy result meaning)
     → Makes world world (λ made. made ≡ []) → Course words (refusal_of fault) world world old old
 refused_course words result (Misread stop) world old is bad stops only makes = Misused stop (stops stop is) (λ meaning means. no_answer meaning (broken_in meaning) result stop is
     (only meaning means)) refl makes
-refused_course words result (BadField field) world old is bad stops only makes =
-    let found = bad field is in Misset found.0 field found.1 (λ other this. one_field result field other is (only other this)) refl makes
+refused_course words result (BadField setting) world old is bad stops only makes =
+    let found = bad setting is in Misset found.0 setting found.1 (λ other this. one_field result setting other is (only other this)) refl makes

@@ -8,13 +8,13 @@ use Rattle.world_face.specs.declared.Io.{Io}
 use Rattle.world_face.specs.declared.Io.TheVariants.{Done, End, NotYet, Failed}
 use Rattle.world_face.specs.declared.Made.{Made}
 use Rattle.world_face.specs.declared.Made.TheVariants.{Done as MadeDone, Failed as MadeFailed}
-use Rattle.host_policy.specs.Addresses.{Config}
+use Rattle.slirp_settings.specs.Addresses.{Config}
 use Rattle.run_laws.specs.Shape.{Phase, Opening, Started, Woken, Working, Over, clocked, is_over, is_working, may_turn, opened, phase, phase_after, unless_over}
 use Rattle.slirp_laws.specs.Laws.{Lawful}
 use Rattle.net_octets.specs.declared.Endpoint.{Endpoint}
 use Rattle.run_laws.specs.Sockets.{open_sockets}
-use Rattle.control_session.specs.Apart.{is_on_control, seen, without_control}
-use Rattle.control_session.specs.Talk.{listener}
+use Rattle.control_rules.specs.Apart.{is_on_control, seen, without_control}
+use Rattle.control_rules.specs.Talk.{listener}
 use Rattle.control_loop.specs.Runs.{IsRun}
 use Rattle.serve_loop.specs.declared.service.End.{End as AnEnd}
 use Rattle.slirp_app.specs.Serving.{IsRefused, OpensAt, Runs}

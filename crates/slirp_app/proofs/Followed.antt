@@ -7,7 +7,7 @@ use Rattle.world_face.specs.Journal.{Entry, Call, AreAllowed, call_of}
 use Rattle.world_face.specs.Puts.{added}
 use Rattle.world_face.specs.Tells.{Told, on, ceased, silent, Makes}
 use Rattle.world_face.proofs.Following.{all_before}
-use Rattle.host_policy.specs.Addresses.{Config}
+use Rattle.slirp_settings.specs.Addresses.{Config}
 use Rattle.serve_loop.specs.declared.service.End.{End}
 use Rattle.serve_loop.specs.declared.service.End.TheVariants.{Done, TooLong, Cut, LinkFault, WaitFault, TurnsSpent, ListenRefused, ControlRefused}
 use Rattle.control_loop.specs.Runs.{BeginsRun, IsRun}

@@ -2,11 +2,11 @@
 use Rattle.std.proofs.Common.{◌≡◌, ◌≢◌, ◌⊎◌, inl, inr, ℕ, ◌<◌, ◌≤◌, ◌==◌, ◌||◌, not, Bool, true, false, IsTrue, List, [], ◌∷◌, ◌++◌, map, reverse, Option, Some, None, refl, sym, ◌∙◌, ap, subst, arith}
 use Rattle.std.proofs.lemmas.Bool.Decides.{nat_tests}
 use Rattle.net_octets.specs.declared.Endpoint.{Endpoint}
-use Rattle.host_policy.specs.Addresses.{Config}
+use Rattle.slirp_settings.specs.Addresses.{Config}
 use Rattle.run_laws.specs.Moments.{waits, waits_after}
 use Rattle.run_laws.specs.Shape.{By, Opening, Started, Woken, Working, Over, Phase, clocked, is_opening, opened, phase, phase_after, phase_by, unless_over}
 use Rattle.run_laws.specs.Sockets.{open_sockets}
-use Rattle.control_session.specs.Talk.{listener}
+use Rattle.control_rules.specs.Talk.{listener}
 use Rattle.control_laws.specs.Laws.{Refuses}
 use Rattle.control_loop.specs.Runs.{BeginsRun, IsRun, seen_by_network}
 use Rattle.serve_loop.specs.Ends.{end_of}

@@ -1,7 +1,7 @@
 -- No call may follow a finished run that an entry ended or whose port the host refused, and none that ended is followed by a wait.
 use Rattle.std.proofs.Common.{◌≡◌, ℕ, ◌&&◌, ◌||◌, Bool, true, false, cond, is_some, List, [], ◌∷◌, Option, refl, ◌∙◌, ap, subst}
 use Rattle.net_octets.specs.declared.Endpoint.{Endpoint}
-use Rattle.host_policy.specs.Addresses.{Config}
+use Rattle.slirp_settings.specs.Addresses.{Config}
 use Rattle.run_duties.proofs.Ended.{ended_yet}
 use Rattle.run_laws.specs.Moments.{waits}
 use Rattle.run_laws.specs.Shape.{Phase, Opening, Started, Woken, Working, Over, is_ended, is_over, is_working, may_turn, phase}

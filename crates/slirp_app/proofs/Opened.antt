@@ -4,7 +4,7 @@ use Rattle.world_face.specs.Journal.{Entry, Place, LinkOpen}
 use Rattle.world_face.specs.Tells.{Telling, Answers, Makes}
 use Rattle.world_face.specs.declared.Made.TheVariants.{Done, Failed}
 use Rattle.world_face.proofs.Telling.{makes_as, makes_one, makes_then}
-use Rattle.host_policy.specs.Addresses.{Config}
+use Rattle.slirp_settings.specs.Addresses.{Config}
 use Rattle.slirp_app.specs.Serving.{ComesTo, IsRecorded, IsRefused, IsUnopened, OpensAt, Records, RecordsAt, Runs}
 use Rattle.slirp_app.specs.Statuses.{outcome_of}
 use Rattle.app_edges.specs.declared.status.Outcome.{Outcome}

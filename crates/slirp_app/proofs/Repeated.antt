@@ -1,6 +1,6 @@
 -- A record that is replayed without divergence prints itself.
 use Rattle.std.proofs.Common.{◌≡◌, ◌≢◌, ℕ, List, [], ◌∷◌, ◌++◌, IsTrue, true, Option, Some, None, refl, sym, ◌∙◌, ap, subst, arith}
-use Rattle.host_policy.specs.Addresses.{Config}
+use Rattle.slirp_settings.specs.Addresses.{Config}
 use Rattle.replay.specs.Fitting.{FitsNone}
 use Rattle.replay.specs.Pieces.{lines_text}
 use Rattle.replay.specs.Rows.{AreReadable, FitsBefore, Row, schedule_text}
@@ -25,7 +25,7 @@ use Rattle.slirp_app.specs.Statuses.{outcome_of}
 use Rattle.app_edges.specs.declared.status.Outcome.{Outcome}
 use Rattle.app_edges.specs.declared.status.Outcome.TheVariants.{TurnsSpent}
 use Rattle.slirp_laws.specs.Laws.{Finished, Lawful, May}
-use Rattle.slirp_config.specs.declared.Tap.TheVariants.{Record}
+use Rattle.command_words.specs.declared.Tap.TheVariants.{Record}
 use Rattle.world_face.proofs.Telling.{makes_as}
 use Rattle.world_face.specs.Frames.{LinkCut, LinkEnded, LinkFailed, LongFrame, Stopped, WaitFailed}
 use Rattle.world_face.specs.Journal.{Allowed, AreAllowed, Call, Entry, LinkOpen, Place, call_of}

@@ -2,13 +2,13 @@
 use Rattle.std.proofs.Common.{◌≡◌, ◌≢◌, ◌≤◌, ◌||◌, true, List, [], ◌∷◌, Option, Some, None, refl, sym, ◌∙◌, ap, subst}
 use Rattle.std.specs.Prelude.{nat_le}
 use Rattle.net_octets.specs.declared.Endpoint.{Endpoint}
-use Rattle.host_policy.specs.Addresses.{Config}
+use Rattle.slirp_settings.specs.Addresses.{Config}
 use Rattle.run_laws.specs.Moments.{waits}
 use Rattle.run_laws.specs.Shape.{By, Refused, Phase, Opening, Started, Woken, Working, Over, is_ended, is_over, phase, phase_after}
 use Rattle.slirp_laws.specs.Laws.{Finished, Lawful}
 use Rattle.world_face.specs.Frames.{LinkEnded, LinkCut, LongFrame, LinkFailed, Stopped, WaitFailed, ending, partial}
 use Rattle.world_face.specs.Journal.{Entry}
-use Rattle.control_session.specs.Apart.{without_control}
+use Rattle.control_rules.specs.Apart.{without_control}
 use Rattle.control_words.proofs.Reading.{reading}
 use Rattle.control_laws.specs.Desk.{Desk, Reads, by_control, desk, with_changes}
 use Rattle.control_laws.specs.Laws.{Refuses}

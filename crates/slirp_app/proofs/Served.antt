@@ -3,9 +3,9 @@ use Rattle.std.proofs.Common.{◌≡◌, ℕ, List, Option, refl, subst}
 use Rattle.world_face.specs.Journal.{Place}
 use Rattle.world_face.specs.Tells.{Telling, Makes}
 use Rattle.world_face.proofs.Telling.{makes_as}
-use Rattle.host_policy.specs.Addresses.{Config}
-use Rattle.slirp_config.specs.declared.Tap.{Tap}
-use Rattle.slirp_config.specs.declared.Tap.TheVariants.{Off}
+use Rattle.slirp_settings.specs.Addresses.{Config}
+use Rattle.command_words.specs.declared.Tap.{Tap}
+use Rattle.command_words.specs.declared.Tap.TheVariants.{Off}
 use Rattle.slirp_app.specs.Serving.{OpensAt, Serves, ServesAt, TapsAt}
 use Rattle.app_edges.specs.declared.status.Outcome.{Outcome}
 

@@ -4,7 +4,7 @@ use Rattle.world_face.specs.Journal.{Entry, Place, AreAllowed}
 use Rattle.world_face.specs.Puts.{added}
 use Rattle.world_face.specs.Tells.{Counts, Makes, Rose, Telling}
 use Rattle.world_face.proofs.Telling.{makes_as}
-use Rattle.host_policy.specs.Addresses.{Config}
+use Rattle.slirp_settings.specs.Addresses.{Config}
 use Rattle.replay.specs.Text.{text}
 use Rattle.slirp_app.specs.Serving.{CapturesAt, ComesTo, IsGiven, IsRecorded, OpensAt, Took, TookNot}
 use Rattle.app_edges.specs.Statuses.{code_of}

@@ -4,22 +4,22 @@ use Rattle.world_face.specs.Frames.{LinkCut, LinkEnded, LinkFailed, LongFrame, S
 use Rattle.world_face.specs.Journal.{Follows, IsPlace, Place}
 use Rattle.world_face.specs.Puts.{added}
 use Rattle.world_face.specs.Tells.{Telling, Makes}
-use Rattle.host_policy.specs.Addresses.{Config}
-use Rattle.host_policy.specs.declared.Forward.{Forward}
-use Rattle.host_policy.specs.declared.config.Field.{Field}
+use Rattle.slirp_settings.specs.Addresses.{Config}
+use Rattle.slirp_settings.specs.declared.Forward.{Forward}
+use Rattle.command_words.specs.declared.Setting.{Setting}
 use Rattle.drive_world.specs.Runs.{Run, summary_text}
 use Rattle.replay.specs.Unread.{IsFirstUnread}
 use Rattle.replay.specs.declared.Divergence.{Divergence}
 use Rattle.run_laws.specs.Moments.{waits}
 use Rattle.run_laws.specs.Shape.{Over, Refused, phase}
-use Rattle.slirp_config.specs.Meaning.{Meaning, Means, Replays, Serves, Drives, Helps, TellsVersion, broken_in, config_of, said}
-use Rattle.slirp_config.specs.Stops.{StopsAt}
-use Rattle.slirp_config.specs.declared.Command.{Command}
-use Rattle.slirp_config.specs.declared.Stop.{Stop}
-use Rattle.slirp_config.specs.Options.{Word}
-use Rattle.slirp_config.specs.declared.Tap.{Tap}
-use Rattle.slirp_config.specs.declared.WordFault.{WordFault}
-use Rattle.slirp_config.specs.declared.WordFault.TheVariants.{Usage as Misread, BadConfig as BadField}
+use Rattle.command_words.specs.Meaning.{Meaning, Means, Replays, Serves, Drives, Helps, TellsVersion, broken_in, config_of, said}
+use Rattle.command_words.specs.Stops.{StopsAt}
+use Rattle.command_words.specs.declared.Command.{Command}
+use Rattle.command_words.specs.declared.Stop.{Stop}
+use Rattle.command_words.specs.Options.{Word}
+use Rattle.command_words.specs.declared.Tap.{Tap}
+use Rattle.command_words.specs.declared.WordFault.{WordFault}
+use Rattle.command_words.specs.declared.WordFault.TheVariants.{Usage as Misread, BadConfig as BadField}
 use Rattle.serve_loop.specs.declared.service.End.{End}
 use Rattle.control_laws.specs.Laws.{Refuses}
 use Rattle.control_loop.specs.Runs.{IsRun, seen_by_network}
@@ -120,13 +120,13 @@ forwards_in None = []
 -- what comes of words that aren't followed
 abbrev pub refusal_of : WordFault → Outcome
 refusal_of (Misread stop) = Usage stop
-refusal_of (BadField field) = BadConfig field
+refusal_of (BadField setting) = BadConfig setting
 
--- The words mean one thing, and it is done; or they mean one of which a field isn't in its range; or nothing.
+-- The words mean one thing, and it is done; or they mean one of which a setting isn't in its range; or nothing.
 pub data Course (words : List Word) (outcome : Outcome) (world world_new : Telling) (old new : Option (List ℕ)) : Type 0 where
   Meant : (meaning : Meaning) → Means words meaning → ((other : Meaning) → Means words other → other ≡ meaning) → broken_in meaning ≡ None → code_of outcome ≢ 1 → code_of outcome ≢ 2
       → Does meaning outcome world world_new old new → Course words outcome world world_new old new
-  Misset : (meaning : Meaning) (field : Field) → Means words meaning → ((other : Meaning) → Means words other → broken_in other ≡ Some field) → outcome ≡ BadConfig field
+  Misset : (meaning : Meaning) (setting : Setting) → Means words meaning → ((other : Meaning) → Means words other → broken_in other ≡ Some setting) → outcome ≡ BadConfig setting
       → Makes world world_new (λ made. made ≡ []) → Course words outcome world world_new old new
   Misused : (stop : Stop) → StopsAt words stop → ((meaning : Meaning) → ¬ Means words meaning) → outcome ≡ Usage stop → Makes world world_new (λ made. made ≡ []) →
       Course words outcome world world_new old new

@@ -3,7 +3,7 @@ use Rattle.std.specs.Prelude.{◌≡◌, ℕ, ◌+◌, List, ◌∷◌, ◌++◌
 use Rattle.world_face.specs.Frames.{Ending, partial, ending}
 use Rattle.world_face.specs.Journal.{Entry, Call, call_of, AreAllowed}
 use Rattle.world_face.specs.Puts.{added}
-use Rattle.host_policy.specs.Addresses.{Config}
+use Rattle.slirp_settings.specs.Addresses.{Config}
 use Rattle.control_loop.specs.Runs.{BeginsRun, GoesOnWith}
 use Rattle.replay.specs.Fitting.{FitsNone}
 use Rattle.replay.specs.Names.{name_of}

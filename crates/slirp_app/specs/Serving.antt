@@ -4,12 +4,12 @@ use Rattle.world_face.specs.Journal.{Entry, Place, LinkOpen}
 use Rattle.world_face.specs.Puts.{added}
 use Rattle.world_face.specs.Tells.{Counts, Rose}
 use Rattle.world_face.specs.declared.Made.TheVariants.{Done, Failed}
-use Rattle.host_policy.specs.Addresses.{Config}
+use Rattle.slirp_settings.specs.Addresses.{Config}
 use Rattle.replay.specs.Text.{text}
 use Rattle.serve_loop.specs.declared.service.End.{End}
 use Rattle.control_loop.specs.Runs.{IsRun}
-use Rattle.slirp_config.specs.declared.Tap.{Tap}
-use Rattle.slirp_config.specs.declared.Tap.TheVariants.{Off, Record, Capture}
+use Rattle.command_words.specs.declared.Tap.{Tap}
+use Rattle.command_words.specs.declared.Tap.TheVariants.{Off, Record, Capture}
 use Rattle.slirp_app.specs.Statuses.{outcome_of}
 use Rattle.app_edges.specs.declared.status.Outcome.{Outcome}
 use Rattle.app_edges.specs.declared.status.Outcome.TheVariants.{ControlRefused, LinkFault, ListenRefused, NoMemory, SinkFault, WaitFault}

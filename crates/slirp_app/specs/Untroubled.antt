@@ -1,6 +1,6 @@
 -- A run to whose outside nothing happened that ends it early.
 use Rattle.std.specs.Prelude.{◌≡◌, ◌<◌, ◌≤◌, ◌==◌, if◌then◌else◌, Bool, true, false, ℕ, List, [], ◌∷◌, ◌++◌, length, Option, Some, None}
-use Rattle.host_policy.specs.Addresses.{Config}
+use Rattle.slirp_settings.specs.Addresses.{Config}
 use Rattle.replay.specs.Rows.{AreReadable, Fits, Row, schedule_text}
 use Rattle.run_laws.specs.Moments.{waits}
 use Rattle.slirp_laws.specs.Laws.{Lawful}

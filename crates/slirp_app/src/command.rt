@@ -1,14 +1,14 @@
 // The program's main call: what the words of the command line ask for is done.
 ghost use Rattle.std.specs.Prelude.{◌≡◌, ◌≢◌, ◌⊎◌, ℕ, ◌≤◌, ◌↔◌, List, [], None, Some, IsErr, IsOk, IsTrue, map};
 ghost use Rattle.std.specs.String.{string_bytes};
-ghost use Rattle.host_policy.specs.Addresses.{Config};
-ghost use Rattle.host_policy.specs.Ranges.{IsSound, first_broken};
-ghost use Rattle.host_policy.specs.declared.Forward.{Forward as AForward};
-ghost use Rattle.host_policy.specs.declared.config.Field.{Field as AField};
-ghost use Rattle.slirp_config.specs.Meaning.{Drives, Helps, Meaning, Means, Replays, Serves, TellsVersion, broken_in, config_of, said};
-ghost use Rattle.slirp_config.specs.Stops.{StopsAt};
-ghost use Rattle.slirp_config.specs.declared.Stop.{Stop as AStop};
-ghost use Rattle.slirp_config.specs.declared.Tap.{Tap as ATap};
+ghost use Rattle.slirp_settings.specs.Addresses.{Config};
+ghost use Rattle.slirp_settings.specs.Ranges.{IsSound, first_broken};
+ghost use Rattle.slirp_settings.specs.declared.Forward.{Forward as AForward};
+ghost use Rattle.command_words.specs.declared.Setting.{Setting as ASetting};
+ghost use Rattle.command_words.specs.Meaning.{Drives, Helps, Meaning, Means, Replays, Serves, TellsVersion, broken_in, config_of, said};
+ghost use Rattle.command_words.specs.Stops.{StopsAt};
+ghost use Rattle.command_words.specs.declared.Stop.{Stop as AStop};
+ghost use Rattle.command_words.specs.declared.Tap.{Tap as ATap};
 ghost use Rattle.slirp_app.specs.Doing.{CanBeDone, Course, Does, DrivesRun, ReplaysFile, ServesLink, TellsText, forwards_in, refusal_of};
 ghost use Rattle.app_edges.specs.Statuses.{code_of, is_unrun};
 ghost use Rattle.app_edges.specs.Texts.{Got, help_text, version_text};
@@ -21,8 +21,8 @@ use crate::driving::drive;
 use crate::replaying::replay_file;
 use crate::serving::serve;
 use app_edges::{Outcome, put_help, put_version};
-use host_policy::Forward;
-use slirp_config::{Command, WordFault, read_words};
+use command_words::{Command, WordFault, read_words};
+use slirp_settings::Forward;
 use std::alloc::Global;
 use world_face::{Failed, Sink, World};
 
@@ -44,11 +44,11 @@ pub fn slirp_main<W: World, K: Sink, E: Sink>(
     // Then the text names the first word by which no reading can go on, or says that one is missing.
     ensures mistake { result ≡ 1 → (stop : AStop) × StopsAt (map string_bytes words.now.items) stop
         × Got (map string_bytes words.now.items) [] (E.holds err.old) (E.holds err.new) (E.faults err.old) (E.faults err.new) (Usage stop) }
-    // It is 2 exactly where they mean something of which a field isn't in its range, and the text names the first such field.
-    ensures bad_config { (meaning : Meaning) (field : AField) → Means (map string_bytes words.now.items) meaning → broken_in meaning ≡ Some field
-        → (result ≡ 2) × Got (map string_bytes words.now.items) [] (E.holds err.old) (E.holds err.new) (E.faults err.old) (E.faults err.new) (BadConfig field) }
-    ensures only_config { result ≡ 2 → (meaning : Meaning) × (field : AField) × Means (map string_bytes words.now.items) meaning
-        × (broken_in meaning ≡ Some field) }
+    // It is 2 exactly where they mean something of which a setting isn't in its range, and the text names the first such setting.
+    ensures bad_config { (meaning : Meaning) (setting : ASetting) → Means (map string_bytes words.now.items) meaning → broken_in meaning ≡ Some setting
+        → (result ≡ 2) × Got (map string_bytes words.now.items) [] (E.holds err.old) (E.holds err.new) (E.faults err.old) (E.faults err.new) (BadConfig setting) }
+    ensures only_config { result ≡ 2 → (meaning : Meaning) × (setting : ASetting) × Means (map string_bytes words.now.items) meaning
+        × (broken_in meaning ≡ Some setting) }
     // With either no call is made.
     ensures untouched { (result ≡ 1) ⊎ (result ≡ 2) → Makes (W.tells world.old) (W.tells world.new) (λ made. made ≡ []) }
     // With `replay FILE` a run is made on what FILE says, with the settings of the words.
@@ -140,7 +140,7 @@ fn refusal(fault: WordFault) -> Outcome
 {
     match fault {
         WordFault::Usage(stop) => Outcome::Usage(stop),
-        WordFault::BadConfig(field) => Outcome::BadConfig(field),
+        WordFault::BadConfig(setting) => Outcome::BadConfig(setting),
     }
 }
 

@@ -9,7 +9,7 @@ use crate::serving::run_network;
 use app_edges::Outcome;
 use control_loop::Network;
 use drive_world::DriveWorld;
-use host_policy::SlirpConfig;
+use slirp_settings::SlirpConfig;
 use std::alloc::Global;
 use world_face::{Failed, Sink};
 

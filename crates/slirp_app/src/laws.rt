@@ -1,8 +1,8 @@
 // Laws of what the program comes to: where nothing happened to its outside that ends a run early, the run is made to its end; and a record that is replayed is
 // made again. Each contract is proved though its body is empty.
 ghost use Rattle.std.specs.Prelude.{◌≡◌, ◌≢◌, ◌⊎◌, ℕ, ◌≤◌, ◌++◌, List, [], ◌∷◌, Option, Some, None, IsTrue};
-ghost use Rattle.host_policy.specs.Addresses.{Config};
-ghost use Rattle.host_policy.specs.declared.Forward.{Forward};
+ghost use Rattle.slirp_settings.specs.Addresses.{Config};
+ghost use Rattle.slirp_settings.specs.declared.Forward.{Forward};
 ghost use Rattle.replay.specs.Text.{text};
 ghost use Rattle.run_laws.specs.Moments.{waits};
 ghost use Rattle.run_laws.specs.Shape.{phase};
@@ -20,8 +20,8 @@ ghost use Rattle.app_edges.specs.Texts.{Got};
 ghost use Rattle.slirp_app.specs.Untroubled.{CanBeFollowed, IsUntroubledBehind, SaysUntroubled, Untroubled};
 ghost use Rattle.app_edges.specs.declared.status.Outcome.{Outcome};
 ghost use Rattle.app_edges.specs.declared.status.Outcome.TheVariants.{Done};
-ghost use Rattle.slirp_config.specs.declared.Tap.{Tap};
-ghost use Rattle.slirp_config.specs.declared.Tap.TheVariants.{Off, Record};
+ghost use Rattle.command_words.specs.declared.Tap.{Tap};
+ghost use Rattle.command_words.specs.declared.Tap.TheVariants.{Off, Record};
 ghost use Rattle.world_face.specs.Journal.{AreAllowed, Call, Entry, Place, call_of};
 ghost use Rattle.world_face.specs.Puts.{added};
 ghost use Rattle.world_face.specs.Tells.{Makes, Telling, Told};

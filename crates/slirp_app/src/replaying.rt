@@ -1,7 +1,7 @@
 // A recorded schedule is read and run on.
 ghost use Rattle.std.specs.Prelude.{◌≡◌, ◌≢◌, ◌⊎◌, ℕ, ◌≤◌, ◌<◌, true, false, IsTrue, length};
-ghost use Rattle.host_policy.specs.Ranges.{IsSound};
-ghost use Rattle.host_policy.specs.Settings.{settings};
+ghost use Rattle.slirp_settings.specs.Ranges.{IsSound};
+ghost use Rattle.slirp_settings.specs.Settings.{settings};
 ghost use Rattle.replay.specs.Fitting.{StopsRightly, divergence_of};
 ghost use Rattle.replay.specs.Rows.{AreReadable, TakesTooMuch, schedule_text};
 ghost use Rattle.replay.specs.Script.{IsFresh};
@@ -17,8 +17,8 @@ ghost use Rattle.world_face.specs.Tells.{Makes, Rose};
 use crate::serving::run_network;
 use app_edges::{Outcome, Unread, put_record, read_file};
 use control_loop::Network;
-use host_policy::SlirpConfig;
 use replay::{ScriptFault, ScriptWorld};
+use slirp_settings::SlirpConfig;
 use std::alloc::Global;
 use world_face::{Sink, World};
 

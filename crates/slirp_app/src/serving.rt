@@ -1,7 +1,7 @@
 // The network on the outside itself.
 ghost use Rattle.std.specs.Prelude.{◌≡◌, IsTrue};
-ghost use Rattle.host_policy.specs.Ranges.{IsSound};
-ghost use Rattle.host_policy.specs.Settings.{settings};
+ghost use Rattle.slirp_settings.specs.Ranges.{IsSound};
+ghost use Rattle.slirp_settings.specs.Settings.{settings};
 ghost use Rattle.slirp_app.specs.Serving.{ComesTo, IsCounted, OpensAt, ServesAt};
 ghost use Rattle.slirp_app.specs.Statuses.{outcome_of};
 ghost use Rattle.app_edges.specs.Statuses.{code_of, is_run};
@@ -10,9 +10,9 @@ ghost use Rattle.world_face.specs.Tells.{Makes, Rose};
 
 use crate::tapping::{capture_link, record_link};
 use app_edges::Outcome;
+use command_words::Tap;
 use control_loop::{End, Network};
-use host_policy::SlirpConfig;
-use slirp_config::Tap;
+use slirp_settings::SlirpConfig;
 use std::alloc::Global;
 use taps::{Framing, Lines};
 use world_face::{LinkAt, Made, Sink, World};

@@ -10,16 +10,16 @@ use Rattle.world_face.specs.declared.Made.{Made}
 use Rattle.world_face.specs.declared.Made.TheVariants.{Done, Failed}
 use Rattle.world_face.specs.Tells.{Makes, Telling}
 use Rattle.world_face.proofs.Telling.{makes_none}
-use Rattle.host_policy.specs.Addresses.{Config, address, forward_on, is_guest}
-use Rattle.host_policy.specs.declared.Forward.{Forward}
-use Rattle.host_policy.specs.declared.Proto.{Proto}
-use Rattle.host_policy.specs.declared.Proto.TheVariants.{Tcp, Udp}
-use Rattle.port_forward.specs.Adding.{Adds, AddsBy, fault_of, opening_of as port_opening}
-use Rattle.port_forward.specs.Opened.{Opened, is_at, is_taken, most_forwards, socket_at, socket_of, without as without_port}
-use Rattle.port_forward.specs.declared.FwdFault.{FwdFault}
-use Rattle.port_forward.specs.declared.FwdFault.TheVariants.{Taken, BadGuest, Full, Refused}
-use Rattle.udp_assoc.specs.Associations.{numbers, without}
-use Rattle.dns_relay.specs.Questions.{numbers as question_numbers, without as without_question}
+use Rattle.slirp_settings.specs.Addresses.{Config, address, forward_on, is_guest}
+use Rattle.slirp_settings.specs.declared.Forward.{Forward}
+use Rattle.slirp_settings.specs.declared.Proto.{Proto}
+use Rattle.slirp_settings.specs.declared.Proto.TheVariants.{Tcp, Udp}
+use Rattle.forward_rules.specs.Adding.{Adds, AddsBy, fault_of, opening_of as port_opening}
+use Rattle.forward_rules.specs.Opened.{Opened, is_at, is_taken, most_forwards, socket_at, socket_of, without as without_port}
+use Rattle.forward_rules.specs.declared.FwdFault.{FwdFault}
+use Rattle.forward_rules.specs.declared.FwdFault.TheVariants.{Taken, BadGuest, Full, Refused}
+use Rattle.udp_rules.specs.Associations.{numbers, without}
+use Rattle.dns_rules.specs.Questions.{numbers as question_numbers, without as without_question}
 use Rattle.run_laws.specs.Moments.{waits}
 use Rattle.run_laws.specs.Shape.{Working, is_ended, is_over, is_working, opened, phase}
 use Rattle.run_laws.specs.Sockets.{Association as OfAssociation, DnsSocket, Flow as OfFlow, Forward as OfForward, Kind, Listener as OfListener, datagram_kind, first, is_among, is_association, is_flow, kind_of, next_number}

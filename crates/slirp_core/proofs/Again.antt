@@ -8,22 +8,21 @@ use Rattle.world_face.specs.Frames.{goes_out, opens, tail}
 use Rattle.world_face.specs.declared.Io.{Io}
 use Rattle.world_face.specs.declared.Io.TheVariants.{Done, End, NotYet, Failed}
 use Rattle.net_octets.specs.Octets.{our_mac}
-use Rattle.host_policy.specs.Addresses.{Config, address, endpoint}
-use Rattle.host_policy.specs.declared.Reply.{Reply}
-use Rattle.host_policy.specs.declared.Reply.TheVariants.{Nothing as ReplyNothing, Datagram as ReplyDatagram, Unreachable as ReplyUnreachable}
-use Rattle.udp_assoc.specs.Udp.{udp_octets}
+use Rattle.slirp_settings.specs.Addresses.{Config, address, endpoint}
+use Rattle.udp_rules.specs.declared.Reply.{Reply}
+use Rattle.udp_rules.specs.declared.Reply.TheVariants.{Nothing as ReplyNothing, Datagram as ReplyDatagram, Unreachable as ReplyUnreachable}
+use Rattle.udp_datagram.specs.Udp.{udp_octets}
 use Rattle.ipv4_head.specs.Cuts.{cuts}
 use Rattle.ipv4_head.specs.Sets.{Part}
-use Rattle.tftp_server.specs.Serving.{IsFromServer, said_by}
-use Rattle.tftp_server.proofs.Turning.{begun_left, ticked_left, ticked_none}
+use Rattle.tftp_rules.specs.Saying.{IsFromServer, said_by}
+use Rattle.tftp_rules.proofs.Turning.{begun_left, ticked_left, ticked_none}
 use Rattle.record_flows.specs.Book.{book}
 use Rattle.record_flows.specs.Doings.{Nothing, doing, doing_by, goes}
 use Rattle.record_flows.specs.Laws.{MaySend, SendsOn, WritesBy, MustSend, flow_settings}
 use Rattle.record_flows.specs.Segments.{asked_in, segment_in}
 use Rattle.run_laws.specs.Moments.{moment}
-use Rattle.tftp_server.specs.Transfers.{Files, Said, Transfer, are_left, begun, next_again, said_again, ticked}
+use Rattle.tftp_rules.specs.Transfers.{Files, Said, Transfer, are_left, begun, next_again, said_again, ticked}
 use Rattle.slirp_laws.specs.Answers.{files_begun, frames_of, is_first, left, part_frame, serving, told_of_files, uncut}
-use Rattle.slirp_laws.specs.Datagrams.{NeedsNothing}
 use Rattle.slirp_laws.specs.Laws.{Lawful}
 use Rattle.slirp_laws.proofs.Deeds.{FlowsLetWrite}
 use Rattle.slirp_laws.specs.Sending.{asked_beside, requests, requests_by}
@@ -31,9 +30,10 @@ use Rattle.slirp_laws.proofs.FileTurns.{MayGoAgain, aged_again, files_again, gon
 use Rattle.slirp_laws.proofs.KeptFiles.{now_is}
 use Rattle.stream_netdev.specs.State.{LinkState}
 use Rattle.tcp_flows.specs.Kept.{Kept}
-use Rattle.slirp_core.specs.Holds.{Begins, Holds, Standing, Stands, Turns, flowing}
+use Rattle.slirp_core.specs.Holds.{Holds, Standing, flowing}
 use Rattle.slirp_core.specs.Owed.{IsOwed, OfLeft, kept_by}
 use Rattle.slirp_core.proofs.Owing.{of_left}
+use Rattle.slirp_core.proofs.Swapping.{holds_swapped}
 use Rattle.slirp_core.proofs.Taking.{datagram_sent}
 use Rattle.slirp_core.specs.State.{SlirpState}
 use Rattle.slirp_core.proofs.AsGiven.{answers_as, told_as}
@@ -185,41 +185,7 @@ module _ (config : Config) (at : Standing) (slirp : SlirpState) (kept : Kept) (l
       })
 
   pub sends_it : ((said : Said) → begun slirp.moment true slirp.transfers ≡ Some said → length said.octets ≤ 1472) → Holds config at sends_now (flowing true kept) link past
-  sends_it fits = record {
-    lawful = holds.lawful;
-    allowed = holds.allowed;
-    keeps = holds.keeps;
-    answers = record { sent = holds.answers.sent; owed = owes_it (next_again now all) refl fits };
-    guests = record {
-      settings = holds.guests.settings;
-      known = holds.guests.known;
-      fragments = record {
-        held = holds.guests.fragments.held;
-        is_held = holds.guests.fragments.is_held;
-        wait = holds.guests.fragments.wait;
-      };
-    };
-    relayed = record { list = holds.relayed.list; questions = holds.relayed.questions; asks = holds.relayed.asks; heard = holds.relayed.heard };
-    services = record { leases = holds.services.leases; quest = holds.services.quest };
-    forwards = holds.forwards;
-    flows = holds.flows;
-    sockets = holds.sockets;
-    clock = record { moment = holds.clock.moment; counted = holds.clock.counted };
-    stands = stands holds.stands;
-    agenda = holds.agenda;
-    open_yet = holds.open_yet;
-  }
-    where
-      stands : Stands config NeedsNothing slirp kept link past → Stands config NeedsNothing sends_now kept link past
-      stands (Turns turn) = Turns turn
-      stands (Begins u free unrested) = Begins (record {
-        started = u.started;
-        unwaited = u.unwaited;
-        unreported = u.unreported;
-        unasked = u.unasked;
-        alone = u.alone;
-        unnamed = u.unnamed;
-        nothing = ap (λ ts. frames_of slirp.config slirp.sent (told_of_files slirp.config (begun slirp.moment true ts))) u.unserved;
-        unserved = ap (ticked slirp.moment true) u.unserved;
-        empty = u.empty;
-      }) free unrested
+  sends_it fits =
+      holds_swapped config at slirp sends_now.pending sends_now.transfers slirp.flows (flowing true kept) link past holds
+      (record { sent = holds.answers.sent; owed = owes_it (next_again now all) refl fits })
+      (λ none unserved. ap (λ ts. frames_of slirp.config slirp.sent (told_of_files slirp.config (begun slirp.moment true ts))) unserved) (λ unserved. ap (ticked slirp.moment true) unserved)

@@ -2,16 +2,16 @@
 use Rattle.std.proofs.Common.{◌≡◌, ℕ, Bool, true, false, List, [], ◌∷◌, ◌++◌, map, reverse, Some, inl, inr, refl, sym, ◌∙◌, ap, subst, append_assoc}
 use Rattle.std.proofs.lemmas.List.{append-nil, map-append, reverse-append}
 use Rattle.world_face.specs.Journal.{Close, Entry}
-use Rattle.host_policy.specs.declared.Forward.{Forward}
+use Rattle.slirp_settings.specs.declared.Forward.{Forward}
 use Rattle.run_laws.specs.Sockets.{is_among}
-use Rattle.udp_assoc.specs.Associations.{IsLeast, numbers}
+use Rattle.udp_rules.specs.Associations.{IsLeast, numbers}
 use Rattle.udp_assoc.specs.Relays.{ClosesLeast}
-use Rattle.udp_assoc.specs.declared.assocs.Association.{Association}
-use Rattle.dns_relay.specs.Questions.{numbers as question_numbers}
+use Rattle.udp_rules.specs.declared.Association.{Association}
+use Rattle.dns_rules.specs.Questions.{numbers as question_numbers}
 use Rattle.dns_relay.specs.Relaying.{IsLeast as IsLeastAsked}
-use Rattle.dns_relay.specs.declared.Question.{Question}
+use Rattle.dns_rules.specs.declared.Question.{Question}
 use Rattle.flows_follow.proofs.Options.{true_false}
-use Rattle.port_forward.specs.Opened.{Opened}
+use Rattle.forward_rules.specs.Opened.{Opened}
 use Rattle.slirp_core.specs.Firsts.{IsQuestionFirst}
 use Rattle.slirp_core.specs.Forwards.{ClosesForward, forward_sockets}
 use Rattle.slirp_core.specs.Holds.{HoldsNothingElse, IsOf, NoForwardFirst, carriers, holders_of}

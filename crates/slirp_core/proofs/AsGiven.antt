@@ -5,9 +5,9 @@ use Rattle.net_octets.specs.Kinds.{arp_kind, ipv4_kind}
 use Rattle.net_octets.specs.declared.Endpoint.{Endpoint}
 use Rattle.net_octets.specs.declared.Ip4.{Ip4}
 use Rattle.net_octets.specs.declared.Mac.{Mac}
-use Rattle.host_policy.specs.Addresses.{Config, address}
+use Rattle.slirp_settings.specs.Addresses.{Config, address}
 use Rattle.host_policy.specs.Targets.{target}
-use Rattle.host_policy.specs.declared.Proto.TheVariants.{Udp as ByUdp}
+use Rattle.slirp_settings.specs.declared.Proto.TheVariants.{Udp as ByUdp}
 use Rattle.host_policy.specs.declared.Verdict.{Verdict}
 use Rattle.host_policy.specs.declared.Verdict.TheVariants.{Go, Denied}
 use Rattle.ether_frame.specs.Ether.{Ether, read_ether}
@@ -18,14 +18,14 @@ use Rattle.ipv4_reasm.specs.Areas.{Gathered}
 use Rattle.icmp_echo.specs.Icmp.{read_icmp}
 use Rattle.run_laws.specs.Fragments.{arrived}
 use Rattle.run_laws.specs.Packets.{Datagram}
-use Rattle.dhcp_server.specs.Messages.{read_message}
-use Rattle.dhcp_server.specs.Replies.{octets_of_reply, reply_of, replied_octets, reply_to}
-use Rattle.dhcp_server.specs.Serving.{served}
-use Rattle.dhcp_server.specs.declared.leases.Lease.{Lease}
-use Rattle.dhcp_server.specs.declared.message.Message.{Message}
-use Rattle.dhcp_server.specs.declared.serving.Answer.{Answer as Served}
-use Rattle.dhcp_server.specs.declared.serving.Answer.TheVariants.{Silence, Offers, Lends, Informs, Refuses}
-use Rattle.tftp_server.specs.Transfers.{Said}
+use Rattle.dhcp_rules.specs.Messages.{read_message}
+use Rattle.dhcp_rules.specs.Replies.{octets_of_reply, reply_of, replied_octets, reply_to}
+use Rattle.dhcp_rules.specs.Serving.{served}
+use Rattle.dhcp_rules.specs.declared.Lease.{Lease}
+use Rattle.dhcp_rules.specs.declared.Message.{Message}
+use Rattle.dhcp_rules.specs.declared.Answer.{Answer as Served}
+use Rattle.dhcp_rules.specs.declared.Answer.TheVariants.{Silence, Offers, Lends, Informs, Refuses}
+use Rattle.tftp_rules.specs.Transfers.{Said}
 use Rattle.slirp_laws.specs.Answers.{Answer, ArpAnswer, IpAnswer, Serving, answers_of, frames_for, frames_of, owed_for_arp, owed_for_icmp, reply_for, told_of_files}
 use Rattle.slirp_laws.specs.Datagrams.{Fate, Ignored, Refused, ForLeases, ForFiles, GoesTo, fate, fate_by}
 use Rattle.slirp_laws.specs.Leasing.{lease_reply, leases_by_fate, sending_of}

@@ -6,20 +6,20 @@ use Rattle.std.proofs.lemmas.Bool.Decides.{nat_tests}
 use Rattle.std.proofs.lemmas.List.Elements.{All-head, All-tail}
 use Rattle.poll_list.specs.declared.Want.{Want}
 use Rattle.poll_list.specs.declared.Who.TheVariants.{Udp}
-use Rattle.host_policy.specs.Addresses.{Config, endpoint}
-use Rattle.host_policy.specs.declared.Reply.{Reply}
+use Rattle.slirp_settings.specs.Addresses.{Config, endpoint}
+use Rattle.udp_rules.specs.declared.Reply.{Reply}
 use Rattle.world_face.specs.Journal.{Entry, Allowed, AreAllowed, Close, UdpRecv, UdpSend, filled_got}
 use Rattle.world_face.specs.declared.Sent.{Sent}
 use Rattle.world_face.specs.declared.Sent.TheVariants.{Done, NotYet, Failed}
 use Rattle.world_face.specs.declared.Got.{Got}
 use Rattle.world_face.specs.declared.Got.TheVariants.{From, NotYet as GotNotYet, Failed as GotFailed}
-use Rattle.udp_assoc.specs.Associations.{moved_last as association_moved, sent_from}
+use Rattle.udp_rules.specs.Associations.{moved_last as association_moved, sent_from}
 use Rattle.dns_relay.specs.Asking.{bind_for}
-use Rattle.dns_relay.specs.Questions.{asked_from, heard_at, ident_in, is_answered, is_numbered, is_over, most_questions, moved_last, numbered, numbers, without}
+use Rattle.dns_rules.specs.Questions.{asked_from, heard_at, ident_in, is_answered, is_numbered, is_over, most_questions, moved_last, numbered, numbers, without}
 use Rattle.dns_relay.specs.Relaying.{Asked, BySocket, ByNewSocket, Hears, OnNone, OnQuestion, Opens, OpensFor, OpensNone, Relays, Ticks, calls_after, calls_for_room, list_after, passed}
 use Rattle.dns_relay.specs.Relaying.{question_of, told, with_room}
 use Rattle.dns_relay.specs.State.{RelayState}
-use Rattle.dns_relay.specs.declared.Question.{Question}
+use Rattle.dns_rules.specs.declared.Question.{Question}
 use Rattle.run_laws.specs.Sockets.{is_among}
 use Rattle.slirp_laws.specs.Agenda.{is_to_read, wanted_of}
 use Rattle.slirp_laws.specs.Answers.{frames_of, name_answer}

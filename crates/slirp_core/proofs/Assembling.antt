@@ -20,7 +20,7 @@ even_carries p even = by (length p.body == 0) refl even
     by true is other = cc
     by false is other = grind (arith, nat_tests, is)
 
-module _ (now : ℕ) (mac : List ℕ) (key : Key) (p : Part) (held : List PartSet) (carry : OfSets Carrying held) where
+module _ (now : ℕ) (key : Key) (p : Part) (held : List PartSet) (carry : OfSets Carrying held) where
   carried_after : OfSets Carrying (sets_after now key p held)
   carried_after = of_after Carrying now key p held carry (even_carries p)
 
@@ -47,20 +47,19 @@ module _ (now : ℕ) (mac : List ℕ) (key : Key) (p : Part) (held : List PartSe
   none_by Waits s other = refl
 
   pub took_none : (o : Outcome) (areas : List Gathered) (octets : List ℕ) → o ≡ outcome now key p held → IsOther o → StandFor areas (sets_after now key p held) →
-      Took now mac key p held areas None octets
+      Took now key p held areas None octets
   took_none o areas octets is other stand =
       let this : IsOther (outcome now key p held) = subst IsOther is other in
       record {
         held_by = record { stand = subst (StandFor areas) (sym (stays_by (outcome now key p held) (sets_after now key p held) this)) stand; carry = carried_left };
         whole = none_by (outcome now key p held) (set_for key (sets_after now key p held)) this;
-        came = tt;
       }
 
   -- where it makes one whole
   pub took_whole : (freed : List Gathered) (area : ℕ) (view : Ip) (life : ℕ) (a : Assembled) (octets : List ℕ) → Joined ≡ outcome now key p held → IsWholeAt (sets_after now key p held) key area
       → ((s : PartSet) → slice_get (sets_after now key p held) area ≡ Some s → is_whole s.parts ≡ true → IsJoined s view life) → StandFor freed (remove (sets_after now key p held) area)
-      → assembled_ip a octets ≡ record view { more = false; place = 0 } → a.mac.0 ≡ mac → Took now mac key p held freed (Some a) octets
-  took_whole freed area view life a octets is at joins stand copied came =
+      → assembled_ip a octets ≡ record view { more = false; place = 0 } → Took now key p held freed (Some a) octets
+  took_whole freed area view life a octets is at joins stand copied =
       let sets = sets_after now key p held in
       let s = at.set.0 in
       let there = at.set.1.0 in
@@ -70,5 +69,4 @@ module _ (now : ℕ) (mac : List ℕ) (key : Key) (p : Part) (held : List PartSe
       record {
         held_by = record { stand = subst (StandFor freed) (sym left_is) stand; carry = carried_left };
         whole = ap Some (copied ∙ ap (λ (v : Ip). record v { more = false; place = 0 }) view_is) ∙ sym (ap (λ o. whole_by o (set_for key sets)) (sym is) ∙ ap (option_map joined) found);
-        came = came;
       }

@@ -10,16 +10,16 @@ use Rattle.std.specs.List.{AllByRecursion, IsDistinct, list_any}
 use Rattle.std.specs.List.Sorted.{IsNonDecreasing}
 use Rattle.poll_list.specs.declared.Want.{Want}
 use Rattle.world_face.specs.Journal.{Entry}
-use Rattle.host_policy.specs.Addresses.{Config}
+use Rattle.slirp_settings.specs.Addresses.{Config}
 use Rattle.ipv4_head.specs.Sets.{PartSet}
-use Rattle.host_policy.specs.Ranges.{same_proto}
-use Rattle.host_policy.specs.declared.Proto.{Proto}
-use Rattle.host_policy.specs.declared.Proto.TheVariants.{Tcp, Udp}
-use Rattle.port_forward.specs.Opened.{Opened}
-use Rattle.udp_assoc.specs.Associations.{is_over as is_idle_association, numbers}
-use Rattle.dns_relay.specs.Questions.{is_over as is_idle_question, numbers as question_numbers}
-use Rattle.tftp_server.specs.Transfers.{Said, next_again, said_again}
-use Rattle.tftp_server.proofs.Turning.{next_left}
+use Rattle.slirp_settings.specs.Ranges.{same_proto}
+use Rattle.slirp_settings.specs.declared.Proto.{Proto}
+use Rattle.slirp_settings.specs.declared.Proto.TheVariants.{Tcp, Udp}
+use Rattle.forward_rules.specs.Opened.{Opened}
+use Rattle.udp_rules.specs.Associations.{is_over as is_idle_association, numbers}
+use Rattle.dns_rules.specs.Questions.{is_over as is_idle_question, numbers as question_numbers}
+use Rattle.tftp_rules.specs.Transfers.{Said, next_again, said_again}
+use Rattle.tftp_rules.proofs.Turning.{next_left}
 use Rattle.record_flows.specs.Book.{book, is_young, scene}
 use Rattle.record_flows.specs.Flows.{guest_is_known, has_room_for_peer, rests_among}
 use Rattle.flows_follow.specs.Peers.{fits_peer}

@@ -5,18 +5,18 @@ use Rattle.std.proofs.lemmas.Bool.Decides.{nat_tests}
 use Rattle.std.proofs.lemmas.List.Elements.{All-head, All-tail}
 use Rattle.world_face.specs.Journal.{Entry}
 use Rattle.world_face.specs.Frames.{is_blocked}
-use Rattle.host_policy.specs.Addresses.{Config}
+use Rattle.slirp_settings.specs.Addresses.{Config}
 use Rattle.ipv4_head.specs.Sets.{PartSet, is_young, young}
-use Rattle.udp_assoc.specs.Associations.{idle_life, is_over as is_idle_association, numbered, numbers}
-use Rattle.udp_assoc.specs.declared.assocs.Association.{Association}
-use Rattle.dns_relay.specs.Questions.{is_over as is_idle_question, numbers as question_numbers, question_life}
-use Rattle.dns_relay.specs.declared.Question.{Question}
-use Rattle.tftp_server.specs.Transfers.{Transfer, next_again, ticked}
-use Rattle.tftp_server.proofs.Turning.{next_left, ticked_none}
+use Rattle.udp_rules.specs.Associations.{idle_life, is_over as is_idle_association, numbered, numbers}
+use Rattle.udp_rules.specs.declared.Association.{Association}
+use Rattle.dns_rules.specs.Questions.{is_over as is_idle_question, numbers as question_numbers, question_life}
+use Rattle.dns_rules.specs.declared.Question.{Question}
+use Rattle.tftp_rules.specs.Transfers.{Transfer, next_again, ticked}
+use Rattle.tftp_rules.proofs.Turning.{next_left, ticked_none}
 use Rattle.flow_laws.specs.Close.{is_in_use}
 use Rattle.flow_laws.specs.Dutiful.{AreAhead, close_deadline, resend_deadline, wakes}
 use Rattle.flow_laws.specs.Event.{Story}
-use Rattle.halves_follow.specs.Bounds.{IsBy, IsFrom}
+use Rattle.flow_laws.specs.Bounds.{IsBy, IsFrom}
 use Rattle.record_flows.specs.Book.{book, is_young as is_young_rest, longest_rest}
 use Rattle.record_flows.specs.Flows.{Flow, Rest}
 use Rattle.record_flows.specs.Laws.{flow_settings}

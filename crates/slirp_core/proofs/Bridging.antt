@@ -6,21 +6,21 @@ use Rattle.std.specs.Option.{option_and_then, option_map}
 use Rattle.net_octets.specs.declared.Ip4.{Ip4}
 use Rattle.net_octets.specs.declared.Mac.{Mac}
 use Rattle.net_octets.specs.Kinds.{arp_kind, ipv4_kind, icmp_proto, tcp_proto, udp_proto}
-use Rattle.host_policy.specs.Addresses.{Config, is_guest, is_ours}
+use Rattle.slirp_settings.specs.Addresses.{Config, is_guest, is_ours}
 use Rattle.ether_frame.specs.Ether.{Ether, read_ether}
 use Rattle.arp_table.specs.Arp.{Arp, read_arp}
 use Rattle.arp_table.specs.Table.{learnt}
 use Rattle.ipv4_head.specs.Ip.{Ip, read_ip}
 use Rattle.ipv4_head.specs.Sets.{PartSet}
 use Rattle.icmp_echo.specs.Icmp.{Icmp, read_icmp}
-use Rattle.udp_assoc.specs.Udp.{Udp, read_udp}
+use Rattle.udp_datagram.specs.Udp.{Udp, read_udp}
 use Rattle.tcp_segment.specs.Tcp.{Tcp, read_tcp}
 use Rattle.run_laws.specs.Guests.{with_pair}
 use Rattle.run_laws.specs.Fragments.{arrived}
 use Rattle.run_laws.specs.Packets.{Packet, Unheard, packet_of_ip, ArpPacket, Message, DatagramPacket, Segment, Datagram, datagram_in, datagram_of, may_come, packet_of, pair_by}
 use Rattle.run_laws.specs.Packets.{pair_in, pair_of, packet_in, whole_packet}
 use Rattle.slirp_laws.specs.Answers.{Answer, Serving, owed_for_arp, owed_for_icmp}
-use Rattle.dhcp_server.specs.declared.leases.Lease.{Lease}
+use Rattle.dhcp_rules.specs.declared.Lease.{Lease}
 use Rattle.run_laws.specs.Happenings.{datagram_by}
 use Rattle.slirp_laws.specs.Leasing.{leases_by_packet}
 use Rattle.slirp_core.specs.Segments.{Coming, coming, coming_by, segment_in, segment_of_arrived, segment_of_ether, segment_of_ip}

@@ -6,7 +6,7 @@ use Rattle.poll_list.specs.declared.Who.TheVariants.{Tcp as OnTcp}
 use Rattle.world_face.specs.Journal.{Entry, AreAllowed, Follows}
 use Rattle.world_face.specs.Frames.{LinkFailed, MayFrame}
 use Rattle.world_face.proofs.Telling.{allowed_then}
-use Rattle.host_policy.specs.Addresses.{Config}
+use Rattle.slirp_settings.specs.Addresses.{Config}
 use Rattle.ipv4_head.specs.Sets.{young}
 use Rattle.run_laws.specs.Moments.{moment, waits}
 use Rattle.run_laws.specs.Shape.{is_ended, is_over}
@@ -19,12 +19,13 @@ use Rattle.stream_netdev.specs.State.{LinkState}
 use Rattle.slirp_core.specs.Holds.{holders_with, Stands, Begins, Standing, InTurn, IsLast, OfGuests, after, standing, AfterPump, Ended, Flowing, Holds, Turns, flowing, is_ours}
 use Rattle.slirp_core.specs.State.{SlirpState}
 use Rattle.slirp_core.specs.Waiting.{OfFragments}
+use Rattle.slirp_core.proofs.Swapping.{holds_swapped}
 use Rattle.slirp_core.proofs.Parts.{asks_nothing, errand_for, in_turn, two_in}
 use Rattle.slirp_core.specs.Owed.{IsOwed, kept_by}
 use Rattle.slirp_core.proofs.Owing.{SameLedger, nothing_left, of_left, owed_aged, owed_as, owed_on, same_beside}
 use Rattle.slirp_core.proofs.Services.{none_due_for_services, unheard}
 use Rattle.slirp_laws.proofs.KeptFiles.{now_is}
-use Rattle.tftp_server.specs.Transfers.{Files, Transfer, are_left}
+use Rattle.tftp_rules.specs.Transfers.{Files, Transfer, are_left}
 use Rattle.stream_netdev.specs.declared.Pumped.{Pumped}
 use Rattle.stream_netdev.specs.declared.Pumped.TheVariants.{Clear, Blocked, Failed}
 use Rattle.run_laws.specs.Guests.{known}
@@ -267,44 +268,9 @@ unticked config at slirp kept link past unrested holds = record {
 -- what the core has beside its relation to flows
 pub flows_put : (config : Config) (at : Standing) (slirp : SlirpState) (k : Kept) (f : Flowing) (link : LinkState) (past : List Entry) → Holds config at slirp f link past →
     Holds config at (record slirp { flows = k }) f link past
-flows_put config at slirp k f link past holds = record {
-  lawful = holds.lawful;
-  allowed = holds.allowed;
-  keeps = holds.keeps;
-  answers = record { sent = holds.answers.sent; owed = owed_as config f.aged slirp (record slirp { flows = k }) past refl refl holds.answers.owed };
-  guests = record {
-    settings = holds.guests.settings;
-    known = holds.guests.known;
-    fragments = record {
-      held = holds.guests.fragments.held;
-      is_held = holds.guests.fragments.is_held;
-      wait = holds.guests.fragments.wait;
-    };
-  };
-  relayed = record { list = holds.relayed.list; questions = holds.relayed.questions; asks = holds.relayed.asks; heard = holds.relayed.heard };
-  services = record { leases = holds.services.leases; quest = holds.services.quest };
-  forwards = holds.forwards;
-  flows = holds.flows;
-  sockets = holds.sockets;
-  clock = record { moment = holds.clock.moment; counted = holds.clock.counted };
-  stands = stands holds.stands;
-  agenda = holds.agenda;
-  open_yet = holds.open_yet;
-}
-  where
-    stands : Stands config NeedsNothing slirp f.kept link past → Stands config NeedsNothing (record slirp { flows = k }) f.kept link past
-    stands (Turns turn) = Turns turn
-    stands (Begins u free unrested) = Begins (record {
-      started = u.started;
-      unwaited = u.unwaited;
-      unreported = u.unreported;
-      unasked = u.unasked;
-      alone = u.alone;
-      unnamed = u.unnamed;
-      nothing = u.nothing;
-      unserved = u.unserved;
-      empty = u.empty;
-    }) free unrested
+flows_put config at slirp k f link past holds =
+    holds_swapped config at slirp slirp.pending slirp.transfers k f link past holds
+    (record { sent = holds.answers.sent; owed = owed_as config f.aged slirp (record slirp { flows = k }) past refl refl holds.answers.owed }) (λ none unserved. none) (λ unserved. unserved)
 
 -- a turn begins
 pub turn_begins : (config : Config) (at : Standing) (slirp : SlirpState) (aged : Bool) (kept : Kept) (link : LinkState) (past : List Entry) → Holds config at slirp (flowing aged kept) link past

@@ -4,11 +4,11 @@ use Rattle.std.proofs.lemmas.List.Elements.{All-append, All-cons, All-head, All-
 use Rattle.world_face.specs.Journal.{Close, Entry}
 use Rattle.run_laws.specs.Sockets.{next_number, number_after}
 use Rattle.udp_assoc.specs.Relays.{ClosesLeast}
-use Rattle.udp_assoc.specs.declared.assocs.Association.{Association}
+use Rattle.udp_rules.specs.declared.Association.{Association}
 use Rattle.dns_relay.specs.Relaying.{ClosesLeast as ClosesLeastAsked}
-use Rattle.dns_relay.specs.declared.Question.{Question}
+use Rattle.dns_rules.specs.declared.Question.{Question}
 use Rattle.flow_splice.specs.Splice.{Splice}
-use Rattle.port_forward.specs.Opened.{Opened}
+use Rattle.forward_rules.specs.Opened.{Opened}
 use Rattle.tcp_flows.specs.Runs.{ClosesFirst}
 use Rattle.slirp_core.specs.Forwards.{AreCloses, ClosesForward, IsClose}
 

@@ -4,11 +4,11 @@ use Rattle.std.specs.Option.{option_or}
 use Rattle.std.proofs.Common.{slice_get, Option, Some, None, option_map, inl, inr, refl, sym, ◌∙◌, ap, subst, arith}
 use Rattle.std.proofs.lemmas.List.Elements.{All-head, All-tail}
 use Rattle.world_face.specs.Journal.{Entry, Call, Close, CallClose}
-use Rattle.host_policy.specs.Addresses.{Config}
-use Rattle.udp_assoc.specs.Associations.{numbers, without}
-use Rattle.udp_assoc.specs.declared.assocs.Association.{Association}
-use Rattle.dns_relay.specs.Questions.{numbers as question_numbers, without as without_question}
-use Rattle.dns_relay.specs.declared.Question.{Question}
+use Rattle.slirp_settings.specs.Addresses.{Config}
+use Rattle.udp_rules.specs.Associations.{numbers, without}
+use Rattle.udp_rules.specs.declared.Association.{Association}
+use Rattle.dns_rules.specs.Questions.{numbers as question_numbers, without as without_question}
+use Rattle.dns_rules.specs.declared.Question.{Question}
 use Rattle.flow_splice.specs.Splice.{Splice}
 use Rattle.run_laws.specs.Shape.{Phase, Over, Working, is_over, is_working, phase}
 use Rattle.run_laws.specs.Sockets.{first, is_among, next_number, open_sockets}
@@ -28,12 +28,12 @@ use Rattle.flows_follow.proofs.Pumping.{differ_in}
 use Rattle.flows_follow.proofs.Staying.{stays_closed}
 use Rattle.flows_follow.proofs.Options.{none_some, some_same, true_false}
 use Rattle.tcp_flows.specs.Reading.{IsNextOpen, IsOpenAt, NoneIsAbove}
-use Rattle.port_forward.specs.Opened.{Opened, is_at, socket_at, socket_of, without as without_port}
-use Rattle.host_policy.specs.declared.Forward.{Forward}
-use Rattle.host_policy.specs.declared.Proto.{Proto}
-use Rattle.host_policy.specs.declared.Proto.TheVariants.{Tcp, Udp}
-use Rattle.host_policy.specs.Ranges.{same_proto}
-use Rattle.host_policy.specs.Targets.{same_endpoint}
+use Rattle.forward_rules.specs.Opened.{Opened, is_at, socket_at, socket_of, without as without_port}
+use Rattle.slirp_settings.specs.declared.Forward.{Forward}
+use Rattle.slirp_settings.specs.declared.Proto.{Proto}
+use Rattle.slirp_settings.specs.declared.Proto.TheVariants.{Tcp, Udp}
+use Rattle.slirp_settings.specs.Ranges.{same_proto}
+use Rattle.slirp_settings.specs.Classes.{same_endpoint}
 use Rattle.slirp_laws.proofs.Longest.{same_port}
 use Rattle.slirp_laws.proofs.Joining.{numbers_without}
 use Rattle.slirp_core.specs.Forwards.{ClosesForward, forward_sockets}

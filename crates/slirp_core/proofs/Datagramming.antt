@@ -6,10 +6,10 @@ use Rattle.std.proofs.Math.Seq.{take-append-add}
 use Rattle.std.specs.Option.{option_and_then}
 use Rattle.net_octets.specs.Kinds.{udp_proto}
 use Rattle.net_octets.specs.Octets.{IsOctets}
-use Rattle.host_policy.specs.Addresses.{Config}
+use Rattle.slirp_settings.specs.Addresses.{Config}
 use Rattle.ipv4_head.specs.Ip.{Ip, IsIp, read_ip}
 use Rattle.ipv4_head.proofs.Spelling.{spelled}
-use Rattle.udp_assoc.specs.Udp.{Udp, IsUdp, udp_with, read_udp}
+use Rattle.udp_datagram.specs.Udp.{Udp, IsUdp, udp_with, read_udp}
 use Rattle.run_laws.specs.Packets.{quoted, datagram_of, may_come}
 use Rattle.slirp_core.specs.Datagrams.{Lies}
 use Rattle.slirp_core.specs.Packets.{udp_of}

@@ -15,7 +15,7 @@ use Rattle.stream_netdev.specs.State.{LinkState}
 use Rattle.flow_splice.specs.Splice.{Splice}
 use Rattle.flows_follow.specs.Core.{number_of}
 use Rattle.tcp_flows.specs.Reading.{AreAbove, AreRising, AreWantsOf, want_of}
-use Rattle.host_policy.specs.declared.Proto.TheVariants.{Udp as OverUdp}
+use Rattle.slirp_settings.specs.declared.Proto.TheVariants.{Udp as OverUdp}
 use Rattle.flows_follow.proofs.Options.{true_false}
 use Rattle.slirp_core.specs.Forwards.{sockets_over}
 use Rattle.slirp_core.specs.Holds.{carriers, holders_of}

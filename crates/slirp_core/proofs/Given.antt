@@ -8,14 +8,14 @@ use Rattle.world_face.specs.Journal.{Entry, Connect, Listen, Accept, Close, UdpO
 use Rattle.world_face.specs.declared.Accepted.TheVariants.{From, NotYet as NotYetAccepted, Failed as AcceptFailed}
 use Rattle.world_face.specs.declared.Made.{Made}
 use Rattle.world_face.specs.declared.Made.TheVariants.{Done, Failed}
-use Rattle.host_policy.specs.declared.Forward.{Forward}
-use Rattle.port_forward.specs.Adding.{opening_of as port_opening}
-use Rattle.host_policy.specs.declared.Proto.{Proto}
-use Rattle.host_policy.specs.declared.Proto.TheVariants.{Tcp, Udp}
-use Rattle.host_policy.specs.Ranges.{same_proto}
-use Rattle.host_policy.specs.Targets.{same_endpoint}
-use Rattle.port_forward.specs.Opened.{Opened, forward_with, is_on, leads_to, socket_for, socket_of}
-use Rattle.host_policy.specs.Addresses.{Config, forward_on}
+use Rattle.slirp_settings.specs.declared.Forward.{Forward}
+use Rattle.forward_rules.specs.Adding.{opening_of as port_opening}
+use Rattle.slirp_settings.specs.declared.Proto.{Proto}
+use Rattle.slirp_settings.specs.declared.Proto.TheVariants.{Tcp, Udp}
+use Rattle.slirp_settings.specs.Ranges.{same_proto}
+use Rattle.slirp_settings.specs.Classes.{same_endpoint}
+use Rattle.forward_rules.specs.Opened.{Opened, forward_with, is_on, leads_to, socket_for, socket_of}
+use Rattle.slirp_settings.specs.Addresses.{Config, forward_on}
 use Rattle.run_laws.specs.Moments.{waits}
 use Rattle.run_laws.specs.Sockets.{Kind, Association as OfAssociation, DnsSocket, Forward as OfForward, Listener, Flow as OfFlow, datagram_kind, is_among, is_flow, is_forward, kind_of, next_number}
 use Rattle.run_laws.specs.Sockets.{open_sockets, with_made}

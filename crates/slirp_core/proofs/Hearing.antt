@@ -10,9 +10,9 @@ use Rattle.world_face.specs.Journal.{Entry, Allowed, AreAllowed, Connect, CallCo
 use Rattle.world_face.specs.declared.Made.{Made}
 use Rattle.world_face.specs.declared.Made.TheVariants.{Done as MadeDone, Failed as MadeFailed}
 use Rattle.world_face.proofs.Telling.{allowed_then}
-use Rattle.host_policy.specs.Addresses.{Config}
+use Rattle.slirp_settings.specs.Addresses.{Config}
 use Rattle.host_policy.specs.Targets.{target}
-use Rattle.host_policy.specs.declared.Proto.TheVariants.{Tcp as OverTcp}
+use Rattle.slirp_settings.specs.declared.Proto.TheVariants.{Tcp as OverTcp}
 use Rattle.host_policy.specs.declared.Verdict.{Verdict}
 use Rattle.host_policy.specs.declared.Verdict.TheVariants.{Go, Denied}
 use Rattle.record_flows.specs.Book.{book, scene, turned}
@@ -34,7 +34,7 @@ use Rattle.slirp_core.specs.Segments.{Coming}
 use Rattle.slirp_core.specs.State.{SlirpState}
 use Rattle.slirp_core.proofs.Guests.{guests_stay}
 use Rattle.slirp_core.proofs.Parts.{asks_nothing, keeps_by}
-use Rattle.tftp_server.specs.Transfers.{Files}
+use Rattle.tftp_rules.specs.Transfers.{Files}
 use Rattle.slirp_core.proofs.Services.{none_due_for_services, unheard}
 use Rattle.flows_follow.specs.Core.{Following, mac_of, number_of}
 use Rattle.flows_follow.specs.Stands.{lot_without}

@@ -3,7 +3,7 @@ use Rattle.std.proofs.Common.{◌≡◌, ℕ, ◌==◌, ◌&&◌, not, Bool, tru
 use Rattle.std.specs.Prelude.{unwrap_or}
 use Rattle.std.specs.Option.{option_and_then}
 use Rattle.net_octets.specs.Kinds.{arp_kind, icmp_proto, ipv4_kind, tcp_proto, udp_proto}
-use Rattle.host_policy.specs.Addresses.{Config, is_guest}
+use Rattle.slirp_settings.specs.Addresses.{Config, is_guest}
 use Rattle.arp_table.specs.Arp.{Arp, read_arp}
 use Rattle.ether_frame.specs.Ether.{Ether, read_ether}
 use Rattle.icmp_echo.specs.Icmp.{Icmp, read_icmp}
@@ -11,7 +11,7 @@ use Rattle.ipv4_head.specs.Ip.{Ip, is_unbroken, read_ip}
 use Rattle.ipv4_head.specs.Sets.{Key, Outcome, UnevenPart, LongPart, Clashes, Waits, Joined, Part, PartSet, changed_by, joined, outcome_among, parts_for, place_of, set_for, whole_by, whole_with}
 use Rattle.ipv4_head.proofs.Members.{found_key, same_key}
 use Rattle.tcp_segment.specs.Tcp.{Tcp, read_tcp}
-use Rattle.udp_assoc.specs.Udp.{Udp, read_udp}
+use Rattle.udp_datagram.specs.Udp.{Udp, read_udp}
 use Rattle.run_laws.specs.Fragments.{arrived, joined_by, key_by, part_by}
 use Rattle.run_laws.specs.Packets.{Packet, ArpPacket, Message, DatagramPacket, Pair, Segment, datagram_in, datagram_of, may_come, packet_in, packet_of, packet_of_ip, pair_by, pair_in, Unheard}
 use Rattle.run_laws.specs.Packets.{whole_packet}

@@ -7,7 +7,7 @@ use Rattle.std.proofs.lemmas.Bool.Decides.{nat_tests}
 use Rattle.std.proofs.lemmas.List.Elements.{Contains-append_right}
 use Rattle.std.proofs.lemmas.List.Sorted.{Contains-permutation, IsPermutation-refl, IsPermutation-sym}
 use Rattle.world_face.specs.Journal.{Entry, Close}
-use Rattle.host_policy.specs.Addresses.{Config}
+use Rattle.slirp_settings.specs.Addresses.{Config}
 use Rattle.flow_splice.specs.Splice.{Splice, is_open}
 use Rattle.run_laws.specs.Shape.{Phase}
 use Rattle.run_laws.specs.Sockets.{is_among}
@@ -15,12 +15,12 @@ use Rattle.slirp_laws.proofs.Bools.{equal, same}
 use Rattle.flows_follow.proofs.Options.{none_some, some_same, true_false}
 use Rattle.tcp_flows.specs.Reading.{IsFirst, IsNextOpen, IsOpenAt, NoneIsAbove}
 use Rattle.tcp_flows.specs.Runs.{ClosesFirst}
-use Rattle.udp_assoc.specs.Associations.{numbers}
+use Rattle.udp_rules.specs.Associations.{numbers}
 use Rattle.udp_assoc.specs.Relays.{ClosesLeast}
-use Rattle.udp_assoc.specs.declared.assocs.Association.{Association}
-use Rattle.dns_relay.specs.Questions.{numbers as question_numbers}
+use Rattle.udp_rules.specs.declared.Association.{Association}
+use Rattle.dns_rules.specs.Questions.{numbers as question_numbers}
 use Rattle.dns_relay.specs.Relaying.{ClosesLeast as ClosesLeastAsked}
-use Rattle.dns_relay.specs.declared.Question.{Question}
+use Rattle.dns_rules.specs.declared.Question.{Question}
 use Rattle.slirp_core.specs.Firsts.{IsFlowFirst, IsLeastOf, IsQuestionFirst, NoFlowFirst, NoQuestionFirst}
 use Rattle.slirp_core.specs.Holds.{AfterClosing, Closing, Holders, IsForwardFirst, IsOf, NoForwardFirst, Ran, carriers}
 use Rattle.slirp_core.specs.Sockets.{AllAbove}

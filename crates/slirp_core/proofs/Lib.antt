@@ -55,3 +55,4 @@ pub mod Awaiting
 pub mod Unserved
 pub mod Visiting
 pub mod Brought
+mod Swapping

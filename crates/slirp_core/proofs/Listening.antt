@@ -6,17 +6,17 @@ use Rattle.std.proofs.lemmas.Option.{slice_get-get_or}
 use Rattle.std.specs.List.{list_all, list_any}
 use Rattle.world_face.specs.Journal.{AreAllowed, Entry}
 use Rattle.world_face.specs.declared.Made.TheVariants.{Done, Failed}
-use Rattle.host_policy.specs.Addresses.{Config, address, is_guest}
-use Rattle.host_policy.specs.Ranges.{IsSound, is_forward, none_twice, same_host_port, same_proto}
-use Rattle.host_policy.specs.declared.Forward.{Forward}
-use Rattle.host_policy.specs.declared.Proto.{Proto}
-use Rattle.host_policy.specs.declared.Proto.TheVariants.{Tcp, Udp}
-use Rattle.host_policy.specs.declared.config.Field.TheVariants.{Forwards}
+use Rattle.slirp_settings.specs.Addresses.{Config, address, is_guest}
+use Rattle.slirp_settings.specs.Ranges.{IsSound, is_forward, none_twice, same_host_port, same_proto}
+use Rattle.slirp_settings.specs.declared.Forward.{Forward}
+use Rattle.slirp_settings.specs.declared.Proto.{Proto}
+use Rattle.slirp_settings.specs.declared.Proto.TheVariants.{Tcp, Udp}
+use Rattle.slirp_settings.specs.declared.fields.Field.TheVariants.{Forwards}
 use Rattle.std.specs.Prelude.{Result, Ok, Err}
 use Rattle.std.specs.Result.{is_ok, result_err}
-use Rattle.port_forward.specs.declared.FwdFault.{FwdFault}
-use Rattle.port_forward.specs.Adding.{Adds, fault_of, opening_of}
-use Rattle.port_forward.specs.Opened.{Opened, is_at, is_taken}
+use Rattle.forward_rules.specs.declared.FwdFault.{FwdFault}
+use Rattle.forward_rules.specs.Adding.{Adds, fault_of, opening_of}
+use Rattle.forward_rules.specs.Opened.{Opened, is_at, is_taken}
 use Rattle.port_forward.proofs.Adding.{no_cause}
 use Rattle.run_laws.specs.Shape.{Over, Refused}
 use Rattle.run_laws.specs.Sockets.{next_number}

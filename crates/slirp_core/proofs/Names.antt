@@ -3,11 +3,11 @@ use Rattle.std.proofs.Common.{◌≡◌, ℕ, ◌==◌, ◌&&◌, ◌||◌, ◌�
 use Rattle.std.proofs.Common.{inr, refl, sym, ◌∙◌, ap, subst, arith}
 use Rattle.net_octets.specs.declared.Endpoint.{Endpoint}
 use Rattle.world_face.specs.Journal.{Entry, Accept, Connect, Listen, UdpOpen}
-use Rattle.host_policy.specs.Addresses.{Config}
-use Rattle.udp_assoc.specs.Associations.{numbers, moved_last as association_moved}
-use Rattle.udp_assoc.specs.declared.assocs.Association.{Association}
-use Rattle.dns_relay.specs.Questions.{is_of, moved_last, numbered, numbers as question_numbers, socket_of, without}
-use Rattle.dns_relay.specs.declared.Question.{Question}
+use Rattle.slirp_settings.specs.Addresses.{Config}
+use Rattle.udp_rules.specs.Associations.{numbers, moved_last as association_moved}
+use Rattle.udp_rules.specs.declared.Association.{Association}
+use Rattle.dns_rules.specs.Questions.{is_of, moved_last, numbered, numbers as question_numbers, socket_of, without}
+use Rattle.dns_rules.specs.declared.Question.{Question}
 use Rattle.run_laws.specs.Moments.{waits}
 use Rattle.run_laws.specs.Sockets.{Kind, Association as OfAssociation, DnsSocket, Flow as OfFlow, Forward as OfForward, Listener as OfListener, datagram_kind, is_among, is_association}
 use Rattle.run_laws.specs.Sockets.{kind_of, open_sockets}

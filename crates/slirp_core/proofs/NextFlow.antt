@@ -1,8 +1,8 @@
 -- The next flow in use, by the slots and by the record.
 use Rattle.std.proofs.Common.{◌≡◌, ℕ, ◌≤◌, Bool, true, false, List, Some, None, Option, slice_get, refl, sym, ◌∙◌, ap, subst}
 use Rattle.world_face.specs.Journal.{Call, Entry}
-use Rattle.host_policy.specs.Addresses.{Config}
-use Rattle.flow_table.specs.declared.Tuple.{Tuple}
+use Rattle.slirp_settings.specs.Addresses.{Config}
+use Rattle.record_flows.specs.declared.Tuple.{Tuple}
 use Rattle.flow_laws.specs.Close.{is_in_use as has_its_tuple}
 use Rattle.record_flows.specs.Book.{book}
 use Rattle.record_flows.specs.Flows.{Flow, Rest, flow_of, uses}

@@ -7,10 +7,10 @@ use Rattle.world_face.specs.Journal.{Entry, call_of}
 use Rattle.world_face.specs.Frames.{MayFrame, is_blocked, partial, tail}
 use Rattle.world_face.specs.declared.Made.{Made}
 use Rattle.world_face.specs.declared.Made.TheVariants.{Done, Failed}
-use Rattle.host_policy.specs.Addresses.{Config}
-use Rattle.host_policy.specs.declared.Proto.{Proto}
-use Rattle.host_policy.specs.declared.Proto.TheVariants.{Tcp, Udp}
-use Rattle.port_forward.specs.Adding.{opening_of as port_opening}
+use Rattle.slirp_settings.specs.Addresses.{Config}
+use Rattle.slirp_settings.specs.declared.Proto.{Proto}
+use Rattle.slirp_settings.specs.declared.Proto.TheVariants.{Tcp, Udp}
+use Rattle.forward_rules.specs.Adding.{opening_of as port_opening}
 use Rattle.run_laws.specs.Shape.{opened, phase}
 use Rattle.run_laws.specs.Moments.{moment, waits}
 use Rattle.run_laws.specs.Happenings.{happens}
@@ -90,13 +90,13 @@ opens_quietly config Tcp number at answer past = record {
 }
 opens_quietly config Udp number at answer past = record {
   framed = tt;
+  came = refl;
+  unheard = refl;
+  silent = refl;
   partly = refl;
   rest = refl;
   blocked = refl;
   sent = refl;
-  came = refl;
-  unheard = refl;
-  silent = refl;
   unasked = refl;
   moment = refl;
   unreported = refl;

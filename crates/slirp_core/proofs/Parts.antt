@@ -7,12 +7,12 @@ use Rattle.net_octets.specs.declared.Endpoint.{Endpoint}
 use Rattle.poll_list.specs.declared.Want.{Want}
 use Rattle.world_face.specs.Journal.{Entry, Call, Allowed, call_of, Close, UdpOpen, UdpSend, UdpRecv}
 use Rattle.world_face.specs.declared.Made.TheVariants.{Done, Failed}
-use Rattle.host_policy.specs.Addresses.{Config}
-use Rattle.udp_assoc.specs.Associations.{numbers, most_associations, socket_of}
-use Rattle.udp_assoc.specs.declared.assocs.Association.{Association}
-use Rattle.dns_relay.specs.Questions.{ident_in, most_questions, numbers as question_numbers, socket_of as question_socket}
-use Rattle.dns_relay.specs.declared.Question.{Question}
-use Rattle.port_forward.specs.Opened.{socket_for as port_for}
+use Rattle.slirp_settings.specs.Addresses.{Config}
+use Rattle.udp_rules.specs.Associations.{numbers, most_associations, socket_of}
+use Rattle.udp_rules.specs.declared.Association.{Association}
+use Rattle.dns_rules.specs.Questions.{ident_in, most_questions, numbers as question_numbers, socket_of as question_socket}
+use Rattle.dns_rules.specs.declared.Question.{Question}
+use Rattle.forward_rules.specs.Opened.{socket_for as port_for}
 use Rattle.record_flows.specs.Book.{book}
 use Rattle.record_flows.specs.Lots.{due_for_flows}
 use Rattle.run_laws.specs.Happenings.{happens}

@@ -1,6 +1,6 @@
 -- Reads of the link, and what a frame brings.
 use Rattle.slirp_core.specs.Forwards.{AreInForce}
-use Rattle.port_forward.specs.Opened.{Opened}
+use Rattle.forward_rules.specs.Opened.{Opened}
 use Rattle.std.proofs.Common.{◌≡◌, ℕ, ◌<◌, ◌&&◌, not, Bool, true, false, List, [], ◌∷◌, ◌++◌, drop, Option, Some, None, option_map, if◌then◌else◌, refl, sym, ◌∙◌, ap, subst, arith}
 use Rattle.flow_laws.specs.Guest.{is_empty}
 use Rattle.poll_list.specs.declared.Want.{Want}
@@ -11,7 +11,7 @@ use Rattle.world_face.specs.Journal.{Entry, AreAllowed, Follows, LinkRead, CallL
 use Rattle.world_face.specs.declared.Io.TheVariants.{Done, End as IoEnd, NotYet as IoNotYet, Failed as IoFailed}
 use Rattle.world_face.specs.Frames.{Ending, MayFrame, partial, arrives, arrived, ending, tail, is_whole}
 use Rattle.world_face.proofs.Telling.{allowed_then}
-use Rattle.host_policy.specs.Addresses.{Config}
+use Rattle.slirp_settings.specs.Addresses.{Config}
 use Rattle.ipv4_head.specs.Ip.{Ip}
 use Rattle.ipv4_head.specs.Sets.{PartSet, young}
 use Rattle.tcp_segment.specs.Tcp.{Tcp}
@@ -25,14 +25,14 @@ use Rattle.run_laws.specs.Moments.{moment, waits}
 use Rattle.run_laws.specs.Packets.{Packet, Unheard, ArpPacket, Message, DatagramPacket, Segment, Datagram, packet_in}
 use Rattle.run_laws.specs.Shape.{Phase, Working, Over, By, phase, phase_after, is_working}
 use Rattle.slirp_laws.specs.Agenda.{agenda, all_wanted, behind, from, is_to_read, reads_on as goes_on_reading, wanted_of}
-use Rattle.dhcp_server.specs.declared.leases.Lease.{Lease}
+use Rattle.dhcp_rules.specs.declared.Lease.{Lease}
 use Rattle.ipv4_reasm.specs.Areas.{Gathered}
 use Rattle.slirp_laws.specs.Answers.{Serving, files_after, files_by_fate, files_by_packet, frames_of, identification, is_out, ledger, left, left_after, owed_for_fate, owed_for_packet, serving, strays}
 use Rattle.slirp_laws.specs.Leasing.{leases, leases_by, leases_by_packet}
 use Rattle.slirp_laws.specs.Asking.{step_of}
 use Rattle.slirp_laws.specs.Errands.{errand_after, errand_left}
 use Rattle.slirp_laws.specs.Datagrams.{Fate, Ignored, Refused, ForLeases, ForFiles, GoesTo, NeedsNothing, errand_by, errand_by_packet, fate}
-use Rattle.tftp_server.specs.Transfers.{Files, settled}
+use Rattle.tftp_rules.specs.Transfers.{Files, settled}
 use Rattle.slirp_laws.specs.Laws.{Lawful, May, is_closing, joins}
 use Rattle.run_laws.specs.Sockets.{next_number}
 use Rattle.flows_follow.specs.Stands.{InWork}

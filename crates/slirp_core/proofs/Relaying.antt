@@ -15,19 +15,19 @@ use Rattle.world_face.specs.declared.Got.{Got}
 use Rattle.world_face.specs.declared.Got.TheVariants.{From, NotYet as GotNotYet, Failed as GotFailed}
 use Rattle.net_octets.specs.declared.Endpoint.{Endpoint}
 use Rattle.net_octets.specs.declared.Mac.{Mac}
-use Rattle.host_policy.specs.Addresses.{Config, address, endpoint}
-use Rattle.host_policy.specs.Targets.{same_endpoint}
-use Rattle.host_policy.specs.declared.Forward.{Forward as AForward}
-use Rattle.host_policy.specs.declared.Proto.TheVariants.{Udp as ByUdp}
+use Rattle.slirp_settings.specs.Addresses.{Config, address, endpoint}
+use Rattle.slirp_settings.specs.Classes.{same_endpoint}
+use Rattle.slirp_settings.specs.declared.Forward.{Forward as AForward}
+use Rattle.slirp_settings.specs.declared.Proto.TheVariants.{Udp as ByUdp}
 use Rattle.arp_table.specs.Table.{mac_of as learnt_for}
-use Rattle.udp_assoc.specs.Associations.{most_associations, numbers, numbered, is_idle, is_of, socket_of, without, moved_last, sent_from, heard_at}
-use Rattle.udp_assoc.specs.declared.assocs.Association.{Association}
+use Rattle.udp_rules.specs.Associations.{most_associations, numbers, numbered, is_idle, is_of, socket_of, without, moved_last, sent_from, heard_at}
+use Rattle.udp_rules.specs.declared.Association.{Association}
 use Rattle.dns_relay.specs.Asking.{bind_for}
-use Rattle.dns_relay.specs.Questions.{asked_from, heard_at as heard_on, ident_in, is_answered, is_idle as is_over, is_of as is_asked, most_questions, moved_last as question_moved}
-use Rattle.dns_relay.specs.Questions.{numbered as question_numbered, numbers as question_numbers, socket_of as question_socket, without as question_without}
-use Rattle.dns_relay.specs.declared.Question.{Question}
+use Rattle.dns_rules.specs.Questions.{asked_from, heard_at as heard_on, ident_in, is_answered, is_idle as is_over, is_of as is_asked, most_questions, moved_last as question_moved}
+use Rattle.dns_rules.specs.Questions.{numbered as question_numbered, numbers as question_numbers, socket_of as question_socket, without as question_without}
+use Rattle.dns_rules.specs.declared.Question.{Question}
 use Rattle.udp_assoc.proofs.Yielding.{still_none}
-use Rattle.port_forward.specs.Opened.{socket_for as port_for}
+use Rattle.forward_rules.specs.Opened.{socket_for as port_for}
 use Rattle.run_laws.specs.Moments.{moment, waits}
 use Rattle.record_flows.specs.Book.{book}
 use Rattle.record_flows.specs.Flows.{is_it}
@@ -63,7 +63,7 @@ use Rattle.slirp_core.proofs.Given.{leads_at}
 use Rattle.slirp_core.proofs.Names.{association_unmoved, carried as carried_names, kind_carried, kind_named, named_apart, neither, none_moved, none_numbered, none_without, one_numbered, two_apart}
 use Rattle.slirp_core.proofs.Parts.{asks_nothing, behind_of, errand_for, forward_in, or_first, or_second, reads_of, still_open, after_socket, asked_for, due_is, in_turn}
 use Rattle.slirp_core.specs.Owed.{IsOwedAt}
-use Rattle.tftp_server.specs.Transfers.{Settled as SeeksNothing}
+use Rattle.tftp_rules.specs.Transfers.{Settled as SeeksNothing}
 use Rattle.slirp_core.proofs.Owing.{left_stays, left_then, nothing_left as none_left, of_left, owed_stays}
 use Rattle.slirp_core.proofs.Services.{asks_resolver, close_due, none_due_for_services, opened_for_name, opened_for_other}
 use Rattle.slirp_core.proofs.Sockets.{numbered_among, idle_among}

@@ -5,7 +5,7 @@ use Rattle.world_face.specs.declared.Accepted.{Accepted}
 use Rattle.world_face.specs.declared.Accepted.TheVariants.{From, NotYet as NotYetAccepted, Failed as AcceptFailed}
 use Rattle.world_face.specs.declared.Made.{Made}
 use Rattle.world_face.specs.declared.Made.TheVariants.{Done, Failed}
-use Rattle.host_policy.specs.Addresses.{Config}
+use Rattle.slirp_settings.specs.Addresses.{Config}
 use Rattle.run_laws.specs.Sockets.{next_number, open_sockets, with_made}
 use Rattle.slirp_laws.specs.Laws.{Lawful, May}
 use Rattle.slirp_laws.proofs.Bools.{equal}

@@ -8,10 +8,10 @@ use Rattle.poll_list.specs.declared.Who.TheVariants.{Listener as AListener, Udp 
 use Rattle.world_face.specs.Journal.{Entry, Accept, Close, UdpRecv}
 use Rattle.world_face.specs.Frames.{partial}
 use Rattle.world_face.specs.declared.Accepted.{Accepted}
-use Rattle.host_policy.specs.Addresses.{Config}
-use Rattle.host_policy.specs.declared.Forward.{Forward}
-use Rattle.host_policy.specs.declared.Proto.{Proto}
-use Rattle.host_policy.specs.declared.Proto.TheVariants.{Tcp, Udp}
+use Rattle.slirp_settings.specs.Addresses.{Config}
+use Rattle.slirp_settings.specs.declared.Forward.{Forward}
+use Rattle.slirp_settings.specs.declared.Proto.{Proto}
+use Rattle.slirp_settings.specs.declared.Proto.TheVariants.{Tcp, Udp}
 use Rattle.flows_follow.specs.Peers.{fits_peer}
 use Rattle.run_laws.specs.Moments.{waits}
 use Rattle.run_laws.specs.Sockets.{is_among}
@@ -23,7 +23,7 @@ use Rattle.run_duties.specs.Said.{some_reads}
 use Rattle.run_duties.specs.Serving.{is_left_to_read, serves_reading}
 use Rattle.run_duties.specs.Waiting.{takes_datagrams, takes_in}
 use Rattle.run_duties.proofs.Serving.{read_since, reading_on, unread}
-use Rattle.port_forward.specs.Opened.{forward_with}
+use Rattle.forward_rules.specs.Opened.{forward_with}
 use Rattle.slirp_core.specs.Forwards.{sockets_over}
 use Rattle.slirp_core.specs.Hearing.{Receives, is_heard}
 use Rattle.slirp_core.specs.Holds.{Flowing, Holds, Standing, carriers, holders_of, standing}

@@ -4,13 +4,13 @@ use Rattle.std.specs.Prelude.{option_map}
 use Rattle.net_octets.specs.declared.Endpoint.{Endpoint}
 use Rattle.std.specs.Option.{option_map_or, option_or}
 use Rattle.world_face.specs.Journal.{CallClose, Entry}
-use Rattle.host_policy.specs.Addresses.{Config, address, endpoint}
-use Rattle.host_policy.specs.Targets.{is_loopback}
+use Rattle.slirp_settings.specs.Addresses.{Config, address, endpoint}
+use Rattle.slirp_settings.specs.Classes.{is_loopback}
 use Rattle.dns_relay.specs.Asking.{bind_for}
-use Rattle.dns_relay.specs.Questions.{is_question}
-use Rattle.tftp_server.specs.Asking.{call_for}
+use Rattle.dns_rules.specs.Questions.{is_question}
+use Rattle.tftp_rules.specs.Asking.{call_for}
 use Rattle.tftp_server.specs.Serving.{Serving as FileServing}
-use Rattle.tftp_server.specs.Transfers.{Files, Settled as SeeksNothing, Transfer}
+use Rattle.tftp_rules.specs.Transfers.{Files, Settled as SeeksNothing, Transfer}
 use Rattle.run_laws.specs.Happenings.{happens}
 use Rattle.run_laws.specs.Moments.{moment}
 use Rattle.run_laws.specs.Packets.{Datagram}

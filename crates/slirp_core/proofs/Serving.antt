@@ -4,11 +4,11 @@ use Rattle.slirp_core.proofs.Given.{unmoved}
 use Rattle.std.proofs.Common.{◌≡◌, ℕ, ◌+◌, ◌-◌, length, false, List, [], ◌∷◌, ◌++◌, Option, Some, None, inl, refl, sym, ◌∙◌, ap, subst, arith}
 use Rattle.world_face.specs.Journal.{AreAllowed, Call, CallFileLen, CallFileRead, Entry, FileLen, FileRead, call_of}
 use Rattle.world_face.proofs.Telling.{allowed_then}
-use Rattle.host_policy.specs.Addresses.{Config}
+use Rattle.slirp_settings.specs.Addresses.{Config}
 use Rattle.run_laws.specs.Packets.{Datagram}
-use Rattle.tftp_server.specs.Asking.{AreAskedFor, IsServed, after_calls, call_for}
-use Rattle.tftp_server.specs.Packets.{packet_in}
-use Rattle.tftp_server.specs.Transfers.{Files, Outcome, Quest, Said, SeeksLength, SeeksOctets, Settled as SeeksNothing, Transfer, came, octets_of, place_of, settled}
+use Rattle.tftp_rules.specs.Asking.{AreAskedFor, IsServed, after_calls, call_for}
+use Rattle.tftp_rules.specs.Packets.{packet_in}
+use Rattle.tftp_rules.specs.Transfers.{Files, Outcome, Quest, Said, SeeksLength, SeeksOctets, Settled as SeeksNothing, Transfer, came, octets_of, place_of, settled}
 use Rattle.slirp_laws.specs.Agenda.{agenda, all_wanted}
 use Rattle.slirp_laws.specs.Answers.{frames_of, serving, told_of_files}
 use Rattle.slirp_laws.specs.Datagrams.{NeedsNothing}
@@ -94,14 +94,14 @@ module _ (config : Config) (at : Standing) (slirp : SlirpState) (kept : Kept) (l
       record {
         keeps = keeps_by link e past tt refl refl refl s.keeps;
         guests = guests_stay config slirp slirp e past refl refl s.guests;
-        list = s.list;
-        questions = s.questions;
-        leases = s.leases;
         flows = flows_stay config (flowing false kept) slirp.moment e past refl refl (omega arith) refl s.flows;
         sockets = record { number = s.sockets.number; kinds = s.sockets.kinds };
         clock = record { moment = s.clock.moment; counted = s.clock.counted };
         turn = record { working = s.turn.working; waited = s.turn.waited };
         agenda = s.agenda;
+        list = s.list;
+        questions = s.questions;
+        leases = s.leases;
         forwards = unmoved config slirp.forwards (e ∷ past) past (λ n among. refl) (λ n among given. among) (λ n among given. (among, given)) (omega arith) s.forwards;
       }
   still_one _ past is s = absurd is

@@ -1,9 +1,9 @@
 -- The sizes of flows that the settings say.
 use Rattle.std.proofs.Common.{ℕ, ◌*◌, ◌≤◌, nat_le, ◌&&◌, Bool, true, false, ◌≡◌, refl, arith}
 use Rattle.std.proofs.lemmas.Bool.Decides.{nat_tests}
-use Rattle.host_policy.specs.Addresses.{Config}
-use Rattle.host_policy.specs.Ranges.{IsSound, is_between}
-use Rattle.host_policy.specs.declared.config.Field.TheVariants.{Flows, IfMru, IfMtu, Ring}
+use Rattle.slirp_settings.specs.Addresses.{Config}
+use Rattle.slirp_settings.specs.Ranges.{IsSound, is_between}
+use Rattle.slirp_settings.specs.declared.fields.Field.TheVariants.{Flows, IfMru, IfMtu, Ring}
 use Rattle.tcp_flows.specs.Rows.{AreSized}
 
 between : (least n most : ℕ) → is_between least n most ≡ true → (least ≤ n) × (n ≤ most)

@@ -9,15 +9,15 @@ use Rattle.world_face.specs.Journal.{Entry, Allowed, CallNow, Now, call_of}
 use Rattle.world_face.specs.Frames.{Ending, MayFrame, is_blocked, partial, tail}
 use Rattle.world_face.specs.declared.Made.{Made}
 use Rattle.world_face.specs.declared.Made.TheVariants.{Done, Failed}
-use Rattle.host_policy.specs.Addresses.{Config, forward_on}
+use Rattle.slirp_settings.specs.Addresses.{Config, forward_on}
 use Rattle.slirp_laws.proofs.Given.{led_by_settings}
-use Rattle.host_policy.specs.declared.Forward.{Forward}
-use Rattle.host_policy.specs.declared.Proto.{Proto}
-use Rattle.host_policy.specs.declared.Proto.TheVariants.{Tcp, Udp}
-use Rattle.port_forward.specs.Adding.{opening_of as port_opening}
-use Rattle.port_forward.specs.Opened.{Opened}
-use Rattle.udp_assoc.specs.Associations.{numbers}
-use Rattle.dns_relay.specs.Questions.{numbers as question_numbers}
+use Rattle.slirp_settings.specs.declared.Forward.{Forward}
+use Rattle.slirp_settings.specs.declared.Proto.{Proto}
+use Rattle.slirp_settings.specs.declared.Proto.TheVariants.{Tcp, Udp}
+use Rattle.forward_rules.specs.Adding.{opening_of as port_opening}
+use Rattle.forward_rules.specs.Opened.{Opened}
+use Rattle.udp_rules.specs.Associations.{numbers}
+use Rattle.dns_rules.specs.Questions.{numbers as question_numbers}
 use Rattle.ipv4_head.specs.Sets.{PartSet, young}
 use Rattle.ipv4_reasm.specs.Areas.{Gathered}
 use Rattle.run_laws.specs.Shape.{By, Opening, Over, Refused, Started, clocked, due_in, is_over, opened, opening_of as opening_call, phase}
@@ -29,7 +29,7 @@ use Rattle.record_flows.specs.Doings.{Nothing, doing}
 use Rattle.record_flows.specs.Lots.{due_for_flows}
 use Rattle.slirp_laws.specs.Agenda.{agenda}
 use Rattle.slirp_laws.specs.Answers.{identification, left, serving}
-use Rattle.tftp_server.specs.Transfers.{Files}
+use Rattle.tftp_rules.specs.Transfers.{Files}
 use Rattle.slirp_laws.specs.Asking.{step}
 use Rattle.slirp_laws.specs.Errands.{errand_left}
 use Rattle.slirp_laws.specs.Sending.{requests}
@@ -46,7 +46,7 @@ use Rattle.slirp_core.specs.Holds.{Standing, after, Begins, Holders, Closing, as
 use Rattle.slirp_core.specs.Holds.{AllWaited, Stands, Turns, flowing, is_ours}
 use Rattle.slirp_core.specs.State.{SlirpState}
 use Rattle.slirp_core.proofs.Guests.{guests_forget, guests_stay}
-use Rattle.dhcp_server.specs.declared.leases.Lease.TheVariants.{Free as LeaseFree}
+use Rattle.dhcp_rules.specs.declared.Lease.TheVariants.{Free as LeaseFree}
 use Rattle.slirp_core.proofs.Parts.{errand_for, two_in}
 use Rattle.slirp_core.proofs.Owing.{owed_as, owed_stays, owed_told}
 use Rattle.slirp_core.proofs.Services.{none_due_for_services, services_as, services_stay}

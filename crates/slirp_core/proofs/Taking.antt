@@ -1,100 +1,50 @@
--- What a frame asks for, by the kind of what it carries.
-use Rattle.std.proofs.Common.{◌≡◌, ℕ, ◌+◌, ◌≤◌, ◌==◌, ◌&&◌, ◌||◌, Bool, true, false, List, [], ◌∷◌, length, Option, Some, None, option_map, if◌then◌else◌, refl, sym, ◌∙◌, ap, arith, append-nil}
+-- What a whole datagram asks for, by what it carries, and what is owed.
+use Rattle.std.proofs.Common.{◌≡◌, ℕ, ◌+◌, ◌≤◌, ◌==◌, ◌&&◌, ◌||◌, Bool, true, false, List, [], ◌∷◌, ◌++◌, length, take, Option, Some, None, option_map, if◌then◌else◌, refl, sym, ◌∙◌, ap, subst, arith, append-nil}
 use Rattle.std.proofs.lemmas.Bool.Decides.{nat_tests}
-use Rattle.std.specs.Option.{option_and_then}
-use Rattle.net_octets.specs.Kinds.{arp_kind, ipv4_kind, icmp_proto, tcp_proto, udp_proto}
+use Rattle.std.proofs.lemmas.List.{take_at}
+use Rattle.net_octets.specs.Kinds.{icmp_proto, tcp_proto, udp_proto}
 use Rattle.net_octets.specs.declared.Endpoint.{Endpoint}
 use Rattle.net_octets.specs.declared.Mac.{Mac}
 use Rattle.net_octets.specs.Octets.{our_mac}
-use Rattle.host_policy.specs.Addresses.{Config, address, endpoint, is_ours, is_guest}
+use Rattle.world_face.specs.Journal.{Entry}
+use Rattle.slirp_settings.specs.Addresses.{Config, address, endpoint, is_ours, is_guest}
 use Rattle.host_policy.specs.Targets.{shown, is_hidden}
-use Rattle.ether_frame.specs.Ether.{Ether, read_ether}
-use Rattle.arp_table.specs.Arp.{read_arp}
-use Rattle.ipv4_head.specs.Ip.{Ip, read_ip}
-use Rattle.ipv4_head.specs.Sets.{PartSet}
-use Rattle.ipv4_reasm.specs.Areas.{Gathered}
+use Rattle.ipv4_head.specs.Ip.{Ip}
 use Rattle.icmp_echo.specs.Icmp.{Icmp, IsIcmp, echo_octets, icmp_octets, icmp_of, read_icmp, unreachable_octets}
 use Rattle.icmp_echo.specs.declared.IcmpView.{IcmpView}
 use Rattle.icmp_echo.specs.declared.IcmpView.TheVariants.{Echo, Unreachable, Other}
-use Rattle.udp_assoc.specs.Udp.{Udp, summed, udp_octets, udp_with, written_sum}
-use Rattle.udp_assoc.proofs.Spelling.{length-udp}
-use Rattle.dhcp_server.specs.declared.leases.Lease.{Lease}
-use Rattle.dhcp_server.specs.declared.message.Message.{Message as ClientMessage}
-use Rattle.dhcp_server.specs.Replies.{everybody, goes_to_all, is_silence, replied_octets, reply_octets, reply_to as lease_reply_to}
-use Rattle.dhcp_server.specs.Serving.{served}
-use Rattle.host_policy.specs.declared.Reply.{Reply}
-use Rattle.host_policy.specs.declared.Reply.TheVariants.{Nothing as ReplyNothing, Datagram as ADatagram, Unreachable as ReplyUnreachable}
-use Rattle.slirp_laws.specs.Leasing.{sending_of}
-use Rattle.slirp_laws.specs.Answers.{IpAnswer, answer_of, answers_of, datagram_frames, fits_datagram, is_untold, told_about, reply_at, frames_of, owed_for_arp, owed_for_icmp, reset_for}
+use Rattle.udp_assoc.specs.Relays.{FitsRoom}
+use Rattle.udp_datagram.specs.Udp.{Udp, summed, udp_octets, udp_with, written_sum}
+use Rattle.udp_datagram.proofs.Spelling.{length-udp}
+use Rattle.dhcp_rules.specs.declared.Lease.{Lease}
+use Rattle.dhcp_rules.specs.declared.Message.{Message as ClientMessage}
+use Rattle.dhcp_rules.specs.Replies.{everybody, goes_to_all, is_silence, replied_octets, reply_octets, reply_to as lease_reply_to}
+use Rattle.dhcp_rules.specs.Serving.{served}
+use Rattle.tftp_rules.specs.Saying.{IsFromServer, said_by}
+use Rattle.udp_rules.specs.declared.Reply.{Reply}
+use Rattle.udp_rules.specs.declared.Reply.TheVariants.{Nothing as ReplyNothing, Datagram as ADatagram, Unreachable as ReplyUnreachable}
+use Rattle.slirp_laws.specs.Leasing.{leases_by_fate, sending_of}
+use Rattle.slirp_laws.specs.Datagrams.{Fate, Ignored, Refused, ForLeases, ForFiles, GoesTo, fate}
+use Rattle.slirp_laws.specs.Answers.{ArpAnswer, IpAnswer, answer_of, answers_of, datagram_frames, fits_datagram, is_untold, told_about, told_of_files, reply_at, frames_of, owed_for_icmp, request, reset_for}
+use Rattle.arp_table.specs.Arp.{everyone}
 use Rattle.tcp_segment.specs.Tcp.{Tcp, read_tcp, tcp_length, tcp_octets}
-use Rattle.flow_table.specs.declared.Tuple.{Tuple}
+use Rattle.record_flows.specs.declared.Tuple.{Tuple}
 use Rattle.flow_laws.specs.Event.{Segment}
 use Rattle.record_flows.specs.Lots.{reset_to}
 use Rattle.record_flows.specs.Segments.{OnTuple}
-use Rattle.slirp_core.specs.Segments.{Coming, coming, segment_in, segment_of_arrived, segment_of_ether, segment_of_ip}
-use Rattle.slirp_core.specs.Fragments.{after_frame, after_ip, after_octets}
-use Rattle.slirp_core.specs.Packets.{Request, owed_at_once, request_for_udp, is_message_to_us, is_segment, leases_with, owed_for, owed_for_arrived, owed_for_ether, reply_to, udp_in}
-use Rattle.slirp_core.specs.Packets.{udp_of, udp_of_arrived, udp_of_ether, with_arp, with_ip, with_ether}
-use Rattle.run_laws.specs.Fragments.{fragment_by, fragment_in, fragment_of}
 use Rattle.run_laws.specs.Packets.{Datagram}
 use Rattle.owed_frames.specs.Outgoing.{segment_octets}
-use Rattle.slirp_core.specs.State.{SlirpState, serving_of}
 use Rattle.owed_frames.specs.declared.outgoing.Course.{Course}
+use Rattle.stream_netdev.specs.State.{LinkState}
+use Rattle.slirp_core.specs.Came.{DatagramCame}
+use Rattle.slirp_core.specs.Fragments.{after_ip}
+use Rattle.slirp_core.specs.Holds.{WorkLeft, AsksFile, RequestLeft, Comes, Holds, HoldsAt, Standing, asked_by, flowing}
+use Rattle.slirp_core.specs.Leases.{after_message, after_udp}
+use Rattle.slirp_core.specs.Packets.{Request, owed_at_once, owed_at_once_by, request_by, request_for_udp, request_of, is_message_to_us, is_segment, leases_with, owed_for, reply_to, udp_of}
+use Rattle.slirp_core.specs.Replies.{owed_at, replied_by}
+use Rattle.slirp_core.specs.Segments.{Coming, coming, segment_of_ip}
+use Rattle.slirp_core.specs.State.{SlirpState, serving_of}
 use Rattle.slirp_core.proofs.Datagramming.{none_of_others}
-
--- a frame that carries a packet asks for what the packet does
-abbrev after_kind : SlirpState → List Gathered → List PartSet → Ether → ℕ → SlirpState
-after_kind s parts waiting ether kind = record s {
-  pending = frames_of s.config s.sent
-      (if kind == arp_kind then owed_for (owed_for_arp s.config) (read_arp ether.body)
-      else (if kind == ipv4_kind then owed_for (owed_for_arrived s.config (serving_of s) waiting ether.from ether.body) (read_ip ether.body) else []));
-  known = if kind == arp_kind then with_arp s.config (read_arp ether.body) s.known
-      else (if kind == ipv4_kind then with_ip s.config ether.from (read_ip ether.body) s.known else s.known);
-  fragments = parts;
-  leases = leases_with s.config s.moment (if kind == ipv4_kind then option_and_then (udp_of_arrived s.config s.moment waiting ether.from ether.body) (read_ip ether.body) else None) s.leases;
-}
-
-module _ (s : SlirpState) (parts : List Gathered) (waiting : List PartSet) (frame : List ℕ) (ether : Ether) (read : read_ether frame ≡ Some ether) where
-  -- by what is read of it
-  abbrev after_read : Option Ether → SlirpState
-  after_read o = record s {
-    pending = frames_of s.config s.sent (owed_for (owed_for_ether s.config (serving_of s) waiting) o);
-    known = with_ether s.config o s.known;
-    fragments = parts;
-    leases = leases_with s.config s.moment (option_and_then (udp_of_ether s.config s.moment waiting) o) s.leases;
-  }
-
-  pub frame_of_arp : ether.kind ≡ arp_kind → after_kind s parts waiting ether arp_kind ≡ after_frame s.config s waiting parts frame
-  frame_of_arp kind = sym (ap after_read read ∙ ap (after_kind s parts waiting ether) kind)
-
-  pub frame_of_packet : ether.kind ≡ ipv4_kind → after_octets s waiting ether.from ether.body parts (read_ip ether.body) ≡ after_frame s.config s waiting parts frame
-  frame_of_packet kind = sym (ap after_read read ∙ ap (after_kind s parts waiting ether) kind)
-
-module _ (s : SlirpState) (parts : List Gathered) (waiting : List PartSet) (frame : List ℕ) (ether : Ether) (read : read_ether frame ≡ Some ether) (kind : ether.kind ≡ ipv4_kind) where
-  pub request_of_packet : request_for_udp s.config (option_and_then (udp_of_arrived s.config s.moment waiting ether.from ether.body)
-      (read_ip ether.body)) ≡ request_for_udp s.config (udp_in s.config s.moment waiting frame)
-  request_of_packet = ap (request_for_udp s.config) (sym (
-      ap (option_and_then (udp_of_ether s.config s.moment waiting)) read
-      ∙ ap (λ (k : ℕ). if k == ipv4_kind then option_and_then (udp_of_arrived s.config s.moment waiting ether.from ether.body) (read_ip ether.body) else None) kind))
-
-  pub segment_of_packet : option_and_then (segment_of_arrived s.config s.moment waiting ether.from ether.body) (read_ip ether.body) ≡ segment_in s.config s.moment waiting frame
-  segment_of_packet = sym (
-      ap (option_and_then (segment_of_ether s.config s.moment waiting)) read
-      ∙ ap (λ (k : ℕ). if k == ipv4_kind then option_and_then (segment_of_arrived s.config s.moment waiting ether.from ether.body) (read_ip ether.body) else None) kind)
-
-  pub fragment_of_packet : option_and_then (fragment_by s.config ether.body) (read_ip ether.body) ≡ fragment_in s.config frame
-  fragment_of_packet = sym (
-      ap (option_and_then (fragment_of s.config)) read
-      ∙ ap (λ (k : ℕ). if k == ipv4_kind then option_and_then (fragment_by s.config ether.body) (read_ip ether.body) else None) kind)
-
--- one that carries none has no fragment
-pub no_fragment : (config : Config) (frame : List ℕ) (ether : Ether) → read_ether frame ≡ Some ether → (ether.kind ≡ ipv4_kind → ⊥) → fragment_in config frame ≡ None
-no_fragment config frame ether read other =
-    let not_ip : (ether.kind == ipv4_kind) ≡ false = other_kind ether.kind other in
-    ap (option_and_then (fragment_of config)) read ∙ ap (λ (b : Bool). if b then option_and_then (fragment_by config ether.body) (read_ip ether.body) else None) not_ip
-  where
-    other_kind : (kind : ℕ) → (kind ≡ 2048 → ⊥) → (kind == 2048) ≡ false
-    other_kind kind other = grind (arith, nat_tests)
 
 message_proto : (a b : Bool) (proto : ℕ) → (a && b && (proto == 1)) ≡ true → proto ≡ 1
 message_proto a b proto is = grind (arith, nat_tests)
@@ -112,7 +62,14 @@ no_udp_in_segment config ip asked udp =
     let six : ip.proto ≡ 6 = segment_proto (is_guest config ip.from) ip.proto asked in
     omega arith
 
--- what a whole datagram asks for
+-- what is asked for of a network as it is then
+asks_as : (config : Config) (at : Standing) (link : LinkState) (past : List Entry) {s t : SlirpState} {r q : Option Request} {c d : Option Coming} → s ≡ t → r ≡ q → c ≡ d
+    → WorkLeft config at t link q d past → WorkLeft config at s link r c past
+asks_as config at link past {s} {t} {r} {q} {c} {d} state request segment asks =
+    subst (λ (s : SlirpState). WorkLeft config at s link r c past) (sym state)
+    (subst (λ (r : Option Request). WorkLeft config at t link r c past) (sym request) (subst (λ (c : Option Coming). WorkLeft config at t link q c past) (sym segment) asks))
+
+-- what a whole datagram asks for, by what it carries
 module _ (s : SlirpState) (mac : List ℕ) (ip : Ip) where
   -- by its tests, with these answers, and the datagram of UDP that it holds
   abbrev by_tests : (message segment : Bool) (udp : Option Datagram) → SlirpState
@@ -123,47 +80,85 @@ module _ (s : SlirpState) (mac : List ℕ) (ip : Ip) where
     leases = leases_with s.config s.moment udp s.leases;
   }
 
-  -- a message or a segment holds none
-  none_held : (ip.proto ≡ 17 → ⊥) → None ≡ udp_of s.config mac ip
-  none_held other = none_of_others s.config mac ip other
+  tests_are : (message segment : Bool) (udp : Option Datagram) → is_message_to_us s.config ip ≡ message → is_segment s.config ip ≡ segment → udp ≡ udp_of s.config mac ip
+      → by_tests message segment udp ≡ after_ip s mac ip
+  tests_are message segment udp asked carries is = sym (λ i. by_tests (asked i) (carries i) (sym is i))
 
-  pub message_to_us : is_message_to_us s.config ip ≡ true → ◌≡◌ {A = SlirpState}
-      (record s { pending = frames_of s.config s.sent (owed_for (owed_for_icmp mac ip) (read_icmp ip.body)) })
-      (after_ip s mac ip)
-  message_to_us asked = sym (
-      ap (λ (b : Bool). by_tests b (is_segment s.config ip) (udp_of s.config mac ip)) asked
-      ∙ ap (λ (o : Option Datagram). by_tests true (is_segment s.config ip) o) (sym (none_held (no_udp s.config ip asked))))
-
-  pub segment_came : is_message_to_us s.config ip ≡ false → is_segment s.config ip ≡ true → ◌≡◌ {A = SlirpState} (record s { pending = [] }) (after_ip s mac ip)
-  segment_came asked carries = sym (
-      ap (λ (b : Bool). by_tests b (is_segment s.config ip) (udp_of s.config mac ip)) asked
-      ∙ ap (λ (b : Bool). by_tests false b (udp_of s.config mac ip)) carries
-      ∙ ap (λ (o : Option Datagram). by_tests false true o) (sym (none_held (no_udp_in_segment s.config ip carries))))
-
-  pub no_message : is_message_to_us s.config ip ≡ false → is_segment s.config ip ≡ false → (d : Option Datagram) → d ≡ udp_of s.config mac ip → by_tests false false d ≡ after_ip s mac ip
-  no_message asked carries d udp = sym (
-      ap (λ (b : Bool). by_tests b (is_segment s.config ip) (udp_of s.config mac ip)) asked
-      ∙ ap (λ (b : Bool). by_tests false b (udp_of s.config mac ip)) carries
-      ∙ ap (λ (o : Option Datagram). by_tests false false o) (sym udp))
-
-  -- one that holds no segment
-  pub no_segment : is_segment s.config ip ≡ false → ◌≡◌ {A = Option Coming} None (segment_of_ip s.config mac ip)
+  no_segment : is_segment s.config ip ≡ false → ◌≡◌ {A = Option Coming} None (segment_of_ip s.config mac ip)
   no_segment carries = sym (ap (λ (b : Bool). if b then option_map (coming mac ip) (read_tcp ip.from ip.to ip.body) else None) carries)
 
-  pub no_segment_of_message : is_message_to_us s.config ip ≡ true → ◌≡◌ {A = Option Coming} None (segment_of_ip s.config mac ip)
-  no_segment_of_message asked = no_segment (no_six (is_guest s.config ip.from) ip.proto (message_proto (is_guest s.config ip.from) (is_ours s.config ip.to) ip.proto asked))
-    where
-      no_six : (g : Bool) (proto : ℕ) → proto ≡ 1 → (g && (proto == 6)) ≡ false
-      no_six g proto one = grind (arith, nat_tests, one)
+  no_six : (g : Bool) (proto : ℕ) → proto ≡ 1 → (g && (proto == 6)) ≡ false
+  no_six g proto one = grind (arith, nat_tests, one)
 
-  pub one_segment : is_segment s.config ip ≡ true → option_map (coming mac ip) (read_tcp ip.from ip.to ip.body) ≡ segment_of_ip s.config mac ip
-  one_segment carries = sym (ap (λ (b : Bool). if b then option_map (coming mac ip) (read_tcp ip.from ip.to ip.body) else None) carries)
+  module _ (config : Config) (at : Standing) (link : LinkState) (none : s.pending ≡ []) (past : List Entry) (came : DatagramCame config at s link mac ip past) where
+    as_it_was : Holds config at (record s { pending = [] }) (flowing false s.flows) link past → Holds config at s (flowing false s.flows) link past
+    as_it_was holds = subst (λ p. Holds config at (record s { pending = p }) (flowing false s.flows) link past) (sym none) holds
 
-  pub no_request : is_message_to_us s.config ip ≡ true → ◌≡◌ {A = Option Request} None (request_for_udp s.config (udp_of s.config mac ip))
-  no_request asked = ap (request_for_udp s.config) (none_of_others s.config mac ip (no_udp s.config ip asked))
+    -- a message
+    pub message_comes : is_message_to_us s.config ip ≡ true
+        → Holds config at (record s { pending = frames_of s.config s.sent (owed_for (owed_for_icmp mac ip) (read_icmp ip.body)) }) (flowing false s.flows) link past
+    message_comes asked =
+        let udp = none_of_others s.config mac ip (no_udp s.config ip asked) in
+        let other = no_six (is_guest s.config ip.from) ip.proto (message_proto (is_guest s.config ip.from) (is_ours s.config ip.to) ip.proto asked) in
+        asks_as config at link past (tests_are true false None asked other udp) (ap (request_for_udp s.config) udp) (no_segment other) came
 
-  pub no_request_of_segment : is_segment s.config ip ≡ true → ◌≡◌ {A = Option Request} None (request_for_udp s.config (udp_of s.config mac ip))
-  no_request_of_segment carries = ap (request_for_udp s.config) (none_of_others s.config mac ip (no_udp_in_segment s.config ip carries))
+    -- a segment, or what is none
+    segment_by : (c : Option Coming) → is_message_to_us s.config ip ≡ false → is_segment s.config ip ≡ true → c ≡ option_map (coming mac ip) (read_tcp ip.from ip.to ip.body)
+        → WorkLeft config at (record s { pending = [] }) link None c past
+    segment_by c asked carries is =
+        let udp = none_of_others s.config mac ip (no_udp_in_segment s.config ip carries) in
+        asks_as config at link past (tests_are false true None asked carries udp) (ap (request_for_udp s.config) udp)
+        (is ∙ sym (ap (λ (b : Bool). if b then option_map (coming mac ip) (read_tcp ip.from ip.to ip.body) else None) carries)) came
+
+    pub segment_comes : (c : Coming) → is_message_to_us s.config ip ≡ false → is_segment s.config ip ≡ true → Some c ≡ option_map (coming mac ip) (read_tcp ip.from ip.to ip.body)
+        → Comes config at s s.flows link c past
+    segment_comes c asked carries is =
+        subst (λ p. Comes config at (record s { pending = p }) s.flows link c past) (sym none) (segment_by (Some c) asked carries is)
+
+    pub no_segment_comes : is_message_to_us s.config ip ≡ false → is_segment s.config ip ≡ true → None ≡ option_map (coming mac ip) (read_tcp ip.from ip.to ip.body)
+        → Holds config at s (flowing false s.flows) link past
+    no_segment_comes asked carries is = as_it_was (segment_by None asked carries is)
+
+    -- a datagram of UDP, or what is none
+    udp_by : (d : Option Datagram) → is_message_to_us s.config ip ≡ false → is_segment s.config ip ≡ false → d ≡ udp_of s.config mac ip
+        → RequestLeft config at (by_tests false false d) link (request_for_udp s.config d) past
+    udp_by d asked carries is = asks_as config at link past (tests_are false false d asked carries is) (ap (request_for_udp s.config) is) (no_segment carries) came
+
+    pub udp_comes : (d : Datagram) → is_message_to_us s.config ip ≡ false → is_segment s.config ip ≡ false → Some d ≡ udp_of s.config mac ip
+        → RequestLeft config at (after_udp s d) link (request_of s.config d) past
+    udp_comes d asked carries is = udp_by (Some d) asked carries is
+
+    pub no_udp_comes : is_message_to_us s.config ip ≡ false → is_segment s.config ip ≡ false → None ≡ udp_of s.config mac ip → Holds config at s (flowing false s.flows) link past
+    no_udp_comes asked carries is = as_it_was (udp_by None asked carries is)
+
+-- what a datagram of UDP asks for, by what becomes of it
+module _ (s : SlirpState) (d : Datagram) (config : Config) (at : Standing) (link : LinkState) (none : s.pending ≡ []) (past : List Entry)
+    (came : RequestLeft config at (after_udp s d) link (request_of s.config d) past) where
+  abbrev AsksBy : Fate → Type 0
+  AsksBy f = RequestLeft config at (record s {
+    pending = frames_of s.config s.sent (owed_at_once_by s.config (serving_of s) d f);
+    leases = leases_by_fate s.config s.moment d f s.leases;
+  }) link (request_by d f) past
+
+  by_fate : (f : Fate) → f ≡ fate s.config d → AsksBy f
+  by_fate f is = subst AsksBy (sym is) came
+
+  pub ignored : Ignored ≡ fate s.config d → Holds config at s (flowing false s.flows) link past
+  ignored is = subst (λ p. Holds config at (record s { pending = p }) (flowing false s.flows) link past) (sym none) (by_fate Ignored is)
+
+  pub refused : Refused ≡ fate s.config d → Holds config at (record s { pending = frames_of s.config s.sent (told_about s.config 10 d) }) (flowing false s.flows) link past
+  refused is = by_fate Refused is
+
+  pub is_for_leases : ForLeases ≡ fate s.config d → Holds config at (after_message s d) (flowing false s.flows) link past
+  is_for_leases is = by_fate ForLeases is
+
+  pub is_for_files : ForFiles ≡ fate s.config d → AsksFile config at s s.flows link d past
+  is_for_files is = subst (λ p. AsksFile config at (record s { pending = p }) s.flows link d past) (sym none) (by_fate ForFiles is)
+
+  pub goes_out : (to : Endpoint) → GoesTo to ≡ fate s.config d
+      → HoldsAt config at (asked_by config s (Some (record { datagram = d; to = to }))) s (flowing false s.flows) link past
+  goes_out to is =
+      subst (λ p. HoldsAt config at (asked_by config s (Some (record { datagram = d; to = to }))) (record s { pending = p }) (flowing false s.flows) link past) (sym none) (by_fate (GoesTo to) is)
 
 -- the frames of an answer that a datagram can carry
 pub frames_whole : (config : Config) (ident : ℕ) (to : List ℕ) (proto from guest : ℕ) (body : List ℕ) → length body ≤ 65515
@@ -268,15 +263,27 @@ shown_sent config ident peer from octets guest mac is =
     ap (λ (e : Endpoint). frames_of config ident (answer_of (record { mac = mac; from = e; to = guest; body = octets }) ∷ [])) p.1
     ∙ sym (ap (λ (b : Bool). frames_of config ident (if b then [] else answer_of (record { mac = mac; from = shown config peer; to = guest; body = octets }) ∷ [])) p.0)
 
--- the reply to a client goes out whole
-pub lease_sent : (config : Config) (ident count : ℕ) (from to : Endpoint) (mac : Mac) (octets : List ℕ) → length octets ≤ 790
-    → datagram_frames config.mtu mac.0 (our_mac config.vhost) ident udp_proto (address from) (address to)
-    (udp_octets (address from) (address to) (record { from_port = from.port; to_port = to.port; body = octets }))
-    ≡ frames_of config ident (answers_of (sending_of (ADatagram count from to (Some mac)) octets))
-lease_sent config ident count from to mac octets few =
-    let udp : Udp = record { from_port = from.port; to_port = to.port; body = octets } in
-    let long : length (udp_octets (address from) (address to) udp) ≡ 8 + length octets = length-udp (written_sum (summed (address from) (address to) (udp_with 0 udp))) udp in
-    frames_whole config ident mac.0 udp_proto (address from) (address to) (udp_octets (address from) (address to) udp) (omega (arith, long, few))
+-- what is owed where a peer spoke to a guest: nothing where it isn't shown
+hidden_parts : (b : Bool) (peer : Endpoint) → None ≡ (if b then None else Some peer) → b ≡ true
+hidden_parts true peer is = refl
+hidden_parts false peer is = absurd cc
+
+pub hidden_owed : (s : SlirpState) (peer : Endpoint) (octets : List ℕ) (guest : Endpoint) (mac : Option Mac) → s.pending ≡ []
+    → None ≡ (if is_hidden s.config peer then None else Some (shown s.config peer)) → s.pending ≡ owed_at s peer octets guest mac
+hidden_owed s peer octets guest None none is =
+    let hidden = hidden_parts (is_hidden s.config peer) (shown s.config peer) is in
+    none ∙ sym (ap (λ (b : Bool). frames_of s.config s.sent (if b then [] else ArpAnswer everyone (request s.config (address guest)) ∷ [])) hidden)
+hidden_owed s peer octets guest (Some mac) none is =
+    let hidden = hidden_parts (is_hidden s.config peer) (shown s.config peer) is in
+    none
+    ∙ sym (ap (λ (b : Bool). frames_of s.config s.sent (if b then [] else answer_of (record { mac = mac.0; from = shown s.config peer; to = guest; body = octets }) ∷ [])) hidden)
+
+-- a request for the hardware address of the guest
+pub sought_owed : (s : SlirpState) (peer from : Endpoint) (octets : List ℕ) (guest : Endpoint) → Some from ≡ (if is_hidden s.config peer then None else Some (shown s.config peer))
+    → frames_of s.config s.sent (ArpAnswer everyone (request s.config (address guest)) ∷ []) ≡ owed_at s peer octets guest None
+sought_owed s peer from octets guest is =
+    let p = shown_parts (is_hidden s.config peer) from (shown s.config peer) is in
+    sym (ap (λ (b : Bool). frames_of s.config s.sent (if b then [] else ArpAnswer everyone (request s.config (address guest)) ∷ [])) p.0)
 
 -- its octets are as many as it says
 pub lease_count : (config : Config) (now : ℕ) (leases : List Lease) (m : Option ClientMessage) (count : ℕ) (from to : Endpoint) (mac : Option Mac)
@@ -293,10 +300,41 @@ lease_count config now leases (Some m) count from to mac is =
     by false true octets is = cc
     by false false octets is = cc
 
--- a client that gets none is owed none
-pub lease_none : (config : Config) (ident : ℕ) (reply : Reply) (octets : List ℕ) → ((count : ℕ) (from to : Endpoint) (mac : Mac) → reply ≡ ADatagram count from to (Some mac) → ⊥) →
-    [] ≡ frames_of config ident (answers_of (sending_of reply octets))
-lease_none config ident ReplyNothing octets never = refl
-lease_none config ident (ADatagram count from to None) octets never = refl
-lease_none config ident (ADatagram count from to (Some mac)) octets never = absurd (never count from to mac refl)
-lease_none config ident (ReplyUnreachable code) octets never = refl
+-- so they fit the room where they stand
+pub lease_fits : (config : Config) (now : ℕ) (leases : List Lease) (m : Option ClientMessage) (reply : Reply) (room : ℕ) → reply ≡ lease_reply_to config now leases m
+    → length (replied_octets config now leases m) ≤ room → FitsRoom reply room
+lease_fits config now leases m ReplyNothing room is few = tt
+lease_fits config now leases m (ADatagram count from to mac) room is few = let many = lease_count config now leases m count from to mac (sym is) in omega (arith, many, few)
+lease_fits config now leases m (ReplyUnreachable code) room is few = tt
+
+-- and what is owed for it is what it says
+pub lease_replied : (config : Config) (ident now : ℕ) (leases : List Lease) (m : Option ClientMessage) (reply : Reply) (left : List (List ℕ)) (octets rest : List ℕ) → left ≡ []
+    → octets ≡ replied_octets config now leases m → reply ≡ lease_reply_to config now leases m
+    → replied_by config ident left reply (octets ++ rest) ≡ frames_of config ident (answers_of (sending_of reply octets))
+lease_replied config ident now leases m ReplyNothing left octets rest none same is = none
+lease_replied config ident now leases m (ADatagram count from to None) left octets rest none same is = none
+lease_replied config ident now leases m (ReplyUnreachable code) left octets rest none same is = none
+lease_replied config ident now leases m (ADatagram count from to (Some mac)) left octets rest none same is =
+    let many : length octets ≡ count = ap length same ∙ sym (lease_count config now leases m count from to (Some mac) (sym is)) in
+    ap (λ (o : List ℕ). frames_of config ident (answer_of (record { mac = mac.0; from = from; to = to; body = o }) ∷ [])) (take_at octets rest count many)
+
+-- what the server of files answers
+pub file_fits : (vhost : ℕ) (reply : Reply) (room : ℕ) → IsFromServer vhost reply → 1472 ≤ room → FitsRoom reply room
+file_fits vhost ReplyNothing room from wide = tt
+file_fits vhost (ADatagram count from to None) room is wide = absurd is
+file_fits vhost (ADatagram count from to (Some mac)) room is wide = omega (arith, is.1, wide)
+file_fits vhost (ReplyUnreachable code) room is wide = tt
+
+pub file_replied : (config : Config) (ident : ℕ) (reply : Reply) (left : List (List ℕ)) (octets : List ℕ) → left ≡ [] → IsFromServer config.vhost reply
+    → replied_by config ident left reply octets ≡ frames_of config ident (told_of_files config (said_by reply octets))
+file_replied config ident ReplyNothing left octets none is = none
+file_replied config ident (ADatagram count from to None) left octets none is = absurd is
+file_replied config ident (ADatagram count from to (Some mac)) left octets none is =
+    ap (λ (e : Endpoint). frames_of config ident (answer_of (record { mac = mac.0; from = e; to = to; body = take count octets }) ∷ [])) is.0
+file_replied config ident (ReplyUnreachable code) left octets none is = absurd is
+
+-- what is owed after a reply of the server of files, whose octets stand at the front of a buffer
+pub file_told : (config : Config) (ident : ℕ) (reply : Reply) (left pending : List (List ℕ)) (octets room : List ℕ) → pending ≡ replied_by config ident left reply octets → left ≡ []
+    → IsFromServer config.vhost reply → octets ≡ room → pending ≡ frames_of config ident (told_of_files config (said_by reply room))
+file_told config ident reply left pending octets room is none from whole =
+    is ∙ file_replied config ident reply left octets none from ∙ ap (λ (o : List ℕ). frames_of config ident (told_of_files config (said_by reply o))) whole

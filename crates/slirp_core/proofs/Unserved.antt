@@ -10,7 +10,7 @@ use Rattle.poll_list.specs.declared.Who.{Who}
 use Rattle.poll_list.specs.declared.Who.TheVariants.{Link, Listener, Tcp, Udp}
 use Rattle.world_face.specs.Frames.{tail}
 use Rattle.world_face.specs.Journal.{Entry}
-use Rattle.host_policy.specs.Addresses.{Config}
+use Rattle.slirp_settings.specs.Addresses.{Config}
 use Rattle.flows_follow.proofs.Seats.{differ as slots_differ, same_or_not}
 use Rattle.flows_follow.proofs.Tables.{get_set_other}
 use Rattle.flow_laws.specs.Flow.{is_closed}

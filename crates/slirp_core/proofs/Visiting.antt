@@ -10,8 +10,8 @@ use Rattle.std.specs.Option.{option_and_then}
 use Rattle.world_face.specs.Journal.{Accept, Allowed, AreAllowed, CallAccept, CallClose, Close, Entry}
 use Rattle.world_face.specs.declared.Accepted.{Accepted}
 use Rattle.world_face.specs.declared.Accepted.TheVariants.{From, NotYet as NotYetAccepted, Failed as AcceptFailed}
-use Rattle.host_policy.specs.Addresses.{Config}
-use Rattle.host_policy.specs.declared.Forward.{Forward}
+use Rattle.slirp_settings.specs.Addresses.{Config}
+use Rattle.slirp_settings.specs.declared.Forward.{Forward}
 use Rattle.arp_table.specs.Table.{mac_of as learnt_for}
 use Rattle.flow_laws.specs.Event.{Accepts}
 use Rattle.flow_laws.specs.Flow.{first_number}
@@ -25,8 +25,8 @@ use Rattle.record_flows.specs.Laws.{MayShut, flow_settings}
 use Rattle.record_flows.specs.Lots.{due_for_flows}
 use Rattle.run_laws.specs.Moments.{moment}
 use Rattle.run_laws.specs.Shape.{is_ended, is_over, is_working}
-use Rattle.host_policy.specs.declared.Proto.TheVariants.{Tcp}
-use Rattle.dns_relay.specs.Questions.{numbers as question_numbers, without as question_without}
+use Rattle.slirp_settings.specs.declared.Proto.TheVariants.{Tcp}
+use Rattle.dns_rules.specs.Questions.{numbers as question_numbers, without as question_without}
 use Rattle.run_laws.specs.Sockets.{Flow as OfFlow, Listener as OfListener, is_among, is_association, is_listener, kind_of, next_number, number_for_peer, open_sockets, with_peer, first}
 use Rattle.flows_follow.specs.Peers.{fits_peer}
 use Rattle.flows_follow.proofs.Peers.{room_recorded}
@@ -43,11 +43,11 @@ use Rattle.flows_follow.proofs.Known.{known_was_taught}
 use Rattle.tcp_flows.specs.Kept.{Kept}
 use Rattle.tcp_flows.specs.Runs.{Between, Welcomes}
 use Rattle.slirp_laws.specs.Datagrams.{NeedsNothing}
-use Rattle.udp_assoc.specs.Associations.{numbers, without}
+use Rattle.udp_rules.specs.Associations.{numbers, without}
 use Rattle.slirp_laws.proofs.OpenSockets.{next_is_new}
 use Rattle.slirp_core.proofs.Given.{in_force_with, stays_in_force}
 use Rattle.run_duties.specs.Serving.{is_left_to_read}
-use Rattle.port_forward.specs.Opened.{forward_with}
+use Rattle.forward_rules.specs.Opened.{forward_with}
 use Rattle.slirp_core.specs.Forwards.{IsInForce, given_kind, is_given}
 use Rattle.slirp_core.specs.Visits.{Treats}
 use Rattle.slirp_core.specs.Holds.{Begins, Holds, InTurn, OfFlows, Stands, Turns, flowing, is_ours, standing}

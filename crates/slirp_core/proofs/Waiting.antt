@@ -9,7 +9,7 @@ use Rattle.world_face.specs.Journal.{Entry, Allowed, Now, Wait}
 use Rattle.world_face.specs.declared.Waited.{Waited}
 use Rattle.world_face.specs.declared.Waited.TheVariants.{Ready}
 use Rattle.world_face.specs.Frames.{Ending, wait_ending}
-use Rattle.host_policy.specs.Addresses.{Config}
+use Rattle.slirp_settings.specs.Addresses.{Config}
 use Rattle.run_laws.specs.Moments.{waits}
 use Rattle.run_laws.specs.Shape.{Started, Over, By, phase, phase_after, unless_over, may_turn}
 use Rattle.run_laws.specs.Sockets.{next_number}
@@ -24,7 +24,7 @@ use Rattle.slirp_core.proofs.Guests.{guests_stay}
 use Rattle.slirp_core.proofs.Parts.{errand_for, asked_for, due_in_phase, due_is, two_in}
 use Rattle.slirp_core.proofs.Owing.{owed_told, owed_waited}
 use Rattle.slirp_core.proofs.Services.{none_due_for_services}
-use Rattle.tftp_server.specs.Transfers.{next_again}
+use Rattle.tftp_rules.specs.Transfers.{next_again}
 use Rattle.tcp_flows.specs.Kept.{Kept}
 use Rattle.slirp_core.proofs.Flows.{flows_ask_nothing, flows_paused, flows_stay_open, flows_told}
 use Rattle.slirp_core.proofs.Open.{are_open}

@@ -3,7 +3,7 @@ use Rattle.std.proofs.Common.{◌≡◌, ℕ, ◌≤◌, cond, Bool, true, false
 use Rattle.std.proofs.lemmas.Bool.Decides.{nat_tests}
 use Rattle.world_face.specs.Journal.{Entry, Now}
 use Rattle.world_face.specs.Frames.{arrives}
-use Rattle.host_policy.specs.Addresses.{Config}
+use Rattle.slirp_settings.specs.Addresses.{Config}
 use Rattle.ipv4_head.specs.Sets.{Carrying, Key, Part, PartSet, changed_by, is_young, left_by, outcome_among, parts_for, young}
 use Rattle.ipv4_head.proofs.Members.{of_young}
 use Rattle.ipv4_reasm.specs.Areas.{Gathered, StandFor}

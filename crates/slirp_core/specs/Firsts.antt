@@ -4,11 +4,11 @@ use Rattle.flow_splice.specs.Splice.{Splice}
 use Rattle.run_laws.specs.Sockets.{is_among}
 use Rattle.flows_follow.specs.Core.{number_of}
 use Rattle.tcp_flows.specs.Reading.{IsFirst, IsOpenAt, NoneIsAbove}
-use Rattle.udp_assoc.specs.Associations.{IsLeast, numbers}
-use Rattle.udp_assoc.specs.declared.assocs.Association.{Association}
-use Rattle.dns_relay.specs.Questions.{numbers as question_numbers}
+use Rattle.udp_rules.specs.Associations.{IsLeast, numbers}
+use Rattle.udp_rules.specs.declared.Association.{Association}
+use Rattle.dns_rules.specs.Questions.{numbers as question_numbers}
 use Rattle.dns_relay.specs.Relaying.{IsLeast as IsLeastAsked}
-use Rattle.dns_relay.specs.declared.Question.{Question}
+use Rattle.dns_rules.specs.declared.Question.{Question}
 use Rattle.slirp_core.specs.Numbers.{open_flows}
 use Rattle.slirp_core.specs.State.{SlirpState}
 

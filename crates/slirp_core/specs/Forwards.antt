@@ -4,13 +4,13 @@ use Rattle.std.specs.Option.{option_and_then}
 use Rattle.net_octets.specs.declared.Endpoint.{Endpoint}
 use Rattle.world_face.specs.Journal.{Close, Entry}
 use Rattle.world_face.specs.declared.Made.TheVariants.{Done, Failed}
-use Rattle.host_policy.specs.Addresses.{Config, forward_on}
-use Rattle.host_policy.specs.declared.Forward.{Forward}
-use Rattle.host_policy.specs.Ranges.{same_proto}
-use Rattle.host_policy.specs.declared.Proto.{Proto}
-use Rattle.host_policy.specs.declared.Proto.TheVariants.{Tcp, Udp}
-use Rattle.port_forward.specs.Adding.{opening_of}
-use Rattle.port_forward.specs.Opened.{Opened, forward_with, socket_of}
+use Rattle.slirp_settings.specs.Addresses.{Config, forward_on}
+use Rattle.slirp_settings.specs.declared.Forward.{Forward}
+use Rattle.slirp_settings.specs.Ranges.{same_proto}
+use Rattle.slirp_settings.specs.declared.Proto.{Proto}
+use Rattle.slirp_settings.specs.declared.Proto.TheVariants.{Tcp, Udp}
+use Rattle.forward_rules.specs.Adding.{opening_of}
+use Rattle.forward_rules.specs.Opened.{Opened, forward_with, socket_of}
 use Rattle.run_laws.specs.Sockets.{Kind, Forward as OfForward, Listener, is_among, is_forward, is_listener, kind_of, next_number, open_sockets}
 use Rattle.slirp_laws.specs.Ports.{given_by}
 use Rattle.slirp_core.specs.Sockets.{IsRising}

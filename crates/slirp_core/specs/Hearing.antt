@@ -2,7 +2,7 @@
 use Rattle.std.specs.Prelude.{◌≡◌, ℕ, ◌<◌, ◌||◌, Bool, false, is_some, List, [], ◌∷◌, ◌++◌, if◌then◌else◌}
 use Rattle.world_face.specs.Journal.{Close, Entry, UdpRecv}
 use Rattle.world_face.specs.declared.Got.{Got}
-use Rattle.host_policy.specs.Addresses.{Config}
+use Rattle.slirp_settings.specs.Addresses.{Config}
 use Rattle.stream_netdev.specs.State.{LinkState}
 use Rattle.tcp_flows.specs.Runs.{ClosesRising}
 use Rattle.run_laws.specs.Sockets.{is_among}

@@ -3,12 +3,12 @@ use Rattle.std.specs.Prelude.{◌≡◌, ℕ, ◌<◌, ◌≤◌, ◌||◌, ◌�
 use Rattle.poll_list.specs.declared.Want.{Want}
 use Rattle.world_face.specs.Journal.{Entry, AreAllowed}
 use Rattle.world_face.specs.Frames.{Ending, LinkFailed}
-use Rattle.host_policy.specs.Addresses.{Config}
-use Rattle.host_policy.specs.declared.Forward.{Forward}
-use Rattle.udp_assoc.specs.Associations.{numbers}
-use Rattle.udp_assoc.specs.declared.assocs.Association.{Association as AnAssociation}
-use Rattle.dns_relay.specs.declared.Question.{Question}
-use Rattle.dns_relay.specs.Questions.{numbers as question_numbers}
+use Rattle.slirp_settings.specs.Addresses.{Config}
+use Rattle.slirp_settings.specs.declared.Forward.{Forward}
+use Rattle.udp_rules.specs.Associations.{numbers}
+use Rattle.udp_rules.specs.declared.Association.{Association as AnAssociation}
+use Rattle.dns_rules.specs.declared.Question.{Question}
+use Rattle.dns_rules.specs.Questions.{numbers as question_numbers}
 use Rattle.record_flows.specs.Book.{book}
 use Rattle.record_flows.specs.Laws.{NoneMustClose}
 use Rattle.record_flows.specs.Lots.{due_for_flows, is_reset}
@@ -16,7 +16,7 @@ use Rattle.record_flows.specs.Taught.{taught}
 use Rattle.flow_splice.specs.Splice.{Splice}
 use Rattle.run_laws.specs.Guests.{known}
 use Rattle.run_laws.specs.Moments.{moment, waits}
-use Rattle.port_forward.specs.Opened.{Opened, socket_for}
+use Rattle.forward_rules.specs.Opened.{Opened, socket_for}
 use Rattle.run_laws.specs.Packets.{Datagram}
 use Rattle.slirp_laws.specs.Leasing.{leases}
 use Rattle.run_laws.specs.Shape.{Cause, Refused, Phase, Opening, Started, Working, By, Over, phase, is_ended}
@@ -32,6 +32,7 @@ use Rattle.stream_netdev.specs.Keeps.{Keeps}
 use Rattle.stream_netdev.specs.State.{LinkState}
 use Rattle.slirp_core.specs.Forwards.{AreInForce, forward_sockets, is_given, with_numbers}
 use Rattle.slirp_core.specs.Owed.{IsOwedAt}
+use Rattle.slirp_core.specs.Packets.{Request, ToSend, ToServe}
 use Rattle.slirp_core.specs.Segments.{Coming}
 use Rattle.slirp_core.specs.Services.{OfServices}
 use Rattle.slirp_core.specs.Sockets.{IsRising}
@@ -243,6 +244,19 @@ pub record AsksFile (config : Config) (at : Standing) (slirp : SlirpState) (kept
   pub turn : InTurn config past
   pub agenda : IsLast (all_wanted at.wants at.left) (agenda past)
   pub open_yet : is_closing config past ≡ false
+
+-- ---- what came asks for
+
+-- What a datagram asks for is still to be done: it goes out, or is served. Where it asks for nothing all is as it must be.
+abbrev pub RequestLeft : Config → Standing → SlirpState → LinkState → Option Request → List Entry → Type 0
+RequestLeft config at slirp link None past = Holds config at slirp (flowing false slirp.flows) link past
+RequestLeft config at slirp link (Some (ToSend errand)) past = HoldsAt config at (asked_by config slirp (Some errand)) slirp (flowing false slirp.flows) link past
+RequestLeft config at slirp link (Some (ToServe d)) past = AsksFile config at slirp slirp.flows link d past
+
+-- the same where a segment may have come, which is still to be heard
+abbrev pub WorkLeft : Config → Standing → SlirpState → LinkState → Option Request → Option Coming → List Entry → Type 0
+WorkLeft config at slirp link request None past = RequestLeft config at slirp link request past
+WorkLeft config at slirp link request (Some segment) past = Comes config at slirp slirp.flows link segment past
 
 -- ---- the end
 

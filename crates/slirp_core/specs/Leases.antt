@@ -1,6 +1,6 @@
 -- What the core makes of datagrams for its server of leases.
 use Rattle.std.specs.Prelude.{}
-use Rattle.dhcp_server.specs.Serving.{leases_after}
+use Rattle.dhcp_rules.specs.Serving.{leases_after}
 use Rattle.run_laws.specs.Packets.{Datagram}
 use Rattle.slirp_laws.specs.Answers.{answers_of, frames_of}
 use Rattle.slirp_laws.specs.Datagrams.{fate}

@@ -1,6 +1,6 @@
 -- The flows of a run that are in use, one after another by rising number.
 use Rattle.std.specs.Prelude.{◌≡◌, ℕ, ◌≤◌, true, List, Option, Some, None}
-use Rattle.flow_table.specs.declared.Tuple.{Tuple}
+use Rattle.record_flows.specs.declared.Tuple.{Tuple}
 use Rattle.flow_laws.specs.Close.{is_in_use}
 use Rattle.record_flows.specs.Flows.{Flow, flow_of, uses}
 use Rattle.tcp_flows.specs.Reading.{IsAbove}

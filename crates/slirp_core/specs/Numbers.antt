@@ -1,6 +1,6 @@
 -- The numbers of flows, and what the settings say of flows.
 use Rattle.std.specs.Prelude.{◌≡◌, ℕ, ◌+◌, ◌<◌, ◌≤◌, List, [], ◌∷◌, length, replicate, slice_get, Option, Some, None, if◌then◌else◌}
-use Rattle.host_policy.specs.Addresses.{Config}
+use Rattle.slirp_settings.specs.Addresses.{Config}
 use Rattle.flow_table.specs.Slots.{all_free}
 use Rattle.flow_splice.specs.Splice.{Splice, is_open}
 use Rattle.flows_follow.specs.Core.{number_of}

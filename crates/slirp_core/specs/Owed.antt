@@ -1,8 +1,8 @@
 -- Which frames are pending, and which transfers of files are kept, by the record.
 use Rattle.std.specs.Prelude.{◌≡◌, ℕ, ◌<◌, ◌⊎◌, not, Bool, true, false, is_some, List, [], length, Some, None}
 use Rattle.world_face.specs.Journal.{Entry}
-use Rattle.host_policy.specs.Addresses.{Config}
-use Rattle.tftp_server.specs.Transfers.{Said, Transfer, ticked}
+use Rattle.slirp_settings.specs.Addresses.{Config}
+use Rattle.tftp_rules.specs.Transfers.{Said, Transfer, ticked}
 use Rattle.slirp_laws.specs.Answers.{frames_of, identification, left, may_go_again, serving, told_of_files}
 use Rattle.slirp_laws.specs.Datagrams.{Step, NeedsNothing}
 use Rattle.slirp_core.specs.State.{SlirpState}

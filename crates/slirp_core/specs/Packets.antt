@@ -3,16 +3,16 @@ use Rattle.std.specs.Prelude.{ℕ, ◌==◌, ◌&&◌, Bool, true, false, List, 
 use Rattle.net_octets.specs.Kinds.{arp_kind, ipv4_kind, icmp_proto, tcp_proto, udp_proto}
 use Rattle.net_octets.specs.declared.Ip4.{Ip4}
 use Rattle.net_octets.specs.declared.Mac.{Mac}
-use Rattle.host_policy.specs.Addresses.{Config, is_guest, is_ours}
+use Rattle.slirp_settings.specs.Addresses.{Config, is_guest, is_ours}
 use Rattle.ether_frame.specs.Ether.{Ether, read_ether}
 use Rattle.arp_table.specs.Table.{learnt}
 use Rattle.ipv4_head.specs.Ip.{Ip, read_ip}
 use Rattle.ipv4_head.specs.Sets.{PartSet}
 use Rattle.icmp_echo.specs.Icmp.{read_icmp}
-use Rattle.udp_assoc.specs.Udp.{read_udp}
+use Rattle.udp_datagram.specs.Udp.{read_udp}
 use Rattle.run_laws.specs.Fragments.{arrived}
 use Rattle.run_laws.specs.Packets.{Packet, Unheard, ArpPacket, Message, DatagramPacket, Segment, Datagram, datagram_of, may_come}
-use Rattle.dhcp_server.specs.declared.leases.Lease.{Lease}
+use Rattle.dhcp_rules.specs.declared.Lease.{Lease}
 use Rattle.slirp_laws.specs.Datagrams.{Errand, Fate, Ignored, Refused, ForLeases, ForFiles, GoesTo, fate}
 use Rattle.slirp_laws.specs.Leasing.{leases_by_fate}
 use Rattle.arp_table.specs.declared.ArpView.{ArpView}

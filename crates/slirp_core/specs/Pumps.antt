@@ -5,11 +5,11 @@ use Rattle.poll_list.specs.Listing.{names}
 use Rattle.poll_list.specs.declared.Want.{Want}
 use Rattle.poll_list.specs.declared.Who.TheVariants.{Tcp}
 use Rattle.stream_netdev.specs.State.{LinkState}
-use Rattle.udp_assoc.specs.Associations.{idle_life}
-use Rattle.udp_assoc.specs.declared.assocs.Association.{Association}
-use Rattle.dns_relay.specs.Questions.{question_life}
-use Rattle.dns_relay.specs.declared.Question.{Question}
-use Rattle.host_policy.specs.declared.Proto.TheVariants.{Tcp as OverTcp, Udp as OverUdp}
+use Rattle.udp_rules.specs.Associations.{idle_life}
+use Rattle.udp_rules.specs.declared.Association.{Association}
+use Rattle.dns_rules.specs.Questions.{question_life}
+use Rattle.dns_rules.specs.declared.Question.{Question}
+use Rattle.slirp_settings.specs.declared.Proto.TheVariants.{Tcp as OverTcp, Udp as OverUdp}
 use Rattle.stream_netdev.specs.declared.Offered.{Offered}
 use Rattle.stream_netdev.specs.declared.Offered.TheVariants.{Taken, Blocked as OfferBlocked, Failed as OfferFailed}
 use Rattle.flows_follow.specs.Peers.{fits_peer}

@@ -3,9 +3,10 @@ use Rattle.std.specs.Prelude.{ℕ, List, [], ◌∷◌, take, Option, Some, None
 use Rattle.net_octets.specs.declared.Endpoint.{Endpoint}
 use Rattle.net_octets.specs.declared.Mac.{Mac}
 use Rattle.arp_table.specs.Table.{mac_of as learnt_for}
+use Rattle.slirp_settings.specs.Addresses.{Config}
 use Rattle.dns_relay.specs.Relaying.{Asked}
-use Rattle.host_policy.specs.declared.Reply.{Reply}
-use Rattle.host_policy.specs.declared.Reply.TheVariants.{Nothing, Datagram as ADatagram, Unreachable}
+use Rattle.udp_rules.specs.declared.Reply.{Reply}
+use Rattle.udp_rules.specs.declared.Reply.TheVariants.{Nothing, Datagram as ADatagram, Unreachable}
 use Rattle.udp_assoc.specs.Relays.{Outbound}
 use Rattle.run_laws.specs.Packets.{Datagram}
 use Rattle.slirp_laws.specs.Answers.{answer_of, asks_for, frames_of, told_about, reply_at}
@@ -40,9 +41,13 @@ owed_by slirp octets Nothing = slirp.pending
 owed_by slirp octets (ADatagram count peer guest mac) = owed_at slirp peer (take count octets) guest (or_learnt slirp guest mac)
 owed_by slirp octets (Unreachable code) = slirp.pending
 
--- the answer to a question goes out as it is
+-- the datagram of a reply goes out as it is, with this identification; where there is none what was left stays
+abbrev pub replied_by : Config → ℕ → List (List ℕ) → Reply → List ℕ → List (List ℕ)
+replied_by config ident left Nothing octets = left
+replied_by config ident left (ADatagram count from guest (Some mac)) octets = frames_of config ident (answer_of (record { mac = mac.0; from = from; to = guest; body = take count octets }) ∷ [])
+replied_by config ident left (ADatagram count from guest None) octets = left
+replied_by config ident left (Unreachable code) octets = left
+
+-- so does the answer to a question
 abbrev pub answered_by : SlirpState → List ℕ → Reply → List (List ℕ)
-answered_by slirp octets Nothing = slirp.pending
-answered_by slirp octets (ADatagram count from guest (Some mac)) = frames_of slirp.config slirp.sent (answer_of (record { mac = mac.0; from = from; to = guest; body = take count octets }) ∷ [])
-answered_by slirp octets (ADatagram count from guest None) = slirp.pending
-answered_by slirp octets (Unreachable code) = slirp.pending
+answered_by slirp octets reply = replied_by slirp.config slirp.sent slirp.pending reply octets

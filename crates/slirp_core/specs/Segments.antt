@@ -1,8 +1,8 @@
 -- Segments of TCP as the core has them.
-use Rattle.std.specs.Prelude.{ℕ, ◌≤◌, ◌==◌, List, length, Option, Some, None, option_map, if◌then◌else◌}
+use Rattle.std.specs.Prelude.{ℕ, ◌==◌, List, Option, Some, None, option_map, if◌then◌else◌}
 use Rattle.std.specs.Option.{option_and_then}
 use Rattle.net_octets.specs.Kinds.{ipv4_kind}
-use Rattle.host_policy.specs.Addresses.{Config}
+use Rattle.slirp_settings.specs.Addresses.{Config}
 use Rattle.ether_frame.specs.Ether.{Ether, read_ether}
 use Rattle.ipv4_head.specs.Ip.{Ip, read_ip}
 use Rattle.ipv4_head.specs.Sets.{PartSet}
@@ -11,13 +11,10 @@ use Rattle.record_flows.specs.Lots.{Lot, Dropped, AsksFor, GetsReset, NeedsRoom}
 use Rattle.record_flows.specs.Segments.{OnTuple, from_guest, segment_of}
 use Rattle.run_laws.specs.Fragments.{arrived}
 use Rattle.run_laws.specs.Packets.{Packet, Segment}
-use Rattle.slirp_core.specs.Datagrams.{FitsErrand, datagram_of, errand_of}
-use Rattle.slirp_core.specs.Packets.{Request, ToSend, ToServe, is_segment}
+use Rattle.slirp_core.specs.Packets.{is_segment}
 use Rattle.slirp_core.specs.declared.tcp.SegmentView.{SegmentView}
 use Rattle.slirp_core.specs.declared.tcp.StrayLot.{StrayLot}
 use Rattle.slirp_core.specs.declared.tcp.StrayLot.TheVariants.{Dropped as SeenDropped, Reset, Connects, Crowded}
-use Rattle.slirp_core.specs.declared.tcp.Task.{Task}
-use Rattle.slirp_core.specs.declared.tcp.Task.TheVariants.{Errand as AnErrand, File as AFile, Segment as ASegment}
 
 -- a guest's segment: between which ends it goes, from which hardware address its frame came, and what it holds
 pub record Coming : Type 0 where
@@ -47,22 +44,6 @@ segment_of_ether config now waiting ether = if ether.kind == ipv4_kind then opti
 
 abbrev pub segment_in : Config → ℕ → List PartSet → List ℕ → Option Coming
 segment_in config now waiting frame = option_and_then (segment_of_ether config now waiting) (read_ether frame)
-
--- what a frame asks for beyond its answers: that a datagram goes out or is served, or that a segment is heard
-abbrev pub request_for : Task → Option Request
-request_for (AnErrand d to) = Some (ToSend (errand_of d to))
-request_for (AFile d) = Some (ToServe (datagram_of d))
-request_for (ASegment s) = None
-
-abbrev pub segment_for : Task → Option Coming
-segment_for (AnErrand d to) = None
-segment_for (AFile d) = None
-segment_for (ASegment s) = Some (coming_of s)
-
-abbrev pub FitsTask : Config → Task → Type 0
-FitsTask config (AnErrand d to) = FitsErrand config d to
-FitsTask config (AFile d) = Unit {0}
-FitsTask config (ASegment s) = length s.segment.body.now ≤ 65515
 
 -- what becomes of a segment without a flow
 abbrev pub lot_of : StrayLot → Lot

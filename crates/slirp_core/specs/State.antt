@@ -2,13 +2,13 @@
 use Rattle.std.specs.Prelude.{ℕ, List, None}
 use Rattle.net_octets.specs.declared.Ip4.{Ip4}
 use Rattle.net_octets.specs.declared.Mac.{Mac}
-use Rattle.host_policy.specs.Addresses.{Config}
-use Rattle.dhcp_server.specs.declared.leases.Lease.{Lease}
-use Rattle.dns_relay.specs.declared.Question.{Question}
-use Rattle.udp_assoc.specs.declared.assocs.Association.{Association}
+use Rattle.slirp_settings.specs.Addresses.{Config}
+use Rattle.dhcp_rules.specs.declared.Lease.{Lease}
+use Rattle.dns_rules.specs.declared.Question.{Question}
+use Rattle.udp_rules.specs.declared.Association.{Association}
 use Rattle.ipv4_reasm.specs.Areas.{Gathered}
-use Rattle.port_forward.specs.Opened.{Opened}
-use Rattle.tftp_server.specs.Transfers.{Transfer, settled}
+use Rattle.forward_rules.specs.Opened.{Opened}
+use Rattle.tftp_rules.specs.Transfers.{Transfer, settled}
 use Rattle.slirp_laws.specs.Answers.{Serving}
 use Rattle.tcp_flows.specs.Kept.{Kept}
 

@@ -1,11 +1,11 @@
 -- How long a wait may last.
 use Rattle.std.specs.Prelude.{◌≡◌, ℕ, ◌-◌, ◌<◌, ◌≤◌, ◌&&◌, ◌⊎◌, nat_le, Bool, true, false, List, [], Option, Some, None, option_map}
 use Rattle.world_face.specs.Journal.{Entry}
-use Rattle.host_policy.specs.Addresses.{Config}
+use Rattle.slirp_settings.specs.Addresses.{Config}
 use Rattle.ipv4_head.specs.Sets.{PartSet}
 use Rattle.ipv4_reasm.specs.Answers.{IsFirstDue}
 use Rattle.flow_laws.specs.Dutiful.{AreAhead, close_deadline, resend_deadline}
-use Rattle.halves_follow.specs.Bounds.{IsBy}
+use Rattle.flow_laws.specs.Bounds.{IsBy}
 use Rattle.record_flows.specs.Book.{book}
 use Rattle.flow_splice.specs.Splice.{Splice}
 use Rattle.run_duties.specs.Times.{of_flows, rest_ends}
@@ -18,7 +18,7 @@ use Rattle.slirp_core.specs.Pumps.{question_left, time_left}
 use Rattle.slirp_core.specs.State.{SlirpState}
 use Rattle.world_face.specs.Moments.{sooner}
 use Rattle.tftp_server.specs.Serving.{IsNextDue}
-use Rattle.tftp_server.specs.Transfers.{Transfer}
+use Rattle.tftp_rules.specs.Transfers.{Transfer}
 
 -- what is left until the first of these sets is 60,000 ms old
 abbrev pub IsPartTime : ℕ → List PartSet → Option ℕ → Type 0

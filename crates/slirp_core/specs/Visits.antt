@@ -5,10 +5,10 @@ use Rattle.net_octets.specs.declared.Endpoint.{Endpoint}
 use Rattle.arp_table.specs.Table.{mac_of as learnt_for}
 use Rattle.world_face.specs.Journal.{Accept, Close, Entry}
 use Rattle.world_face.specs.declared.Accepted.{Accepted}
-use Rattle.host_policy.specs.declared.Proto.TheVariants.{Tcp}
-use Rattle.host_policy.specs.declared.Forward.{Forward}
-use Rattle.host_policy.specs.Ranges.{same_proto}
-use Rattle.port_forward.specs.Opened.{forward_with}
+use Rattle.slirp_settings.specs.declared.Proto.TheVariants.{Tcp}
+use Rattle.slirp_settings.specs.declared.Forward.{Forward}
+use Rattle.slirp_settings.specs.Ranges.{same_proto}
+use Rattle.forward_rules.specs.Opened.{forward_with}
 use Rattle.flows_follow.specs.Peers.{fits_peer}
 use Rattle.record_flows.specs.Book.{tuple_for}
 use Rattle.tcp_flows.specs.Runs.{Welcomes}

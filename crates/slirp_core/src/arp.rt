@@ -6,21 +6,16 @@ ghost use Rattle.slirp_laws.specs.Answers.{owed_for_arp};
 ghost use Rattle.slirp_core.specs.Packets.{packets_of};
 
 use crate::network::Slirp;
-use arp_table::ArpView;
+use arp_table::{ArpView, EVERYONE, asking};
 use host_policy::Policy;
 use net_octets::{Ip4, Mac};
-
-/// To which hardware address all listen (RFC 894).
-const EVERYONE: Mac = Mac([255; 6]);
-
-/// The hardware address that isn't known yet (RFC 826).
-const NOBODY: Mac = Mac([0; 6]);
 
 impl Slirp {
     ghost use Rattle.arp_table.specs.Arp.{read_arp};
     ghost use Rattle.slirp_core.specs.Packets.{with_arp};
     ghost use Rattle.std.specs.Prelude.{◌∷◌};
-    ghost use Rattle.slirp_laws.specs.Answers.{ArpAnswer, everyone, frames_of, request};
+    ghost use Rattle.slirp_laws.specs.Answers.{ArpAnswer, frames_of, request};
+    ghost use Rattle.arp_table.specs.Arp.{everyone};
     ghost use Rattle.slirp_core.specs.Packets.{owed_for};
 
     // Takes in an ARP packet.
@@ -44,14 +39,7 @@ impl Slirp {
     pub(crate) fn ask_for(&mut self, guest: Ip4)
         ensures { self.new ≡ record self.old { pending = frames_of self.old.config self.old.sent (ArpAnswer everyone (request self.old.config guest.0) ∷ []) } }
     {
-        let vhost = self.policy.vhost();
-        let request = ArpView {
-            reply: false,
-            sender_mac: Mac::of_ours(vhost),
-            sender_ip: vhost,
-            target_mac: NOBODY,
-            target_ip: guest,
-        };
+        let request = asking(self.policy.vhost(), guest);
         self.outgoing.put_arp(EVERYONE, &request);
     }
 }

@@ -1,24 +1,19 @@
 // The UDP datagrams of guests, and what becomes of them.
 ghost use Rattle.std.specs.Prelude.{◌≡◌, ◌≤◌, ◌||◌, ◌==◌, ◌&&◌, length, IfSome};
 ghost use Rattle.std.specs.Option.{option_map};
-ghost use Rattle.host_policy.specs.Addresses.{is_guest};
+ghost use Rattle.slirp_settings.specs.Addresses.{is_guest};
 ghost use Rattle.ipv4_head.specs.Ip.{ip_of};
 ghost use Rattle.slirp_core.specs.Packets.{udp_of};
 ghost use Rattle.run_laws.specs.Packets.{quoted};
-ghost use Rattle.slirp_laws.specs.Datagrams.{fate, fate_by};
-ghost use Rattle.slirp_core.specs.Datagrams.{Lies, datagram_of, fate_of};
+ghost use Rattle.slirp_core.specs.Datagrams.{Lies, datagram_of};
 ghost use Rattle.world_face.specs.Limits.{most_to_udp};
+ghost use Rattle.slirp_settings.specs.Ports.{leases_port};
 
 use dns_relay::is_question;
-use host_policy::{Policy, Proto, Verdict};
+use host_policy::{Policy, Verdict};
 use ipv4_head::IpView;
 use net_octets::{Endpoint, Ip4, Mac, UDP_PROTO};
-
-/// To where a client without an address sends (RFC 2131, 4.1).
-const DHCP_PORT: u16 = 67;
-
-/// Where files are asked for (RFC 1350).
-const TFTP_PORT: u16 = 69;
+use slirp_settings::{FILES_PORT, LEASES_PORT, Proto};
 
 /// The address of all hosts (RFC 919).
 const ALL_HOSTS: Ip4 = Ip4(0xffff_ffff);
@@ -36,17 +31,21 @@ pub struct DatagramView<'a> {
     pub quote: &'a [u8],
 }
 
-/// What becomes of a datagram.
+/// What becomes of a datagram of a guest.
 #[derive(Clone, Copy)]
-pub enum Outcome {
+pub enum Fate {
+    /// Nothing.
     Ignored,
     /// The guest is told that it may go nowhere.
     Refused,
-    /// It is a message for the server of leases.
-    ForLeases,
-    /// It is a packet for the server of files.
-    ForFiles,
-    GoesTo(Endpoint),
+    /// It is a message to the server of leases.
+    Leases,
+    /// It is a packet to the server of files.
+    Files,
+    /// It is a question to the name server, and goes to this resolver.
+    Question(Endpoint),
+    /// It goes out, to this endpoint.
+    Out(Endpoint),
 }
 
 /// The datagram of UDP that a whole packet of a guest carries. `octets` are those of the packet: its header, its body and what else may follow.
@@ -64,7 +63,7 @@ pub fn datagram_in<'a>(
     if packet.proto != UDP_PROTO {
         return None;
     }
-    let Ok(udp) = udp_assoc::decode(packet.body, packet.from, packet.to) else {
+    let Ok(udp) = udp_datagram::decode(packet.body, packet.from, packet.to) else {
         return None;
     };
     if !may_come(policy, packet.from, udp.to_port) {
@@ -96,44 +95,52 @@ fn quote<'a>(octets: &'a [u8], packet: &IpView<'a>) -> &'a [u8]
 
 // Whether the source of a datagram to this port is a guest, or one without an address that asks for it.
 fn may_come(policy: &Policy, from: Ip4, to_port: u16) -> bool
-    ensures { result ≡ (is_guest policy.now from.0 || ((from.0 == 0) && (to_port == 67))) }
+    ensures { result ≡ (is_guest policy.now from.0 || ((from.0 == 0) && (to_port == leases_port))) }
 {
-    policy.is_guest(from) || from == Ip4(0) && to_port == DHCP_PORT
+    policy.is_guest(from) || from == Ip4(0) && to_port == LEASES_PORT
 }
 
-/// What becomes of a datagram: nothing of one from port 0, nor of one to the server of leases where it isn't wanted; nor of one to the name server that is no question.
-pub fn fate(policy: &Policy, datagram: &DatagramView<'_>) -> Outcome
-    ensures { fate_of result ≡ fate policy.now (datagram_of datagram.now) }
-{
-    let to = datagram.to;
-    let ours = to.addr == policy.vhost();
-    if datagram.from.port == 0 {
-        Outcome::Ignored
-    } else if to.port == DHCP_PORT && (ours || to.addr == ALL_HOSTS) {
-        if policy.lends_addresses() {
-            Outcome::ForLeases
-        } else {
-            Outcome::Ignored
-        }
-    } else if to.port == TFTP_PORT && ours {
-        Outcome::ForFiles
-    } else {
-        fate_by(policy, datagram, policy.target(Proto::Udp, to))
-    }
-}
+impl Fate {
+    ghost use Rattle.slirp_laws.specs.Datagrams.{fate, fate_by};
+    ghost use Rattle.slirp_core.specs.Datagrams.{IsNamed, fate_of};
 
-// What becomes of one that no server of ours takes: to the name server go questions alone.
-fn fate_by(policy: &Policy, datagram: &DatagramView<'_>, verdict: Verdict) -> Outcome
-    ensures { fate_of result ≡ fate_by policy.now (datagram_of datagram.now) verdict }
-{
-    match verdict {
-        Verdict::Go(to) => {
-            if policy.is_name_server(datagram.to.addr) && !is_question(datagram.body) {
-                Outcome::Ignored
+    /// What becomes of a datagram: nothing of one from port 0, nor of one to the server of leases where it isn't wanted; nor of one to the name server that is
+    /// no question.
+    pub fn of(policy: &Policy, datagram: &DatagramView<'_>) -> Fate
+        ensures fate { fate_of result ≡ fate policy.now (datagram_of datagram.now) }
+        ensures named { IsNamed policy.now datagram.now result }
+    {
+        let to = datagram.to;
+        let ours = to.addr == policy.vhost();
+        if datagram.from.port == 0 {
+            Fate::Ignored
+        } else if to.port == LEASES_PORT && (ours || to.addr == ALL_HOSTS) {
+            if policy.lends_addresses() {
+                Fate::Leases
             } else {
-                Outcome::GoesTo(to)
+                Fate::Ignored
             }
+        } else if to.port == FILES_PORT && ours {
+            Fate::Files
+        } else {
+            Fate::by(policy, datagram, policy.target(Proto::Udp, to))
         }
-        Verdict::Denied(_) => Outcome::Refused,
+    }
+
+    // What becomes of one that no server of ours takes: to the name server go questions alone.
+    fn by(policy: &Policy, datagram: &DatagramView<'_>, verdict: Verdict) -> Fate
+        ensures fate { fate_of result ≡ fate_by policy.now (datagram_of datagram.now) verdict }
+        ensures named { IsNamed policy.now datagram.now result }
+    {
+        let Verdict::Go(to) = verdict else {
+            return Fate::Refused;
+        };
+        if !policy.is_name_server(datagram.to.addr) {
+            Fate::Out(to)
+        } else if is_question(datagram.body) {
+            Fate::Question(to)
+        } else {
+            Fate::Ignored
+        }
     }
 }

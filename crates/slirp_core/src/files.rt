@@ -1,24 +1,18 @@
 // The files that guests get: a packet of a guest is served, and one that isn't acknowledged goes again (RFC 1350, 2).
-ghost use Rattle.std.specs.Prelude.{[], ◌≡◌, ◌≤◌, ◌<◌, ◌^◌, ℕ, List, None, length, true, false};
-ghost use Rattle.slirp_laws.specs.Answers.{frames_of, told_of_files};
-ghost use Rattle.tftp_server.specs.Serving.{IsFromServer, said_by};
+ghost use Rattle.std.specs.Prelude.{[], ◌≡◌, ◌<◌, List, None, true, false};
 
 use crate::datagrams::DatagramView;
 use crate::network::Slirp;
-use crate::sending::course;
-use host_policy::{Policy, Reply};
-use owed_frames::Outgoing;
-use udp_assoc::UdpView;
+use crate::sending::put_reply;
 use world_face::World;
 
 impl Slirp {
-    ghost use Rattle.host_policy.specs.Addresses.{Config};
+    ghost use Rattle.slirp_settings.specs.Addresses.{Config};
     ghost use Rattle.stream_netdev.specs.State.{LinkState};
-    ghost use Rattle.tftp_server.specs.Transfers.{next_again};
-    ghost use Rattle.tftp_server.proofs.Turning.{due_count};
+    ghost use Rattle.tftp_rules.specs.Transfers.{next_again};
+    ghost use Rattle.tftp_rules.proofs.Turning.{due_count};
     ghost use Rattle.world_face.specs.Journal.{Entry};
     ghost use Rattle.world_face.specs.Tells.{Brings, Makes};
-    ghost use Rattle.slirp_core.specs.Counts.{AreGrown};
     ghost use Rattle.slirp_core.specs.Datagrams.{datagram_of};
     ghost use Rattle.slirp_core.specs.Files.{ServesFile};
     ghost use Rattle.slirp_core.specs.Holds.{AsksFile, Holds, Standing, flowing};
@@ -31,7 +25,6 @@ impl Slirp {
             (AsksFile config at self.old self.old.flows link (datagram_of datagram.now)) (Holds config at self.new (flowing false self.new.flows) link) }
         // The calls are those that the packet asks for, and what comes of it is kept and told.
         ensures serves { Makes (W.tells world.old) (W.tells world.new) (ServesFile self.old (datagram_of datagram.now) self.new) }
-        ensures counts { AreGrown (W.tells world.old).faults (W.tells world.new).faults }
         ensures others { self.new ≡ record self.old { pending = self.new.pending; transfers = self.new.transfers } }
     {
         let reply = self.files.packet(
@@ -42,7 +35,7 @@ impl Slirp {
             datagram.body,
             &mut self.message,
         );
-        put_packet(
+        put_reply(
             &self.policy,
             self.sent,
             reply,
@@ -68,7 +61,7 @@ impl Slirp {
             return false;
         }
         let reply = self.files.next_again(self.moment, &mut self.message);
-        put_packet(
+        put_reply(
             &self.policy,
             self.sent,
             reply,
@@ -76,29 +69,5 @@ impl Slirp {
             &mut self.outgoing,
         );
         self.pending()
-    }
-}
-
-// What the server of files says, whose octets stand at the front of these, is owed from now on.
-fn put_packet(policy: &Policy, ident: u16, reply: Reply, octets: &[u8], outgoing: &mut Outgoing)
-    requires none { outgoing.old ≡ [] }
-    requires from { IsFromServer policy.now.vhost reply }
-    requires room { 1472 ≤ length octets.now }
-    ensures { outgoing.new ≡ frames_of policy.now ident (told_of_files policy.now (said_by reply octets.now)) }
-{
-    if let Reply::Datagram {
-        length,
-        from,
-        to,
-        mac: Some(mac),
-    } = reply
-    {
-        let course = course(policy, ident, mac, from.addr, to.addr);
-        let datagram = UdpView {
-            from_port: from.port,
-            to_port: to.port,
-            body: &octets[..length],
-        };
-        outgoing.put_udp(&course, &datagram);
     }
 }

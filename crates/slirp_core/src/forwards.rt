@@ -1,19 +1,20 @@
 // Ports of the host that are given to guests: they are opened before all else or while a run goes on, and closed at the end or before it.
 ghost use Rattle.std.specs.Prelude.{[], ◌≡◌, ◌≢◌, ◌<◌, ◌≤◌, ◌+◌, ◌^◌, ℕ, length, map, slice_get, OnSome, IfSome, Some, None};
 ghost use Rattle.std.specs.Result.{result_err};
-ghost use Rattle.port_forward.specs.declared.FwdFault.TheVariants.{Refused};
+ghost use Rattle.forward_rules.specs.declared.FwdFault.TheVariants.{Refused};
 ghost use Rattle.slirp_core.specs.Added.{number_after};
 
 use crate::network::Slirp;
-use flow_table::Tuple;
-use host_policy::{Forward, Proto};
+use forward_rules::FwdFault;
 use net_octets::Endpoint;
-use port_forward::{FwdFault, NotThere};
+use port_forward::NotThere;
+use record_flows::Tuple;
+use slirp_settings::{Forward, Proto};
 use world_face::{Accepted, World};
 
 impl Slirp {
-    ghost use Rattle.host_policy.specs.Addresses.{Config};
-    ghost use Rattle.host_policy.specs.Ranges.{IsSound};
+    ghost use Rattle.slirp_settings.specs.Addresses.{Config};
+    ghost use Rattle.slirp_settings.specs.Ranges.{IsSound};
     ghost use Rattle.slirp_core.specs.Forwards.{ClosesForward};
     ghost use Rattle.slirp_core.specs.Holds.{AfterListening, Opens};
     ghost use Rattle.stream_netdev.specs.State.{LinkState};
@@ -26,8 +27,8 @@ impl Slirp {
     ghost use Rattle.slirp_core.specs.Forwards.{Listens};
     ghost use Rattle.slirp_core.specs.Holds.{Holds, after, as_given, flowing, standing};
     ghost use Rattle.slirp_core.specs.Marks.{KeepsMarks};
-    ghost use Rattle.port_forward.specs.Adding.{Adds, fault_of};
-    ghost use Rattle.port_forward.specs.Opened.{socket_at, without};
+    ghost use Rattle.forward_rules.specs.Adding.{Adds, fault_of};
+    ghost use Rattle.forward_rules.specs.Opened.{socket_at, without};
     ghost use Rattle.slirp_core.specs.Added.{MayAdd, MayRemove, closed_at};
     ghost use Rattle.std.specs.Result.{is_ok};
     ghost use Rattle.flows_follow.specs.Seats.{in_use_slots};

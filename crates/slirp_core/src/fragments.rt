@@ -7,19 +7,16 @@ ghost use Rattle.slirp_core.specs.Fragments.{FitsAssembled, IsHeld, Took, assemb
 ghost use Rattle.net_octets.specs.Sizes.{most_carried};
 
 use crate::network::Slirp;
-use crate::tcp::Task;
 use ipv4_head::IpView;
 use ipv4_reasm::{Added, Reasm};
-use net_octets::{Ip4, Mac};
+use net_octets::Ip4;
 
 /// The most octets of a joined datagram: a header of 60 and a body of 65,515.
 pub const LONGEST_ASSEMBLED: usize = 65_575;
 
-/// A datagram that was joined: the hardware address of the frame by which it was whole, its fields, and how many octets its header and its body have, which
-/// stand in this order at the front of a buffer.
+/// A datagram that was joined: its fields, and how many octets its header and its body have, which stand in this order at the front of a buffer.
 #[derive(Clone, Copy)]
 pub struct Assembled {
-    pub mac: Mac,
     pub ident: u16,
     pub ttl: u8,
     pub proto: u8,
@@ -29,32 +26,16 @@ pub struct Assembled {
     pub body: usize,
 }
 
-/// What a frame brought.
-#[derive(Clone, Copy)]
-pub enum Brought<'a> {
-    /// Nothing that is still to be done.
-    Nothing,
-    /// A datagram that goes out, or a segment that is to be heard.
-    Task(Task<'a>),
-    /// The part by which a datagram is whole; it is still to be taken in.
-    Datagram(Assembled),
-}
-
 impl Slirp {
     ghost use Rattle.slirp_core.specs.Fragments.{Gathers};
 
     // Takes in a part of a datagram, which counts where its source is a guest, and answers the datagram that it makes whole, which then stands in the buffer.
-    pub(crate) fn gather(
-        &mut self,
-        mac: Mac,
-        part: &IpView<'_>,
-        room: &mut [u8],
-    ) -> Option<Assembled>
+    pub(crate) fn gather(&mut self, part: &IpView<'_>, room: &mut [u8]) -> Option<Assembled>
         requires room { length room.old ≡ 65575 }
         requires head { 20 ≤ length part.now.head.now }
         requires short { length part.now.head.now ≤ 60 }
         ensures gathers { (held : List PartSet) → IsHeld self.old.fragments held
-            → Gathers self.old held mac.0 (ip_of part.now) (part_of part.now) self.new.fragments result room.new }
+            → Gathers self.old held (ip_of part.now) (part_of part.now) self.new.fragments result room.new }
         ensures fits { IfSome result FitsAssembled }
         ensures same { self.new ≡ record self.old { fragments = self.new.fragments } }
         ensures room { length room.new ≡ 65575 }
@@ -62,29 +43,23 @@ impl Slirp {
         if !self.policy.is_guest(part.from) {
             return None;
         }
-        take_part(&mut self.reasm, self.moment, mac, part, room)
+        take_part(&mut self.reasm, self.moment, part, room)
     }
 }
 
 // Puts a part to those of its datagram. Where that is whole now it is copied to the front of the buffer, and its area is free.
-fn take_part(
-    reasm: &mut Reasm,
-    now: u64,
-    mac: Mac,
-    part: &IpView<'_>,
-    room: &mut [u8],
-) -> Option<Assembled>
+fn take_part(reasm: &mut Reasm, now: u64, part: &IpView<'_>, room: &mut [u8]) -> Option<Assembled>
     requires moment { now ≤ 2 ^ 62 }
     requires head { 20 ≤ length part.now.head.now }
     requires short { length part.now.head.now ≤ 60 }
     requires room { length room.old ≡ 65575 }
-    ensures took { (held : List PartSet) → IsHeld reasm.old held → Took now mac.0 (key_of part.now) (part_of part.now) held reasm.new result room.new }
+    ensures took { (held : List PartSet) → IsHeld reasm.old held → Took now (key_of part.now) (part_of part.now) held reasm.new result room.new }
     ensures fits { IfSome result FitsAssembled }
     ensures room { length room.new ≡ 65575 }
 {
     match reasm.add(now, part) {
         Added::Whole(area) => {
-            let assembled = assemble(mac, &reasm.datagram(area), room);
+            let assembled = assemble(&reasm.datagram(area), room);
             reasm.free(area);
             Some(assembled)
         }
@@ -96,12 +71,11 @@ fn take_part(
 }
 
 // Copies a joined datagram to the front of a buffer.
-fn assemble(mac: Mac, datagram: &IpView<'_>, room: &mut [u8]) -> Assembled
+fn assemble(datagram: &IpView<'_>, room: &mut [u8]) -> Assembled
     requires head { length datagram.now.head.now ≤ 60 }
     requires body { length datagram.now.body.now ≤ most_carried }
     requires room { length room.old ≡ 65575 }
     ensures datagram { assembled_ip result room.new ≡ record (ip_of datagram.now) { more = false; place = 0 } }
-    ensures mac { result.mac ≡ mac }
     ensures fits { FitsAssembled result }
     ensures room { length room.new ≡ 65575 }
 {
@@ -109,7 +83,6 @@ fn assemble(mac: Mac, datagram: &IpView<'_>, room: &mut [u8]) -> Assembled
     room[..head].copy_from_slice(datagram.head);
     room[head..head + body].copy_from_slice(datagram.body);
     Assembled {
-        mac,
         ident: datagram.ident,
         ttl: datagram.ttl,
         proto: datagram.proto,

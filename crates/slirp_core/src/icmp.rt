@@ -84,5 +84,5 @@ fn echo_reply<'a>(message: &IcmpView<'a>) -> Option<IcmpView<'a>>
 pub(crate) fn is_message_to_us(policy: &Policy, datagram: &IpView<'_>) -> bool
     ensures { result ≡ is_message_to_us policy.now (ip_of datagram.now) }
 {
-    policy.is_guest(datagram.from) && policy.is_ours(datagram.to) && datagram.proto == ICMP_PROTO
+    datagram.proto == ICMP_PROTO && policy.is_guest(datagram.from) && policy.is_ours(datagram.to)
 }

@@ -15,7 +15,8 @@ mod timeouts;
 mod udp;
 mod wants;
 
+pub use forward_rules::FwdFault;
 pub use fragments::LONGEST_ASSEMBLED;
 pub use network::Slirp;
-pub use port_forward::{FwdFault, NotThere};
+pub use port_forward::NotThere;
 pub use wants::TurnWants;

@@ -1,24 +1,24 @@
 // The network: what it knows and keeps, a frame taken in, and what time does to it.
 ghost use Rattle.std.specs.Prelude.{[], ◌≡◌, ◌≤◌, ◌^◌, ◌<◌, All, ℕ, Some, length, not, slice_get, true, false, unwrap_or};
 ghost use Rattle.std.specs.List.Sorted.{IsNonDecreasing};
-ghost use Rattle.host_policy.specs.Settings.{settings};
+ghost use Rattle.slirp_settings.specs.Settings.{settings};
 ghost use Rattle.run_laws.specs.Sockets.{is_among};
 ghost use Rattle.ipv4_head.specs.Ip.{ip_of, is_unbroken};
-ghost use Rattle.slirp_core.specs.Fragments.{whole_or_none, task_or_none};
 
 use crate::datagrams::datagram_in;
-use crate::fragments::{Assembled, Brought, datagram_at};
+use crate::fragments::datagram_at;
 use crate::icmp::is_message_to_us;
 use crate::ports::Ports;
-use crate::tcp::{Task, is_segment, segment_in};
+use crate::tcp::{is_segment, segment_in};
 use arp_table::ArpTable;
 use dhcp_server::Leases;
 use dns_relay::Relay;
-use host_policy::{Policy, SlirpConfig};
+use host_policy::Policy;
 use ipv4_head::IpView;
 use ipv4_reasm::Reasm;
 use net_octets::{ARP_KIND, IPV4_KIND, Ip4, Mac, NoMemory};
 use owed_frames::Outgoing;
+use slirp_settings::SlirpConfig;
 use std::alloc::Global;
 use std::marker::Model;
 use tcp_flows::{Sizes, TcpFlows};
@@ -56,7 +56,7 @@ pub struct Slirp {
 
 impl Model for Slirp {
     ghost use Rattle.std.specs.Prelude.{◌≡◌, ◌<◌, ◌≤◌, ◌^◌, All, length, unwrap_or};
-    ghost use Rattle.udp_assoc.specs.Associations.{numbers};
+    ghost use Rattle.udp_rules.specs.Associations.{numbers};
     ghost use Rattle.slirp_core.specs.State.{SlirpState};
     ghost use Rattle.slirp_core.specs.Numbers.{AreDrawn};
     ghost use Rattle.slirp_core.specs.Services.{AreAsked, IsServer};
@@ -88,22 +88,18 @@ impl Model for Slirp {
 }
 
 impl Slirp {
-    ghost use Rattle.dhcp_server.specs.declared.leases.Lease.TheVariants.{Free};
-    ghost use Rattle.std.specs.Prelude.{map, replicate, reverse, slice_get, false, Bool, ℕ, List, ◌∷◌, ◌≤◌, ◌+◌, IfOk, IfSome, Some, None, min, max};
+    ghost use Rattle.dhcp_rules.specs.declared.Lease.TheVariants.{Free};
+    ghost use Rattle.std.specs.Prelude.{map, replicate, reverse, slice_get, false, Bool, ℕ, List, ◌∷◌, ◌≤◌, ◌+◌, IfOk, Some, None, min, max};
     ghost use Rattle.std.specs.Option.{option_map};
-    ghost use Rattle.host_policy.specs.Addresses.{Config};
-    ghost use Rattle.host_policy.specs.Ranges.{IsSound};
-    ghost use Rattle.host_policy.specs.Settings.{settings};
-    ghost use Rattle.udp_assoc.specs.Associations.{is_over};
-    ghost use Rattle.dns_relay.specs.Questions.{is_over as is_over_question, numbers as question_numbers};
+    ghost use Rattle.slirp_settings.specs.Addresses.{Config};
+    ghost use Rattle.slirp_settings.specs.Ranges.{IsSound};
+    ghost use Rattle.slirp_settings.specs.Settings.{settings};
+    ghost use Rattle.udp_rules.specs.Associations.{is_over};
+    ghost use Rattle.dns_rules.specs.Questions.{is_over as is_over_question, numbers as question_numbers};
     ghost use Rattle.slirp_core.specs.Packets.{with_address};
-    ghost use Rattle.slirp_core.specs.Segments.{FitsTask, request_for, segment_for, segment_in, segment_of_ip};
-    ghost use Rattle.std.specs.Option.{option_and_then};
     ghost use Rattle.slirp_core.specs.Numbers.{flows_for};
-    ghost use Rattle.slirp_core.specs.Packets.{request_for_udp, udp_in, udp_of};
     ghost use Rattle.ipv4_head.specs.Sets.{PartSet, young};
-    ghost use Rattle.run_laws.specs.Fragments.{fragment_in, with_fragment};
-    ghost use Rattle.slirp_core.specs.Fragments.{Arrives, FitsBrought, IsHeld, after_frame, after_ip, brought_request, brought_segment, taken_on};
+    ghost use Rattle.slirp_core.specs.Fragments.{IsHeld};
     ghost use Rattle.world_face.specs.Tells.{Brings, Makes};
     ghost use Rattle.slirp_core.specs.Waiting.{AreFresh};
     ghost use Rattle.slirp_core.specs.Hearing.{ClosesByKind, WhereItTicks};
@@ -113,19 +109,19 @@ impl Slirp {
     ghost use Rattle.world_face.specs.Journal.{Close, Entry};
     ghost use Rattle.flow_splice.specs.Splice.{Splice};
     ghost use Rattle.flows_follow.specs.Core.{CoreHolds, number_of};
-    ghost use Rattle.udp_assoc.specs.Associations.{IsLeast, numbers};
+    ghost use Rattle.udp_rules.specs.Associations.{IsLeast, numbers};
     ghost use Rattle.dns_relay.specs.Relaying.{IsLeast as IsLeastAsked};
     ghost use Rattle.run_laws.specs.Sockets.{is_among};
     ghost use Rattle.slirp_core.specs.Firsts.{IsFlowFirst, IsQuestionFirst, NoFlowFirst, NoQuestionFirst, open_count, others_open};
     ghost use Rattle.stream_netdev.specs.State.{LinkState};
-    ghost use Rattle.slirp_core.specs.Datagrams.{errand_of, FitsErrand, Lies};
+    ghost use Rattle.slirp_core.specs.Datagrams.{Lies};
     ghost use Rattle.poll_list.specs.declared.Want.{Want as AnItem};
     ghost use Rattle.poll_list.specs.declared.Who.TheVariants.{Link as TheLink};
     ghost use Rattle.slirp_laws.specs.Agenda.{is_to_read, wanted_of};
-    ghost use Rattle.slirp_core.specs.Came.{FrameCame};
+    ghost use Rattle.slirp_core.specs.Came.{DatagramCame, FrameCame, OctetsCame};
     ghost use Rattle.slirp_core.specs.Counts.{AreGrown};
     ghost use Rattle.slirp_core.specs.Marks.{KeepsMarks};
-    ghost use Rattle.tftp_server.specs.Transfers.{are_left};
+    ghost use Rattle.tftp_rules.specs.Transfers.{are_left};
     ghost use Rattle.slirp_core.specs.Forwards.{AreCloses, ClosesForward, forward_sockets};
     ghost use Rattle.slirp_core.specs.Holds.{Standing, after, carriers, flowing, Holds, holders_of, standing, ClosesAll, ClosesNext, ClosesOther, HoldsNothingElse, IsForwardFirst, NoForwardFirst};
 
@@ -199,120 +195,72 @@ impl Slirp {
         ensures turn { self.new.flows.turn ≡ self.old.flows.turn }
         ensures room { length room.new ≡ 65575 }
     {
-        let brought = self.take_frame(frame, room);
-        match self.complete(brought, room) {
-            Some(Task::Errand(datagram, to)) => self.relay(world, &datagram, to),
-            Some(Task::File(datagram)) => self.take_file(world, &datagram),
-            Some(Task::Segment(segment)) => self.take_segment(world, &segment),
-            None => {}
-        }
-    }
-
-    // A frame's sender is learnt, and what it asks for is owed from now on. Answers what is still to be done, or where the datagram lies, in `room`, that its part makes whole.
-    fn take_frame<'a>(&mut self, frame: &'a [u8], room: &mut [u8]) -> Brought<'a>
-        requires { length room.old ≡ 65575 }
-        ensures request { (held : List PartSet) → IsHeld self.old.fragments held
-            → brought_request self.old.config result room.new
-            ≡ request_for_udp self.old.config (udp_in self.old.config self.old.moment (young self.old.moment held) frame.now) }
-        ensures segment { (held : List PartSet) → IsHeld self.old.fragments held
-            → brought_segment self.old.config result room.new ≡ segment_in self.old.config self.old.moment (young self.old.moment held) frame.now }
-        ensures changes { (held : List PartSet) → IsHeld self.old.fragments held
-            → taken_on self.new result room.new ≡ after_frame self.old.config self.old (young self.old.moment held) self.new.fragments frame.now }
-        ensures fragments { (held : List PartSet) → IsHeld self.old.fragments held
-            → IsHeld self.new.fragments (with_fragment self.old.moment (fragment_in self.old.config frame.now) held) }
-        ensures others { self.new ≡ record self.old {
-          pending = self.new.pending;
-          known = self.new.known;
-          fragments = self.new.fragments;
-          leases = self.new.leases;
-        } }
-        ensures fits { FitsBrought self.old.config result self.new.pending 65575 }
-        ensures room { length room.new ≡ 65575 }
-    {
-        self.outgoing.clear();
         let Ok(ether) = ether_frame::decode(frame) else {
-            return Brought::Nothing;
+            return;
         };
         if ether.kind == ARP_KIND {
             self.take_arp(ether.body);
-            Brought::Nothing
         } else if ether.kind == IPV4_KIND {
-            self.take_ip(ether.from, ether.body, room)
-        } else {
-            Brought::Nothing
-        }
-    }
-
-    // Takes in what a frame brought, where it made a datagram whole: `octets` are those to which that was copied.
-    fn complete<'a>(&mut self, brought: Brought<'a>, octets: &'a [u8]) -> Option<Task<'a>>
-        requires { FitsBrought self.old.config brought self.old.pending (length octets.now) }
-        ensures request { option_and_then request_for result ≡ brought_request self.old.config brought.entry octets.now }
-        ensures segment { option_and_then segment_for result ≡ brought_segment self.old.config brought.entry octets.now }
-        ensures changes { self.new ≡ taken_on self.old brought.entry octets.now }
-        ensures others { self.new ≡ record self.old { pending = self.new.pending; leases = self.new.leases } }
-        ensures fits { IfSome result (FitsTask self.old.config) }
-        ensures none { IfSome result (λ t. self.new.pending ≡ []) }
-    {
-        match brought {
-            Brought::Nothing => None,
-            Brought::Task(task) => Some(task),
-            Brought::Datagram(assembled) => {
-                let datagram = datagram_at(&assembled, octets);
-                self.take_datagram(assembled.mac, octets, &datagram)
-            }
+            self.take_ip(world, ether.from, ether.body, room);
         }
     }
 
     // Takes in a datagram, or a part of one, that came from this hardware address.
-    fn take_ip<'a>(&mut self, mac: Mac, body: &'a [u8], room: &mut [u8]) -> Brought<'a>
+    fn take_ip<W: World>(&mut self, world: &mut W, mac: Mac, body: &[u8], room: &mut [u8])
         requires none { self.old.pending ≡ [] }
         requires room { length room.old ≡ 65575 }
-        ensures arrives { (held : List PartSet) → IsHeld self.old.fragments held → Arrives self.old held mac.0 body.now self.new result room.new }
-        ensures others { self.new ≡ record self.old {
-          pending = self.new.pending;
-          known = self.new.known;
-          fragments = self.new.fragments;
-          leases = self.new.leases;
-        } }
-        ensures fits { FitsBrought self.old.config result self.new.pending 65575 }
+        requires number { self.old.number + 1 < 2 ^ 64 }
+        ensures makes { (config : Config) (at : Standing) (link : LinkState) → Brings (W.tells world.old) (W.tells world.new)
+            (OctetsCame config at self.old link mac.0 body.now) (Holds config at self.new (flowing false self.new.flows) link) }
+        ensures marks { KeepsMarks self.old.number self.old.flows self.new.flows }
+        ensures config { self.new.config ≡ self.old.config }
+        ensures forwards { self.new.forwards ≡ self.old.forwards }
+        ensures number { self.new.number ≤ self.old.number + 1 }
+        ensures turn { self.new.flows.turn ≡ self.old.flows.turn }
         ensures room { length room.new ≡ 65575 }
     {
         let Ok(packet) = ipv4_head::decode(body) else {
-            return Brought::Nothing;
+            return;
         };
         self.learn(packet.from, mac);
         if is_part(&packet) {
-            let assembled = self.gather(mac, &packet, room);
-            return whole_or_none(assembled);
+            if let Some(assembled) = self.gather(&packet, room) {
+                let datagram = datagram_at(&assembled, room);
+                self.take_datagram(world, mac, room, &datagram);
+            }
+        } else {
+            self.take_datagram(world, mac, body, &packet);
         }
-        let task = self.take_datagram(mac, body, &packet);
-        task_or_none(task)
     }
 
     // Takes in a whole datagram that came from this hardware address. `octets` begin with its header and its body.
-    fn take_datagram<'a>(
+    fn take_datagram<W: World>(
         &mut self,
+        world: &mut W,
         mac: Mac,
-        octets: &'a [u8],
-        datagram: &IpView<'a>,
-    ) -> Option<Task<'a>>
+        octets: &[u8],
+        datagram: &IpView<'_>,
+    )
         requires none { self.old.pending ≡ [] }
         requires lies { Lies octets.now datagram.now.head.now datagram.now.body.now }
-        ensures request { option_and_then request_for result ≡ request_for_udp self.old.config (udp_of self.old.config mac.0 (ip_of datagram.now)) }
-        ensures segment { option_and_then segment_for result ≡ segment_of_ip self.old.config mac.0 (ip_of datagram.now) }
-        ensures fits { IfSome result (FitsTask self.old.config) }
-        ensures none { IfSome result (λ t. self.new.pending ≡ []) }
-        ensures changes { self.new ≡ after_ip self.old mac.0 (ip_of datagram.now) }
+        requires number { self.old.number + 1 < 2 ^ 64 }
+        ensures makes { (config : Config) (at : Standing) (link : LinkState) → Brings (W.tells world.old) (W.tells world.new)
+            (DatagramCame config at self.old link mac.0 (ip_of datagram.now)) (Holds config at self.new (flowing false self.new.flows) link) }
+        ensures marks { KeepsMarks self.old.number self.old.flows self.new.flows }
+        ensures config { self.new.config ≡ self.old.config }
+        ensures forwards { self.new.forwards ≡ self.old.forwards }
+        ensures number { self.new.number ≤ self.old.number + 1 }
+        ensures turn { self.new.flows.turn ≡ self.old.flows.turn }
     {
         if is_message_to_us(&self.policy, datagram) {
             self.take_icmp(mac, datagram);
-            return None;
+        } else if is_segment(&self.policy, datagram) {
+            if let Some(segment) = segment_in(mac, datagram) {
+                self.take_segment(world, &segment);
+            }
+        } else if let Some(udp) = datagram_in(&self.policy, mac, octets, datagram) {
+            self.take_udp(world, &udp);
         }
-        if is_segment(&self.policy, datagram) {
-            return segment_in(mac, datagram);
-        }
-        let datagram = datagram_in(&self.policy, mac, octets, datagram)?;
-        self.take_udp(&datagram)
     }
 
     // The guest's address is known from now on.
@@ -581,24 +529,4 @@ fn is_part(datagram: &IpView<'_>) -> bool
     ensures { result ≡ not (is_unbroken (ip_of datagram.now)) }
 {
     datagram.more || datagram.offset != 0
-}
-
-// The datagram that a part made whole is still to be taken in.
-fn whole_or_none<'a>(assembled: Option<Assembled>) -> Brought<'a>
-    ensures { result ≡ whole_or_none assembled }
-{
-    match assembled {
-        Some(assembled) => Brought::Datagram(assembled),
-        None => Brought::Nothing,
-    }
-}
-
-// A datagram that goes out, or a segment that is to be heard.
-fn task_or_none(task: Option<Task<'_>>) -> Brought<'_>
-    ensures { result ≡ task_or_none task.entry }
-{
-    match task {
-        Some(task) => Brought::Task(task),
-        None => Brought::Nothing,
-    }
 }

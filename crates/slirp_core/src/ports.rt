@@ -3,16 +3,18 @@ ghost use Rattle.std.specs.Prelude.{◌≡◌, ◌≢◌, ◌≤◌, ◌+◌, []
 ghost use Rattle.std.specs.Result.{result_err};
 ghost use Rattle.world_face.specs.Journal.{Close};
 ghost use Rattle.world_face.specs.Tells.{Makes, Rose};
-ghost use Rattle.host_policy.specs.Ranges.{same_proto};
-ghost use Rattle.port_forward.specs.declared.FwdFault.TheVariants.{Refused};
-ghost use Rattle.port_forward.specs.Adding.{Adds, fault_of};
-ghost use Rattle.port_forward.specs.Opened.{forward_with, socket_at, socket_for, without};
+ghost use Rattle.slirp_settings.specs.Ranges.{same_proto};
+ghost use Rattle.forward_rules.specs.declared.FwdFault.TheVariants.{Refused};
+ghost use Rattle.forward_rules.specs.Adding.{Adds, fault_of};
+ghost use Rattle.forward_rules.specs.Opened.{forward_with, socket_at, socket_for, without};
 ghost use Rattle.slirp_core.specs.Forwards.{sockets_over};
 
 use arrayvec::ArrayVec;
-use host_policy::{Forward, Policy, Proto};
+use forward_rules::FwdFault;
+use host_policy::Policy;
 use net_octets::{Endpoint, NoMemory};
-use port_forward::{Forwards, FwdFault, NotThere};
+use port_forward::{Forwards, NotThere};
+use slirp_settings::{Forward, Proto};
 use std::alloc::Global;
 use std::marker::Model;
 use world_face::World;
@@ -28,8 +30,8 @@ pub(crate) struct Ports {
 
 impl Model for Ports {
     ghost use Rattle.std.specs.Prelude.{◌≡◌, ◌≤◌, List, length};
-    ghost use Rattle.host_policy.specs.declared.Proto.TheVariants.{Tcp, Udp};
-    ghost use Rattle.port_forward.specs.Opened.{Opened};
+    ghost use Rattle.slirp_settings.specs.declared.Proto.TheVariants.{Tcp, Udp};
+    ghost use Rattle.forward_rules.specs.Opened.{Opened};
     ghost use Rattle.slirp_core.specs.Forwards.{sockets_over};
 
     ghost Value = { List Opened };
@@ -89,21 +91,21 @@ impl Ports {
         self.list.socket_for(guest)
     }
 
-    /// Adds a forward at the end, as `Forwards` does.
+    /// Adds a forward at the end, on a socket with this number, as `Forwards` does.
     pub(crate) fn add_hostfwd<W: World>(
         &mut self,
         world: &mut W,
         policy: &Policy,
         forward: Forward,
-        number: u64,
+        socket: u64,
     ) -> Result<(), FwdFault>
         requires host_port { forward.host.port ≢ 0 }
         requires guest_port { forward.guest.port ≢ 0 }
         ensures adds { Makes (W.tells world.old) (W.tells world.new)
-            (Adds (fault_of policy.now forward self.old) forward number self.old self.new (result_err result)) }
+            (Adds (fault_of policy.now forward self.old) forward socket self.old self.new (result_err result)) }
         ensures counted { result_err result ≡ Some Refused → Rose (W.tells world.old).faults.socket (W.tells world.new).faults.socket }
     {
-        let added = self.list.add_hostfwd(world, policy, forward, number);
+        let added = self.list.add_hostfwd(world, policy, forward, socket);
         list_over(Proto::Tcp, &self.list, &mut self.listeners);
         list_over(Proto::Udp, &self.list, &mut self.carriers);
         added

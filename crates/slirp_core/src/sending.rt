@@ -1,18 +1,23 @@
 // What is owed and isn't out yet, and the pump that sends it.
 ghost use Rattle.net_octets.specs.Octets.{our_mac};
 ghost use Rattle.std.specs.Prelude.{[], ◌≡◌, ◌<◌, ◌≤◌, length};
+ghost use Rattle.udp_assoc.specs.Relays.{FitsRoom};
+ghost use Rattle.world_face.specs.Limits.{most_to_udp};
+ghost use Rattle.slirp_core.specs.Replies.{replied_by};
 
 use crate::network::Slirp;
 use host_policy::Policy;
 use net_octets::{Ip4, Mac};
-use owed_frames::{Course, datagrams_in};
+use owed_frames::{Course, Outgoing, datagrams_in};
 use stream_netdev::{Link, Offered, Pumped, outcome};
+use udp_datagram::UdpView;
+use udp_rules::Reply;
 use world_face::World;
 
 impl Slirp {
     ghost use Rattle.world_face.specs.Tells.{Rose};
     ghost use Rattle.std.specs.Prelude.{nat_lt, false};
-    ghost use Rattle.host_policy.specs.Addresses.{Config};
+    ghost use Rattle.slirp_settings.specs.Addresses.{Config};
     ghost use Rattle.world_face.specs.Tells.{Brings};
     ghost use Rattle.stream_netdev.specs.State.{under_way};
     ghost use Rattle.slirp_core.specs.Outgoing.{sent_after};
@@ -223,5 +228,34 @@ pub(crate) fn course(policy: &Policy, ident: u16, to_mac: Mac, from: Ip4, to: Ip
         from,
         to,
         mtu: policy.mtu(),
+    }
+}
+
+// The datagram of a reply, whose octets stand at the front of these, is owed from now on.
+pub(crate) fn put_reply(
+    policy: &Policy,
+    ident: u16,
+    reply: Reply,
+    octets: &[u8],
+    outgoing: &mut Outgoing,
+)
+    requires fits { FitsRoom reply (length octets.now) }
+    requires room { length octets.now ≤ most_to_udp }
+    ensures { outgoing.new ≡ replied_by policy.now ident outgoing.old reply octets.now }
+{
+    if let Reply::Datagram {
+        length,
+        from,
+        to,
+        mac: Some(mac),
+    } = reply
+    {
+        let course = course(policy, ident, mac, from.addr, to.addr);
+        let datagram = UdpView {
+            from_port: from.port,
+            to_port: to.port,
+            body: &octets[..length],
+        };
+        outgoing.put_udp(&course, &datagram);
     }
 }

@@ -1,26 +1,26 @@
 // Segments of TCP: each to its flow, and reports of their sockets; what is no flow's is answered by a reset, or the host connects for it (RFC 9293, 3.10.7).
 ghost use Rattle.std.specs.Prelude.{[], ◌≡◌, ◌≤◌, ◌+◌, ◌<◌, ◌%◌, ◌^◌, ◌∷◌, List, ℕ, length, nat_lt, true, false, Some, None, IfSome};
-ghost use Rattle.std.specs.Option.{option_and_then, option_map};
+ghost use Rattle.std.specs.Option.{option_map};
 ghost use Rattle.ipv4_head.specs.Ip.{Ip, ip_of};
 ghost use Rattle.tcp_segment.specs.Tcp.{numbers_of, read_tcp, tcp_of};
 ghost use Rattle.flows_follow.specs.Seats.{in_use_slots};
 ghost use Rattle.record_flows.specs.Lots.{is_opening, lot_by, reset_to};
-ghost use Rattle.host_policy.specs.declared.Proto.TheVariants.{Tcp as OverTcp};
+ghost use Rattle.slirp_settings.specs.declared.Proto.TheVariants.{Tcp as OverTcp};
 ghost use Rattle.record_flows.specs.Segments.{segment_of};
-ghost use Rattle.host_policy.specs.Addresses.{Config};
+ghost use Rattle.slirp_settings.specs.Addresses.{Config};
 ghost use Rattle.host_policy.specs.Targets.{target};
 ghost use Rattle.flows_follow.specs.Stands.{lot_without};
 ghost use Rattle.slirp_core.specs.Packets.{is_segment};
-ghost use Rattle.slirp_core.specs.Segments.{FitsTask, coming, coming_of, request_for, lot_of, segment_for};
+ghost use Rattle.slirp_core.specs.Segments.{coming, coming_of, lot_of};
 ghost use Rattle.net_octets.specs.Sizes.{most_carried};
 
-use crate::datagrams::DatagramView;
 use crate::network::Slirp;
-use flow_table::Tuple;
-use host_policy::{Policy, Proto, Verdict};
+use host_policy::{Policy, Verdict};
 use ipv4_head::IpView;
 use net_octets::{Endpoint, Mac, TCP_PROTO};
+use record_flows::Tuple;
 use seq_space::Seq;
+use slirp_settings::Proto;
 use tcp_flows::Heard;
 use tcp_segment::{ACK, RST, TcpView};
 use world_face::{Made, World};
@@ -31,17 +31,6 @@ pub struct SegmentView<'a> {
     pub mac: Mac,
     pub ends: Tuple,
     pub segment: TcpView<'a>,
-}
-
-/// What a frame asks for beyond its answers.
-#[derive(Clone, Copy)]
-pub enum Task<'a> {
-    /// A datagram goes out, to this endpoint.
-    Errand(DatagramView<'a>, Endpoint),
-    /// A datagram is for the server of files.
-    File(DatagramView<'a>),
-    /// A segment is to be heard.
-    Segment(SegmentView<'a>),
 }
 
 /// What becomes of a segment without a flow.
@@ -85,7 +74,6 @@ impl Slirp {
         requires number { self.old.number + 1 < 2 ^ 64 }
         ensures makes { (config : Config) (at : Standing) (link : LinkState) → Brings (W.tells world.old) (W.tells world.new)
             (Comes config at self.old self.old.flows link (coming_of came.now)) (Holds config at self.new (flowing false self.new.flows) link) }
-        ensures counts { AreGrown (W.tells world.old).faults (W.tells world.new).faults }
         ensures number { self.new.number ≤ self.old.number + 1 }
         ensures config { self.new.config ≡ self.old.config }
         ensures forwards { self.new.forwards ≡ self.old.forwards }
@@ -204,16 +192,15 @@ impl Slirp {
 pub(crate) fn is_segment(policy: &Policy, datagram: &IpView<'_>) -> bool
     ensures { result ≡ is_segment policy.now (ip_of datagram.now) }
 {
-    policy.is_guest(datagram.from) && datagram.proto == TCP_PROTO
+    datagram.proto == TCP_PROTO && policy.is_guest(datagram.from)
 }
 
-// The segment that a guest's datagram holds is to be heard.
-pub(crate) fn segment_in<'a>(mac: Mac, datagram: &IpView<'a>) -> Option<Task<'a>>
+// The segment that a guest's datagram holds.
+pub(crate) fn segment_in<'a>(mac: Mac, datagram: &IpView<'a>) -> Option<SegmentView<'a>>
     requires size { length datagram.now.body.now ≤ most_carried }
-    ensures segment { option_and_then segment_for result ≡ option_map (coming mac.0 (ip_of datagram.now))
+    ensures segment { option_map coming_of result ≡ option_map (coming mac.0 (ip_of datagram.now))
         (read_tcp datagram.now.from.0 datagram.now.to.0 datagram.now.body.now) }
-    ensures request { option_and_then request_for result ≡ None }
-    ensures fits { (config : Config) → IfSome result (FitsTask config) }
+    ensures fits { IfSome result (λ s. length s.segment.body.now ≤ most_carried) }
 {
     let Ok(segment) = tcp_segment::decode(datagram.body, datagram.from, datagram.to) else {
         return None;
@@ -226,11 +213,11 @@ pub(crate) fn segment_in<'a>(mac: Mac, datagram: &IpView<'a>) -> Option<Task<'a>
         addr: datagram.to,
         port: segment.to_port,
     };
-    Some(Task::Segment(SegmentView {
+    Some(SegmentView {
         mac,
         ends: Tuple { guest, other },
         segment,
-    }))
+    })
 }
 
 // SYN, and none of ACK, RST and FIN.

@@ -1,6 +1,6 @@
 // How long a wait may last.
 ghost use Rattle.std.specs.Prelude.{◌≡◌, ℕ, List, None, true};
-ghost use Rattle.host_policy.specs.Addresses.{Config};
+ghost use Rattle.slirp_settings.specs.Addresses.{Config};
 ghost use Rattle.ipv4_head.specs.Sets.{PartSet};
 ghost use Rattle.slirp_core.specs.Fragments.{IsHeld};
 ghost use Rattle.slirp_core.specs.Pumps.{question_left, time_left};
@@ -9,8 +9,8 @@ ghost use Rattle.flows_follow.specs.Core.{CoreHolds};
 ghost use Rattle.world_face.specs.Journal.{Entry};
 
 use crate::network::Slirp;
-use dns_relay::QUESTION_LIFE;
-use udp_assoc::IDLE_LIFE;
+use dns_rules::QUESTION_LIFE;
+use udp_rules::IDLE_LIFE;
 
 impl Slirp {
     // How long it is until the idle life of the longest unused socket is over.

@@ -2,63 +2,65 @@
 ghost use Rattle.std.specs.Prelude.{[], ◌≡◌, ℕ, ◌+◌, ◌^◌, ◌<◌, ◌≤◌, is_some, length, true, false};
 ghost use Rattle.world_face.specs.Limits.{most_to_udp};
 
-use crate::datagrams::{DatagramView, Outcome, fate};
+use crate::datagrams::{DatagramView, Fate};
 use crate::icmp::PROHIBITED;
 use crate::network::Slirp;
-use crate::tcp::Task;
-use host_policy::{Proto, Reply};
+use crate::sending::put_reply;
 use net_octets::{Endpoint, Mac};
-use udp_assoc::{OutboundView, UdpView};
+use slirp_settings::Proto;
+use udp_assoc::OutboundView;
+use udp_rules::Reply;
 use world_face::World;
 
 impl Slirp {
     ghost use Rattle.poll_list.specs.declared.Want.{Want as AnItem};
     ghost use Rattle.poll_list.specs.declared.Who.TheVariants.{Udp};
     ghost use Rattle.slirp_laws.specs.Agenda.{is_to_read, wanted_of};
-    ghost use Rattle.std.specs.Prelude.{List, ◌∷◌, Some, None, IfSome};
-    ghost use Rattle.std.specs.Option.{option_and_then};
+    ghost use Rattle.std.specs.Prelude.{List, ◌∷◌, Some};
     ghost use Rattle.slirp_core.specs.Packets.{request_of};
-    ghost use Rattle.slirp_core.specs.Segments.{FitsTask, request_for, segment_for};
-    ghost use Rattle.host_policy.specs.Addresses.{Config};
-    ghost use Rattle.dns_relay.specs.Questions.{numbered as question_numbered};
-    ghost use Rattle.slirp_laws.specs.Answers.{answer_of, asks_for, frames_of, reply_at};
+    ghost use Rattle.slirp_settings.specs.Addresses.{Config};
+    ghost use Rattle.dns_rules.specs.Questions.{numbered as question_numbered};
     ghost use Rattle.slirp_core.specs.Leases.{after_message, after_udp};
     ghost use Rattle.slirp_laws.specs.Datagrams.{asks_a_name};
     ghost use Rattle.slirp_core.specs.Forwards.{guest_on};
-    ghost use Rattle.slirp_core.specs.Replies.{answered_by, told_by, or_learnt, owed_by};
+    ghost use Rattle.slirp_core.specs.Replies.{told_by, or_learnt, owed_by};
     ghost use Rattle.udp_assoc.specs.Relays.{FitsRoom};
     ghost use Rattle.world_face.specs.Tells.{Brings, Makes};
     ghost use Rattle.slirp_core.specs.Hearing.{Receives, is_heard};
     ghost use Rattle.run_duties.specs.Serving.{is_left_to_read};
     ghost use Rattle.stream_netdev.specs.State.{LinkState};
-    ghost use Rattle.slirp_core.specs.Datagrams.{datagram_of, errand_of, FitsErrand};
-    ghost use Rattle.slirp_core.specs.Holds.{asked_by, Standing, flowing, standing, Holds, HoldsAt};
+    ghost use Rattle.slirp_core.specs.Datagrams.{datagram_of, errand_of};
+    ghost use Rattle.dns_rules.specs.Questions.{is_question};
+    ghost use Rattle.slirp_core.specs.Holds.{RequestLeft, asked_by, Standing, flowing, standing, Holds, HoldsAt};
     ghost use Rattle.std.specs.Prelude.{Bool};
     ghost use Rattle.slirp_core.specs.Counts.{AreGrown};
 
-    // Takes in a datagram of UDP: one that goes out, or that is for the server of files, is answered.
-    pub(crate) fn take_udp<'a>(&mut self, datagram: &DatagramView<'a>) -> Option<Task<'a>>
+    // Takes in a datagram of UDP: what becomes of it is decided here.
+    pub(crate) fn take_udp<W: World>(&mut self, world: &mut W, datagram: &DatagramView<'_>)
         requires none { self.old.pending ≡ [] }
         requires body { length datagram.now.body.now ≤ most_to_udp }
         requires quote { length datagram.now.quote.now ≤ 68 }
-        ensures request { option_and_then request_for result ≡ request_of self.old.config (datagram_of datagram.now) }
-        ensures segment { option_and_then segment_for result ≡ None }
-        ensures fits { IfSome result (FitsTask self.old.config) }
-        ensures none { IfSome result (λ t. self.new.pending ≡ []) }
-        ensures changes { self.new ≡ after_udp self.old (datagram_of datagram.now) }
+        requires number { self.old.number + 1 < 2 ^ 64 }
+        ensures makes { (config : Config) (at : Standing) (link : LinkState) → Brings (W.tells world.old) (W.tells world.new)
+            (RequestLeft config at (after_udp self.old (datagram_of datagram.now)) link (request_of self.old.config (datagram_of datagram.now)))
+            (Holds config at self.new (flowing false self.new.flows) link) }
+        ensures number { self.new.number ≤ self.old.number + 1 }
+        ensures others { self.new ≡ record self.old {
+          associations = self.new.associations;
+          questions = self.new.questions;
+          pending = self.new.pending;
+          number = self.new.number;
+          leases = self.new.leases;
+          transfers = self.new.transfers;
+        } }
     {
-        match fate(&self.policy, datagram) {
-            Outcome::Ignored => None,
-            Outcome::Refused => {
-                self.tell_about(PROHIBITED, datagram);
-                None
-            }
-            Outcome::ForLeases => {
-                self.take_message(datagram);
-                None
-            }
-            Outcome::ForFiles => Some(Task::File(*datagram)),
-            Outcome::GoesTo(to) => Some(Task::Errand(*datagram, to)),
+        match Fate::of(&self.policy, datagram) {
+            Fate::Ignored => {}
+            Fate::Refused => self.tell_about(PROHIBITED, datagram),
+            Fate::Leases => self.take_message(datagram),
+            Fate::Files => self.take_file(world, datagram),
+            Fate::Question(to) => self.ask(world, datagram, to),
+            Fate::Out(to) => self.send(world, datagram, to),
         }
     }
 
@@ -70,63 +72,21 @@ impl Slirp {
         let reply = self
             .leases
             .message(self.moment, datagram.body, &mut self.message);
-        match reply {
-            Reply::Datagram {
-                length,
-                from,
-                to,
-                mac,
-            } => match mac {
-                Some(mac) => {
-                    let course = self.course(mac, from.addr, to.addr);
-                    let datagram = UdpView {
-                        from_port: from.port,
-                        to_port: to.port,
-                        body: &self.message[..length],
-                    };
-                    self.outgoing.put_udp(&course, &datagram);
-                }
-                None => {}
-            },
-            Reply::Nothing => {}
-            Reply::Unreachable(_) => {}
-        }
-    }
-
-    // Sends a guest's datagram: a question to the name server on a socket of its own; any other on the first port of the host that is given to its port, else on the
-    // socket of its port. Where there is none one is opened; where 512 are open the longest unused one of its kind is closed before.
-    pub(crate) fn relay<W: World>(
-        &mut self,
-        world: &mut W,
-        datagram: &DatagramView<'_>,
-        to: Endpoint,
-    )
-        requires none { self.old.pending ≡ [] }
-        requires fits { FitsErrand self.old.config datagram.now to }
-        requires number { self.old.number + 1 < 2 ^ 64 }
-        ensures makes { (config : Config) (at : Standing) (aged : Bool) (link : LinkState) → Brings (W.tells world.old) (W.tells world.new)
-            (HoldsAt config at (asked_by config self.old (Some (errand_of datagram.now to))) self.old (flowing aged self.old.flows) link)
-            (Holds config at self.new (flowing aged self.new.flows) link) }
-        ensures number { self.new.number ≤ self.old.number + 1 }
-        ensures config { self.new.config ≡ self.old.config }
-        ensures others { self.new ≡ record self.old {
-          associations = self.new.associations;
-          questions = self.new.questions;
-          pending = self.new.pending;
-          number = self.new.number;
-        } }
-    {
-        if self.policy.is_name_server(datagram.to.addr) {
-            self.ask(world, datagram, to)
-        } else {
-            self.send(world, datagram, to)
-        }
+        put_reply(
+            &self.policy,
+            self.sent,
+            reply,
+            &self.message,
+            &mut self.outgoing,
+        );
     }
 
     // Sends a question to the resolver, on the socket of the same question of the same port, or on one of its own.
     fn ask<W: World>(&mut self, world: &mut W, datagram: &DatagramView<'_>, to: Endpoint)
         requires none { self.old.pending ≡ [] }
-        requires fits { FitsErrand self.old.config datagram.now to }
+        requires body { length datagram.now.body.now ≤ most_to_udp }
+        requires quote { length datagram.now.quote.now ≤ 68 }
+        requires question { is_question datagram.now.body.now ≡ true }
         requires name { asks_a_name self.old.config (errand_of datagram.now to) ≡ true }
         requires number { self.old.number + 1 < 2 ^ 64 }
         ensures makes { (config : Config) (at : Standing) (aged : Bool) (link : LinkState) → Brings (W.tells world.old) (W.tells world.new)
@@ -150,7 +110,8 @@ impl Slirp {
     // Sends any other datagram, on the first port of the host that is given to its port, or on the socket of its port.
     fn send<W: World>(&mut self, world: &mut W, datagram: &DatagramView<'_>, to: Endpoint)
         requires none { self.old.pending ≡ [] }
-        requires fits { FitsErrand self.old.config datagram.now to }
+        requires body { length datagram.now.body.now ≤ most_to_udp }
+        requires quote { length datagram.now.quote.now ≤ 68 }
         requires other { asks_a_name self.old.config (errand_of datagram.now to) ≡ false }
         requires number { self.old.number + 1 < 2 ^ 64 }
         ensures makes { (config : Config) (at : Standing) (aged : Bool) (link : LinkState) → Brings (W.tells world.old) (W.tells world.new)
@@ -224,7 +185,7 @@ impl Slirp {
         ensures room { length into.new ≡ most_to_udp }
     {
         let reply = self.questions.answer(world, self.moment, number, into);
-        self.answer_asker(reply, into);
+        put_reply(&self.policy, self.sent, reply, into, &mut self.outgoing);
     }
 
     // Receives a datagram on the socket of a port of the host that is given to a guest, or of an association.
@@ -260,43 +221,37 @@ impl Slirp {
         }
     }
 
-    // The answer to a question, whose octets stand at the front of these, is owed to the port that asked.
-    fn answer_asker(&mut self, reply: Reply, octets: &[u8])
-        requires none { self.old.pending ≡ [] }
-        requires fits { FitsRoom reply (length octets.now) }
-        requires room { length octets.now ≤ most_to_udp }
-        ensures { self.new ≡ record self.old { pending = answered_by self.old octets.now reply } }
-    {
-        if let Reply::Datagram {
-            length,
-            from,
-            to,
-            mac: Some(mac),
-        } = reply
-        {
-            self.put_datagram(from, &octets[..length], to, mac);
-        }
-    }
-
-    // What a peer said on a socket, whose octets stand at the front of these, is owed to its guest. One whose hardware address isn't known is asked for it instead.
+    // What a peer said on a socket, whose octets stand at the front of these, is owed to its guest, where the peer is shown. One whose hardware address isn't
+    // known is asked for it instead (RFC 826).
     fn answer_peer(&mut self, reply: Reply, octets: &[u8])
         requires none { self.old.pending ≡ [] }
         requires fits { FitsRoom reply (length octets.now) }
         requires room { length octets.now ≤ most_to_udp }
         ensures { self.new ≡ record self.old { pending = owed_by self.old octets.now reply } }
     {
-        if let Reply::Datagram {
+        let Reply::Datagram {
             length,
             from,
             to,
             mac,
         } = reply
-        {
-            match self.mac_for(to, mac) {
-                Some(mac) => self.put_reply(from, &octets[..length], to, mac),
-                None => self.seek(from, to),
-            }
-        }
+        else {
+            return;
+        };
+        let Some(seen) = self.policy.shown(from) else {
+            return;
+        };
+        let Some(known) = self.mac_for(to, mac) else {
+            self.ask_for(to.addr);
+            return;
+        };
+        let shown = Reply::Datagram {
+            length,
+            from: seen,
+            to,
+            mac: Some(known),
+        };
+        put_reply(&self.policy, self.sent, shown, octets, &mut self.outgoing);
     }
 
     // The hardware address of a guest: this one, or that which was learnt last for it.
@@ -307,44 +262,5 @@ impl Slirp {
             Some(mac) => Some(mac),
             None => self.guests.find(guest.addr),
         }
-    }
-
-    // What a peer said is owed to a guest, where the peer is shown.
-    fn put_reply(&mut self, peer: Endpoint, octets: &[u8], guest: Endpoint, mac: Mac)
-        requires none { self.old.pending ≡ [] }
-        requires short { length octets.now ≤ most_to_udp }
-        ensures { self.new ≡ record self.old { pending = frames_of self.old.config self.old.sent (reply_at self.old.config peer octets.now guest mac.0) } }
-    {
-        let Some(from) = self.policy.shown(peer) else {
-            return;
-        };
-        self.put_datagram(from, octets, guest, mac);
-    }
-
-    // A request for the hardware address of a guest is owed, for what a peer said to it, where the peer is shown (RFC 826).
-    fn seek(&mut self, peer: Endpoint, guest: Endpoint)
-        requires none { self.old.pending ≡ [] }
-        ensures { self.new ≡ record self.old { pending = frames_of self.old.config self.old.sent (asks_for self.old.config peer guest) } }
-    {
-        if self.policy.shown(peer).is_some() {
-            self.ask_for(guest.addr);
-        }
-    }
-
-    // A datagram is owed to a guest.
-    fn put_datagram(&mut self, from: Endpoint, octets: &[u8], guest: Endpoint, mac: Mac)
-        requires short { length octets.now ≤ most_to_udp }
-        ensures { self.new ≡ record self.old {
-          pending = frames_of self.old.config self.old.sent
-              (answer_of (record { mac = mac.0; from = from; to = guest; body = octets.now }) ∷ []);
-        } }
-    {
-        let course = self.course(mac, from.addr, guest.addr);
-        let datagram = UdpView {
-            from_port: from.port,
-            to_port: guest.port,
-            body: octets,
-        };
-        self.outgoing.put_udp(&course, &datagram);
     }
 }

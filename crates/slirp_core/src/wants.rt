@@ -4,7 +4,7 @@ ghost use Rattle.flow_splice.specs.Splice.{Splice};
 ghost use Rattle.poll_list.specs.declared.Want.{Want as AWant};
 ghost use Rattle.tcp_flows.specs.Reading.{AreWantsOf};
 ghost use Rattle.tcp_flows.specs.Waits.{AreWaitedFor};
-ghost use Rattle.host_policy.specs.Addresses.{Config};
+ghost use Rattle.slirp_settings.specs.Addresses.{Config};
 ghost use Rattle.world_face.specs.Journal.{Entry};
 ghost use Rattle.flows_follow.specs.Core.{CoreHolds, number_of};
 ghost use Rattle.poll_list.specs.Listing.{AreWants};
@@ -15,9 +15,9 @@ ghost use Rattle.slirp_core.specs.Kinds.{is_of_datagrams, is_of_flow, is_of_link
 
 use crate::network::Slirp;
 use arrayvec::ArrayVec;
-use host_policy::Proto;
 use net_octets::NoMemory;
 use poll_list::{Want, Wants, Who};
+use slirp_settings::Proto;
 use std::alloc::Global;
 use std::marker::Model;
 use stream_netdev::Link;
@@ -237,7 +237,7 @@ impl TurnWants {
 
 impl Slirp {
     ghost use Rattle.ipv4_head.specs.Sets.{PartSet};
-    ghost use Rattle.host_policy.specs.declared.Proto.TheVariants.{Tcp, Udp};
+    ghost use Rattle.slirp_settings.specs.declared.Proto.TheVariants.{Tcp, Udp};
     ghost use Rattle.slirp_core.specs.Forwards.{sockets_over};
     ghost use Rattle.slirp_core.specs.Fragments.{IsHeld};
     ghost use Rattle.slirp_core.specs.Pumps.{WantsOf, listeners_of};

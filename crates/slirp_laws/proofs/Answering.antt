@@ -4,19 +4,19 @@ use Rattle.std.proofs.lemmas.Nat.{from_be_bytes-to_be_bytes_4}
 use Rattle.world_face.specs.Journal.{Entry, AreAllowed}
 use Rattle.world_face.specs.Frames.{goes_out}
 use Rattle.net_octets.specs.Kinds.{udp_proto}
-use Rattle.host_policy.specs.Addresses.{Config, address, endpoint, in_network}
+use Rattle.slirp_settings.specs.Addresses.{Config, address, endpoint, in_network}
 use Rattle.host_policy.specs.Targets.{is_hidden, shown}
-use Rattle.host_policy.specs.declared.Reply.TheVariants.{Nothing, Datagram as ADatagram}
+use Rattle.udp_rules.specs.declared.Reply.TheVariants.{Nothing, Datagram as ADatagram}
 use Rattle.ipv4_head.specs.Cuts.{cut_at}
 use Rattle.ipv4_head.specs.Ip.{Ip, fragment_of, ip_octets, is_unbroken, read_ip}
-use Rattle.udp_assoc.specs.Udp.{Udp, read_udp}
-use Rattle.dhcp_server.specs.Messages.{read_message}
-use Rattle.dhcp_server.specs.Replies.{everybody, goes_to_all, is_silence, reply_to, replied_octets}
-use Rattle.dhcp_server.specs.Serving.{served as served_lease}
-use Rattle.dhcp_server.specs.declared.leases.Lease.{Lease}
-use Rattle.dhcp_server.specs.declared.message.Message.{Message}
+use Rattle.udp_datagram.specs.Udp.{Udp, read_udp}
+use Rattle.dhcp_rules.specs.Messages.{read_message}
+use Rattle.dhcp_rules.specs.Replies.{everybody, goes_to_all, is_silence, reply_to, replied_octets}
+use Rattle.dhcp_rules.specs.Serving.{served as served_lease}
+use Rattle.dhcp_rules.specs.declared.Lease.{Lease}
+use Rattle.dhcp_rules.specs.declared.Message.{Message}
 use Rattle.run_laws.specs.Packets.{Datagram}
-use Rattle.tftp_server.specs.Transfers.{Said}
+use Rattle.tftp_rules.specs.Transfers.{Said}
 use Rattle.slirp_laws.specs.Answers.{Answer, ArpAnswer, IpAnswer, Serving, answers_of, frames_for, frames_of, identification, name_answer, name_reply, owed_for_fate, served_file, told_of_files, uncut}
 use Rattle.slirp_laws.specs.Datagrams.{Fate, Ignored, Refused, ForLeases, ForFiles, GoesTo, fate}
 use Rattle.slirp_laws.specs.Laws.{Lawful}

@@ -10,15 +10,16 @@ use Rattle.world_face.specs.declared.Sent.{Sent}
 use Rattle.world_face.specs.declared.Got.{Got}
 use Rattle.world_face.specs.declared.Got.TheVariants.{From, NotYet as GotNotYet, Failed as GotFailed}
 use Rattle.net_octets.specs.declared.Endpoint.{Endpoint}
-use Rattle.host_policy.specs.Addresses.{Config, address}
-use Rattle.host_policy.specs.Targets.{by_rules, resolver_on, same_endpoint, target}
-use Rattle.host_policy.specs.declared.Proto.TheVariants.{Udp as ByUdp}
+use Rattle.slirp_settings.specs.Addresses.{Config, address}
+use Rattle.host_policy.specs.Targets.{by_rules, resolver_on, target}
+use Rattle.slirp_settings.specs.Classes.{same_endpoint}
+use Rattle.slirp_settings.specs.declared.Proto.TheVariants.{Udp as ByUdp}
 use Rattle.host_policy.specs.declared.Verdict.{Verdict}
 use Rattle.host_policy.specs.declared.Verdict.TheVariants.{Go, Denied}
 use Rattle.host_policy.specs.declared.Rule.{Rule}
 use Rattle.host_policy.specs.declared.Rule.TheVariants.{Restricted, PortZero, NameServer}
-use Rattle.dns_relay.specs.declared.Question.{Question}
-use Rattle.dns_relay.specs.Questions.{ident_in, is_question, socket_of, without}
+use Rattle.dns_rules.specs.declared.Question.{Question}
+use Rattle.dns_rules.specs.Questions.{ident_in, is_question, socket_of, without}
 use Rattle.run_laws.specs.Moments.{moment, waits}
 use Rattle.run_laws.specs.Packets.{Datagram}
 use Rattle.run_laws.specs.Shape.{Phase, Opening, Started, Woken, Working, Over, due_in, opened, phase}

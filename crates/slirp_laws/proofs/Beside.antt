@@ -8,7 +8,7 @@ use Rattle.net_octets.specs.Kinds.{ipv4_kind, tcp_proto, udp_proto}
 use Rattle.net_octets.specs.Octets.{part, two_at, our_mac}
 use Rattle.net_octets.proofs.Parts.{length-part}
 use Rattle.world_face.specs.Journal.{Entry}
-use Rattle.host_policy.specs.Addresses.{Config, address}
+use Rattle.slirp_settings.specs.Addresses.{Config, address}
 use Rattle.ether_frame.specs.Ether.{Ether, read_ether}
 use Rattle.arp_table.specs.Table.{mac_of as learnt_for}
 use Rattle.ipv4_head.specs.Ip.{Ip, is_unbroken, read_ip}
@@ -19,11 +19,12 @@ use Rattle.record_flows.specs.Segments.{OnTuple, asked_in, segment_in, tcp_of, t
 use Rattle.record_flows.specs.Taught.{is_pair, taught}
 use Rattle.run_laws.specs.Guests.{known}
 use Rattle.slirp_laws.specs.Answers.{is_flows, again_frames, frames_of, may_go_again, serving, told_of_files, begins_datagram, datagrams_in, identification, is_first, left, part_frame}
-use Rattle.slirp_laws.specs.Answers.{uncut, everyone, request}
+use Rattle.slirp_laws.specs.Answers.{uncut, request}
+use Rattle.arp_table.specs.Arp.{everyone}
 use Rattle.world_face.specs.Frames.{goes_out}
 use Rattle.slirp_laws.specs.Laws.{Lawful}
 use Rattle.slirp_laws.specs.Said.{AnswersLast, AsksForGuest, Carries, GoesAgain, IsOfFlow}
-use Rattle.tftp_server.specs.Transfers.{Said}
+use Rattle.tftp_rules.specs.Transfers.{Said}
 use Rattle.tcp_segment.specs.Tcp.{tcp_octets}
 use Rattle.slirp_laws.specs.Sending.{ip_in, ip_of, is_beside, is_latest, is_own, is_well_sent, is_written, may_ask, request_for, sends_again, sends_segment, speaks_yet, tcp_for}
 use Rattle.slirp_laws.proofs.Bools.{equal, equal_octets, first_of, second_of}

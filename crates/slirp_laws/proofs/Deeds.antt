@@ -12,7 +12,7 @@ use Rattle.world_face.specs.Journal.{CallListen, CallAccept}
 use Rattle.world_face.specs.Frames.{MayFrame, goes_out, tail}
 use Rattle.world_face.specs.Limits.{most_to_udp}
 use Rattle.net_octets.specs.declared.Endpoint.{Endpoint}
-use Rattle.host_policy.specs.Addresses.{Config}
+use Rattle.slirp_settings.specs.Addresses.{Config}
 use Rattle.run_laws.specs.Shape.{due_in, is_over, is_working, may_turn, phase}
 use Rattle.run_laws.specs.Sockets.{next_number}
 use Rattle.record_flows.specs.Book.{book, port_of}
@@ -27,8 +27,8 @@ use Rattle.slirp_laws.specs.Datagrams.{due_for}
 use Rattle.world_face.specs.declared.Io.{Io}
 use Rattle.slirp_laws.specs.Answers.{Serving, begins_again, begun_by, files_begun, files_sent, identification, ledger, serving}
 use Rattle.slirp_laws.specs.Names.{answered}
-use Rattle.tftp_server.specs.Asking.{call_for}
-use Rattle.tftp_server.specs.Transfers.{Said, Transfer, next_again}
+use Rattle.tftp_rules.specs.Asking.{call_for}
+use Rattle.tftp_rules.specs.Transfers.{Said, Transfer, next_again}
 use Rattle.slirp_laws.proofs.Bools.{and_both, same, equal, or_first}
 
 pub gathered : (config : Config) (past : List Entry) (call : Call) → MayFrame past call → MayDue config past call → has_place config past call ≡ true →

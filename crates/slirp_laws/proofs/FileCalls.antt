@@ -3,16 +3,16 @@ use Rattle.std.proofs.Common.{◌≡◌, ℕ, List, [], ◌∷◌, MatchOption, 
 use Rattle.std.specs.Option.{option_or}
 use Rattle.world_face.specs.Journal.{Entry, Call, CallNow, CallWait, CallLinkRead, CallLinkWrite, CallConnect, CallListen, CallClose, CallUdpOpen, CallUdpSend, CallFileLen, CallFileRead}
 use Rattle.net_octets.specs.declared.Endpoint.{Endpoint}
-use Rattle.host_policy.specs.Addresses.{Config}
-use Rattle.host_policy.specs.declared.Forward.{Forward}
-use Rattle.host_policy.specs.declared.Proto.{Proto}
-use Rattle.host_policy.specs.declared.Proto.TheVariants.{Tcp, Udp}
+use Rattle.slirp_settings.specs.Addresses.{Config}
+use Rattle.slirp_settings.specs.declared.Forward.{Forward}
+use Rattle.slirp_settings.specs.declared.Proto.{Proto}
+use Rattle.slirp_settings.specs.declared.Proto.TheVariants.{Tcp, Udp}
 use Rattle.record_flows.specs.Book.{book}
 use Rattle.record_flows.specs.Lots.{connects_to, due_by, due_for_flows}
 use Rattle.run_laws.specs.Shape.{Phase, Opening, Started, Woken, Working, Over, due_in, opening_of, phase}
 use Rattle.run_laws.specs.Sockets.{first, next_number, open_sockets}
-use Rattle.tftp_server.specs.Asking.{call_for}
-use Rattle.tftp_server.specs.Transfers.{Quest, SeeksLength, SeeksOctets, Settled as SeeksNothing}
+use Rattle.tftp_rules.specs.Asking.{call_for}
+use Rattle.tftp_rules.specs.Transfers.{Quest, SeeksLength, SeeksOctets, Settled as SeeksNothing}
 use Rattle.slirp_laws.specs.Answers.{serving}
 use Rattle.slirp_laws.specs.Asking.{step}
 use Rattle.slirp_laws.specs.Datagrams.{Step, NeedsNothing, NeedsRoom, NeedsSocket, NeedsSending, due_for}

@@ -15,22 +15,22 @@ use Rattle.world_face.specs.declared.Sent.TheVariants.{Done as SentDone, NotYet 
 use Rattle.world_face.specs.declared.Got.{Got}
 use Rattle.world_face.specs.declared.Got.TheVariants.{From, NotYet as GotNotYet, Failed as GotFailed}
 use Rattle.net_octets.specs.declared.Endpoint.{Endpoint}
-use Rattle.host_policy.specs.Addresses.{Config, endpoint}
-use Rattle.host_policy.specs.declared.Reply.TheVariants.{Nothing, Datagram as ADatagram}
+use Rattle.slirp_settings.specs.Addresses.{Config, endpoint}
+use Rattle.udp_rules.specs.declared.Reply.TheVariants.{Nothing, Datagram as ADatagram}
 use Rattle.ipv4_head.specs.Ip.{Ip, head_length, ip_octets, is_unbroken, read_ip}
-use Rattle.udp_assoc.specs.Udp.{Udp, is_udp, read_udp}
-use Rattle.dhcp_server.specs.Messages.{read_message}
-use Rattle.dhcp_server.specs.Replies.{everybody, goes_to_all, is_silence, reply_to, replied_octets}
-use Rattle.dhcp_server.specs.Serving.{served as served_lease}
-use Rattle.dhcp_server.specs.declared.leases.Lease.{Lease}
-use Rattle.dhcp_server.specs.declared.message.Message.{Message}
-use Rattle.dns_relay.specs.declared.Question.{Question}
-use Rattle.dns_relay.specs.Questions.{numbered}
+use Rattle.udp_datagram.specs.Udp.{Udp, is_udp, read_udp}
+use Rattle.dhcp_rules.specs.Messages.{read_message}
+use Rattle.dhcp_rules.specs.Replies.{everybody, goes_to_all, is_silence, reply_to, replied_octets}
+use Rattle.dhcp_rules.specs.Serving.{served as served_lease}
+use Rattle.dhcp_rules.specs.declared.Lease.{Lease}
+use Rattle.dhcp_rules.specs.declared.Message.{Message}
+use Rattle.dns_rules.specs.declared.Question.{Question}
+use Rattle.dns_rules.specs.Questions.{numbered}
 use Rattle.record_flows.specs.Book.{book}
 use Rattle.record_flows.specs.Segments.{OnTuple, asked_in, segment_in}
 use Rattle.run_laws.specs.Happenings.{Arrival, happens}
 use Rattle.run_laws.specs.Packets.{Datagram, DatagramPacket, Packet}
-use Rattle.tftp_server.specs.Transfers.{Said}
+use Rattle.tftp_rules.specs.Transfers.{Said}
 use Rattle.slirp_laws.specs.Answers.{Answer, ArpAnswer, IpAnswer, Serving, again_frames, answers_of, begins_again, frames_for, frames_of, identification, is_first, is_flows, is_out}
 use Rattle.slirp_laws.specs.Answers.{ledger, left, may_go_again, owed_for_fate, part_frame, served_file, serving, starts, told_of_files, uncut}
 use Rattle.slirp_laws.specs.Datagrams.{Fate, Ignored, Refused, ForLeases, ForFiles, GoesTo, fate}

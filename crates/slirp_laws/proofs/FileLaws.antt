@@ -5,16 +5,16 @@ use Rattle.std.proofs.Common.{subst, arith}
 use Rattle.net_octets.specs.Octets.{two_at}
 use Rattle.world_face.specs.Journal.{Entry, CallFileLen, CallFileRead, LinkWrite, Wait}
 use Rattle.world_face.specs.Frames.{goes_out}
-use Rattle.host_policy.specs.Addresses.{Config}
+use Rattle.slirp_settings.specs.Addresses.{Config}
 use Rattle.run_laws.specs.Moments.{moment}
-use Rattle.tftp_server.specs.Asking.{call_for}
-use Rattle.tftp_server.specs.Transfers.{Quest, Said, SeeksLength, SeeksOctets, Settled as SeeksNothing, Transfer, begun, goes_again, next_again, octets_of, place_of, said_again}
+use Rattle.tftp_rules.specs.Asking.{call_for}
+use Rattle.tftp_rules.specs.Transfers.{Quest, Said, SeeksLength, SeeksOctets, Settled as SeeksNothing, Transfer, begun, goes_again, next_again, octets_of, place_of, said_again}
 use Rattle.slirp_laws.specs.Answers.{begins_again, identification, is_free, ledger, may_go_again, serving, unless_begun}
 use Rattle.slirp_laws.specs.Files.{AreInTime, IsAsTold, IsAskedFor, IsBlockAsRead, IsOnItsWay, ReadsWanted, goes_by, is_told_to, sent_again_by, told_by, unless_on_its_way}
 use Rattle.slirp_laws.specs.Laws.{May, Lawful}
-use Rattle.tftp_server.proofs.Choosing.{all_found, found_own}
-use Rattle.tftp_server.proofs.Listing.{same_refl}
-use Rattle.tftp_server.proofs.Repeating.{due_at}
+use Rattle.tftp_rules.proofs.Choosing.{all_found, found_own}
+use Rattle.tftp_rules.proofs.Listing.{same_refl}
+use Rattle.tftp_rules.proofs.Repeating.{due_at}
 use Rattle.slirp_laws.proofs.FileCalls.{sought_length, sought_octets}
 use Rattle.slirp_laws.proofs.KeptFiles.{AnswersOptions, IsPacket, IsQuest, Kept, Refuses, TellsBlock, after, asked_for_length, holds, moments_now, now_is, the_call}
 

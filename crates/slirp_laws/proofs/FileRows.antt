@@ -6,8 +6,8 @@ use Rattle.world_face.specs.declared.FileSize.TheVariants.{Length, Missing}
 use Rattle.world_face.specs.declared.Waited.TheVariants.{Ready, Stop}
 use Rattle.world_face.specs.Journal.{Entry, Call, Now, Wait, LinkWrite, FileLen, FileRead, CallWait, CallLinkWrite, CallFileLen, CallFileRead}
 use Rattle.world_face.specs.Frames.{spelling, missing, is_too_long, spelt_length}
-use Rattle.host_policy.specs.Addresses.{Config}
-use Rattle.host_policy.specs.Settings.{usual}
+use Rattle.slirp_settings.specs.Addresses.{Config}
+use Rattle.slirp_settings.specs.Settings.{usual}
 use Rattle.slirp_laws.specs.Laws.{Finished, Lawful, May}
 use Rattle.slirp_laws.proofs.Checks.{is_sound}
 use Rattle.slirp_laws.proofs.Rows.{hex, reading, writing, comes, run}

@@ -9,18 +9,18 @@ use Rattle.world_face.specs.declared.FileSize.{FileSize}
 use Rattle.world_face.specs.declared.FileSize.TheVariants.{Length, Missing, Failed as SizeFailed}
 use Rattle.world_face.specs.declared.Io.{Io}
 use Rattle.world_face.specs.declared.Io.TheVariants.{Done, End, NotYet, Failed}
-use Rattle.host_policy.specs.Addresses.{Config}
-use Rattle.host_policy.specs.declared.Reply.{Reply}
-use Rattle.host_policy.specs.declared.Reply.TheVariants.{Nothing, Datagram as ADatagram, Unreachable}
+use Rattle.slirp_settings.specs.Addresses.{Config}
+use Rattle.udp_rules.specs.declared.Reply.{Reply}
+use Rattle.udp_rules.specs.declared.Reply.TheVariants.{Nothing, Datagram as ADatagram, Unreachable}
 use Rattle.record_flows.specs.Book.{book}
 use Rattle.record_flows.specs.Lots.{due_for_flows}
 use Rattle.run_laws.specs.Shape.{Working, due_in, phase}
 use Rattle.run_laws.specs.Sockets.{next_number}
-use Rattle.tftp_server.specs.Asking.{AreAskedFor, after_calls, by_answer, call_for, or_outcome}
-use Rattle.tftp_server.specs.Packets.{Packet, Asks, AsksToWrite, Acknowledges, GivesUp, Unheard, Request, Terms, is_name, request_in, says, terms_of}
-use Rattle.tftp_server.specs.Serving.{IsFromServer, said_by}
-use Rattle.tftp_server.specs.Transfers.{Files, Outcome, Quest, Said, SeeksLength, SeeksOctets, Settled as SeeksNothing, Sought, Transfer, acknowledged, is_for, length_came, measured, octets_came}
-use Rattle.tftp_server.specs.Transfers.{octets_of, place_of, requested, requested_file, seeks_block, taken_in, transfer, with_room, without}
+use Rattle.tftp_rules.specs.Asking.{AreAskedFor, after_calls, by_answer, call_for, or_outcome}
+use Rattle.tftp_rules.specs.Packets.{Packet, Asks, AsksToWrite, Acknowledges, GivesUp, Unheard, Request, Terms, is_name, request_in, says, terms_of}
+use Rattle.tftp_rules.specs.Saying.{IsFromServer, said_by}
+use Rattle.tftp_rules.specs.Transfers.{Files, Outcome, Quest, Said, SeeksLength, SeeksOctets, Settled as SeeksNothing, Sought, Transfer, acknowledged, is_for, length_came, measured, octets_came}
+use Rattle.tftp_rules.specs.Transfers.{octets_of, place_of, requested, requested_file, seeks_block, taken_in, transfer, with_room, without}
 use Rattle.slirp_laws.specs.Answers.{answer_of, answers_of, frames_of, identification, left, left_by_file, serving, told_of_files}
 use Rattle.slirp_laws.specs.Asking.{step, step_of}
 use Rattle.slirp_laws.specs.Datagrams.{due_for}

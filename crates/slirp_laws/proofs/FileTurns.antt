@@ -7,15 +7,15 @@ use Rattle.world_face.specs.Journal.{Entry, LinkWrite}
 use Rattle.world_face.specs.Frames.{goes_out}
 use Rattle.world_face.specs.declared.Io.{Io}
 use Rattle.net_octets.specs.Octets.{our_mac}
-use Rattle.host_policy.specs.Addresses.{Config, address}
+use Rattle.slirp_settings.specs.Addresses.{Config, address}
 use Rattle.ether_frame.specs.Ether.{Ether, read_ether}
 use Rattle.ipv4_head.specs.Cuts.{cut_at}
 use Rattle.ipv4_head.specs.Ip.{Ip, fragment_of, ip_octets, is_unbroken, read_ip}
-use Rattle.udp_assoc.specs.Udp.{udp_octets}
+use Rattle.udp_datagram.specs.Udp.{udp_octets}
 use Rattle.tcp_segment.specs.Tcp.{read_tcp}
 use Rattle.record_flows.specs.Segments.{asked_in, asked_of, segment_in, to_guest, went_by, went_of}
-use Rattle.tftp_server.specs.Transfers.{Files, Said, Transfer, are_left, next_again, said_again, ticked}
-use Rattle.tftp_server.proofs.Turning.{ticked_some}
+use Rattle.tftp_rules.specs.Transfers.{Files, Said, Transfer, are_left, next_again, said_again, ticked}
+use Rattle.tftp_rules.proofs.Turning.{ticked_some}
 use Rattle.slirp_laws.specs.Answers.{IpAnswer, again_frames, begins_again, begun_by, files_begun, files_sent, frames_for, frames_of, identification, is_first, is_out, ledger, left}
 use Rattle.slirp_laws.specs.Answers.{may_go_again, serving, starts, taken, told_of_files, uncut, unless_begun}
 use Rattle.slirp_laws.specs.Laws.{Lawful}

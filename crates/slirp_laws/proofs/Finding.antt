@@ -5,10 +5,10 @@ use Rattle.std.proofs.Common.{◌∙◌, ap, subst, arith}
 use Rattle.std.proofs.lemmas.Bool.Decides.{nat_tests}
 use Rattle.world_face.specs.Journal.{Entry}
 use Rattle.net_octets.specs.declared.Endpoint.{Endpoint}
-use Rattle.host_policy.specs.Addresses.{Config}
-use Rattle.host_policy.specs.Targets.{same_endpoint}
-use Rattle.udp_assoc.specs.Associations.{idle_life, is_idle, is_of, is_over, most_associations, numbered, numbers, socket_of}
-use Rattle.udp_assoc.specs.declared.assocs.Association.{Association}
+use Rattle.slirp_settings.specs.Addresses.{Config}
+use Rattle.slirp_settings.specs.Classes.{same_endpoint}
+use Rattle.udp_rules.specs.Associations.{idle_life, is_idle, is_of, is_over, most_associations, numbered, numbers, socket_of}
+use Rattle.udp_rules.specs.declared.Association.{Association}
 use Rattle.run_laws.specs.Sockets.{first, is_among, is_association, open_sockets}
 use Rattle.slirp_laws.specs.Asking.{step_of, step_on, yields}
 use Rattle.slirp_laws.specs.Datagrams.{Errand, NeedsRoom, NeedsSocket, asks_a_name}

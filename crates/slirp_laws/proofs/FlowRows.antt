@@ -7,8 +7,8 @@ use Rattle.world_face.specs.declared.Waited.{Waited}
 use Rattle.world_face.specs.Journal.{Wait, LinkWrite, Connect, TcpRead, TcpWrite}
 use Rattle.world_face.specs.Frames.{spelling, missing, is_too_long, spelt_length}
 use Rattle.tlv_table.specs.Reading.{read_on}
-use Rattle.host_policy.specs.Addresses.{endpoint}
-use Rattle.host_policy.specs.Settings.{usual}
+use Rattle.slirp_settings.specs.Addresses.{endpoint}
+use Rattle.slirp_settings.specs.Settings.{usual}
 use Rattle.record_flows.proofs.Writing.{hex, run}
 use Rattle.record_flows.proofs.TcpFailures.{failed_read}
 use Rattle.record_flows.proofs.TcpForwards.{forwarding, visited, unshown}

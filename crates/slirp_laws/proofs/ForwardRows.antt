@@ -11,9 +11,9 @@ use Rattle.world_face.specs.declared.Waited.TheVariants.{Ready, Stop}
 use Rattle.world_face.specs.Journal.{Entry, Accept, LinkRead, Close, Listen, Now, UdpOpen, UdpRecv, UdpSend, Wait, LinkWrite, CallAccept, CallClose, CallLinkWrite, CallListen, CallUdpOpen, CallUdpSend}
 use Rattle.world_face.specs.Frames.{spelling, missing, is_too_long, spelt_length}
 use Rattle.tlv_table.specs.Reading.{read_on}
-use Rattle.host_policy.specs.declared.Proto.TheVariants.{Tcp as TcpProto, Udp as UdpProto}
-use Rattle.host_policy.specs.Addresses.{Config, endpoint}
-use Rattle.host_policy.specs.Settings.{usual}
+use Rattle.slirp_settings.specs.declared.Proto.TheVariants.{Tcp as TcpProto, Udp as UdpProto}
+use Rattle.slirp_settings.specs.Addresses.{Config, endpoint}
+use Rattle.slirp_settings.specs.Settings.{usual}
 use Rattle.host_policy.specs.Targets.{anywhere}
 use Rattle.record_flows.proofs.TcpForwards.{forwarding, visited, unshown}
 use Rattle.slirp_laws.specs.Check.{may}

@@ -1,8 +1,8 @@
 -- To which guests ports of the host are given, where the settings alone say it, and where none is.
 use Rattle.std.proofs.Common.{◌≡◌, ℕ, ◌==◌, List, [], Option, Some, None, find, option_map, slice_get, refl, ◌∙◌, ap}
 use Rattle.std.specs.Option.{option_or}
-use Rattle.host_policy.specs.Addresses.{Config, forward_on}
-use Rattle.host_policy.specs.declared.Forward.{Forward}
+use Rattle.slirp_settings.specs.Addresses.{Config, forward_on}
+use Rattle.slirp_settings.specs.declared.Forward.{Forward}
 use Rattle.run_laws.specs.Shape.{GivesNone}
 
 or_none : (o : Option Forward) → option_or o None ≡ o

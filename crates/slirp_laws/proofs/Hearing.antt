@@ -8,15 +8,15 @@ use Rattle.world_face.specs.declared.Sent.{Sent}
 use Rattle.world_face.specs.declared.Sent.TheVariants.{Done as SentDone, NotYet as SentNotYet, Failed as SentFailed}
 use Rattle.world_face.specs.declared.Got.TheVariants.{From, NotYet as GotNotYet, Failed as GotFailed}
 use Rattle.net_octets.specs.declared.Endpoint.{Endpoint}
-use Rattle.host_policy.specs.Addresses.{Config}
-use Rattle.dns_relay.specs.declared.Question.{Question}
-use Rattle.dns_relay.specs.Questions.{is_answered, numbered}
+use Rattle.slirp_settings.specs.Addresses.{Config}
+use Rattle.dns_rules.specs.declared.Question.{Question}
+use Rattle.dns_rules.specs.Questions.{is_answered, numbered}
 use Rattle.record_flows.specs.Book.{book}
 use Rattle.record_flows.specs.Segments.{OnTuple}
 use Rattle.run_laws.specs.Happenings.{Arrival, happens}
 use Rattle.run_laws.specs.Packets.{Datagram}
-use Rattle.tftp_server.specs.Asking.{by_answer}
-use Rattle.tftp_server.specs.Transfers.{Outcome, Said}
+use Rattle.tftp_rules.specs.Asking.{by_answer}
+use Rattle.tftp_rules.specs.Transfers.{Outcome, Said}
 use Rattle.slirp_laws.specs.Answers.{begins_again, identification, ledger, may_go_again, serving}
 use Rattle.slirp_laws.specs.Laws.{Lawful}
 use Rattle.slirp_laws.specs.Names.{questions}

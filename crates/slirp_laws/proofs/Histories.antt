@@ -1,8 +1,8 @@
 -- The leases of the record are those of a history of messages, and that is in order.
 use Rattle.std.proofs.Common.{◌≡◌, ℕ, ◌≤◌, arith, List, [], ◌∷◌, ◌++◌, Option, Some, None, refl, ap, ◌∙◌}
 use Rattle.world_face.specs.Journal.{Entry}
-use Rattle.host_policy.specs.Addresses.{Config}
-use Rattle.dhcp_server.specs.History.{Received, leases_over}
+use Rattle.slirp_settings.specs.Addresses.{Config}
+use Rattle.dhcp_rules.specs.History.{Received, leases_over}
 use Rattle.run_laws.specs.Happenings.{Arrival, happens}
 use Rattle.run_laws.specs.Moments.{moment}
 use Rattle.run_laws.specs.Packets.{Packet, Datagram, Unheard, ArpPacket, Message, DatagramPacket, Segment}

@@ -11,9 +11,9 @@ use Rattle.world_face.specs.declared.Sent.{Sent}
 use Rattle.world_face.specs.declared.Got.{Got}
 use Rattle.world_face.specs.declared.Got.TheVariants.{From, NotYet as GotNotYet, Failed as GotFailed}
 use Rattle.net_octets.specs.declared.Endpoint.{Endpoint}
-use Rattle.host_policy.specs.Addresses.{Config}
-use Rattle.udp_assoc.specs.Associations.{heard_at, is_numbered, moved_last, numbers, sent_from, without}
-use Rattle.udp_assoc.specs.declared.assocs.Association.{Association}
+use Rattle.slirp_settings.specs.Addresses.{Config}
+use Rattle.udp_rules.specs.Associations.{heard_at, is_numbered, moved_last, numbers, sent_from, without}
+use Rattle.udp_rules.specs.declared.Association.{Association}
 use Rattle.run_laws.specs.Moments.{moment, waits}
 use Rattle.run_laws.specs.Packets.{Datagram}
 use Rattle.run_laws.specs.Sockets.{Association as OfAssociation, Flow as OfFlow, Forward as OfForward, Listener as OfListener, Kind, DnsSocket, datagram_kind, is_among, is_association, next_number, open_sockets, with_made}

@@ -8,21 +8,21 @@ use Rattle.world_face.specs.Frames.{goes_out}
 use Rattle.world_face.specs.declared.FileSize.{FileSize}
 use Rattle.world_face.specs.declared.FileSize.TheVariants.{Length}
 use Rattle.world_face.specs.declared.Io.{Io}
-use Rattle.host_policy.specs.Addresses.{Config}
+use Rattle.slirp_settings.specs.Addresses.{Config}
 use Rattle.run_laws.specs.Happenings.{Arrival, datagram_by, datagram_came, happens}
 use Rattle.run_laws.specs.Moments.{moment}
 use Rattle.run_laws.specs.Packets.{Packet, Unheard, ArpPacket, Message, DatagramPacket, Segment, Datagram}
-use Rattle.tftp_server.specs.Asking.{call_for}
-use Rattle.tftp_server.specs.Laws.{IsInFolder, octets_done, octets_read}
-use Rattle.tftp_server.specs.Packets.{Acknowledges, Asks, Request, Terms, block_octets, error_octets, file_in, is_name, options_octets, packet_in, request_in, terms_of}
-use Rattle.tftp_server.specs.Rows.{AreApart, WaitsWell}
-use Rattle.tftp_server.specs.Transfers.{Files, Outcome, Quest, Said, SeeksLength, SeeksOctets, Settled as SeeksNothing, Sought, Transfer, are_left, begun, goes_again, is_for, length_came, next_again}
-use Rattle.tftp_server.specs.Transfers.{octets_came, octets_of, place_of, said_again, sending, sent_again, ticked, ticked_by, transfer, with_again}
-use Rattle.tftp_server.proofs.Choosing.{AllTransfers, IfThere, all_filtered, all_found, all_last, all_so, if_there}
-use Rattle.tftp_server.proofs.Listing.{apart_again, apart_filter, apart_push, same_refl, same_swap}
-use Rattle.tftp_server.proofs.Repeating.{due_at}
-use Rattle.tftp_server.proofs.Staying.{parts_below}
-use Rattle.tftp_server.proofs.Waiting.{terms_well}
+use Rattle.tftp_rules.specs.Asking.{call_for}
+use Rattle.tftp_rules.specs.Laws.{IsInFolder, octets_done, octets_read}
+use Rattle.tftp_rules.specs.Packets.{Acknowledges, Asks, Request, Terms, block_octets, error_octets, file_in, is_name, options_octets, packet_in, request_in, terms_of}
+use Rattle.tftp_rules.specs.Soundness.{AreApart, WaitsWell}
+use Rattle.tftp_rules.specs.Transfers.{Files, Outcome, Quest, Said, SeeksLength, SeeksOctets, Settled as SeeksNothing, Sought, Transfer, are_left, begun, goes_again, is_for, length_came, next_again}
+use Rattle.tftp_rules.specs.Transfers.{octets_came, octets_of, place_of, said_again, sending, sent_again, ticked, ticked_by, transfer, with_again}
+use Rattle.tftp_rules.proofs.Choosing.{AllTransfers, IfThere, all_filtered, all_found, all_last, all_so, if_there}
+use Rattle.tftp_rules.proofs.Listing.{apart_again, apart_filter, apart_push, same_refl, same_swap}
+use Rattle.tftp_rules.proofs.Repeating.{due_at}
+use Rattle.tftp_rules.proofs.Staying.{parts_below}
+use Rattle.tftp_rules.proofs.Waiting.{terms_well}
 use Rattle.slirp_laws.specs.Answers.{Serving, begins_again, begun_by, files_after, files_begun, files_by_call, files_by_fate, files_by_packet, files_sent, identification, is_free, ledger}
 use Rattle.slirp_laws.specs.Answers.{may_go_again, served_file, serving}
 use Rattle.slirp_laws.specs.Datagrams.{Fate, Ignored, Refused, ForLeases, ForFiles, GoesTo, fate}
@@ -145,6 +145,30 @@ pub rises : (e : Entry) (past : List Entry) → moment past ≤ moment (e ∷ pa
 rises (Now told) past = omega arith
 rises _ past = omega arith
 
+-- it goes on to be kept, with so many times and the moment at which it is due
+goes_on : (config : Config) (e : Entry) (past : List Entry) (t : Transfer) (again due : ℕ) (k : Kept config past t)
+    → length (moments_again config t.guest (e ∷ k.later) (k.teller ∷ k.before)) ≡ again → again ≤ 5
+    → AreInTime t.timeout (moment k.before) (moments_again config t.guest (e ∷ k.later) (k.teller ∷ k.before))
+    → due ≡ or_made (moment k.before) (moments_again config t.guest (e ∷ k.later) (k.teller ∷ k.before)) + t.timeout → due ≤ moment (e ∷ past) + t.timeout
+    → Kept config (e ∷ past) (record t { again = again; due = due })
+goes_on config e past t again due k times few in_time falls soon = record {
+  later = e ∷ k.later;
+  teller = k.teller;
+  before = k.before;
+  record_is = ap (λ (l : List Entry). e ∷ l) k.record_is;
+  told = k.told;
+  transfer = k.transfer;
+  begun = k.begun;
+  timeout = k.timeout;
+  inside = k.inside;
+  waits = k.waits;
+  times = times;
+  few = few;
+  in_time = in_time;
+  due = falls;
+  soon = soon;
+}
+
 -- an entry that doesn't send it again
 kept_on : (config : Config) (e : Entry) (past : List Entry) (t : Transfer) → is_told_to t.guest (sent_again_by config past e) ≡ false → Kept config past t → Kept config (e ∷ past) t
 kept_on config e past t none k =
@@ -152,23 +176,8 @@ kept_on config e past t none k =
     let m = moments_again config t.guest k.later (k.teller ∷ k.before) in
     let other : is_told_to t.guest (sent_again_by config here e) ≡ false = subst (λ p. is_told_to t.guest (sent_again_by config p e) ≡ false) k.record_is none in
     let same : moments_again config t.guest (e ∷ k.later) (k.teller ∷ k.before) ≡ m = ap (λ (b : Bool). if b then moment here ∷ m else m) other in
-    record {
-      later = e ∷ k.later;
-      teller = k.teller;
-      before = k.before;
-      record_is = ap (λ (l : List Entry). e ∷ l) k.record_is;
-      told = k.told;
-      transfer = k.transfer;
-      begun = k.begun;
-      timeout = k.timeout;
-      inside = k.inside;
-      waits = k.waits;
-      times = ap length same ∙ k.times;
-      few = k.few;
-      in_time = subst (AreInTime t.timeout (moment k.before)) (sym same) k.in_time;
-      due = k.due ∙ ap (λ (l : List ℕ). or_made (moment k.before) l + t.timeout) (sym same);
-      soon = (let before = k.soon in let later = rises e past in omega (arith, before, later));
-    }
+    goes_on config e past t t.again t.due k (ap length same ∙ k.times) k.few (subst (AreInTime t.timeout (moment k.before)) (sym same) k.in_time)
+    (k.due ∙ ap (λ (l : List ℕ). or_made (moment k.before) l + t.timeout) (sym same)) (let before = k.soon in let later = rises e past in omega (arith, before, later))
 
 -- and one that does: its moment counts
 pub moments_now : (config : Config) (e : Entry) (past : List Entry) (t : Transfer) → is_told_to t.guest (sent_again_by config past e) ≡ true → (k : Kept config past t)
@@ -186,23 +195,9 @@ kept_again config e past t this due few k =
     let same = moments_now config e past t this k in
     let times : length m ≡ t.again = k.times in
     let falls : t.due ≡ or_made (moment k.before) m + t.timeout = k.due in
-    record {
-      later = e ∷ k.later;
-      teller = k.teller;
-      before = k.before;
-      record_is = ap (λ (l : List Entry). e ∷ l) k.record_is;
-      told = k.told;
-      transfer = k.transfer;
-      begun = k.begun;
-      timeout = k.timeout;
-      inside = k.inside;
-      waits = k.waits;
-      times = ap length same ∙ (let one : length (moment past ∷ m) ≡ t.again + 1 = omega (arith, times) in one);
-      few = omega (arith, few);
-      in_time = subst (AreInTime t.timeout (moment k.before)) (sym same) (omega (arith, falls, due), k.in_time);
-      due = ap (λ (l : List ℕ). or_made (moment k.before) l + t.timeout) (sym same);
-      soon = (let later = rises e past in omega (arith, later));
-    }
+    goes_on config e past t (t.again + 1) (moment past + t.timeout) k (ap length same ∙ (let one : length (moment past ∷ m) ≡ t.again + 1 = omega (arith, times) in one))
+    (omega (arith, few)) (subst (AreInTime t.timeout (moment k.before)) (sym same) (omega (arith, falls, due), k.in_time))
+    (ap (λ (l : List ℕ). or_made (moment k.before) l + t.timeout) (sym same)) (let later = rises e past in omega (arith, later))
 
 -- ---- what holds at every moment
 

@@ -10,10 +10,10 @@ use Rattle.world_face.specs.declared.Sent.{Sent}
 use Rattle.world_face.specs.declared.Got.{Got}
 use Rattle.world_face.specs.declared.Got.TheVariants.{From, NotYet as GotNotYet, Failed as GotFailed}
 use Rattle.net_octets.specs.declared.Endpoint.{Endpoint}
-use Rattle.host_policy.specs.Addresses.{Config}
-use Rattle.host_policy.specs.Targets.{same_endpoint}
-use Rattle.dns_relay.specs.declared.Question.{Question}
-use Rattle.dns_relay.specs.Questions.{ident_in, is_answer, is_answered, is_idle, is_of, is_over, most_questions, numbered, numbers, question_life, socket_of, without}
+use Rattle.slirp_settings.specs.Addresses.{Config}
+use Rattle.slirp_settings.specs.Classes.{same_endpoint}
+use Rattle.dns_rules.specs.declared.Question.{Question}
+use Rattle.dns_rules.specs.Questions.{ident_in, is_answer, is_answered, is_idle, is_of, is_over, most_questions, numbered, numbers, question_life, socket_of, without}
 use Rattle.run_laws.specs.Moments.{moment}
 use Rattle.run_laws.specs.Packets.{Datagram}
 use Rattle.run_laws.specs.Shape.{Phase, Opening, Started, Woken, Working, Over, due_in, is_ended, is_working, phase}
@@ -21,7 +21,7 @@ use Rattle.run_laws.specs.Sockets.{Kind, Association, DnsSocket, Forward, Listen
 use Rattle.record_flows.specs.Book.{book}
 use Rattle.record_flows.specs.Flows.{is_it}
 use Rattle.record_flows.specs.Lots.{due_for_flows}
-use Rattle.tftp_server.specs.Asking.{call_for}
+use Rattle.tftp_rules.specs.Asking.{call_for}
 use Rattle.slirp_laws.specs.Answers.{serving}
 use Rattle.slirp_laws.specs.Asking.{step, step_of}
 use Rattle.slirp_laws.specs.Datagrams.{Errand, Step, NeedsNothing, NeedsRoom, NeedsSocket, NeedsSending, asks_a_name, due_for}

@@ -1,10 +1,10 @@
 -- No client has two of the addresses that are lent, whatever came.
 use Rattle.std.proofs.Common.{◌≡◌, ℕ, List, [], ◌∷◌, length, Option, Some, None, refl}
 use Rattle.world_face.specs.Journal.{Entry}
-use Rattle.host_policy.specs.Addresses.{Config}
-use Rattle.dhcp_server.specs.Leases.{IsOneToOne}
-use Rattle.dhcp_server.specs.declared.leases.Lease.{Lease}
-use Rattle.dhcp_server.proofs.Owning.{all_free, good_after}
+use Rattle.slirp_settings.specs.Addresses.{Config}
+use Rattle.dhcp_rules.specs.Leases.{IsOneToOne}
+use Rattle.dhcp_rules.specs.declared.Lease.{Lease}
+use Rattle.dhcp_rules.proofs.Owning.{all_free, good_after}
 use Rattle.run_laws.specs.Happenings.{Arrival, happens}
 use Rattle.run_laws.specs.Moments.{moment}
 use Rattle.run_laws.specs.Packets.{Packet, Datagram, Unheard, ArpPacket, Message, DatagramPacket, Segment}

@@ -1,8 +1,8 @@
 -- Lists of questions: what holds of each stays so, and which is found by its number.
 use Rattle.std.proofs.Common.{◌≡◌, ℕ, ◌==◌, ◌&&◌, ◌||◌, not, Bool, true, false, List, [], ◌∷◌, ◌++◌, find, Some, None, option_map, if◌then◌else◌, refl, sym, ◌∙◌, ap, subst, filter}
 use Rattle.net_octets.specs.declared.Endpoint.{Endpoint}
-use Rattle.dns_relay.specs.declared.Question.{Question}
-use Rattle.dns_relay.specs.Questions.{is_of, moved_last, numbered, numbers, socket_of, without}
+use Rattle.dns_rules.specs.declared.Question.{Question}
+use Rattle.dns_rules.specs.Questions.{is_of, moved_last, numbered, numbers, socket_of, without}
 use Rattle.run_laws.specs.Sockets.{is_among}
 use Rattle.slirp_laws.proofs.Bools.{among_without, equal, or_assoc, or_false, or_swap, same}
 

@@ -8,8 +8,8 @@ use Rattle.world_face.specs.declared.Accepted.TheVariants.{From, NotYet as NotYe
 use Rattle.world_face.specs.declared.Made.{Made}
 use Rattle.world_face.specs.declared.Made.TheVariants.{Done, Failed}
 use Rattle.net_octets.specs.declared.Endpoint.{Endpoint}
-use Rattle.host_policy.specs.Addresses.{Config, address}
-use Rattle.host_policy.specs.Targets.{same_endpoint}
+use Rattle.slirp_settings.specs.Addresses.{Config, address}
+use Rattle.slirp_settings.specs.Classes.{same_endpoint}
 use Rattle.run_laws.specs.Sockets.{is_among, next_number, open_sockets, with_made, with_peer}
 use Rattle.slirp_laws.specs.Laws.{May, Lawful}
 use Rattle.slirp_laws.specs.Ports.{associations_open, earlier, is_port, last_use, longest_unused_of, opened_for, socket_for, forward_for, forwards_open}

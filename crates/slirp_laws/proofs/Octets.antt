@@ -12,7 +12,7 @@ use Rattle.world_face.specs.Frames.{arrives, is_whole, partial}
 use Rattle.net_octets.specs.Kinds.{ipv4_kind}
 use Rattle.net_octets.specs.Octets.{IsOctets, one_at, two_at, four_at, part}
 use Rattle.net_octets.proofs.Parts.{four_at-fits}
-use Rattle.host_policy.specs.Addresses.{Config, is_guest}
+use Rattle.slirp_settings.specs.Addresses.{Config, is_guest}
 use Rattle.ether_frame.specs.Ether.{Ether, read_ether}
 use Rattle.ipv4_head.specs.Ip.{Ip, read_ip, head_length, is_unbroken}
 use Rattle.ipv4_head.specs.Sets.{Key, Part, PartSet, Outcome, UnevenPart, LongPart, Clashes, Waits, Joined, has_octet, joined_body, joined_size, octet_of, outcome_among}

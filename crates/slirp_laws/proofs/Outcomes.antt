@@ -6,15 +6,15 @@ use Rattle.world_face.specs.declared.FileSize.{FileSize}
 use Rattle.world_face.specs.declared.FileSize.TheVariants.{Length, Missing, Failed as SizeFailed}
 use Rattle.world_face.specs.declared.Io.{Io}
 use Rattle.world_face.specs.declared.Io.TheVariants.{Done, End, NotYet, Failed}
-use Rattle.tftp_server.specs.Laws.{octets_done}
-use Rattle.tftp_server.specs.Packets.{Packet, Asks, AsksToWrite, Acknowledges, GivesUp, Unheard, Request, Terms, block_octets, error_octets, file_in, is_name, options_octets, request_in}
-use Rattle.tftp_server.specs.Packets.{says, terms_of}
-use Rattle.tftp_server.specs.Rows.{AreApart}
-use Rattle.tftp_server.specs.Transfers.{Outcome, Quest, Said, SeeksLength, SeeksOctets, Settled as SeeksNothing, Sought, Transfer, acknowledged, begins, is_for, leaves, length_came, measured}
-use Rattle.tftp_server.specs.Transfers.{most_transfers, octets_came, octets_of, reads_on, refuses, requested, requested_file, said_again, seeks_block, sending, sends, taken_in, transfer}
-use Rattle.tftp_server.specs.Transfers.{with_again, with_room, without, sent_again}
-use Rattle.tftp_server.proofs.Choosing.{AllTransfers, all_filtered}
-use Rattle.tftp_server.proofs.Listing.{apart_filter, found_not, none_without}
+use Rattle.tftp_rules.specs.Laws.{octets_done}
+use Rattle.tftp_rules.specs.Packets.{Packet, Asks, AsksToWrite, Acknowledges, GivesUp, Unheard, Request, Terms, block_octets, error_octets, file_in, is_name, options_octets, request_in}
+use Rattle.tftp_rules.specs.Packets.{says, terms_of}
+use Rattle.tftp_rules.specs.Soundness.{AreApart}
+use Rattle.tftp_rules.specs.Transfers.{Outcome, Quest, Said, SeeksLength, SeeksOctets, Settled as SeeksNothing, Sought, Transfer, acknowledged, begins, is_for, leaves, length_came, measured}
+use Rattle.tftp_rules.specs.Transfers.{most_transfers, octets_came, octets_of, reads_on, refuses, requested, requested_file, said_again, seeks_block, sending, sends, taken_in, transfer}
+use Rattle.tftp_rules.specs.Transfers.{with_again, with_room, without, sent_again}
+use Rattle.tftp_rules.proofs.Choosing.{AllTransfers, all_filtered}
+use Rattle.tftp_rules.proofs.Listing.{apart_filter, found_not, none_without}
 use Rattle.slirp_laws.proofs.Bools.{equal}
 
 -- ---- transfers

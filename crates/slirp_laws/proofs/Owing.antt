@@ -16,7 +16,7 @@ use Rattle.world_face.specs.declared.Got.TheVariants.{From, NotYet as GotNotYet,
 use Rattle.net_octets.specs.declared.Endpoint.{Endpoint}
 use Rattle.net_octets.specs.declared.Mac.{Mac}
 use Rattle.arp_table.specs.Table.{mac_of as learnt_for}
-use Rattle.host_policy.specs.Addresses.{Config}
+use Rattle.slirp_settings.specs.Addresses.{Config}
 use Rattle.ipv4_head.specs.Ip.{Ip}
 use Rattle.icmp_echo.specs.Icmp.{Icmp, echo, unreachable, other}
 use Rattle.run_laws.specs.Happenings.{Arrival, happens, datagram_came}
@@ -35,12 +35,12 @@ use Rattle.slirp_laws.specs.Asking.{step, step_of}
 use Rattle.slirp_laws.specs.Errands.{errand_after, errand_by_call, errand_left}
 use Rattle.slirp_laws.specs.Leasing.{sending_of}
 use Rattle.slirp_laws.specs.Names.{questions}
-use Rattle.dns_relay.specs.declared.Question.{Question}
-use Rattle.dns_relay.specs.Questions.{is_answered, numbered as numbered_question}
-use Rattle.tftp_server.specs.Asking.{by_answer}
-use Rattle.tftp_server.specs.Transfers.{Outcome, Said}
-use Rattle.host_policy.specs.declared.Reply.{Reply}
-use Rattle.host_policy.specs.declared.Reply.TheVariants.{Nothing, Datagram as ADatagram, Unreachable}
+use Rattle.dns_rules.specs.declared.Question.{Question}
+use Rattle.dns_rules.specs.Questions.{is_answered, numbered as numbered_question}
+use Rattle.tftp_rules.specs.Asking.{by_answer}
+use Rattle.tftp_rules.specs.Transfers.{Outcome, Said}
+use Rattle.udp_rules.specs.declared.Reply.{Reply}
+use Rattle.udp_rules.specs.declared.Reply.TheVariants.{Nothing, Datagram as ADatagram, Unreachable}
 use Rattle.slirp_laws.specs.Laws.{May, Lawful, may_begin}
 use Rattle.slirp_laws.specs.Ports.{last_datagram, last_mac, mac_of, opened_for, mac_for, mac_known, port_for, given_port}
 use Rattle.slirp_laws.specs.Said.{AnswersLast, IsRest, Occasion, NoOccasion, Came, Heard, HeardOfName, OfFile, Unsent, Unconnected, by_outcome, by_said, heard_on as heard_of}

@@ -6,7 +6,7 @@ use Rattle.world_face.specs.Journal.{Entry, Close, Now, Wait, Listen, UdpOpen, C
 use Rattle.world_face.specs.Frames.{Ending, ending, partial}
 use Rattle.world_face.specs.declared.Made.{Made}
 use Rattle.world_face.specs.declared.Made.TheVariants.{Done, Failed}
-use Rattle.host_policy.specs.Addresses.{Config}
+use Rattle.slirp_settings.specs.Addresses.{Config}
 use Rattle.run_laws.specs.Moments.{waits}
 use Rattle.run_laws.specs.Shape.{Cause, Phase, Opening, Started, Woken, Working, Over, phase, phase_by, phase_after, opened, may_turn, is_over, is_ended}
 use Rattle.run_laws.specs.Sockets.{Kind, Association as OfAssociation, DnsSocket, Forward as OfForward, Listener, Flow, is_among, is_association, open_sockets, first}
@@ -18,7 +18,7 @@ use Rattle.record_flows.specs.Flows.{is_it}
 use Rattle.slirp_laws.specs.Laws.{May, Lawful, begins_closing, gives_way, is_closing, is_unused, may_part, parts}
 use Rattle.slirp_laws.specs.Ports.{associations_open, forward_for, last_use, longest_unused, socket_for}
 use Rattle.slirp_laws.specs.Said.{IsIdle, IsLongestUnused}
-use Rattle.dns_relay.specs.declared.Question.{Question}
+use Rattle.dns_rules.specs.declared.Question.{Question}
 use Rattle.slirp_laws.proofs.Bools.{equal, first_of, second_of, or_second}
 use Rattle.slirp_laws.proofs.Longest.{IsLeastOf, least_of}
 

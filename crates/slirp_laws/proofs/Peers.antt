@@ -1,11 +1,11 @@
 -- Connections that were accepted at a port of the host stand between the guest that the settings name and a peer that may be seen.
 use Rattle.std.proofs.Common.{◌≡◌, ℕ, ◌==◌, ◌&&◌, ◌||◌, Bool, true, false, List, [], ◌∷◌, length, map, Option, Some, None, option_and_then, if◌then◌else◌, refl, sym, ◌∙◌, subst}
 use Rattle.net_octets.specs.declared.Endpoint.{Endpoint}
-use Rattle.host_policy.specs.Addresses.{Config, address, forward_on}
+use Rattle.slirp_settings.specs.Addresses.{Config, address, forward_on}
 use Rattle.host_policy.specs.Targets.{is_hidden}
-use Rattle.host_policy.specs.declared.Forward.{Forward}
-use Rattle.host_policy.specs.declared.Proto.{Proto}
-use Rattle.host_policy.specs.declared.Proto.TheVariants.{Tcp, Udp}
+use Rattle.slirp_settings.specs.declared.Forward.{Forward}
+use Rattle.slirp_settings.specs.declared.Proto.{Proto}
+use Rattle.slirp_settings.specs.declared.Proto.TheVariants.{Tcp, Udp}
 use Rattle.world_face.specs.Journal.{Entry, Wait, Connect, Connected, Accept, TcpRead, TcpWrite, TcpEnd, Close}
 use Rattle.world_face.specs.declared.Accepted.{Accepted}
 use Rattle.world_face.specs.declared.Accepted.TheVariants.{From, NotYet as NotYetAccepted, Failed as AcceptFailed}

@@ -2,18 +2,19 @@
 use Rattle.std.proofs.Common.{◌≡◌, ℕ, ◌<◌, ◌&&◌, ◌⊎◌, Bool, true, false, List, Option, Some, None, is_some, option_and_then, unwrap_or, if◌then◌else◌, inl, inr, refl, sym, ◌∙◌, ap, subst, arith}
 use Rattle.world_face.specs.Journal.{Entry, CallUdpOpen, CallUdpSend}
 use Rattle.net_octets.specs.declared.Endpoint.{Endpoint}
-use Rattle.host_policy.specs.declared.Forward.{Forward}
-use Rattle.host_policy.specs.declared.Proto.{Proto}
-use Rattle.host_policy.specs.declared.Proto.TheVariants.{Tcp as ByTcp, Udp as ByUdp}
+use Rattle.slirp_settings.specs.declared.Forward.{Forward}
+use Rattle.slirp_settings.specs.declared.Proto.{Proto}
+use Rattle.slirp_settings.specs.declared.Proto.TheVariants.{Tcp as ByTcp, Udp as ByUdp}
 use Rattle.host_policy.specs.declared.Verdict.TheVariants.{Go}
-use Rattle.host_policy.specs.Addresses.{Config, address, endpoint, forward_on}
-use Rattle.host_policy.specs.Targets.{is_loopback, target}
+use Rattle.slirp_settings.specs.Addresses.{Config, address, endpoint, forward_on}
+use Rattle.host_policy.specs.Targets.{target}
+use Rattle.slirp_settings.specs.Classes.{is_loopback}
 use Rattle.run_laws.specs.Moments.{waits}
 use Rattle.run_laws.specs.Shape.{GivesNone}
 use Rattle.run_laws.specs.Packets.{Datagram}
 use Rattle.slirp_laws.specs.Datagrams.{Errand, NeedsSending, asks_a_name, opened_at}
 use Rattle.slirp_laws.specs.Asking.{step}
-use Rattle.dns_relay.specs.Questions.{ident_in}
+use Rattle.dns_rules.specs.Questions.{ident_in}
 use Rattle.slirp_laws.specs.Laws.{May, Lawful}
 use Rattle.slirp_laws.specs.Ports.{given_by, given_port, last_datagram, opened_for}
 use Rattle.slirp_laws.specs.Said.{IsForAdded, IsFromHost, SendsWhatCame}

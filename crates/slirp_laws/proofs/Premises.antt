@@ -6,10 +6,10 @@ use Rattle.std.proofs.Math.Nat.{div-lt_iff_lt-mul}
 use Rattle.std.proofs.lemmas.Bool.{false≢true, and_parts, eqb-true}
 use Rattle.std.proofs.lemmas.Bool.Decides.{nat_tests}
 use Rattle.std.proofs.lemmas.Option.{get_or_from_slice_get, slice_get_within}
-use Rattle.host_policy.specs.Addresses.{Config, address, in_network, is_guest, is_of_one_host, is_ours, last_address, pool}
-use Rattle.host_policy.specs.declared.Forward.{Forward}
-use Rattle.host_policy.specs.declared.config.Field.TheVariants.{Vnetmask, Vhost, Vnameserver, VdhcpStart, IfMtu, Forwards}
-use Rattle.host_policy.specs.Ranges.{IsSound, is_forward, is_mask, mask_of, none_twice, prefix_lengths, same_host_port}
+use Rattle.slirp_settings.specs.Addresses.{Config, address, in_network, is_guest, is_of_one_host, is_ours, last_address, pool}
+use Rattle.slirp_settings.specs.declared.Forward.{Forward}
+use Rattle.slirp_settings.specs.declared.fields.Field.TheVariants.{Vnetmask, Vhost, Vnameserver, VdhcpStart, IfMtu, Forwards}
+use Rattle.slirp_settings.specs.Ranges.{IsSound, is_forward, is_mask, mask_of, none_twice, prefix_lengths, same_host_port}
 use Rattle.slirp_laws.specs.Questions.{HasNameServer}
 use Rattle.slirp_laws.specs.Said.{HasPorts}
 use Rattle.slirp_laws.specs.Settings.{HasNumbersForPorts}

@@ -14,17 +14,17 @@ use Rattle.net_octets.specs.declared.Endpoint.{Endpoint}
 use Rattle.net_octets.specs.Kinds.{arp_kind, ipv4_kind, icmp_proto, udp_proto, tcp_proto}
 use Rattle.net_octets.specs.Octets.{two_at, part}
 use Rattle.net_octets.proofs.Parts.{two_at-fits}
-use Rattle.host_policy.specs.declared.Forward.{Forward}
-use Rattle.host_policy.specs.declared.Proto.{Proto}
-use Rattle.host_policy.specs.declared.Proto.TheVariants.{Tcp as ByTcp, Udp as ByUdp}
-use Rattle.host_policy.specs.Addresses.{Config, is_guest, forward_on}
+use Rattle.slirp_settings.specs.declared.Forward.{Forward}
+use Rattle.slirp_settings.specs.declared.Proto.{Proto}
+use Rattle.slirp_settings.specs.declared.Proto.TheVariants.{Tcp as ByTcp, Udp as ByUdp}
+use Rattle.slirp_settings.specs.Addresses.{Config, is_guest, forward_on}
 use Rattle.ether_frame.specs.Ether.{Ether, read_ether}
 use Rattle.arp_table.specs.Arp.{Arp, read_arp}
 use Rattle.ipv4_head.specs.Ip.{Ip, read_ip}
 use Rattle.ipv4_head.specs.Sets.{PartSet, OfSets}
 use Rattle.ipv4_head.proofs.Members.{of_young}
 use Rattle.icmp_echo.specs.Icmp.{Icmp, read_icmp}
-use Rattle.udp_assoc.specs.Udp.{Udp, is_udp, read_udp}
+use Rattle.udp_datagram.specs.Udp.{Udp, is_udp, read_udp}
 use Rattle.tcp_segment.specs.Tcp.{Tcp, read_tcp}
 use Rattle.run_laws.specs.Fragments.{arrived, sets, waiting}
 use Rattle.run_laws.specs.Moments.{moment, waits}
@@ -36,10 +36,10 @@ use Rattle.run_laws.specs.Packets.{whole_packet}
 use Rattle.slirp_laws.specs.Ports.{last_datagram, last_port, opened_by, opened_for, given_by, given_port, port_for}
 use Rattle.slirp_laws.specs.Answers.{begins_again, identification, ledger, may_go_again, serving}
 use Rattle.slirp_laws.specs.Names.{questions}
-use Rattle.dns_relay.specs.declared.Question.{Question}
-use Rattle.dns_relay.specs.Questions.{numbered}
-use Rattle.tftp_server.specs.Asking.{by_answer}
-use Rattle.tftp_server.specs.Transfers.{Outcome as FileOutcome, Said}
+use Rattle.dns_rules.specs.declared.Question.{Question}
+use Rattle.dns_rules.specs.Questions.{numbered}
+use Rattle.tftp_rules.specs.Asking.{by_answer}
+use Rattle.tftp_rules.specs.Transfers.{Outcome as FileOutcome, Said}
 use Rattle.slirp_laws.specs.Said.{Occasion, Heard, by_call, by_joined, by_made, for_guest, by_outcome, by_said, by_sent, heard_on, last_occasion, occasion_after, refused_or, unsent_or, HasPorts}
 use Rattle.slirp_laws.proofs.Octets.{RangeIp, RangePart, arrived_range, ether_range, frame_octets, in_range, ip_range, range_sets}
 

@@ -8,15 +8,16 @@ use Rattle.world_face.specs.Frames.{goes_out}
 use Rattle.net_octets.specs.declared.Endpoint.{Endpoint}
 use Rattle.net_octets.specs.Kinds.{udp_proto}
 use Rattle.net_octets.specs.Octets.{our_mac}
-use Rattle.host_policy.specs.Addresses.{Config, address, endpoint}
-use Rattle.host_policy.specs.Targets.{is_loopback, shown}
+use Rattle.slirp_settings.specs.Addresses.{Config, address, endpoint}
+use Rattle.host_policy.specs.Targets.{shown}
+use Rattle.slirp_settings.specs.Classes.{is_loopback}
 use Rattle.ipv4_head.specs.Cuts.{cut_at, cut_start, is_before_last, units_in}
 use Rattle.ipv4_head.specs.Ip.{Ip, ip_octets, is_unbroken, read_ip, summed_head}
 use Rattle.ipv4_head.proofs.Plain.{written_is}
 use Rattle.ipv4_head.proofs.Spelling.{reads as reads_datagram}
-use Rattle.udp_assoc.specs.Udp.{Udp, read_udp, summed, udp_octets, udp_with, written_sum}
-use Rattle.udp_assoc.proofs.Spelling.{length-udp, reads as reads_udp}
-use Rattle.udp_assoc.proofs.Writing.{front_is}
+use Rattle.udp_datagram.specs.Udp.{Udp, read_udp, summed, udp_octets, udp_with, written_sum}
+use Rattle.udp_datagram.proofs.Spelling.{length-udp, reads as reads_udp}
+use Rattle.udp_datagram.proofs.Writing.{front_is}
 use Rattle.slirp_laws.specs.Answers.{IpAnswer, frames_for, part_frame, uncut}
 use Rattle.slirp_laws.specs.Laws.{Lawful}
 use Rattle.slirp_laws.specs.Said.{AnswersQuestion, Carries, Heard, IsOfServer, IsReplyToItsPort, RepliesToItsPort, identification_with, HasPorts}

@@ -24,8 +24,8 @@ use Rattle.net_octets.specs.declared.Mac.{Mac}
 use Rattle.net_octets.specs.Kinds.{arp_kind, ipv4_kind, icmp_proto, udp_proto, tcp_proto}
 use Rattle.net_octets.specs.Octets.{two_at, four_at, part, our_mac}
 use Rattle.net_octets.proofs.Parts.{length-part}
-use Rattle.host_policy.specs.Addresses.{Config, endpoint, is_answered_for, is_guest}
-use Rattle.host_policy.specs.declared.Reply.TheVariants.{Nothing, Datagram as ADatagram}
+use Rattle.slirp_settings.specs.Addresses.{Config, endpoint, is_answered_for, is_guest}
+use Rattle.udp_rules.specs.declared.Reply.TheVariants.{Nothing, Datagram as ADatagram}
 use Rattle.host_policy.specs.Targets.{is_hidden}
 use Rattle.ether_frame.specs.Ether.{Ether, read_ether, ether_octets}
 use Rattle.ether_frame.proofs.Spelling.{reads as reads_frame}
@@ -34,24 +34,24 @@ use Rattle.arp_table.specs.Table.{is_for as has_address, mac_of as learnt_for}
 use Rattle.ipv4_head.specs.Ip.{Ip, read_ip, ip_octets, fragment_of}
 use Rattle.ipv4_head.specs.Sets.{Part, PartSet}
 use Rattle.icmp_echo.specs.Icmp.{Icmp, echo, unreachable, other as another, read_icmp}
-use Rattle.udp_assoc.specs.Udp.{Udp, read_udp}
+use Rattle.udp_datagram.specs.Udp.{Udp, read_udp}
 use Rattle.tcp_segment.specs.Tcp.{Tcp, read_tcp}
-use Rattle.dhcp_server.specs.declared.leases.Lease.{Lease}
-use Rattle.dhcp_server.specs.declared.message.Message.{Message as LeaseMessage}
-use Rattle.dhcp_server.specs.declared.serving.Answer.{Answer as LeaseAnswer}
-use Rattle.dhcp_server.specs.Messages.{is_request, message_of, message_with, one_in, options_in, read_message}
+use Rattle.dhcp_rules.specs.declared.Lease.{Lease}
+use Rattle.dhcp_rules.specs.declared.Message.{Message as LeaseMessage}
+use Rattle.dhcp_rules.specs.declared.Answer.{Answer as LeaseAnswer}
+use Rattle.dhcp_rules.specs.Messages.{is_request, message_of, message_with, one_in, options_in, read_message}
 use Rattle.tlv_table.specs.Reading.{Found, first_body}
 use Rattle.tlv_table.specs.declared.TlvFault.{TlvFault}
-use Rattle.dhcp_server.specs.Replies.{everybody, goes_to_all, is_silence, replied_octets, reply_octets, reply_to}
-use Rattle.dhcp_server.specs.Serving.{served}
-use Rattle.dns_relay.specs.declared.Question.{Question}
-use Rattle.dns_relay.specs.Questions.{is_answered, moved_last, numbered, without as without_question}
-use Rattle.tftp_server.specs.Asking.{by_answer}
-use Rattle.tftp_server.specs.Packets.{options_octets, Packet as FilePacket, Asks, AsksToWrite, Acknowledges, GivesUp, Unheard as FileUnheard, Request, Terms, is_name}
-use Rattle.tftp_server.specs.Packets.{packet_in as file_packet, request_in, terms_of}
-use Rattle.tftp_server.specs.Transfers.{transfer, Files, Outcome, Quest, Said, Settled as SeeksNothing, SeeksLength, SeeksOctets, Sought, Transfer, acknowledged, are_left, begins, begun}
-use Rattle.tftp_server.specs.Transfers.{is_for, leaves, length_came, measured, most_transfers, next_again, octets_came, octets_of, refuses, requested, requested_file, said_again}
-use Rattle.tftp_server.specs.Transfers.{seeks_block, seeks_next, sending, sends, sent_again, settled, taken_in, ticked, ticked_by, told_length, told_octets, with_again, with_room, without}
+use Rattle.dhcp_rules.specs.Replies.{everybody, goes_to_all, is_silence, replied_octets, reply_octets, reply_to}
+use Rattle.dhcp_rules.specs.Serving.{served}
+use Rattle.dns_rules.specs.declared.Question.{Question}
+use Rattle.dns_rules.specs.Questions.{is_answered, moved_last, numbered, without as without_question}
+use Rattle.tftp_rules.specs.Asking.{by_answer}
+use Rattle.tftp_rules.specs.Packets.{options_octets, Packet as FilePacket, Asks, AsksToWrite, Acknowledges, GivesUp, Unheard as FileUnheard, Request, Terms, is_name}
+use Rattle.tftp_rules.specs.Packets.{packet_in as file_packet, request_in, terms_of}
+use Rattle.tftp_rules.specs.Transfers.{transfer, Files, Outcome, Quest, Said, Settled as SeeksNothing, SeeksLength, SeeksOctets, Sought, Transfer, acknowledged, are_left, begins, begun}
+use Rattle.tftp_rules.specs.Transfers.{is_for, leaves, length_came, measured, most_transfers, next_again, octets_came, octets_of, refuses, requested, requested_file, said_again}
+use Rattle.tftp_rules.specs.Transfers.{seeks_block, seeks_next, sending, sends, sent_again, settled, taken_in, ticked, ticked_by, told_length, told_octets, with_again, with_room, without}
 use Rattle.run_laws.specs.Fragments.{arrived, waiting}
 use Rattle.run_laws.specs.Happenings.{Happening, arrival_of, datagram_by, datagram_came, happens}
 use Rattle.run_laws.specs.Guests.{known, with_arrival, with_pair}

@@ -4,21 +4,22 @@ use Rattle.world_face.specs.Journal.{Entry}
 use Rattle.world_face.specs.Frames.{goes_out}
 use Rattle.net_octets.specs.declared.Endpoint.{Endpoint}
 use Rattle.net_octets.specs.Kinds.{udp_proto}
-use Rattle.host_policy.specs.Addresses.{Config, address}
+use Rattle.slirp_settings.specs.Addresses.{Config, address}
 use Rattle.host_policy.specs.Targets.{is_hidden, shown}
 use Rattle.ipv4_head.specs.Ip.{Ip}
-use Rattle.udp_assoc.specs.Udp.{Udp, summed, udp_octets, udp_with, written_sum}
-use Rattle.udp_assoc.proofs.Spelling.{length-udp}
+use Rattle.udp_datagram.specs.Udp.{Udp, summed, udp_octets, udp_with, written_sum}
+use Rattle.udp_datagram.proofs.Spelling.{length-udp}
 use Rattle.slirp_laws.specs.Answers.{Answer, ArpAnswer, IpAnswer, Serving, name_answer, name_reply, frames_of, frames_for, no_network, owed_for_packet, reply_for, reset_for, told_about}
-use Rattle.slirp_laws.specs.Answers.{everyone, request}
+use Rattle.slirp_laws.specs.Answers.{request}
+use Rattle.arp_table.specs.Arp.{everyone}
 use Rattle.slirp_laws.specs.Laws.{Lawful}
 use Rattle.slirp_laws.specs.Ports.{opened_for, mac_for}
 use Rattle.slirp_laws.specs.Said.{Carries, AnswersQuestion, IsOfServer, ForPacket, ByFile, Again, is_for_server, Occasion, NoOccasion, Came, Heard, HeardOfName, OfFile, Unsent}
 use Rattle.slirp_laws.specs.Said.{Unconnected, RepliesToItsPort, identification_with, last_occasion, owed_for}
 use Rattle.slirp_laws.proofs.Framing.{frames_one, part_of_frames, our_six}
 use Rattle.slirp_laws.specs.Datagrams.{fate}
-use Rattle.dns_relay.specs.declared.Question.{Question}
-use Rattle.dns_relay.specs.Questions.{is_answered}
+use Rattle.dns_rules.specs.declared.Question.{Question}
+use Rattle.dns_rules.specs.Questions.{is_answered}
 use Rattle.run_laws.specs.Packets.{Packet, Unheard, ArpPacket, Message, DatagramPacket, Segment}
 use Rattle.slirp_laws.proofs.Numbers.{carries_no_arp, ident_fits, reads_cut}
 use Rattle.slirp_laws.proofs.Beside.{beside, no_request, no_udp}

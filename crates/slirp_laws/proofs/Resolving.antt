@@ -2,8 +2,8 @@
 use Rattle.std.proofs.Common.{◌≡◌, ℕ, ◌==◌, nat_lt, Bool, true, false, List, [], ◌∷◌, Option, Some, None, if◌then◌else◌, inl, inr, refl, sym, ◌∙◌, ap, arith}
 use Rattle.world_face.specs.Journal.{Entry, Connect, Listen, Accept, UdpOpen, CallUdpSend, CallUdpOpen}
 use Rattle.net_octets.specs.declared.Endpoint.{Endpoint}
-use Rattle.host_policy.specs.Addresses.{Config, address}
-use Rattle.dns_relay.specs.Questions.{is_question}
+use Rattle.slirp_settings.specs.Addresses.{Config, address}
+use Rattle.dns_rules.specs.Questions.{is_question}
 use Rattle.run_laws.specs.Moments.{waits}
 use Rattle.run_laws.specs.Packets.{Datagram}
 use Rattle.run_laws.specs.Sockets.{Kind, Association, DnsSocket, Forward, Listener, Flow, datagram_kind, is_among, is_association, is_forward, kind_of, open_sockets}

@@ -9,8 +9,8 @@ use Rattle.world_face.specs.declared.Waited.TheVariants.{Ready, Stop}
 use Rattle.world_face.specs.Journal.{Entry, Now, Wait, LinkRead, LinkWrite, Connect, Connected, TcpRead, TcpEnd, Close}
 use Rattle.world_face.specs.Frames.{spelling, missing, is_too_long, spelt_length}
 use Rattle.tlv_table.specs.Reading.{read_on}
-use Rattle.host_policy.specs.Addresses.{Config, endpoint}
-use Rattle.host_policy.specs.Settings.{usual}
+use Rattle.slirp_settings.specs.Addresses.{Config, endpoint}
+use Rattle.slirp_settings.specs.Settings.{usual}
 use Rattle.record_flows.proofs.Writing.{hex, want, run}
 use Rattle.record_flows.proofs.Openings.{called, connected_at}
 use Rattle.slirp_laws.specs.Laws.{Finished, Lawful}

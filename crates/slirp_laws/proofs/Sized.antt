@@ -5,7 +5,7 @@ use Rattle.world_face.specs.Journal.{Entry, LinkWrite}
 use Rattle.world_face.specs.Frames.{goes_out, opens, tail}
 use Rattle.world_face.specs.declared.Io.{Io}
 use Rattle.world_face.specs.declared.Io.TheVariants.{Done, End, NotYet, Failed}
-use Rattle.host_policy.specs.Addresses.{Config}
+use Rattle.slirp_settings.specs.Addresses.{Config}
 use Rattle.ipv4_head.specs.Ip.{Ip}
 use Rattle.net_octets.specs.Octets.{checksum}
 use Rattle.tcp_segment.specs.Tcp.{Tcp, mss_octets, options_octets, scale_octets, summed, tcp_length, tcp_octets, tcp_with, words_of}

@@ -3,16 +3,16 @@ use Rattle.std.proofs.Common.{◌≡◌, ℕ, ◌==◌, ◌&&◌, ◌||◌, not,
 use Rattle.std.specs.Option.{option_or}
 use Rattle.world_face.specs.Journal.{Entry, UdpOpen, UdpSend}
 use Rattle.world_face.specs.declared.Made.TheVariants.{Done, Failed}
-use Rattle.host_policy.specs.declared.Proto.TheVariants.{Udp as ByUdp}
+use Rattle.slirp_settings.specs.declared.Proto.TheVariants.{Udp as ByUdp}
 use Rattle.host_policy.specs.declared.Verdict.{Verdict}
 use Rattle.host_policy.specs.declared.Verdict.TheVariants.{Go, Denied}
 use Rattle.net_octets.specs.declared.Endpoint.{Endpoint}
-use Rattle.host_policy.specs.Addresses.{Config, address}
+use Rattle.slirp_settings.specs.Addresses.{Config, address}
 use Rattle.host_policy.specs.Targets.{target}
 use Rattle.run_laws.specs.Happenings.{Arrival, happens, datagram_by, datagram_came}
 use Rattle.run_laws.specs.Packets.{Packet, Unheard, ArpPacket, Message, DatagramPacket, Segment, Datagram}
-use Rattle.dns_relay.specs.declared.Question.{Question}
-use Rattle.dns_relay.specs.Questions.{ident_in, is_question, socket_of as question_socket}
+use Rattle.dns_rules.specs.declared.Question.{Question}
+use Rattle.dns_rules.specs.Questions.{ident_in, is_question, socket_of as question_socket}
 use Rattle.slirp_laws.specs.Asking.{is_full, step, step_of, step_on, yields}
 use Rattle.slirp_laws.specs.Errands.{errand_after, errand_by_call, errand_left}
 use Rattle.slirp_laws.specs.Names.{questions, step_to_names, with_socket, without_socket}

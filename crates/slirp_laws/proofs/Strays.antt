@@ -9,21 +9,21 @@ use Rattle.net_octets.specs.declared.Fault.{Fault}
 use Rattle.net_octets.specs.Kinds.{icmp_proto, ipv4_kind, tcp_proto, udp_proto}
 use Rattle.net_octets.specs.Octets.{one_at, part, two_at, our_mac}
 use Rattle.world_face.specs.Journal.{Entry}
-use Rattle.host_policy.specs.Addresses.{address, Config, is_answered_for, is_ours}
+use Rattle.slirp_settings.specs.Addresses.{address, Config, is_answered_for, is_ours}
 use Rattle.host_policy.specs.Targets.{is_hidden}
 use Rattle.ether_frame.specs.Ether.{Ether, read_ether}
 use Rattle.ipv4_head.specs.Ip.{Ip, ip_octets, is_unbroken, read_ip}
 use Rattle.icmp_echo.specs.Icmp.{Icmp, echo, unreachable, other as another}
 use Rattle.tcp_segment.specs.declared.TheConstants.{RST}
 use Rattle.tcp_segment.specs.Tcp.{Tcp, fields_of, has, head_reading, options_reading, read_tcp, tcp_octets, ◌>>=◌}
-use Rattle.flow_table.specs.declared.Tuple.{Tuple}
+use Rattle.record_flows.specs.declared.Tuple.{Tuple}
 use Rattle.flow_laws.specs.Event.{Segment}
 use Rattle.record_flows.specs.Lots.{reset_to}
 use Rattle.record_flows.specs.Segments.{OnTuple, from_guest, segment_in, tcp_of, went_by, went_of}
 use Rattle.run_laws.specs.Packets.{Datagram, Packet, Unheard, ArpPacket, Message, DatagramPacket, Segment as SegmentPacket}
 use Rattle.slirp_laws.specs.Leasing.{Sending, lease_reply}
-use Rattle.tftp_server.specs.Transfers.{Said}
-use Rattle.dns_relay.specs.Questions.{is_answered}
+use Rattle.tftp_rules.specs.Transfers.{Said}
+use Rattle.dns_rules.specs.Questions.{is_answered}
 use Rattle.slirp_laws.specs.Answers.{Serving, answers_of, served_file, told_of_files, Answer, ArpAnswer, IpAnswer, arp_reply, frames_for, is_untold, left, no_network, owed_for_fate}
 use Rattle.slirp_laws.specs.Answers.{owed_for_icmp, owed_for_packet, part_frame, reply_for, reset_for, told_about, uncut}
 use Rattle.slirp_laws.specs.Datagrams.{Fate, Ignored, Refused, ForLeases, ForFiles, GoesTo, fate}

@@ -10,9 +10,9 @@ use Rattle.world_face.specs.declared.Sent.{Sent}
 use Rattle.world_face.specs.declared.Got.{Got}
 use Rattle.world_face.specs.declared.Got.TheVariants.{From, NotYet as GotNotYet, Failed as GotFailed}
 use Rattle.net_octets.specs.declared.Endpoint.{Endpoint}
-use Rattle.host_policy.specs.Addresses.{Config}
-use Rattle.dns_relay.specs.declared.Question.{Question}
-use Rattle.dns_relay.specs.Questions.{asked_from, heard_at, moved_last, numbers, without}
+use Rattle.slirp_settings.specs.Addresses.{Config}
+use Rattle.dns_rules.specs.declared.Question.{Question}
+use Rattle.dns_rules.specs.Questions.{asked_from, heard_at, moved_last, numbers, without}
 use Rattle.run_laws.specs.Moments.{moment, waits}
 use Rattle.run_laws.specs.Sockets.{Association, DnsSocket, Flow as OfFlow, Forward, Kind, Listener as OfListener, datagram_kind, is_among, next_number, open_sockets}
 use Rattle.slirp_laws.specs.Datagrams.{Errand, NeedsSending, asks_a_name}

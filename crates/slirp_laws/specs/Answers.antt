@@ -10,25 +10,26 @@ use Rattle.world_face.specs.declared.Got.TheVariants.{From}
 use Rattle.net_octets.specs.declared.Endpoint.{Endpoint}
 use Rattle.net_octets.specs.Kinds.{arp_kind, ipv4_kind, icmp_proto, tcp_proto, udp_proto}
 use Rattle.net_octets.specs.Octets.{two_at, our_mac}
-use Rattle.host_policy.specs.Addresses.{address, Config, endpoint, is_answered_for, is_ours, last_address}
-use Rattle.host_policy.specs.Targets.{is_group_or_reserved, shown, is_hidden}
+use Rattle.slirp_settings.specs.Addresses.{address, Config, endpoint, is_answered_for, is_ours, last_address}
+use Rattle.host_policy.specs.Targets.{shown, is_hidden}
+use Rattle.slirp_settings.specs.Classes.{is_group_or_reserved}
 use Rattle.ether_frame.specs.Ether.{ether_octets}
-use Rattle.arp_table.specs.Arp.{Arp, arp_octets}
+use Rattle.arp_table.specs.Arp.{Arp, arp_octets, asking, everyone}
 use Rattle.ipv4_head.specs.Cuts.{cuts}
 use Rattle.ipv4_head.specs.Ip.{Ip, fragment_of, ip_octets}
 use Rattle.ipv4_head.specs.Sets.{Part}
 use Rattle.icmp_echo.specs.Icmp.{Icmp, echo, echo_octets, unreachable_octets}
-use Rattle.udp_assoc.specs.Udp.{udp_octets}
+use Rattle.udp_datagram.specs.Udp.{udp_octets}
 use Rattle.tcp_segment.specs.Tcp.{tcp_octets}
 use Rattle.record_flows.specs.Book.{book}
 use Rattle.record_flows.specs.Flows.{Book}
 use Rattle.record_flows.specs.Lots.{is_reset, reset_to}
 use Rattle.record_flows.specs.Segments.{OnTuple, asked_in, from_guest, segment_in}
-use Rattle.dhcp_server.specs.declared.leases.Lease.{Lease}
-use Rattle.dns_relay.specs.declared.Question.{Question}
-use Rattle.dns_relay.specs.Questions.{is_answered, numbered}
-use Rattle.tftp_server.specs.Transfers.{Files, Outcome, Said, Transfer, begun, came, next_again, said_again, settled, ticked, with_again}
-use Rattle.tftp_server.specs.Asking.{by_answer}
+use Rattle.dhcp_rules.specs.declared.Lease.{Lease}
+use Rattle.dns_rules.specs.declared.Question.{Question}
+use Rattle.dns_rules.specs.Questions.{is_answered, numbered}
+use Rattle.tftp_rules.specs.Transfers.{Files, Outcome, Said, Transfer, begun, came, next_again, said_again, settled, ticked, with_again}
+use Rattle.tftp_rules.specs.Asking.{by_answer}
 use Rattle.run_laws.specs.Moments.{moment}
 use Rattle.run_laws.specs.Happenings.{Arrival, Happening, happens}
 use Rattle.run_laws.specs.Packets.{Packet, Unheard, ArpPacket, Message, DatagramPacket, Segment, Datagram}
@@ -37,6 +38,7 @@ use Rattle.slirp_laws.specs.Datagrams.{Fate, Refused, ForLeases, ForFiles, fate,
 use Rattle.slirp_laws.specs.Leasing.{Sending, lease_reply, leases}
 use Rattle.slirp_laws.specs.Names.{questions}
 use Rattle.slirp_laws.specs.Ports.{mac_for, opened_for}
+use Rattle.slirp_settings.specs.Ports.{files_port, names_port}
 
 -- One answer to a guest: an ARP packet, or a datagram, and the hardware address to which it goes.
 pub data Answer : Type 0 where
@@ -79,7 +81,7 @@ answers_of sendings = map answer_of sendings
 -- what the server of files tells a guest, from port 69 of the virtual host
 abbrev pub told_of_files : Config → Option Said → List Answer
 told_of_files config None = []
-told_of_files config (Some s) = answer_of (record { mac = s.mac; from = endpoint config.vhost 69; to = s.guest; body = s.octets }) ∷ []
+told_of_files config (Some s) = answer_of (record { mac = s.mac; from = endpoint config.vhost files_port; to = s.guest; body = s.octets }) ∷ []
 
 -- what the services of ours keep: who has which address, the transfers of files, and a packet of these that is to go again and isn't out yet
 pub record Serving : Type 0 where
@@ -121,14 +123,8 @@ owed_for_packet config s stray (DatagramPacket d) = owed_for_fate config s d (fa
 owed_for_packet config s stray (Segment mac ip tcp) = owed_for_segment stray (from_guest mac ip tcp)
 
 -- the virtual host asks everyone for the hardware address of a guest (RFC 826)
-abbrev pub everyone : List ℕ
-everyone = 255 ∷ 255 ∷ 255 ∷ 255 ∷ 255 ∷ 255 ∷ []
-
-abbrev pub nobody : List ℕ
-nobody = 0 ∷ 0 ∷ 0 ∷ 0 ∷ 0 ∷ 0 ∷ []
-
 abbrev pub request : Config → ℕ → Arp
-request config guest = record { is_reply = false; sender_mac = our_mac config.vhost; sender = config.vhost; target_mac = nobody; target = guest }
+request config guest = asking config.vhost guest
 
 -- What a peer's datagram owes: its payload, whole, to the port of a guest for which the socket was opened, at this hardware address. Where that isn't known the
 -- guest is asked for it in place of the datagram. Nothing where the peer isn't shown.
@@ -148,7 +144,7 @@ reply_for config peer octets None mac = []
 
 -- What came on the socket of a question: where it answers it, its payload, whole, to the port that asked, from port 53 of the name server.
 abbrev pub name_answer : Config → Question → List ℕ → Answer
-name_answer config q octets = answer_of (record { mac = q.mac.0; from = endpoint config.vnameserver 53; to = q.guest; body = octets })
+name_answer config q octets = answer_of (record { mac = q.mac.0; from = endpoint config.vnameserver names_port; to = q.guest; body = octets })
 
 abbrev pub name_reply : Config → Question → Endpoint → List ℕ → List Answer
 name_reply config q peer octets = if is_answered config.resolver q peer octets then name_answer config q octets ∷ [] else []

@@ -5,16 +5,16 @@ use Rattle.world_face.specs.Frames.{goes_out}
 use Rattle.world_face.specs.declared.FileSize.{FileSize}
 use Rattle.world_face.specs.declared.FileSize.TheVariants.{Length, Missing, Failed as SizeFailed}
 use Rattle.net_octets.specs.declared.Endpoint.{Endpoint}
-use Rattle.host_policy.specs.Addresses.{Config}
-use Rattle.host_policy.specs.Targets.{same_endpoint}
+use Rattle.slirp_settings.specs.Addresses.{Config}
+use Rattle.slirp_settings.specs.Classes.{same_endpoint}
 use Rattle.run_laws.specs.Happenings.{Arrival, datagram_came, happens}
 use Rattle.run_laws.specs.Moments.{moment}
 use Rattle.run_laws.specs.Packets.{Datagram, DatagramPacket, Packet}
-use Rattle.tftp_server.specs.Asking.{by_answer}
-use Rattle.tftp_server.specs.Laws.{IsBelow, IsInFolder, octets_read}
-use Rattle.tftp_server.specs.Packets.{Acknowledges, Asks, Request, Terms, block_octets, file_in, is_name, packet_in, parts_from, request_in, terms_of}
-use Rattle.tftp_server.specs.Rows.{WaitsWell}
-use Rattle.tftp_server.specs.Transfers.{Outcome, Said, Transfer, begun, is_for, octets_of, place_of, said_again}
+use Rattle.tftp_rules.specs.Asking.{by_answer}
+use Rattle.tftp_rules.specs.Laws.{IsBelow, IsInFolder, octets_read}
+use Rattle.tftp_rules.specs.Packets.{Acknowledges, Asks, Request, Terms, block_octets, file_in, is_name, packet_in, parts_from, request_in, terms_of}
+use Rattle.tftp_rules.specs.Soundness.{WaitsWell}
+use Rattle.tftp_rules.specs.Transfers.{Outcome, Said, Transfer, begun, is_for, octets_of, place_of, said_again}
 use Rattle.slirp_laws.specs.Answers.{Serving, begins_again, frames_of, identification, is_free, ledger, may_go_again, served_file, serving, told_of_files}
 use Rattle.slirp_laws.specs.Datagrams.{Fate, ForFiles, fate}
 use Rattle.slirp_laws.specs.Ports.{last_datagram}

@@ -8,9 +8,9 @@ use Rattle.world_face.specs.Journal.{CallAccept, CallTcpRead, CallTcpWrite, Call
 use Rattle.world_face.specs.Frames.{MayFrame, tail}
 use Rattle.world_face.specs.Limits.{most_to_udp}
 use Rattle.net_octets.specs.declared.Endpoint.{Endpoint}
-use Rattle.host_policy.specs.Addresses.{Config, forward_on}
-use Rattle.host_policy.specs.declared.Forward.{Forward as Given}
-use Rattle.udp_assoc.specs.Associations.{idle_life}
+use Rattle.slirp_settings.specs.Addresses.{Config, forward_on}
+use Rattle.slirp_settings.specs.declared.Forward.{Forward as Given}
+use Rattle.udp_rules.specs.Associations.{idle_life}
 use Rattle.run_laws.specs.Moments.{moment, waits}
 use Rattle.run_laws.specs.Shape.{phase, may_turn, is_working, is_over, is_ended, due_in}
 use Rattle.run_laws.specs.Sockets.{Kind, Association, DnsSocket, Flow, Forward, Listener, first, is_among, is_association, is_flow, is_forward, is_listener, kind_of, next_number, open_sockets}
@@ -23,7 +23,7 @@ use Rattle.record_flows.specs.Lots.{due_for_flows}
 use Rattle.slirp_laws.specs.Agenda.{agenda}
 use Rattle.slirp_laws.specs.Answers.{is_out, left, serving}
 use Rattle.slirp_laws.specs.Names.{answered, has_waited, kind_for}
-use Rattle.tftp_server.specs.Asking.{call_for}
+use Rattle.tftp_rules.specs.Asking.{call_for}
 use Rattle.slirp_laws.specs.Asking.{step}
 use Rattle.slirp_laws.specs.Datagrams.{Step, NeedsRoom, asks_a_name, due_for}
 use Rattle.slirp_laws.specs.Ports.{given_port, is_port, used_at}

@@ -1,8 +1,8 @@
 -- The messages of clients of DHCP that came, by the record of calls, as a history of dhcp_server.
 use Rattle.std.specs.Prelude.{ℕ, ◌≤◌, ⊤, List, [], ◌∷◌, ◌++◌, Option, Some, None}
 use Rattle.world_face.specs.Journal.{Entry}
-use Rattle.host_policy.specs.Addresses.{Config}
-use Rattle.dhcp_server.specs.History.{Received}
+use Rattle.slirp_settings.specs.Addresses.{Config}
+use Rattle.dhcp_rules.specs.History.{Received}
 use Rattle.run_laws.specs.Happenings.{Arrival, happens}
 use Rattle.run_laws.specs.Moments.{moment}
 use Rattle.run_laws.specs.Packets.{Packet, Datagram, DatagramPacket}

@@ -1,11 +1,11 @@
 -- Connections that peers open at ports of the host.
 use Rattle.std.specs.Prelude.{◌≡◌, ℕ, false, Some}
 use Rattle.net_octets.specs.declared.Endpoint.{Endpoint}
-use Rattle.host_policy.specs.Addresses.{Config, forward_on}
+use Rattle.slirp_settings.specs.Addresses.{Config, forward_on}
 use Rattle.host_policy.specs.Targets.{is_hidden, shown}
-use Rattle.host_policy.specs.declared.Forward.{Forward}
-use Rattle.host_policy.specs.declared.Proto.TheVariants.{Tcp}
-use Rattle.flow_table.specs.declared.Tuple.{Tuple}
+use Rattle.slirp_settings.specs.declared.Forward.{Forward}
+use Rattle.slirp_settings.specs.declared.Proto.TheVariants.{Tcp}
+use Rattle.record_flows.specs.declared.Tuple.{Tuple}
 
 -- The two ends are the guest to which a port of the host is given for connections, and a peer as the policy shows it, which doesn't pass for another
 -- address of the network.

@@ -5,11 +5,11 @@ use Rattle.world_face.specs.Journal.{Entry, UdpOpen, UdpSend, UdpRecv}
 use Rattle.world_face.specs.declared.Got.TheVariants.{From}
 use Rattle.net_octets.specs.declared.Endpoint.{Endpoint}
 use Rattle.net_octets.specs.declared.Mac.{Mac}
-use Rattle.host_policy.specs.declared.Forward.{Forward}
-use Rattle.host_policy.specs.declared.Proto.{Proto}
-use Rattle.host_policy.specs.declared.Proto.TheVariants.{Tcp, Udp}
-use Rattle.host_policy.specs.Addresses.{Config, forward_on}
-use Rattle.host_policy.specs.Targets.{same_endpoint}
+use Rattle.slirp_settings.specs.declared.Forward.{Forward}
+use Rattle.slirp_settings.specs.declared.Proto.{Proto}
+use Rattle.slirp_settings.specs.declared.Proto.TheVariants.{Tcp, Udp}
+use Rattle.slirp_settings.specs.Addresses.{Config, forward_on}
+use Rattle.slirp_settings.specs.Classes.{same_endpoint}
 use Rattle.arp_table.specs.Table.{mac_of as learnt_for}
 use Rattle.run_laws.specs.Guests.{known}
 use Rattle.run_laws.specs.Happenings.{happens, datagram_came}

@@ -4,9 +4,9 @@ use Rattle.world_face.specs.Journal.{Entry, UdpSend, UdpRecv}
 use Rattle.world_face.specs.declared.Sent.{Sent}
 use Rattle.world_face.specs.declared.Got.TheVariants.{From}
 use Rattle.net_octets.specs.declared.Endpoint.{Endpoint}
-use Rattle.host_policy.specs.Addresses.{Config, address, in_network}
-use Rattle.dns_relay.specs.declared.Question.{Question}
-use Rattle.dns_relay.specs.Questions.{ident_in, is_answer, most_questions, question_life}
+use Rattle.slirp_settings.specs.Addresses.{Config, address, in_network}
+use Rattle.dns_rules.specs.declared.Question.{Question}
+use Rattle.dns_rules.specs.Questions.{ident_in, is_answer, most_questions, question_life}
 use Rattle.run_laws.specs.Moments.{moment}
 use Rattle.run_laws.specs.Packets.{Datagram}
 use Rattle.run_laws.specs.Sockets.{DnsSocket, Kind, is_among, open_sockets}

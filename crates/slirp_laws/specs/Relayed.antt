@@ -6,10 +6,10 @@ use Rattle.world_face.specs.declared.Made.TheVariants.{Done, Failed}
 use Rattle.world_face.specs.declared.Got.{Got}
 use Rattle.world_face.specs.declared.Got.TheVariants.{From, NotYet as GotNotYet, Failed as GotFailed}
 use Rattle.net_octets.specs.declared.Endpoint.{Endpoint}
-use Rattle.host_policy.specs.Addresses.{Config}
-use Rattle.udp_assoc.specs.Associations.{most_associations, socket_of, without, moved_last, sent_from, heard_at}
-use Rattle.udp_assoc.specs.declared.assocs.Association.{Association}
-use Rattle.dns_relay.specs.declared.Question.{Question}
+use Rattle.slirp_settings.specs.Addresses.{Config}
+use Rattle.udp_rules.specs.Associations.{most_associations, socket_of, without, moved_last, sent_from, heard_at}
+use Rattle.udp_rules.specs.declared.Association.{Association}
+use Rattle.dns_rules.specs.declared.Question.{Question}
 use Rattle.run_laws.specs.Moments.{moment}
 use Rattle.slirp_laws.specs.Errands.{errand_left}
 use Rattle.slirp_laws.specs.Names.{step_to_names}

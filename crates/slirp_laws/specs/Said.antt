@@ -11,24 +11,24 @@ use Rattle.world_face.specs.declared.Got.TheVariants.{From, NotYet as GotNotYet,
 use Rattle.world_face.specs.Limits.{most_to_udp}
 use Rattle.net_octets.specs.declared.Endpoint.{Endpoint}
 use Rattle.net_octets.specs.Kinds.{ipv4_kind, udp_proto}
-use Rattle.host_policy.specs.declared.Forward.{Forward}
-use Rattle.host_policy.specs.declared.Proto.{Proto}
-use Rattle.host_policy.specs.declared.Proto.TheVariants.{Udp as ByUdp}
+use Rattle.slirp_settings.specs.declared.Forward.{Forward}
+use Rattle.slirp_settings.specs.declared.Proto.{Proto}
+use Rattle.slirp_settings.specs.declared.Proto.TheVariants.{Udp as ByUdp}
 use Rattle.host_policy.specs.declared.Verdict.TheVariants.{Go}
-use Rattle.host_policy.specs.Addresses.{Config, address, endpoint, forward_on}
+use Rattle.slirp_settings.specs.Addresses.{Config, address, endpoint, forward_on}
 use Rattle.host_policy.specs.Targets.{is_hidden, shown, target}
 use Rattle.ether_frame.specs.Ether.{Ether, read_ether}
 use Rattle.ipv4_head.specs.Ip.{Ip, read_ip}
-use Rattle.udp_assoc.specs.Associations.{idle_life, most_associations}
-use Rattle.udp_assoc.specs.declared.assocs.Association.{Association}
-use Rattle.udp_assoc.specs.Udp.{Udp, udp_octets}
+use Rattle.udp_rules.specs.Associations.{idle_life, most_associations}
+use Rattle.udp_rules.specs.declared.Association.{Association}
+use Rattle.udp_datagram.specs.Udp.{Udp, udp_octets}
 use Rattle.record_flows.specs.Book.{book}
 use Rattle.record_flows.specs.Flows.{Flow, is_strange, owner}
 use Rattle.record_flows.specs.Segments.{OnTuple, asked_in, segment_in}
-use Rattle.dns_relay.specs.declared.Question.{Question}
-use Rattle.dns_relay.specs.Questions.{is_answered, numbered as numbered_question}
-use Rattle.tftp_server.specs.Asking.{by_answer}
-use Rattle.tftp_server.specs.Transfers.{Outcome, Said}
+use Rattle.dns_rules.specs.declared.Question.{Question}
+use Rattle.dns_rules.specs.Questions.{is_answered, numbered as numbered_question}
+use Rattle.tftp_rules.specs.Asking.{by_answer}
+use Rattle.tftp_rules.specs.Transfers.{Outcome, Said}
 use Rattle.slirp_laws.specs.Names.{questions}
 use Rattle.run_laws.specs.Happenings.{Arrival, happens}
 use Rattle.run_laws.specs.Moments.{moment}

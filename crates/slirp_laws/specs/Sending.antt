@@ -7,7 +7,7 @@ use Rattle.net_octets.specs.declared.Mac.{Mac}
 use Rattle.world_face.specs.Journal.{Entry}
 use Rattle.world_face.specs.Frames.{goes_out}
 use Rattle.net_octets.specs.Octets.{our_mac}
-use Rattle.host_policy.specs.Addresses.{Config, address}
+use Rattle.slirp_settings.specs.Addresses.{Config, address}
 use Rattle.ether_frame.specs.Ether.{Ether, ether_octets, read_ether}
 use Rattle.arp_table.specs.Arp.{arp_octets}
 use Rattle.arp_table.specs.Table.{mac_of as learnt_for}
@@ -21,7 +21,8 @@ use Rattle.record_flows.specs.Flows.{Flow, Rest, is_strange, owner, rests_among}
 use Rattle.record_flows.specs.Segments.{OnTuple, asked_in, segment_in}
 use Rattle.record_flows.specs.Taught.{is_pair, taught}
 use Rattle.run_laws.specs.Guests.{known}
-use Rattle.slirp_laws.specs.Answers.{again_frames, everyone, identification, is_first, is_out, left, part_frame, request, serving, starts, uncut}
+use Rattle.slirp_laws.specs.Answers.{again_frames, identification, is_first, is_out, left, part_frame, request, serving, starts, uncut}
+use Rattle.arp_table.specs.Arp.{everyone}
 
 -- ---- segments of flows
 

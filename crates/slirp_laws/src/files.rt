@@ -11,13 +11,14 @@ ghost use Rattle.world_face.specs.declared.FileSize.{FileSize};
 ghost use Rattle.world_face.specs.declared.Io.{Io};
 ghost use Rattle.world_face.specs.Journal.{Entry, AreAllowed, FileLen, FileRead};
 ghost use Rattle.world_face.specs.Frames.{goes_out};
-ghost use Rattle.host_policy.specs.Addresses.{Config};
+ghost use Rattle.slirp_settings.specs.Addresses.{Config};
 ghost use Rattle.ipv4_head.specs.Ip.{Ip, is_unbroken};
-ghost use Rattle.udp_assoc.specs.Udp.{Udp, read_udp};
-ghost use Rattle.tftp_server.specs.Transfers.{Said};
+ghost use Rattle.udp_datagram.specs.Udp.{Udp, read_udp};
+ghost use Rattle.tftp_rules.specs.Transfers.{Said};
 ghost use Rattle.slirp_laws.specs.Files.{IsAsTold, IsAskedFor, IsBlockAsRead, IsOfFiles, IsOnItsWay, ReadsWanted, goes_by, sent_again_by, told_by};
 ghost use Rattle.slirp_laws.specs.Laws.{Lawful};
 ghost use Rattle.slirp_laws.specs.Said.{Carries, HasPorts, IsReplyToItsPort};
+ghost use Rattle.slirp_settings.specs.Ports.{files_port};
 
 /// Files are read only as guests ask. The length is asked for only of a file for which the datagram that came last asks: of the
 /// folder of the settings, `/` and a name without a part that is empty, `.` or `..`. Octets are read only of such a file, and
@@ -54,6 +55,6 @@ pub fn the_server_of_files_answers_or_goes_again()
     ensures { (config : Config) (e : Entry) (past : List Entry) (frame : List ℕ) (ip : Ip) (udp : Udp) → 28 ≤ config.mtu
         → Lawful config (e ∷ past) → AreAllowed past → config.vhost < 2 ^ 32 → config.vnameserver < 2 ^ 32 → HasPorts config
         → goes_out e past ≡ Some frame → Carries frame ip → is_unbroken ip ≡ true → ip.proto ≡ udp_proto
-        → read_udp ip.from ip.to ip.body ≡ Some udp → ip.from ≡ config.vhost → udp.from_port ≡ 69
+        → read_udp ip.from ip.to ip.body ≡ Some udp → ip.from ≡ config.vhost → udp.from_port ≡ files_port
         → IsReplyToItsPort config past ip udp ⊎ IsOfFiles config e past frame }
 {}

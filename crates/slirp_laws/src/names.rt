@@ -12,10 +12,10 @@ ghost use Rattle.world_face.specs.declared.Got.TheVariants.{From};
 ghost use Rattle.world_face.specs.declared.Sent.{Sent};
 ghost use Rattle.world_face.specs.Journal.{Entry, AreAllowed, Close, UdpRecv, UdpSend, CallClose, call_of};
 ghost use Rattle.world_face.specs.Frames.{goes_out};
-ghost use Rattle.host_policy.specs.Addresses.{Config, address, endpoint};
+ghost use Rattle.slirp_settings.specs.Addresses.{Config, address, endpoint};
 ghost use Rattle.ipv4_head.specs.Ip.{Ip, is_unbroken};
-ghost use Rattle.udp_assoc.specs.Udp.{Udp, read_udp};
-ghost use Rattle.dns_relay.specs.Questions.{is_question};
+ghost use Rattle.udp_datagram.specs.Udp.{Udp, read_udp};
+ghost use Rattle.dns_rules.specs.Questions.{is_question};
 ghost use Rattle.run_laws.specs.Packets.{Datagram};
 ghost use Rattle.run_laws.specs.Shape.{is_ended};
 ghost use Rattle.run_laws.specs.Sockets.{is_among, open_sockets};
@@ -24,6 +24,7 @@ ghost use Rattle.slirp_laws.specs.Names.{kind_for};
 ghost use Rattle.slirp_laws.specs.Ports.{last_datagram};
 ghost use Rattle.slirp_laws.specs.Questions.{AnswerCame, HasNameServer, HasWaitedLong, HasWaitedLongest, IsAnswerTo, WasAsked, WasJustAnswered, is_for_question};
 ghost use Rattle.slirp_laws.specs.Said.{AnswersQuestion, Carries, HasPorts};
+ghost use Rattle.slirp_settings.specs.Ports.{names_port};
 
 /// What is sent on the socket of a question goes to the resolver alone. It is a question, and the payload, whole, of the datagram
 /// of a guest that came last, which went to the name server.
@@ -55,7 +56,7 @@ pub fn answers_reach_only_the_port_that_asked()
     ensures read { (config : Config) (e : Entry) (past : List Entry) (frame : List ℕ) (ip : Ip) (udp : Udp) → 28 ≤ config.mtu
         → Lawful config (e ∷ past) → AreAllowed past → config.vhost < 2 ^ 32 → HasPorts config → HasNameServer config → goes_out e past ≡ Some frame
         → Carries frame ip → is_unbroken ip ≡ true → ip.proto ≡ udp_proto → read_udp ip.from ip.to ip.body ≡ Some udp
-        → ip.from ≡ config.vnameserver → (udp.from_port ≡ 53) × AnswerCame config past (endpoint ip.to udp.to_port) udp.body }
+        → ip.from ≡ config.vnameserver → (udp.from_port ≡ names_port) × AnswerCame config past (endpoint ip.to udp.to_port) udp.body }
     ensures written { (config : Config) (past : List Entry) (frame : List ℕ) → Lawful config past → (a : AnswersQuestion config past frame)
         → AnswerCame config past a.question.guest a.octets }
 {}

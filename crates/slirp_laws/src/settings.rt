@@ -2,14 +2,14 @@
 //!
 //! That ports have 16 bits is known of settings in a program alone, since their type says it and their check doesn't.
 ghost use Rattle.std.specs.Prelude.{◌≡◌, ℕ, ◌<◌, ◌≤◌, ◌^◌, []};
-ghost use Rattle.host_policy.specs.Addresses.{Config};
-ghost use Rattle.host_policy.specs.Ranges.{IsSound};
-ghost use Rattle.host_policy.specs.Settings.{settings};
+ghost use Rattle.slirp_settings.specs.Addresses.{Config};
+ghost use Rattle.slirp_settings.specs.Ranges.{IsSound};
+ghost use Rattle.slirp_settings.specs.Settings.{settings};
 ghost use Rattle.slirp_laws.specs.Questions.{HasNameServer};
 ghost use Rattle.slirp_laws.specs.Said.{HasPorts};
 ghost use Rattle.slirp_laws.specs.Settings.{HasNumbersForPorts};
 
-use host_policy::{Forward, SlirpConfig};
+use slirp_settings::{Forward, SlirpConfig};
 
 /// Settings of which `SlirpConfig::check` answers Ok are in each range that a law asks for: a frame has room for a header and a unit of 8 octets, and
 /// for a SYN with its options; the virtual host and the name server have addresses of 32 bits, the latter one of the network that isn't the host's; and each port

@@ -4,7 +4,7 @@ use Rattle.std.proofs.Common.{is_some, option_map, if◌then◌else◌, ap, sym,
 use Rattle.std.proofs.lemmas.Bool.Decides.{nat_tests}
 use Rattle.net_octets.specs.declared.Endpoint.{Endpoint}
 use Rattle.world_face.specs.Journal.{Entry}
-use Rattle.host_policy.specs.Addresses.{Config}
+use Rattle.slirp_settings.specs.Addresses.{Config}
 use Rattle.flow_laws.specs.Event.{Accepts, Connects, Segment, Story}
 use Rattle.flow_laws.specs.Close.{ends_rest, owes_reset, renews, rests_since}
 use Rattle.flow_laws.specs.Flow.{first_number, is_closed}

@@ -7,11 +7,11 @@ use Rattle.net_octets.specs.declared.Endpoint.{Endpoint}
 use Rattle.net_octets.specs.declared.Ip4.{Ip4}
 use Rattle.net_octets.specs.declared.Mac.{Mac}
 use Rattle.arp_table.specs.Table.{mac_of as learnt_for}
-use Rattle.host_policy.specs.Addresses.{Config}
+use Rattle.slirp_settings.specs.Addresses.{Config}
 use Rattle.run_laws.specs.Guests.{known}
 use Rattle.row_lists.proofs.Places.{set_same}
 use Rattle.flow_table.specs.Slots.{AreKept, Flows}
-use Rattle.flow_table.specs.declared.Tuple.{Tuple}
+use Rattle.record_flows.specs.declared.Tuple.{Tuple}
 use Rattle.flow_laws.specs.Close.{is_in_use}
 use Rattle.record_flows.specs.Flows.{Flow}
 use Rattle.record_flows.specs.Laws.{flow_settings}

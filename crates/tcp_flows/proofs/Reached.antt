@@ -1,7 +1,7 @@
 -- The part of a slot, as a call on it finds it.
 use Rattle.std.proofs.Common.{◌≡◌, ℕ, Bool, true, List, map, get_or, slice_get, Option, Some, ap, sym, ◌∙◌}
 use Rattle.flow_table.specs.Slots.{Flows, HasTuple}
-use Rattle.flow_table.specs.declared.Tuple.{Tuple}
+use Rattle.record_flows.specs.declared.Tuple.{Tuple}
 use Rattle.tcp_segment.specs.Tcp.{Tcp}
 use Rattle.flow_splice.specs.Guests.{heard_at_rest, renews}
 use Rattle.flow_splice.specs.Splice.{Splice, is_at_rest, is_open}

@@ -6,7 +6,7 @@ use Rattle.world_face.specs.Frames.{opens, tail}
 use Rattle.world_face.specs.Journal.{Close, Entry, LinkWrite}
 use Rattle.world_face.specs.declared.Io.{Io}
 use Rattle.world_face.specs.declared.Io.TheVariants.{Done, End, NotYet, Failed}
-use Rattle.host_policy.specs.Addresses.{Config}
+use Rattle.slirp_settings.specs.Addresses.{Config}
 use Rattle.flow_laws.specs.Event.{Arrives, Story}
 use Rattle.flow_laws.specs.Settings.{Settings}
 use Rattle.record_flows.specs.Book.{book, scene, turned}

@@ -2,7 +2,7 @@
 use Rattle.std.proofs.Common.{◌≡◌, ℕ, ◌==◌, ◌&&◌, ◌||◌, not, Bool, true, false, List, [], ◌∷◌, ◌++◌, slice_get, Option, Some, None, refl, sym, ap, ◌∙◌, subst}
 use Rattle.poll_list.specs.declared.Who.TheVariants.{Tcp as OnTcp}
 use Rattle.world_face.specs.Journal.{Call, Entry, Connected, TcpRead, TcpWrite, TcpEnd, Close}
-use Rattle.host_policy.specs.Addresses.{Config}
+use Rattle.slirp_settings.specs.Addresses.{Config}
 use Rattle.run_laws.specs.Moments.{waits}
 use Rattle.run_laws.specs.Sockets.{is_among, is_flow, kind_of, next_number, open_sockets}
 use Rattle.flow_laws.specs.Close.{owes_reset}

@@ -1,12 +1,12 @@
 -- Whether a slot in use has two ends, and what becomes of one that rests on them.
 use Rattle.std.proofs.Common.{refl, ◌≡◌, ℕ, Bool, true, false, List, length, Some, None, Option, option_and_then, slice_get, ap, sym, ◌∙◌}
 use Rattle.world_face.specs.Journal.{Call, Entry}
-use Rattle.host_policy.specs.Addresses.{Config}
+use Rattle.slirp_settings.specs.Addresses.{Config}
 use Rattle.run_laws.specs.Sockets.{next_number}
 use Rattle.flow_table.specs.Slots.{HasTuple, RestsSince, tuple_of}
 use Rattle.flow_table.specs.declared.Slot.{Slot}
 use Rattle.flow_table.specs.declared.Slot.TheVariants.{Free, InUse as SlotInUse, Resting as SlotResting}
-use Rattle.flow_table.specs.declared.Tuple.{Tuple}
+use Rattle.record_flows.specs.declared.Tuple.{Tuple}
 use Rattle.record_flows.specs.Book.{book}
 use Rattle.record_flows.specs.Flows.{is_used, uses}
 use Rattle.flows_follow.specs.FlowsHold.{FlowsState, rests_at}

@@ -1,6 +1,6 @@
 -- The flows in use, one after another by rising number.
 use Rattle.std.specs.Prelude.{◌≡◌, ℕ, ◌≤◌, ◌&&◌, nat_lt, Bool, true, List, Option, Some, None, slice_get, if◌then◌else◌}
-use Rattle.flow_table.specs.declared.Tuple.{Tuple}
+use Rattle.record_flows.specs.declared.Tuple.{Tuple}
 use Rattle.flow_splice.specs.Splice.{Splice, is_in_use}
 use Rattle.flows_follow.specs.Core.{ends_of, number_of}
 use Rattle.tcp_flows.specs.Reading.{IsAbove}

@@ -2,7 +2,7 @@
 use Rattle.std.specs.Prelude.{◌≡◌, ◌⊎◌, ℕ, true, false, Bool, List, slice_get, Some}
 use Rattle.poll_list.specs.declared.Who.TheVariants.{Tcp as OnTcp}
 use Rattle.world_face.specs.Journal.{Entry}
-use Rattle.host_policy.specs.Addresses.{Config}
+use Rattle.slirp_settings.specs.Addresses.{Config}
 use Rattle.flow_splice.specs.Splice.{Splice}
 use Rattle.run_duties.specs.Serving.{is_left_to_read, is_left_to_write}
 use Rattle.flows_follow.specs.Core.{number_of}

@@ -1,7 +1,7 @@
 -- Which flow gives way to a guest's SYN.
 use Rattle.std.specs.Prelude.{◌≡◌, ℕ, ◌==◌, ◌&&◌, ◌||◌, ◌⊎◌, ◌++◌, not, nat_le, nat_lt, Bool, true, false, List, [], ◌∷◌, Option, Some, None, slice_get, if◌then◌else◌}
 use Rattle.world_face.specs.Journal.{Entry}
-use Rattle.host_policy.specs.Addresses.{Config}
+use Rattle.slirp_settings.specs.Addresses.{Config}
 use Rattle.record_flows.specs.Book.{book}
 use Rattle.record_flows.specs.Lots.{NeedsRoom, due_for_flows, giving_way, lot}
 use Rattle.record_flows.specs.Segments.{OnTuple}

@@ -15,14 +15,14 @@ use crate::guest::first_number;
 use crate::rows::Before;
 use arp_table::ArpTable;
 use flow_splice::Place;
-use flow_table::Tuple;
 use net_octets::Mac;
+use record_flows::Tuple;
 use tcp_connection::Conn;
 
 impl TcpFlows {
     ghost use Rattle.record_flows.specs.Book.{book};
     ghost use Rattle.record_flows.specs.Flows.{is_used};
-    ghost use Rattle.host_policy.specs.Addresses.{Config};
+    ghost use Rattle.slirp_settings.specs.Addresses.{Config};
     ghost use Rattle.flows_follow.specs.Core.{CoreHolds, number_of};
     ghost use Rattle.std.specs.Prelude.{Bool, Option};
     ghost use Rattle.tcp_flows.specs.Kept.{with_flows};

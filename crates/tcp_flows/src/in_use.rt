@@ -7,7 +7,7 @@ ghost use Rattle.tcp_flows.specs.Kept.{part_of};
 
 use crate::flows::TcpFlows;
 use flow_splice::{Place, Spliced};
-use flow_table::Tuple;
+use record_flows::Tuple;
 
 impl TcpFlows {
     ghost use Rattle.tcp_flows.specs.Reading.{HaveSlots};

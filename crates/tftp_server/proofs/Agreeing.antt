@@ -1,11 +1,10 @@
 -- Options that are answered, each once.
-use Rattle.std.proofs.Common.{◌≡◌, ℕ, ◌≤◌, ◌<◌, ◌*◌, ◌&&◌, ◌||◌, nat_le, min, codes, bytes_eq, Bool, true, false, cond, List, [], ◌∷◌, ◌++◌, length, map, Option, Some, None, option_map}
+use Rattle.std.proofs.Common.{◌≡◌, ℕ, ◌≤◌, ◌<◌, ◌*◌, ◌||◌, min, codes, bytes_eq, Bool, true, false, cond, List, [], ◌∷◌, ◌++◌, length, map, Option, Some, None, option_map}
 use Rattle.std.proofs.Common.{is_some, refl, sym, ◌∙◌, ap, arith}
-use Rattle.std.specs.List.{list_all, list_any}
-use Rattle.std.proofs.lemmas.Bool.Decides.{nat_tests}
+use Rattle.std.specs.List.{list_any}
 use Rattle.std.proofs.lemmas.List.{length-append, map-append}
 use Rattle.std.proofs.lemmas.List.Folds.{list_any-append}
-use Rattle.tftp_server.specs.Packets.{Terms, answers, has_answered, in_range, is_digit, number_from, number_in, with_size, with_timeout}
+use Rattle.tftp_rules.specs.Packets.{Terms, answers, has_answered, number_in, with_size, with_timeout}
 use Rattle.tftp_server.specs.Options.{AreOnce, answered_pair, free, is_among, name_of}
 use Rattle.tftp_server.specs.declared.options.Known.{Known}
 use Rattle.tftp_server.specs.declared.options.Known.TheVariants.{BlockSize, Timeout, FileSize}
@@ -65,19 +64,6 @@ answer option number = record { option = option; number = number }
 pub not_among : (option : Known) (size timeout : ℕ) (items : List Answer) (terms : Terms) → shown size timeout items ≡ terms → has_answered (name_of option) terms ≡ false →
     is_among option items ≡ false
 not_among option size timeout items terms view has = sym (among_map (name_of option) items) ∙ ap (λ (t : Terms). has_answered (name_of option) t) view ∙ has
-
--- a number that was read lies in its range
-pub in_its_range : (least greatest n : ℕ) (text : List ℕ) → Some n ≡ number_in least greatest text → (least ≤ n) × (n ≤ greatest)
-in_its_range least greatest n [] is = cc
-in_its_range least greatest n (x ∷ text) is = by (list_all is_digit (x ∷ text)) (number_from 0 (x ∷ text)) is
-  where
-    within : (m : ℕ) (b : Bool) → nat_le least m && nat_le m greatest ≡ b → Some n ≡ cond b (Some m) None → (least ≤ n) × (n ≤ greatest)
-    within m true fits is = let same : n ≡ m = cc in (grind (arith, nat_tests), grind (arith, nat_tests))
-    within m false fits is = cc
-
-    by : (b : Bool) (m : ℕ) → Some n ≡ cond b (in_range least greatest m) None → (least ≤ n) × (n ≤ greatest)
-    by true m is = within m (nat_le least m && nat_le m greatest) refl is
-    by false m is = cc
 
 pub sized : (size timeout k n : ℕ) (items more : List Answer) (terms : Terms) (text : List ℕ)
     → shown size timeout items ≡ terms → more ≡ items ++ (answer BlockSize k ∷ []) → k ≡ min n 1468 → Some n ≡ number_in 8 65464 text

@@ -1,16 +1,14 @@
--- The earliest moment after another, and what a tick leaves.
-use Rattle.std.proofs.Common.{◌≡◌, ℕ, zero, suc, ◌+◌, ◌<◌, ◌≤◌, nat_le, nat_lt, not, ◌||◌, Bool, true, false, cond, Any, List, [], ◌∷◌, ◌++◌, length, find, take, drop, get_or, set, Option}
-use Rattle.std.proofs.Common.{Some, None, option_map, refl, sym, ◌∙◌, ap, subst, arith}
+-- The earliest moment after another.
+use Rattle.std.proofs.Common.{◌≡◌, ℕ, zero, suc, ◌+◌, ◌<◌, ◌≤◌, nat_le, Bool, true, false, cond, Any, List, [], ◌∷◌, ◌++◌, length, take, drop, get_or, Option}
+use Rattle.std.proofs.Common.{Some, None, refl, sym, ◌∙◌, ap, arith}
 use Rattle.std.proofs.lemmas.Bool.Decides.{nat_tests}
 use Rattle.std.proofs.lemmas.List.{length-append, map-append, take-append-le, take_all, take_more}
 use Rattle.std.proofs.lemmas.List.Elements.{All-push, All-weaker}
 use Rattle.std.proofs.lemmas.List.Quantifiers.{Any-push}
-use Rattle.tftp_server.specs.Transfers.{Transfer, are_left, begun, goes_again, is_due, next_again, said_again, sent_again, ticked, ticked_by, with_again}
+use Rattle.tftp_rules.specs.Transfers.{Transfer}
 use Rattle.tftp_server.specs.Serving.{IsNextDue, earlier}
-use Rattle.tftp_server.specs.Rows.{AreApart, transfer_of, transfers_of}
+use Rattle.tftp_server.specs.Rows.{transfer_of, transfers_of}
 use Rattle.tftp_server.specs.declared.row.Row.{Row}
-use Rattle.tftp_server.proofs.Listing.{again_at, apart_again, find_left}
-use Rattle.tftp_server.proofs.Naming.{both}
 
 get_left : (xs ys : List Transfer) (k : ℕ) (d : Transfer) → k < length xs → get_or (xs ++ ys) k d ≡ get_or xs k d
 get_left [] ys k d within = absurd (omega (arith, within))
@@ -60,36 +58,6 @@ pub rows_more : (folder : Option (List ℕ)) (rows : List Row) (i : ℕ) (r : Ro
     (take (i + 1) rows) ≡ transfers_of folder (take i rows) ++ (transfer_of folder r ∷ [])
 rows_more folder rows i r within at =
     ap (transfers_of folder) (take_more rows i r within ∙ ap (λ (x : Row). take i rows ++ (x ∷ [])) (sym at)) ∙ map-append (transfer_of folder) (take i rows) (r ∷ [])
-
--- ---- a tick
-
-stays_due : (now : ℕ) (t : Transfer) → goes_again now t ≡ true → (not (is_due now t) || nat_lt t.again 5) ≡ true
-stays_due now t is = by (is_due now t) (nat_lt t.again 5) (both (is_due now t) (nat_lt t.again 5) is).1
-  where
-    by : (a b : Bool) → b ≡ true → (not a || b) ≡ true
-    by true b e = e
-    by false b e = refl
-
-pub first_left : (now : ℕ) (ts : List Transfer) → find (goes_again now) (are_left now ts) ≡ next_again now ts
-first_left now ts = find_left (goes_again now) (λ t. not (is_due now t) || nat_lt t.again 5) (stays_due now) ts
-
-pub tick_none : (now : ℕ) (ts : List Transfer) → find (goes_again now) (are_left now ts) ≡ None → are_left now ts ≡ ticked now true ts
-tick_none now ts none = ap (ticked_by now (are_left now ts)) (sym none ∙ first_left now ts)
-
-pub says_none : (now : ℕ) (ts : List Transfer) → find (goes_again now) (are_left now ts) ≡ None → None ≡ begun now true ts
-says_none now ts none = ap (option_map said_again) (sym none ∙ first_left now ts)
-
-pub tick_some : (now : ℕ) (ts list : List Transfer) (i : ℕ) (d : Transfer) → list ≡ are_left now ts → i < length list → AreApart list → find (goes_again now) list ≡ Some (get_or list i d)
-    → set list i (sent_again now (get_or list i d)) ≡ ticked now true ts
-tick_some now ts list i d is within apart first =
-    again_at now list i d within apart ∙ ap (λ (l : List Transfer). with_again now (get_or list i d).guest l) is
-    ∙ ap (ticked_by now (are_left now ts)) (sym first ∙ ap (find (goes_again now)) is ∙ first_left now ts)
-
-pub apart_set : (now : ℕ) (list : List Transfer) (i : ℕ) (d : Transfer) → i < length list → AreApart list → AreApart (set list i (sent_again now (get_or list i d)))
-apart_set now list i d within apart = subst AreApart (sym (again_at now list i d within apart)) (apart_again now (get_or list i d).guest list apart)
-
-pub says_some : (now : ℕ) (ts list : List Transfer) (t : Transfer) → list ≡ are_left now ts → find (goes_again now) list ≡ Some t → Some (said_again t) ≡ begun now true ts
-says_some now ts list t is first = ap (option_map said_again) (sym first ∙ ap (find (goes_again now)) is ∙ first_left now ts)
 
 -- what a vector has after its slice was changed
 pub whole_new : {X : Type 0} (xs ys : List X) (n : ℕ) → length ys ≡ length xs → n ≡ length xs → take n (ys ++ drop (length ys) xs) ≡ ys

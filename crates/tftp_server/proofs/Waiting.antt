@@ -1,13 +1,11 @@
--- How long a packet waits for its acknowledgement, and what holds of the transfers at every moment.
-use Rattle.std.proofs.Common.{◌≡◌, ℕ, ◌≤◌, codes, bytes_eq, map, Bool, true, false, cond, List, [], ◌∷◌, length, Option, Some, None, option_map, refl, sym, subst, arith}
-use Rattle.std.specs.Option.{option_and_then}
+-- What holds of the transfers at every moment.
+use Rattle.std.proofs.Common.{ℕ, ◌≤◌, List, [], ◌∷◌, length, Option, arith}
 use Rattle.std.proofs.lemmas.List.{length-map}
 use Rattle.std.proofs.lemmas.List.Elements.{All-cons, All-nil}
-use Rattle.tftp_server.specs.Packets.{Terms, answers, has_answered, number_in, small, terms_from, terms_of, usual_terms, with_option, with_size, with_timeout}
-use Rattle.tftp_server.specs.Rows.{AreApart, AreSound, AreTimed, transfer_of, transfers_of, WaitsWell}
-use Rattle.tftp_server.specs.Transfers.{Transfer}
+use Rattle.tftp_server.specs.Rows.{transfer_of, transfers_of}
+use Rattle.tftp_rules.specs.Soundness.{AreApart, AreSound, AreTimed, WaitsWell}
+use Rattle.tftp_rules.specs.Transfers.{Transfer}
 use Rattle.tftp_server.specs.declared.row.Row.{Row}
-use Rattle.tftp_server.proofs.Agreeing.{in_its_range}
 
 rows_timed : (folder : Option (List ℕ)) (rows : List Row) → AreTimed (transfers_of folder rows)
 rows_timed folder [] = All-nil (λ (t : Transfer). WaitsWell t.timeout)
@@ -15,45 +13,3 @@ rows_timed folder (r ∷ rows) = All-cons (λ (t : Transfer). WaitsWell t.timeou
 
 pub rows_sound : (folder : Option (List ℕ)) (rows : List Row) → length rows ≤ 20 → AreApart (transfers_of folder rows) → AreSound (transfers_of folder rows)
 rows_sound folder rows few apart = record { few = (let same = length-map rows (transfer_of folder) in omega (arith, few, same)); apart = apart; timed = rows_timed folder rows }
-
--- ---- by the options of a request
-
-abbrev OfSome : Option Terms → Type 0
-OfSome None = Unit {0}
-OfSome (Some terms) = WaitsWell terms.timeout
-
-sized_well : (terms : Terms) (o : Option ℕ) → WaitsWell terms.timeout → OfSome (option_map (with_size terms) o)
-sized_well terms None is = tt
-sized_well terms (Some n) is = is
-
-measured_well : (terms : Terms) (size : ℕ) (o : Option ℕ) → WaitsWell terms.timeout → OfSome (option_map (λ n. answers (codes "tsize") size terms) o)
-measured_well terms size None is = tt
-measured_well terms size (Some n) is = is
-
-timed_well : (terms : Terms) (o : Option ℕ) → ((n : ℕ) → o ≡ Some n → (1 ≤ n) × (n ≤ 255)) → OfSome (option_map (with_timeout terms) o)
-timed_well terms None range = tt
-timed_well terms (Some n) range = let within = range n refl in (omega (arith, within.0), omega (arith, within.1))
-
-option_well : (size : ℕ) (option : List ℕ × List ℕ) (terms : Terms) → WaitsWell terms.timeout → OfSome (with_option size option terms)
-option_well size option terms is = by (has_answered (map small option.0) terms) (bytes_eq (map small option.0) (codes "blksize")) (bytes_eq (map small option.0) (codes "timeout"))
-    (bytes_eq (map small option.0) (codes "tsize"))
-  where
-    by : (a b c d : Bool)
-        → OfSome (cond a None (cond b (option_map (with_size terms) (number_in 8 65464 option.1))
-        (cond c (option_map (with_timeout terms) (number_in 1 255 option.1)) (cond d (option_map (λ n. answers (codes "tsize") size terms) (number_in 0 0 option.1)) (Some terms)))))
-    by true b c d = tt
-    by false true c d = sized_well terms (number_in 8 65464 option.1) is
-    by false false true d = timed_well terms (number_in 1 255 option.1) (λ n read. in_its_range 1 255 n option.1 (sym read))
-    by false false false true = measured_well terms size (number_in 0 0 option.1) is
-    by false false false false = is
-
-from_well : (size : ℕ) (terms : Terms) (options : List (List ℕ × List ℕ)) → WaitsWell terms.timeout → OfSome (terms_from size terms options)
-from_well size terms [] is = is
-from_well size terms (option ∷ options) is = by (with_option size option terms) (option_well size option terms is) (λ t well. from_well size t options well)
-  where
-    by : (o : Option Terms) → OfSome o → ((t : Terms) → WaitsWell t.timeout → OfSome (terms_from size t options)) → OfSome (option_and_then (λ t. terms_from size t options) o)
-    by None well more = tt
-    by (Some t) well more = more t well
-
-pub terms_well : (size : ℕ) (options : List (List ℕ × List ℕ)) (terms : Terms) → terms_of size options ≡ Some terms → WaitsWell terms.timeout
-terms_well size options terms is = subst OfSome is (from_well size usual_terms options (omega arith, omega arith))

@@ -1,8 +1,8 @@
 -- Transfers as the code keeps them: the names of files without their folder.
-use Rattle.std.specs.Prelude.{◌≡◌, ℕ, ◌+◌, ◌<◌, ◌≤◌, All, List, [], ◌∷◌, length, map, find, Option, Some, None, unwrap_or, slice_index_or, slice_set, if◌then◌else◌}
+use Rattle.std.specs.Prelude.{◌≡◌, ℕ, ◌+◌, ◌<◌, List, [], length, map, find, Option, Some, None, unwrap_or, slice_index_or, slice_set, if◌then◌else◌}
 use Rattle.net_octets.specs.declared.Endpoint.{Endpoint}
-use Rattle.tftp_server.specs.Packets.{file_in}
-use Rattle.tftp_server.specs.Transfers.{Outcome, Sought, SeeksLength, Transfer, acknowledged, is_for, leaves, seeks_next, sent_again, without}
+use Rattle.tftp_rules.specs.Packets.{file_in}
+use Rattle.tftp_rules.specs.Transfers.{Outcome, Sought, SeeksLength, Transfer, acknowledged, is_for, leaves, seeks_next, sent_again, without}
 use Rattle.tftp_server.specs.Reading.{options_of}
 use Rattle.tftp_server.specs.Serving.{Serving}
 use Rattle.tftp_server.specs.declared.row.Row.{Row}
@@ -39,24 +39,6 @@ sought folder guest mac name options = record { guest = guest; mac = mac; file =
 
 abbrev pub seeking_length : Sought → List Transfer → Outcome
 seeking_length s transfers = record { files = record { transfers = transfers; quest = SeeksLength s }; told = None }
-
--- no two for one port of a guest
-abbrev pub AreApart : List Transfer → Type 0
-AreApart [] = Unit {0}
-AreApart (t ∷ transfers) = (find (is_for t.guest) transfers ≡ None) × AreApart transfers
-
--- a packet waits from 1,000 to 255,000 milliseconds for its acknowledgement (RFC 2349)
-abbrev pub WaitsWell : ℕ → Type 0
-WaitsWell timeout = (1000 ≤ timeout) × (timeout ≤ 255000)
-
-abbrev pub AreTimed : List Transfer → Type 0
-AreTimed transfers = All (λ t. WaitsWell t.timeout) transfers
-
--- what holds of the transfers at every moment
-pub record AreSound (transfers : List Transfer) : Type 0 where
-  pub few : length transfers ≤ 20
-  pub apart : AreApart transfers
-  pub timed : AreTimed transfers
 
 -- the packet at a place goes again
 abbrev pub IsSentAgain : ℕ → ℕ → List Row → List Row → Type 0

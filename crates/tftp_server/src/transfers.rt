@@ -1,20 +1,23 @@
 //! Which file each port of a guest gets, how far it is, and what goes again (RFC 1350, 2 and 6).
 ghost use Rattle.std.specs.Prelude.{◌≡◌, ◌+◌, ◌^◌, ◌≤◌, ◌<◌, ◌++◌, ◌∷◌, ◌&&◌, ◌||◌, not, nat_le, nat_lt, ℕ, List, [], length, find, position, IfOk, Option, Some, None, true, false};
-ghost use Rattle.host_policy.specs.Ranges.{IsSound};
-ghost use Rattle.host_policy.specs.Settings.{settings};
-ghost use Rattle.host_policy.specs.Targets.{same_endpoint};
+ghost use Rattle.slirp_settings.specs.Ranges.{IsSound};
+ghost use Rattle.slirp_settings.specs.Settings.{settings};
+ghost use Rattle.slirp_settings.specs.Classes.{same_endpoint};
 ghost use Rattle.net_octets.specs.declared.Endpoint.{Endpoint as AnEndpoint};
-ghost use Rattle.tftp_server.specs.Transfers.{is_for, without, with_room, sending, ticked, begun, most_transfers};
-ghost use Rattle.tftp_server.specs.Serving.{said_by, earlier, IsFromServer, IsNextDue};
-ghost use Rattle.tftp_server.specs.Rows.{transfer_of, transfers_of, AreSound, IsSentAgain, TakesAcknowledged};
+ghost use Rattle.tftp_rules.specs.Transfers.{is_for, without, with_room, sending, ticked, begun, most_transfers};
+ghost use Rattle.tftp_server.specs.Serving.{earlier, IsNextDue};
+ghost use Rattle.tftp_rules.specs.Saying.{said_by, IsFromServer};
+ghost use Rattle.tftp_server.specs.Rows.{transfer_of, transfers_of, IsSentAgain, TakesAcknowledged};
+ghost use Rattle.tftp_rules.specs.Soundness.{AreSound};
 
 use crate::row::Row;
-use crate::{MOST_AGAIN, MOST_TRANSFERS, PORT};
+use crate::{MOST_AGAIN, MOST_TRANSFERS};
 use arrayvec::ArrayString;
-use host_policy::{Reply, SlirpConfig};
 use net_octets::{Endpoint, Ip4, Mac, NoMemory};
+use slirp_settings::{FILES_PORT, SlirpConfig};
 use std::alloc::Global;
 use std::marker::Model;
+use udp_rules::Reply;
 
 /// The files that guests get over TFTP. Contracts see the address of the server, the folder, and the list of transfers, the longest unused first, each with its packet.
 ///
@@ -31,7 +34,8 @@ impl Model for Tftp {
     ghost use Rattle.std.specs.Option.{option_map};
     ghost use Rattle.std.specs.Vec.{vec_len, vec_capacity};
     ghost use Rattle.tftp_server.specs.Serving.{Serving};
-    ghost use Rattle.tftp_server.specs.Rows.{transfers_of, AreApart};
+    ghost use Rattle.tftp_server.specs.Rows.{transfers_of};
+    ghost use Rattle.tftp_rules.specs.Soundness.{AreApart};
 
     ghost Value = { Serving };
 
@@ -160,7 +164,7 @@ pub(crate) fn tell(vhost: Ip4, guest: Endpoint, mac: Mac, packet: &[u8], into: &
         length,
         from: Endpoint {
             addr: vhost,
-            port: PORT,
+            port: FILES_PORT,
         },
         to: guest,
         mac: Some(mac),

@@ -1,6 +1,6 @@
 //! What a guest is told: the options that are answered, a block of a file, an error (RFC 1350, 5; RFC 2347).
 ghost use Rattle.std.specs.Prelude.{◌≡◌, ◌+◌, ◌%◌, ◌^◌, ◌≤◌, ◌++◌, ◌∷◌, [], length};
-ghost use Rattle.tftp_server.specs.Packets.{answered_octets, block_octets, error_octets, options_octets};
+ghost use Rattle.tftp_rules.specs.Packets.{answered_octets, block_octets, error_octets, options_octets};
 ghost use Rattle.tftp_server.specs.Options.{answered_pair};
 
 use crate::MOST_PACKET;

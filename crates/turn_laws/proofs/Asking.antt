@@ -10,7 +10,7 @@ use Rattle.world_face.specs.Limits.{most_from_link}
 use Rattle.world_face.specs.declared.Io.{Io}
 use Rattle.world_face.specs.declared.Io.TheVariants.{Done, End, NotYet, Failed}
 use Rattle.world_face.specs.declared.Made.TheVariants.{Done as MadeDone, Failed as MadeFailed}
-use Rattle.host_policy.specs.Addresses.{Config}
+use Rattle.slirp_settings.specs.Addresses.{Config}
 use Rattle.run_laws.specs.Moments.{waits}
 use Rattle.run_laws.specs.Shape.{Cause, Phase, Opening, Over, Started, Woken, Working, is_over, is_working, may_turn, phase, phase_after}
 use Rattle.slirp_laws.specs.Laws.{May, Lawful}

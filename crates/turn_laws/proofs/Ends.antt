@@ -8,8 +8,8 @@ use Rattle.world_face.specs.declared.Made.{Made}
 use Rattle.world_face.specs.declared.Made.TheVariants.{Done, Failed}
 use Rattle.world_face.specs.declared.Accepted.{Accepted}
 use Rattle.world_face.specs.declared.Accepted.TheVariants.{From, NotYet, Failed as AcceptFailed}
-use Rattle.host_policy.specs.Addresses.{Config, address}
-use Rattle.flow_table.specs.declared.Tuple.{Tuple}
+use Rattle.slirp_settings.specs.Addresses.{Config, address}
+use Rattle.record_flows.specs.declared.Tuple.{Tuple}
 use Rattle.flow_laws.specs.Event.{Event, Accepts, Arrives, Connects, Departs, AsksAddress, Closes, At, Story}
 use Rattle.flow_laws.specs.Flow.{first_number, guest, is_accepted, push, up_of}
 use Rattle.flow_laws.specs.Guest.{Up, has_ended}

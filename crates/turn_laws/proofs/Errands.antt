@@ -9,8 +9,8 @@ use Rattle.world_face.specs.declared.Io.{Io}
 use Rattle.world_face.specs.declared.Made.{Made}
 use Rattle.world_face.specs.declared.Made.TheVariants.{Done, Failed}
 use Rattle.world_face.specs.declared.Sent.{Sent}
-use Rattle.host_policy.specs.Addresses.{Config}
-use Rattle.dns_relay.specs.Questions.{ident_in}
+use Rattle.slirp_settings.specs.Addresses.{Config}
+use Rattle.dns_rules.specs.Questions.{ident_in}
 use Rattle.run_laws.specs.Happenings.{Arrival, arrival_of}
 use Rattle.run_laws.specs.Fragments.{waiting}
 use Rattle.run_laws.specs.Moments.{moment, waits}
@@ -32,7 +32,7 @@ use Rattle.slirp_laws.proofs.Phases.{Opens, at_any_port, others_due, sends}
 use Rattle.slirp_laws.proofs.Steps.{OfErrand, all_errands, errand_asks, errand_in, errand_is, of_errand, step_is_of, step_to_name}
 use Rattle.turn_laws.proofs.Asking.{it_came}
 use Rattle.std.specs.Prelude.{drop}
-use Rattle.host_policy.specs.Targets.{same_endpoint}
+use Rattle.slirp_settings.specs.Classes.{same_endpoint}
 use Rattle.std.proofs.lemmas.Bool.Decides.{nat_tests}
 
 -- ---- it is asked for in a turn alone

@@ -14,7 +14,7 @@ use Rattle.world_face.specs.declared.Io.{Io}
 use Rattle.world_face.specs.declared.Io.TheVariants.{Done, End, NotYet, Failed}
 use Rattle.world_face.specs.declared.Made.{Made}
 use Rattle.world_face.specs.declared.Made.TheVariants.{Done as MadeDone, Failed as MadeFailed}
-use Rattle.host_policy.specs.Addresses.{Config}
+use Rattle.slirp_settings.specs.Addresses.{Config}
 use Rattle.record_flows.specs.Book.{book, port_of}
 use Rattle.record_flows.specs.Lots.{asked_for, connects_to, due_by, lot}
 use Rattle.record_flows.specs.Segments.{OnTuple, segment_by, segment_came}
@@ -31,17 +31,17 @@ use Rattle.slirp_laws.specs.Errands.{errand_by_call, errand_left}
 use Rattle.slirp_laws.specs.Laws.{May, due, Lawful}
 use Rattle.slirp_laws.proofs.FileCalls.{sought_length, sought_octets}
 use Rattle.slirp_laws.proofs.Phases.{IsForOther, due_call, given_forward, given_turn, none_left, opening_call, for_others, others_due, OpensNone, asks_after_waits, opens as opens_for_it}
-use Rattle.tftp_server.specs.Asking.{call_for}
-use Rattle.tftp_server.specs.Packets.{Terms, terms_of, options_octets}
-use Rattle.tftp_server.specs.Transfers.{Quest, Said, SeeksLength, SeeksOctets, Settled as SeeksNothing, Sought, Transfer, begins, length_came, measured, next_again, octets_came}
-use Rattle.tftp_server.specs.Transfers.{octets_of, reads_on, seeks_block, seeks_next, told_length, told_octets, transfer, with_room, sends_block, sends}
+use Rattle.tftp_rules.specs.Asking.{call_for}
+use Rattle.tftp_rules.specs.Packets.{Terms, terms_of, options_octets}
+use Rattle.tftp_rules.specs.Transfers.{Quest, Said, SeeksLength, SeeksOctets, Settled as SeeksNothing, Sought, Transfer, begins, length_came, measured, next_again, octets_came}
+use Rattle.tftp_rules.specs.Transfers.{octets_of, reads_on, seeks_block, seeks_next, told_length, told_octets, transfer, with_room, sends_block, sends}
 use Rattle.turn_laws.specs.Tally.{frames_in, named}
 use Rattle.poll_list.specs.declared.Want.{Want}
 use Rattle.world_face.specs.declared.Waited.{Waited}
 use Rattle.world_face.specs.declared.Waited.TheVariants.{Ready, Stop, Failed as WaitFails}
-use Rattle.host_policy.specs.declared.Forward.{Forward}
-use Rattle.host_policy.specs.declared.Proto.{Proto}
-use Rattle.host_policy.specs.declared.Proto.TheVariants.{Tcp as ByTcp, Udp as ByUdp}
+use Rattle.slirp_settings.specs.declared.Forward.{Forward}
+use Rattle.slirp_settings.specs.declared.Proto.{Proto}
+use Rattle.slirp_settings.specs.declared.Proto.TheVariants.{Tcp as ByTcp, Udp as ByUdp}
 use Rattle.slirp_laws.proofs.Joining.{none_early}
 use Rattle.turn_laws.proofs.Errands.{none_for, sent_next, calls_for, two_most}
 use Rattle.std.specs.Prelude.{option_map}

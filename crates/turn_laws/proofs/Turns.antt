@@ -9,7 +9,7 @@ use Rattle.world_face.specs.Journal.{UdpSend, UdpRecv, FileLen, FileRead, CallWa
 use Rattle.world_face.specs.declared.Io.{Io}
 use Rattle.world_face.specs.declared.Io.TheVariants.{Done, End, NotYet, Failed}
 use Rattle.world_face.specs.declared.Waited.{Waited}
-use Rattle.host_policy.specs.Addresses.{Config}
+use Rattle.slirp_settings.specs.Addresses.{Config}
 use Rattle.record_flows.specs.Book.{book}
 use Rattle.record_flows.specs.Lots.{connects_to}
 use Rattle.record_flows.specs.Segments.{segment_came}

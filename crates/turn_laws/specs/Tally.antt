@@ -2,7 +2,7 @@
 use Rattle.std.specs.Prelude.{ℕ, ◌+◌, ◌*◌, ◌==◌, List, [], ◌∷◌, length, Option, Some, None, if◌then◌else◌}
 use Rattle.world_face.specs.Journal.{Entry, Wait, LinkRead, LinkWrite, Listen, UdpOpen, Close, FileRead}
 use Rattle.world_face.specs.Frames.{goes_out}
-use Rattle.host_policy.specs.Addresses.{Config}
+use Rattle.slirp_settings.specs.Addresses.{Config}
 
 -- Since the last wait: the calls; and the items that it reported, the sockets that were closed, the ports of the host that were given to guests, the octets that
 -- came on the link or from files, and the frames that began to go out. Before the first wait the items are the ports that the settings open.

@@ -6,7 +6,7 @@
 
 ghost use Rattle.std.specs.Prelude.{◌≤◌, List};
 ghost use Rattle.world_face.specs.Journal.{Entry, AreAllowed};
-ghost use Rattle.host_policy.specs.Addresses.{Config};
+ghost use Rattle.slirp_settings.specs.Addresses.{Config};
 ghost use Rattle.slirp_laws.specs.Laws.{Lawful};
 ghost use Rattle.turn_laws.specs.Tally.{most_calls, tally};
 

@@ -1,263 +1,86 @@
--- What changes of the rows make of the list.
-use Rattle.std.proofs.Common.{◌≡◌, ℕ, zero, suc, ◌+◌, ◌<◌, ◌≤◌, ◌==◌, ◌&&◌, ◌||◌, not, nat_le, Bool, cond, true, false, All, List, [], ◌∷◌, ◌++◌, length, get_or, set, slice_get, min}
-use Rattle.std.proofs.Common.{Option, Some, None, refl, sym, ◌∙◌, ap, arith}
-use Rattle.std.proofs.lemmas.Bool.Decides.{nat_tests}
-use Rattle.std.specs.List.{remove, list_any}
-use Rattle.std.proofs.lemmas.List.Elements.{All-cons, All-nil, All-head, All-tail}
-use Rattle.udp_assoc.specs.Associations.{IsLeast, is_numbered, is_over, idle_life, numbered, numbers, without, moved_last}
-use Rattle.udp_assoc.specs.Rows.{row, in_order, one, times, gone, AreAbove, Rise, AreSince, AreRows}
-use Rattle.udp_assoc.specs.declared.assocs.Association.{Association}
-use Rattle.udp_assoc.proofs.Ordering.{same, equal, is_equal, is_other, gone_none, as_long, once}
+-- What becomes of the sockets becomes of the associations that they are.
+use Rattle.std.proofs.Common.{◌≡◌, ℕ, ◌&&◌, Bool, true, cond, List, [], ◌∷◌, ◌++◌, find, Option, Some, option_map, refl, sym, ◌∙◌, ap, subst, false}
+use Rattle.std.proofs.lemmas.List.{map-append}
+use Rattle.std.proofs.lemmas.List.Elements.{All-cons, All-head, All-nil, All-tail}
+use Rattle.net_octets.specs.declared.Endpoint.{Endpoint}
+use Rattle.slirp_settings.specs.Classes.{same_endpoint}
+use Rattle.idle_sockets.specs.Sockets.{is_numbered, is_of, moved_last, number_of, numbered, numbers, socket_of}
+use Rattle.idle_sockets.specs.declared.IdleSocket.{IdleSocket}
+use Rattle.idle_sockets.specs.Closing.{calls_for_room as calls_for_room_of, with_room as with_room_of}
+use Rattle.idle_sockets.proofs.Mapping.{calls_mapped, find_mapped, room_mapped}
+use Rattle.idle_sockets.proofs.Yielding.{all_without, of_room}
+use Rattle.udp_rules.specs.Associations.{is_numbered as is_association, is_of as is_port, moved_last as association_moved, numbered as numbered_association, numbers as association_numbers}
+use Rattle.udp_rules.specs.Associations.{socket_of as association_socket}
+use Rattle.udp_assoc.specs.Kept.{as_association, associations, is_only, only, AreOnly}
+use Rattle.udp_assoc.specs.Relays.{calls_for_room, with_room}
+use Rattle.udp_rules.specs.declared.Association.{Association}
 
--- a row has its number
-pub row_number : (n : ℕ) (rows : List Association) → (row n rows).number ≡ n
-row_number n [] = refl
-row_number n (a ∷ rows) = by (is_numbered n a) refl (row_number n rows)
+pub moved : (change : IdleSocket → IdleSocket) (changes : Association → Association) → ((s : IdleSocket) → as_association (change s) ≡ changes (as_association s)) → (n : ℕ)
+    (sockets : List IdleSocket) → associations (moved_last change n sockets) ≡ association_moved changes n (associations sockets)
+moved change changes alike n [] = refl
+moved change changes alike n (s ∷ sockets) = by (is_numbered n s) (moved change changes alike n sockets)
   where
-    by : (b : Bool) → (a.number == n) ≡ b → (row n rows).number ≡ n → (cond b a (row n rows)).number ≡ n
-    by true is rest = equal a.number n is
-    by false is rest = rest
+    by : (t : Bool) → associations (moved_last change n sockets) ≡ association_moved changes n (associations sockets) → associations (cond t (sockets ++ (change s ∷ [])) (s ∷ moved_last change n sockets)) ≡ cond t (associations sockets ++ (changes (as_association s) ∷ []))
+        (as_association s ∷ association_moved changes n (associations sockets))
+    by true rest = map-append as_association sockets (change s ∷ []) ∙ ap (λ (a : Association). associations sockets ++ (a ∷ [])) (alike s)
+    by false rest = ap (λ (l : List Association). as_association s ∷ l) rest
 
-pub numbers_in_order : (rows : List Association) (order : List ℕ) → numbers (in_order rows order) ≡ order
-numbers_in_order rows [] = refl
-numbers_in_order rows (n ∷ order) = ap (λ m. m ∷ numbers (in_order rows order)) (row_number n rows) ∙ ap (λ l. n ∷ l) (numbers_in_order rows order)
+pub numbers_are : (sockets : List IdleSocket) → numbers sockets ≡ association_numbers (associations sockets)
+numbers_are [] = refl
+numbers_are (s ∷ sockets) = ap (λ (l : List ℕ). s.number ∷ l) (numbers_are sockets)
 
-pub length_in_order : (rows : List Association) (order : List ℕ) → length (in_order rows order) ≡ length order
-length_in_order rows [] = refl
-length_in_order rows (n ∷ order) = omega (arith, length_in_order rows order)
+pub numbered_is : (n : ℕ) (sockets : List IdleSocket) → numbered_association n (associations sockets) ≡ option_map as_association (numbered n sockets)
+numbered_is n sockets = find_mapped as_association (is_numbered n) (is_association n) (λ s. refl) sockets
 
-pub length_numbers : (rows : List Association) → length (numbers rows) ≡ length rows
-length_numbers [] = refl
-length_numbers (a ∷ rows) = omega (arith, length_numbers rows)
-
--- as many are in the list as there are rows
-pub as_many : (rows : List Association) (rising order : List ℕ) (since : ℕ) → AreRows rows rising order since → (length order ≡ length rows) × (length rising ≡ length rows)
-as_many rows rising order since are =
-    let long = as_long order rising are.same in
-    let numbered_so = ap length are.numbers_are ∙ length_numbers rows in
-    (long ∙ numbered_so, numbered_so)
-
--- the one with a number
-pub none_numbered : (x : ℕ) (rows : List Association) (order : List ℕ) → times x order ≡ 0 → numbered x (in_order rows order) ≡ None
-none_numbered x rows [] none = refl
-none_numbered x rows (m ∷ order) none = by (m == x) refl none (λ rest. none_numbered x rows order rest)
+pub socket_is : (guest : Endpoint) (sockets : List IdleSocket) → AreOnly sockets → socket_of guest only sockets ≡ association_socket guest (associations sockets)
+socket_is guest [] all = refl
+socket_is guest (s ∷ sockets) all =
+    ap (λ t. option_map number_of (cond (same_endpoint s.guest guest && t) (Some s) (find (is_of guest only) sockets))) (All-head (λ (x : IdleSocket). is_only x ≡ true) s sockets all)
+    ∙ by (same_endpoint s.guest guest) (socket_is guest sockets (All-tail (λ (x : IdleSocket). is_only x ≡ true) s sockets all))
   where
-    by : (b : Bool) → (m == x) ≡ b → one b + times x order ≡ 0 → (times x order ≡ 0 → numbered x (in_order rows order) ≡ None) → numbered x (in_order rows (m ∷ order)) ≡ None
-    by true is far more = absurd (omega (arith, far))
-    by false is far more =
-        ap (λ k. cond (k == x) (Some (row m rows)) (numbered x (in_order rows order))) (row_number m rows)
-        ∙ ap (λ b. cond b (Some (row m rows)) (numbered x (in_order rows order))) is ∙ more (omega (arith, far))
+    by : (t : Bool) → socket_of guest only sockets ≡ association_socket guest (associations sockets) → option_map number_of (cond (t && true) (Some s) (find (is_of guest only) sockets)) ≡ option_map (λ (a : Association). a.number)
+        (cond t (Some (as_association s)) (find (is_port guest) (associations sockets)))
+    by true rest = refl
+    by false rest = rest
 
-pub one_numbered : (x : ℕ) (rows : List Association) (order : List ℕ) → 0 < times x order → numbered x (in_order rows order) ≡ Some (row x rows)
-one_numbered x rows [] some = absurd (omega (arith, some))
-one_numbered x rows (m ∷ order) some = by (m == x) refl some (λ rest. one_numbered x rows order rest)
+-- a port has one socket at most
+pub none_only : AreOnly []
+none_only = All-nil (λ (x : IdleSocket). is_only x ≡ true)
+
+pub last_only : (sockets : List IdleSocket) (s : IdleSocket) → AreOnly sockets → is_only s ≡ true → AreOnly (sockets ++ (s ∷ []))
+last_only [] s all is = All-cons (λ (x : IdleSocket). is_only x ≡ true) s [] is none_only
+last_only (x ∷ sockets) s all is =
+    All-cons (λ (y : IdleSocket). is_only y ≡ true) x (sockets ++ (s ∷ [])) (All-head (λ (y : IdleSocket). is_only y ≡ true) x sockets all)
+    (last_only sockets s (All-tail (λ (y : IdleSocket). is_only y ≡ true) x sockets all) is)
+
+pub moved_only : (change : IdleSocket → IdleSocket) → ((s : IdleSocket) → is_only (change s) ≡ is_only s) → (n : ℕ) (sockets : List IdleSocket) → AreOnly sockets
+    → AreOnly (moved_last change n sockets)
+moved_only change keeps n [] all = all
+moved_only change keeps n (s ∷ sockets) all = by (is_numbered n s) (moved_only change keeps n sockets (All-tail (λ (x : IdleSocket). is_only x ≡ true) s sockets all))
   where
-    by : (b : Bool) → (m == x) ≡ b → 0 < one b + times x order → (0 < times x order → numbered x (in_order rows order) ≡ Some (row x rows)) → numbered x (in_order rows (m ∷ order)) ≡ Some (row x rows)
-    by true is here more =
-        ap (λ k. cond (k == x) (Some (row m rows)) (numbered x (in_order rows order))) (row_number m rows)
-        ∙ ap (λ b. cond b (Some (row m rows)) (numbered x (in_order rows order))) is ∙ ap (λ k. Some (row k rows)) (equal m x is)
-    by false is here more =
-        ap (λ k. cond (k == x) (Some (row m rows)) (numbered x (in_order rows order))) (row_number m rows)
-        ∙ ap (λ b. cond b (Some (row m rows)) (numbered x (in_order rows order))) is ∙ more (omega (arith, here))
+    here : is_only s ≡ true
+    here = All-head (λ (x : IdleSocket). is_only x ≡ true) s sockets all
 
--- the row at the place of a number
-above_numbers : (n : ℕ) (rows : List Association) (p : ℕ) → AreAbove n (numbers rows) → p < length rows → n < get_or (numbers rows) p 0
-above_numbers n [] p above few = absurd (omega (arith, few))
-above_numbers n (a ∷ rows) zero above few = above.0
-above_numbers n (a ∷ rows) (suc p) above few = above_numbers n rows p above.1 (omega (arith, few))
+    by : (t : Bool) → AreOnly (moved_last change n sockets) → AreOnly (cond t (sockets ++ (change s ∷ [])) (s ∷ moved_last change n sockets))
+    by true rest = last_only sockets (change s) (All-tail (λ (x : IdleSocket). is_only x ≡ true) s sockets all) (keeps s ∙ here)
+    by false rest = All-cons (λ (x : IdleSocket). is_only x ≡ true) s (moved_last change n sockets) here rest
 
-pub row_at : (rows : List Association) (p x : ℕ) (d : Association) → Rise (numbers rows) → p < length rows → get_or (numbers rows) p 0 ≡ x → get_or rows p d ≡ row x rows
-row_at [] p x d rise few is = absurd (omega (arith, few))
-row_at (a ∷ rows) zero x d rise few is = sym (ap (λ b. cond b a (row x rows)) (is_equal a.number x is))
-row_at (a ∷ rows) (suc p) x d rise few is =
-    let less = above_numbers a.number rows p rise.0 (omega (arith, few)) in
-    row_at rows p x d rise.1 (omega (arith, few)) is ∙ sym (ap (λ b. cond b a (row x rows)) (is_other a.number x (λ it. omega (arith, less, is, it))))
+-- what is found of the associations is found of the sockets
+pub found_is : (n : ℕ) (sockets : List IdleSocket) (list : List Association) → associations sockets ≡ list → (found : Option IdleSocket) → found ≡ numbered n sockets
+    → numbered_association n list ≡ option_map as_association found
+found_is n sockets list same found is = ap (numbered_association n) (sym same) ∙ numbered_is n sockets ∙ ap (option_map as_association) (sym is)
 
--- one row is changed
-pub numbers_set : (rows : List Association) (p : ℕ) (b d : Association) → p < length rows → (get_or rows p d).number ≡ b.number → numbers (set rows p b) ≡ numbers rows
-numbers_set [] p b d few is = absurd (omega (arith, few))
-numbers_set (a ∷ rows) zero b d few is = ap (λ n. n ∷ numbers rows) (sym is)
-numbers_set (a ∷ rows) (suc p) b d few is = ap (λ l. a.number ∷ l) (numbers_set rows p b d (omega (arith, few)) is)
+pub port_is : (guest : Endpoint) (sockets : List IdleSocket) → AreOnly sockets → (list : List Association) → associations sockets ≡ list → (found : Option ℕ)
+    → found ≡ socket_of guest only sockets → association_socket guest list ≡ found
+port_is guest sockets all list same found is = ap (association_socket guest) (sym same) ∙ sym (socket_is guest sockets all) ∙ sym is
 
-pub row_set_other : (rows : List Association) (p n : ℕ) (b d : Association) → p < length rows → (get_or rows p d).number ≡ b.number → (b.number ≡ n → ⊥) → row n (set rows p b) ≡ row n rows
-row_set_other [] p n b d few is other = absurd (omega (arith, few))
-row_set_other (a ∷ rows) zero n b d few is other =
-    ap (λ t. cond t b (row n rows)) (is_other b.number n other) ∙ sym (ap (λ t. cond t a (row n rows)) (is_other a.number n (λ it. other (sym is ∙ it))))
-row_set_other (a ∷ rows) (suc p) n b d few is other = ap (λ r. cond (is_numbered n a) a r) (row_set_other rows p n b d (omega (arith, few)) is other)
+-- room was made
+pub left : (sockets new : List IdleSocket) (list : List Association) → associations sockets ≡ list → new ≡ with_room_of number_of sockets → associations new ≡ with_room list
+left sockets new list same is = ap associations is ∙ room_mapped as_association number_of (λ (a : Association). a.number) (λ s. refl) sockets ∙ ap with_room same
 
-pub since_set : (since now : ℕ) (rows : List Association) (p : ℕ) (b : Association) → AreSince since rows → b.used ≡ now → AreSince (min since now) (set rows p b)
-since_set since now [] p b are is = tt
-since_set since now (a ∷ rows) zero b are is = (omega (arith, is), since_less since (min since now) rows are.1 (omega arith))
-  where
-    since_less : (s t : ℕ) (rows : List Association) → AreSince s rows → t ≤ s → AreSince t rows
-    since_less s t [] are le = tt
-    since_less s t (a ∷ rows) are le = (omega (arith, are.0, le), since_less s t rows are.1 le)
-since_set since now (a ∷ rows) (suc p) b are is = (omega (arith, are.0), since_set since now rows p b are.1 is)
+pub calls_are : (sockets : List IdleSocket) (list : List Association) → associations sockets ≡ list → calls_for_room_of number_of sockets ≡ calls_for_room list
+calls_are sockets list same = calls_mapped as_association number_of (λ (a : Association). a.number) (λ s. refl) sockets ∙ ap calls_for_room same
 
--- a row more
-pub row_more_other : (rows : List Association) (a : Association) (n : ℕ) → (a.number ≡ n → ⊥) → row n (rows ++ (a ∷ [])) ≡ row n rows
-row_more_other [] a n other = ap (λ b. cond b a (row n [])) (is_other a.number n other)
-row_more_other (x ∷ rows) a n other = ap (λ r. cond (is_numbered n x) x r) (row_more_other rows a n other)
-
-pub row_more : (rows : List Association) (a : Association) → times a.number (numbers rows) ≡ 0 → row a.number (rows ++ (a ∷ [])) ≡ a
-row_more [] a none = ap (λ b. cond b a (row a.number [])) (same a.number)
-row_more (x ∷ rows) a none = by (x.number == a.number) none (λ rest. row_more rows a rest)
-  where
-    by : (b : Bool) → one b + times a.number (numbers rows) ≡ 0 → (times a.number (numbers rows) ≡ 0 → row a.number (rows ++ (a ∷ [])) ≡ a) → cond b x (row a.number (rows ++ (a ∷ []))) ≡ a
-    by true far more = absurd (omega (arith, far))
-    by false far more = more (omega (arith, far))
-
-pub since_more : (since : ℕ) (rows : List Association) (a : Association) → AreSince since rows → AreSince (min since a.used) (rows ++ (a ∷ []))
-since_more since [] a are = (omega arith, tt)
-since_more since (x ∷ rows) a are = (omega (arith, are.0), since_more since rows a are.1)
-
--- a row less
-pub numbers_removed : (rows : List Association) (p : ℕ) → p < length rows → numbers (remove rows p) ≡ remove (numbers rows) p
-numbers_removed [] p few = absurd (omega (arith, few))
-numbers_removed (a ∷ rows) zero few = refl
-numbers_removed (a ∷ rows) (suc p) few = ap (λ l. a.number ∷ l) (numbers_removed rows p (omega (arith, few)))
-
-pub row_removed : (rows : List Association) (p n : ℕ) → p < length rows → (get_or (numbers rows) p 0 ≡ n → ⊥) → row n (remove rows p) ≡ row n rows
-row_removed [] p n few other = absurd (omega (arith, few))
-row_removed (a ∷ rows) zero n few other = sym (ap (λ b. cond b a (row n rows)) (is_other a.number n other))
-row_removed (a ∷ rows) (suc p) n few other = ap (λ r. cond (is_numbered n a) a r) (row_removed rows p n (omega (arith, few)) other)
-
-pub since_removed : (since : ℕ) (rows : List Association) (p : ℕ) → p < length rows → AreSince since rows → AreSince since (remove rows p)
-since_removed since [] p few are = absurd (omega (arith, few))
-since_removed since (a ∷ rows) zero few are = are.1
-since_removed since (a ∷ rows) (suc p) few are = (are.0, since_removed since rows p (omega (arith, few)) are.1)
-
--- rows that are the same where they are asked for
-pub same_order : (rows new : List Association) (order : List ℕ) → ((n : ℕ) → 0 < times n order → row n new ≡ row n rows) → in_order new order ≡ in_order rows order
-same_order rows new [] same_rows = refl
-same_order rows new (n ∷ order) same_rows =
-    let here = ap one (same n) in
-    ap (λ a. a ∷ in_order new order) (same_rows n (omega (arith, here))) ∙ ap (λ l. row n rows ∷ l) (same_order rows new order (λ m some. same_rows m (omega (arith, some))))
-
-pub in_order-append : (rows : List Association) (order : List ℕ) (n : ℕ) → in_order rows (order ++ (n ∷ [])) ≡ in_order rows order ++ (row n rows ∷ [])
-in_order-append rows [] n = refl
-in_order-append rows (m ∷ order) n = ap (λ l. row m rows ∷ l) (in_order-append rows order n)
-
-pub without_in_order : (x : ℕ) (rows : List Association) (order : List ℕ) → without x (in_order rows order) ≡ in_order rows (gone x order)
-without_in_order x rows [] = refl
-without_in_order x rows (m ∷ order) =
-    ap (λ k. cond (not (k == x)) (row m rows ∷ without x (in_order rows order)) (without x (in_order rows order))) (row_number m rows) ∙ by (m == x) (without_in_order x rows order)
-  where
-    by : (b : Bool) → without x (in_order rows order) ≡ in_order rows (gone x order)
-        → cond (not b) (row m rows ∷ without x (in_order rows order)) (without x (in_order rows order)) ≡ in_order rows (cond (not b) (m ∷ gone x order) (gone x order))
-    by true rest = rest
-    by false rest = ap (λ l. row m rows ∷ l) rest
-
-pub moved_in_order : (change : Association → Association) (x : ℕ) (rows : List Association) (order : List ℕ) → times x order ≡ 1
-    → moved_last change x (in_order rows order) ≡ in_order rows (gone x order) ++ (change (row x rows) ∷ [])
-moved_in_order change x rows [] some = cc
-moved_in_order change x rows (m ∷ order) some =
-    ap (λ k. cond (k == x) (in_order rows order ++ (change (row m rows) ∷ [])) (row m rows ∷ moved_last change x (in_order rows order))) (row_number m rows)
-    ∙ by (m == x) refl some (λ rest. moved_in_order change x rows order rest)
-  where
-    by : (b : Bool) → (m == x) ≡ b → one b + times x order ≡ 1 → (times x order ≡ 1 → moved_last change x (in_order rows order) ≡ in_order rows (gone x order) ++ (change (row x rows) ∷ []))
-        → cond b (in_order rows order ++ (change (row m rows) ∷ [])) (row m rows ∷ moved_last change x (in_order rows order)) ≡ in_order rows
-        (cond (not b) (m ∷ gone x order) (gone x order)) ++ (change (row x rows) ∷ [])
-    by true is one_of more =
-        ap (λ k. in_order rows order ++ (change (row k rows) ∷ [])) (equal m x is)
-        ∙ ap (λ l. in_order rows l ++ (change (row x rows) ∷ [])) (sym (gone_none x order (omega (arith, one_of))))
-    by false is one_of more = ap (λ l. row m rows ∷ l) (more (omega (arith, one_of)))
-
-pub unmoved : (change : Association → Association) (x : ℕ) (rows : List Association) (order : List ℕ) → times x order ≡ 0 → moved_last change x (in_order rows order) ≡ in_order rows order
-unmoved change x rows [] none = refl
-unmoved change x rows (m ∷ order) none =
-    ap (λ k. cond (k == x) (in_order rows order ++ (change (row m rows) ∷ [])) (row m rows ∷ moved_last change x (in_order rows order))) (row_number m rows)
-    ∙ by (m == x) none (λ rest. unmoved change x rows order rest)
-  where
-    by : (b : Bool) → one b + times x order ≡ 0 → (times x order ≡ 0 → moved_last change x (in_order rows order) ≡ in_order rows order)
-        → cond b (in_order rows order ++ (change (row m rows) ∷ [])) (row m rows ∷ moved_last change x (in_order rows order)) ≡ in_order rows (m ∷ order)
-    by true far more = absurd (omega (arith, far))
-    by false far more = ap (λ l. row m rows ∷ l) (more (omega (arith, far)))
-
--- what is so of each row is so of each of the list
-row_all : (P : Association → Type 0) (n : ℕ) (rows : List Association) → 0 < times n (numbers rows) → All P rows → P (row n rows)
-row_all P n [] some all = absurd (omega (arith, some))
-row_all P n (a ∷ rows) some all = by (a.number == n) some (λ rest. row_all P n rows rest (All-tail P a rows all))
-  where
-    by : (b : Bool) → 0 < one b + times n (numbers rows) → (0 < times n (numbers rows) → P (row n rows)) → P (cond b a (row n rows))
-    by true here more = All-head P a rows all
-    by false here more = more (omega (arith, here))
-
-pub all_in_order : (P : Association → Type 0) (rows : List Association) (order : List ℕ) → ((n : ℕ) → 0 < times n order → 0 < times n (numbers rows)) → All P rows → All P (in_order rows order)
-all_in_order P rows [] among all = All-nil P
-all_in_order P rows (n ∷ order) among all =
-    let here = ap one (same n) in
-    All-cons P (row n rows) (in_order rows order) (row_all P n rows (among n (omega (arith, here))) all)
-    (all_in_order P rows order (λ m some. among m (omega (arith, some))) all)
-
--- and one that passes a test is in the list
-row_passes : (test : Association → Bool) (x : ℕ) (rows : List Association) → times x (numbers rows) ≤ 1 → list_any (λ a. is_numbered x a && test a) rows ≡ true
-    → (0 < times x (numbers rows)) × (test (row x rows) ≡ true)
-row_passes test x [] few is = cc
-row_passes test x (a ∷ rows) few is = by (a.number == x) (test a) refl few is (λ rest some. row_passes test x rows rest some)
-  where
-    nowhere_else : (rows : List Association) → times x (numbers rows) ≡ 0 → list_any (λ a. is_numbered x a && test a) rows ≡ false
-    nowhere_else [] none = refl
-    nowhere_else (y ∷ rows) none = by_one (y.number == x) none (λ rest. nowhere_else rows rest)
-      where
-        by_one : (b : Bool) → one b + times x (numbers rows) ≡ 0 → (times x (numbers rows) ≡ 0 → list_any (λ a. is_numbered x a && test a) rows ≡ false)
-            → ((b && test y) || list_any (λ a. is_numbered x a && test a) rows) ≡ false
-        by_one true far more = absurd (omega (arith, far))
-        by_one false far more = more (omega (arith, far))
-
-    by : (b t : Bool) → test a ≡ t → one b + times x (numbers rows) ≤ 1 → ((b && t) || list_any (λ a. is_numbered x a && test a) rows) ≡ true
-        → (times x (numbers rows) ≤ 1 → list_any (λ a. is_numbered x a && test a) rows ≡ true → (0 < times x (numbers rows)) × (test (row x rows) ≡ true))
-        → (0 < one b + times x (numbers rows)) × (test (cond b a (row x rows)) ≡ true)
-    by true true passes few some more = (omega arith, passes)
-    by true false passes few some more = let none = nowhere_else rows (omega (arith, few)) in cc
-    by false t passes few some more = let later = more (omega (arith, few)) some in (omega (arith, later.0), later.1)
-
-any_in_order : (test : Association → Bool) (x : ℕ) (rows : List Association) (order : List ℕ) → 0 < times x order → test (row x rows) ≡ true → list_any
-    (λ a. is_numbered x a && test a) (in_order rows order) ≡ true
-any_in_order test x rows [] some passes = absurd (omega (arith, some))
-any_in_order test x rows (m ∷ order) some passes =
-    ap (λ k. ((k == x) && test (row m rows)) || list_any (λ a. is_numbered x a && test a) (in_order rows order)) (row_number m rows)
-    ∙ by (m == x) refl some (λ rest. any_in_order test x rows order rest passes)
-  where
-    or_later : (a b : Bool) → b ≡ true → (a || b) ≡ true
-    or_later true b is = refl
-    or_later false b is = is
-
-    by : (b : Bool) → (m == x) ≡ b → 0 < one b + times x order → (0 < times x order → list_any (λ a. is_numbered x a && test a) (in_order rows order) ≡ true)
-        → ((b && test (row m rows)) || list_any (λ a. is_numbered x a && test a) (in_order rows order)) ≡ true
-    by true is here more =
-        ap (λ k. test (row k rows) || list_any (λ a. is_numbered x a && test a) (in_order rows order)) (equal m x is)
-        ∙ ap (λ b. b || list_any (λ a. is_numbered x a && test a) (in_order rows order)) passes
-    by false is here more = or_later (false && test (row m rows)) (list_any (λ a. is_numbered x a && test a) (in_order rows order)) (more (omega (arith, here)))
-
--- the least of the rows is the least of the list
-pub least_in_order : (test : Association → Bool) (rows : List Association) (order : List ℕ) (found : Option ℕ) → ((n : ℕ) → times n order ≡ times n (numbers rows)) → Rise (numbers rows)
-    → IsLeast test rows found → IsLeast test (in_order rows order) found
-least_in_order test rows order None equally rise least = all_in_order (λ a. test a ≡ false) rows order (λ n some. let e = equally n in omega (arith, e, some)) least
-least_in_order test rows order (Some x) equally rise least =
-    let passes = row_passes test x rows (once x (numbers rows) rise) least.0 in
-    let e = equally x in (
-      any_in_order test x rows order (omega (arith, e, passes.0)) passes.1,
-      all_in_order (λ a. test a ≡ true → x ≤ a.number) rows order (λ n some. let f = equally n in omega (arith, f, some)) least.1,
-    )
-
--- none is over where none was used before a moment that isn't
-not_over : (used since now : ℕ) → since ≤ used → now < since + idle_life → nat_le (used + idle_life) now ≡ false
-not_over used since now le early = grind (arith, nat_tests, le, early)
-
-pub none_over : (since now : ℕ) (rows : List Association) → AreSince since rows → now < since + idle_life → All (λ a. is_over now a ≡ false) rows
-none_over since now [] are early = All-nil (λ a. is_over now a ≡ false)
-none_over since now (a ∷ rows) are early = All-cons (λ a. is_over now a ≡ false) a rows (not_over a.used since now are.0 early) (none_over since now rows are.1 early)
-
-abbrev pub nobody : Association
-nobody = row 0 []
-
--- the first in the order of use is the first of the list
-pub first_numbered : (n : ℕ) (rows : List Association) (order : List ℕ) → slice_get order 0 ≡ Some n → numbered n (in_order rows order) ≡ slice_get (in_order rows order) 0
-first_numbered n rows [] is = cc
-first_numbered n rows (m ∷ order) is =
-    let this : m ≡ n = cc in
-    ap (λ b. cond b (Some (row m rows)) (numbered n (in_order rows order))) (is_equal (row m rows).number n (row_number m rows ∙ this))
-
-pub none_without : (x : ℕ) (rows : List Association) (order : List ℕ) → times x order ≡ 0 → without x (in_order rows order) ≡ in_order rows order
-none_without x rows order none = without_in_order x rows order ∙ ap (in_order rows) (gone_none x order none)
+pub room_only : (sockets new : List IdleSocket) → AreOnly sockets → new ≡ with_room_of number_of sockets → AreOnly new
+room_only sockets new all is =
+    subst AreOnly (sym is) (of_room number_of AreOnly sockets all (λ n. all_without number_of (λ (s : IdleSocket). is_only s ≡ true) n sockets all))

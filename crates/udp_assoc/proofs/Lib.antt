@@ -1,13 +1,4 @@
 pub mod Below
-pub mod Changing
 pub mod Keeping
-pub mod Linking
 pub mod Numbering
-pub mod Ordering
-pub mod Passing
-pub mod Porting
-pub mod Spelling
-pub mod Tabling
-pub mod Using
-pub mod Writing
 pub mod Yielding

@@ -2,9 +2,9 @@
 use Rattle.std.proofs.Common.{◌≡◌, ℕ, Bool, cond, true, false, List, [], ◌∷◌, ◌++◌, ap, sym, subst, ◌∙◌}
 use Rattle.std.specs.List.Sorted.{IsPermutation}
 use Rattle.std.proofs.lemmas.List.{map-append}
-use Rattle.std.proofs.lemmas.List.Sorted.{IsPermutation-refl, IsPermutation-append_comm, IsPermutation-append_right, IsPermutation-trans, IsPermutation-sym}
-use Rattle.udp_assoc.specs.Associations.{numbers, moved_last, is_numbered}
-use Rattle.udp_assoc.specs.declared.assocs.Association.{Association}
+use Rattle.std.proofs.lemmas.List.Sorted.{IsPermutation-refl, IsPermutation-append_comm, IsPermutation-append_right}
+use Rattle.udp_rules.specs.Associations.{numbers, moved_last, is_numbered}
+use Rattle.udp_rules.specs.declared.Association.{Association}
 
 -- they are the same, in another order
 pub moved_numbers : (change : Association → Association) → ((a : Association) → (change a).number ≡ a.number) → (number : ℕ) (list : List Association)
@@ -19,11 +19,3 @@ moved_numbers change keeps number (a ∷ list) = by_test (is_numbered number a) 
         → IsPermutation (a.number ∷ numbers list) (numbers (cond b (list ++ (change a ∷ [])) (a ∷ moved_last change number list)))
     by_test true rest = subst (λ l. IsPermutation (a.number ∷ numbers list) l) (sym last) (IsPermutation-append_comm (a.number ∷ []) (numbers list))
     by_test false rest = IsPermutation-append_right (a.number ∷ []) (numbers list) (numbers (moved_last change number list)) rest
-
--- as does the list whose one was changed and put back
-pub used_numbers : (change : Association → Association) → ((a : Association) → (change a).number ≡ a.number) → (number : ℕ) (list new : List Association) (rising : List ℕ)
-    → new ≡ moved_last change number list → IsPermutation (numbers list) rising → IsPermutation (numbers new) rising
-used_numbers change keeps number list new rising is all =
-    subst (λ l. IsPermutation (numbers l) rising) (sym is)
-    (IsPermutation-trans (numbers (moved_last change number list)) (numbers list) rising
-    (IsPermutation-sym (numbers list) (numbers (moved_last change number list)) (moved_numbers change keeps number list)) all)

@@ -1,7 +1,4 @@
-pub mod Udp
-pub mod Associations
-pub mod Rows
+pub mod Kept
 pub mod Relays
 pub mod Sending
-pub mod Links
 pub mod State

@@ -1,18 +1,19 @@
 -- Datagrams on the sockets of associations: the calls on the World, the newest first, the list after them, and the reply.
-use Rattle.std.specs.Prelude.{◌≡◌, ℕ, ◌+◌, ◌≤◌, ◌<◌, Bool, true, false, nat_le, List, [], ◌∷◌, ◌++◌, length, Option, Some, None, if◌then◌else◌}
+use Rattle.std.specs.Prelude.{◌≡◌, ℕ, ◌+◌, ◌≤◌, ◌<◌, Bool, List, [], ◌∷◌, ◌++◌, length, Option, Some, None}
 use Rattle.net_octets.specs.declared.Endpoint.{Endpoint}
 use Rattle.net_octets.specs.declared.Mac.{Mac}
-use Rattle.host_policy.specs.Addresses.{endpoint}
-use Rattle.host_policy.specs.declared.Reply.{Reply}
-use Rattle.host_policy.specs.declared.Reply.TheVariants.{Nothing, Datagram, Unreachable}
-use Rattle.world_face.specs.Journal.{Entry, Close, UdpOpen, UdpSend, UdpRecv, filled_got}
+use Rattle.slirp_settings.specs.Addresses.{endpoint}
+use Rattle.udp_rules.specs.declared.Reply.{Reply}
+use Rattle.udp_rules.specs.declared.Reply.TheVariants.{Nothing, Datagram, Unreachable}
+use Rattle.world_face.specs.Journal.{Entry, UdpOpen, UdpSend, UdpRecv, filled_got}
 use Rattle.world_face.specs.declared.Made.TheVariants.{Done as MadeDone, Failed as MadeFailed}
 use Rattle.world_face.specs.declared.Sent.{Sent}
 use Rattle.world_face.specs.declared.Sent.TheVariants.{Done, NotYet, Failed}
 use Rattle.world_face.specs.declared.Got.{Got}
 use Rattle.world_face.specs.declared.Got.TheVariants.{From, NotYet as GotNotYet, Failed as GotFailed}
-use Rattle.udp_assoc.specs.Associations.{most_associations, numbered, socket_of, without, moved_last, sent_from, heard_at, is_over, IsLeast}
-use Rattle.udp_assoc.specs.declared.assocs.Association.{Association}
+use Rattle.idle_sockets.specs.Closing.{calls_for_room as calls_for_room_of, with_room as with_room_of, ClosesAll, ClosesLeast as ClosesLeastOf}
+use Rattle.udp_rules.specs.Associations.{most_associations, numbered, socket_of, moved_last, sent_from, heard_at, is_over}
+use Rattle.udp_rules.specs.declared.Association.{Association}
 
 -- a datagram of a guest: its endpoint, the hardware address from which it came, where it goes, and its payload
 pub record Outbound : Type 0 where
@@ -41,12 +42,10 @@ SendsOn socket d reply made = (answer : Sent) × (made ≡ UdpSend socket d.to d
 
 -- where as many are open as may be, the longest unused one is closed
 abbrev pub calls_for_room : List Association → List Entry
-calls_for_room [] = []
-calls_for_room (oldest ∷ list) = if nat_le most_associations (length (oldest ∷ list)) then Close oldest.number ∷ [] else []
+calls_for_room list = calls_for_room_of (λ (a : Association). a.number) list
 
 abbrev pub with_room : List Association → List Association
-with_room [] = []
-with_room (oldest ∷ list) = if nat_le most_associations (length (oldest ∷ list)) then without oldest.number (oldest ∷ list) else oldest ∷ list
+with_room list = with_room_of (λ (a : Association). a.number) list
 
 -- a socket is opened at port 0 of this address for a datagram, which is sent on it; or none can be opened
 pub data OpensFor (bind : ℕ) (d : Outbound) (now number : ℕ) (old new : List Association) (reply : Reply) (made : List Entry) : Type 0 where
@@ -93,11 +92,8 @@ FitsRoom (Unreachable code) room = Unit {0}
 
 -- of those that pass a test the one with the least number is closed, or there is none
 abbrev pub ClosesLeast : (Association → Bool) → Bool → List Association → List Association → List Entry → Type 0
-ClosesLeast test true old new made = (n : ℕ) × (made ≡ Close n ∷ []) × IsLeast test old (Some n) × (new ≡ without n old)
-ClosesLeast test false old new made = (made ≡ []) × IsLeast test old None × (new ≡ old)
+ClosesLeast test result old new made = ClosesLeastOf (λ (a : Association). a.number) test result old new made
 
 -- one after the other, of those whose idle life is over the one with the least number is closed
 abbrev pub Ticks : ℕ → List Association → List Association → List Entry → Type 0
-Ticks now old new [] = new ≡ old
-Ticks now old new (Close n ∷ made) = (between : List Association) × Ticks now old between made × IsLeast (is_over now) between (Some n) × (new ≡ without n between)
-Ticks now old new (_ ∷ made) = ⊥
+Ticks now old new made = ClosesAll (λ (a : Association). a.number) (is_over now) old new made

@@ -4,19 +4,23 @@ ghost use Rattle.std.specs.List.Sorted.{IsNonDecreasing};
 ghost use Rattle.std.specs.Option.{option_map};
 ghost use Rattle.world_face.specs.Limits.{most_to_udp};
 ghost use Rattle.world_face.specs.Tells.{Makes};
-ghost use Rattle.udp_assoc.specs.Associations.{idle_life, is_over, most_associations, numbers, socket_of};
+ghost use Rattle.udp_rules.specs.Associations.{idle_life, is_over, most_associations, numbers, socket_of};
 ghost use Rattle.udp_assoc.specs.Relays.{FitsRoom, Receives, SendsOn};
-ghost use Rattle.udp_assoc.specs.Rows.{Rise};
+ghost use Rattle.udp_assoc.specs.Kept.{as_association};
+ghost use Rattle.idle_sockets.specs.Numbers.{Rise};
 ghost use Rattle.udp_assoc.specs.Sending.{outbound_of};
 
-use crate::assocs::{Association, Associations, IDLE_LIFE};
-use host_policy::Reply;
+use idle_sockets::{IdleSocket, IdleSockets};
 use net_octets::{Endpoint, Ip4, Mac};
 use std::marker::Model;
+use udp_rules::{Association, IDLE_LIFE, Reply};
 use world_face::{Got, Made, Sent, World};
 
 /// Why a destination can't be reached: the network can't (RFC 792).
 const NO_NETWORK: u8 = 0;
+
+/// The identifier of a socket that is the only one of its port.
+const ONLY: u16 = 0;
 
 /// A datagram of a guest that goes out.
 #[derive(Clone, Copy, Debug, PartialEq, Eq)]
@@ -39,24 +43,25 @@ pub struct OutboundView<'a> {
 #[derive(Drop)]
 pub struct Assocs {
     bind: Ip4,
-    list: Associations,
+    list: IdleSockets,
 }
 
 impl Model for Assocs {
     ghost use Rattle.udp_assoc.specs.State.{AssocsState};
+    ghost use Rattle.udp_assoc.specs.Kept.{associations, AreOnly};
 
     ghost Value = { AssocsState };
 
-    ghost view = { λ s. record { bind = s.bind.0; list = s.list } };
+    ghost view = { λ s. record { bind = s.bind.0; list = associations s.list } };
+
+    ghost invariant = { λ s. AreOnly s.list };
 }
 
 impl Assocs {
     ghost use Rattle.std.specs.Prelude.{List};
-    ghost use Rattle.udp_assoc.specs.declared.assocs.Association.{Association as AnAssociation};
-    ghost use Rattle.udp_assoc.specs.Relays.{Relays, OpensFor, Hears, Ticks, ClosesLeast, calls_for_room, with_room, with_reply};
-    ghost use Rattle.udp_assoc.specs.Associations.{moved_last, numbered, sent_from};
-    ghost use Rattle.net_octets.specs.declared.Endpoint.{Endpoint as AnEndpoint};
-    ghost use Rattle.std.specs.Prelude.{ℕ, ◌++◌, ◌∷◌, None};
+    ghost use Rattle.udp_assoc.specs.Relays.{Relays, OpensFor, Hears, Ticks, ClosesLeast, with_reply};
+    ghost use Rattle.udp_rules.specs.Associations.{moved_last, sent_from};
+    ghost use Rattle.std.specs.Prelude.{ℕ, None};
 
     /// No socket is open. Sockets will be opened at port 0 of this address of the host, where the system chooses the port; 0.0.0.0 is every address. All room
     /// for associations is in the value itself, so nothing is taken later.
@@ -65,7 +70,7 @@ impl Assocs {
     {
         Assocs {
             bind,
-            list: Associations::new(),
+            list: IdleSockets::new(),
         }
     }
 
@@ -108,27 +113,11 @@ impl Assocs {
             (Relays self.old.bind None (outbound_of datagram.now) now number.old number.new self.old.list self.new.list result) }
         ensures bind { self.new.bind ≡ self.old.bind }
     {
-        match self.list.socket_of(datagram.from) {
+        match self.list.socket_of(datagram.from, ONLY) {
             Some(socket) => self.send_on(world, now, socket, datagram),
             None => {
-                self.make_room(world);
+                self.list.make_room(world);
                 self.open_for(world, now, number, datagram)
-            }
-        }
-    }
-
-    // Where as many sockets are open as may be, the longest unused one gives way.
-    fn make_room<W: World>(&mut self, world: &mut W)
-        ensures calls { Makes (W.tells world.old) (W.tells world.new) (λ made. made ≡ calls_for_room self.old.list) }
-        ensures list { self.new ≡ record self.old { list = with_room self.old.list } }
-        ensures room { length self.new.list < most_associations }
-        ensures fresh { (guest : AnEndpoint) → socket_of guest self.old.list ≡ None → socket_of guest self.new.list ≡ None }
-        ensures above { (bound : ℕ) → All (λ n. n < bound) (numbers self.old.list) → All (λ n. n < bound) (numbers self.new.list) }
-    {
-        if self.list.is_full() {
-            if let Some(oldest) = self.list.oldest() {
-                world.close(oldest.number);
-                self.list.close(oldest.number);
             }
         }
     }
@@ -159,9 +148,10 @@ impl Assocs {
         };
         match world.udp_open(socket, at) {
             Made::Done => {
-                self.list.open(Association {
+                self.list.open(IdleSocket {
                     number: socket,
                     guest: datagram.from,
+                    ident: ONLY,
                     mac: datagram.mac,
                     used: now,
                 });
@@ -263,15 +253,15 @@ impl Assocs {
     pub fn oldest(&self) -> Option<Association>
         ensures { result ≡ slice_get self.now.list 0 }
     {
-        self.list.oldest()
+        let oldest = self.list.oldest()?;
+        Some(as_association(&oldest))
     }
 
     /// The moment at which the idle life of the longest unused association is over, at most 2^64 - 1. None exactly where there is none.
     pub fn next_due(&self) -> Option<u64>
         ensures { result ≡ option_map (λ a. min (2 ^ 64 - 1) (a.used + idle_life)) (slice_get self.now.list 0) }
     {
-        let oldest = self.list.oldest()?;
-        Some(oldest.used.saturating_add(IDLE_LIFE))
+        self.list.next_due(IDLE_LIFE)
     }
 
     /// Closes the sockets whose idle life is over, by rising number.
@@ -280,22 +270,7 @@ impl Assocs {
         ensures none { All (λ a. is_over now a ≡ false) self.new.list }
         ensures bind { self.new.bind ≡ self.old.bind }
     {
-        while self.close_idle(world, now) {}
-    }
-
-    // Closes the socket with the least number of those whose idle life is over, and answers whether there was one.
-    fn close_idle<W: World>(&mut self, world: &mut W, now: u64) -> bool
-        ensures closes { Makes (W.tells world.old) (W.tells world.new) (ClosesLeast (is_over now) result self.old.list self.new.list) }
-        ensures fewer { result ≡ true → length self.new.list < length self.old.list }
-        ensures none { result ≡ false → All (λ a. is_over now a ≡ false) self.new.list }
-        ensures bind { self.new.bind ≡ self.old.bind }
-    {
-        let Some(number) = self.list.idle(now) else {
-            return false;
-        };
-        world.close(number);
-        self.list.close(number);
-        true
+        self.list.close_idle(world, now, IDLE_LIFE);
     }
 
     /// Closes the socket with the least number, and answers whether there was one.
@@ -304,12 +279,19 @@ impl Assocs {
         ensures fewer { result ≡ true → length self.new.list < length self.old.list }
         ensures bind { self.new.bind ≡ self.old.bind }
     {
-        let Some(number) = self.list.least() else {
-            return false;
-        };
-        world.close(number);
-        self.list.close(number);
-        true
+        self.list.close_first(world)
+    }
+}
+
+// A socket as the association that it is.
+fn as_association(socket: &IdleSocket) -> Association
+    ensures { result ≡ as_association socket.now }
+{
+    Association {
+        number: socket.number,
+        guest: socket.guest,
+        mac: socket.mac,
+        used: socket.used,
     }
 }
 

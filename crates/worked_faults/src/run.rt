@@ -2,8 +2,8 @@ ghost use Rattle.std.specs.Prelude.{◌≤◌, IfOk};
 ghost use Rattle.serve_loop.specs.Served.{IsNew};
 
 use drive_world::{DriveWorld, FaultWorld, How, Kind};
-use host_policy::SlirpConfig;
 use serve_loop::{End, Service};
+use slirp_settings::SlirpConfig;
 use std::alloc::{AllocError, Global};
 use world_face::{VecSink, World};
 

@@ -1,9 +1,10 @@
 use crate::cases::Case;
 use arrayvec::ArrayVec;
 use dhcp_server::Leases;
-use host_policy::{Reply, SlirpConfig};
 use net_octets::{Endpoint, Ip4, Mac};
+use slirp_settings::SlirpConfig;
 use std::alloc::{AllocError, Global};
+use udp_rules::Reply;
 
 /// Room for a reply, in octets.
 const ROOM: usize = 1024;

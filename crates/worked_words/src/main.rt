@@ -2,9 +2,9 @@
 //! mean is printed, with all settings that an option or a RULE can name; a drill has none. A line that begins with `#` is a remark, an empty one nothing.
 #![tactic(auto)]
 
-use host_policy::{Denial, Forward, GuestFwd, Proto, SlirpConfig};
+use command_words::{Command, Stop, Tap, WordFault, read_words};
 use net_octets::{Endpoint, Ip4};
-use slirp_config::{Command, Stop, Tap, WordFault, read_words};
+use slirp_settings::{Denial, Forward, GuestFwd, Proto, SlirpConfig};
 use std::alloc::{AllocError, Global};
 use std::{env, fs, io};
 use world_face::LinkAt;

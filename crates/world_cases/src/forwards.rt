@@ -1,9 +1,11 @@
 //! Ports of the host are given to a guest until there is no room for more, and taken back.
 ghost use Rattle.std.specs.Prelude.{◌≢◌, ◌≤◌};
 
-use host_policy::{Policy, Proto, SlirpConfig};
-use port_forward::{Forward, Forwards, FwdFault};
+use forward_rules::FwdFault;
+use host_policy::Policy;
+use port_forward::{Forward, Forwards};
 use replay::ScriptWorld;
+use slirp_settings::{Proto, SlirpConfig};
 use std::alloc::Global;
 use std::test::Fail;
 use world_face::{Endpoint, Ip4};

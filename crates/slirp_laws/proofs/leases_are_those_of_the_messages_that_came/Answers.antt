@@ -1,6 +1,6 @@
 use Rattle.std.proofs.Common.{ap}
-use Rattle.dhcp_server.specs.Messages.{read_message}
-use Rattle.dhcp_server.specs.Serving.{served}
+use Rattle.dhcp_rules.specs.Messages.{read_message}
+use Rattle.dhcp_rules.specs.Serving.{served}
 use Rattle.slirp_laws.proofs.Histories.{in_order, of_messages}
 use Rattle.slirp_laws.proofs.leases_are_those_of_the_messages_that_came.Goals as goal
 

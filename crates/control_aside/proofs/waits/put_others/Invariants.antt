@@ -1,5 +1,5 @@
 use Rattle.std.proofs.Common.{◌≡◌, ◌≤◌, take, length}
-use Rattle.control_session.specs.Apart.{others}
+use Rattle.control_rules.specs.Apart.{others}
 use Rattle.control_aside.proofs.waits.put_others.Given as goal
 
 abbrev pub invariant-loop-item : goal.invariant-loop-item

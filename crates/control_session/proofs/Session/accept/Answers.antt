@@ -1,7 +1,7 @@
 use Rattle.std.proofs.Common.{subst}
 use Rattle.world_face.specs.Journal.{Accept}
 use Rattle.world_face.specs.Tells.{Answers}
-use Rattle.control_session.specs.Talk.{Talk, listener, next_peer}
+use Rattle.control_rules.specs.Talk.{Talk, listener, next_peer}
 use Rattle.control_session.proofs.Session.accept.Goals as goal
 
 pub returns : goal.returns

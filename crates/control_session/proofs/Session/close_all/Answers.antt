@@ -1,6 +1,6 @@
 use Rattle.std.proofs.Common.{◌≡◌, ◌++◌, ◌∙◌, ap}
 use Rattle.world_face.proofs.Telling.{makes_then}
-use Rattle.control_session.specs.Talk.{Talk, all_closed, closed_if, listener, peer_closed}
+use Rattle.control_rules.specs.Talk.{Talk, all_closed, closed_if, listener, peer_closed}
 use Rattle.control_session.proofs.Session.close_all.Goals as goal
 
 pub returns-clause-calls : goal.returns-clause-calls

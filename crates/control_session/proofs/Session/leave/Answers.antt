@@ -1,7 +1,7 @@
 use Rattle.std.proofs.Common.{◌≡◌, Some, sym, ◌∙◌, ap}
 use Rattle.world_face.specs.Journal.{Close}
 use Rattle.world_face.proofs.Telling.{makes_one}
-use Rattle.control_session.specs.Talk.{Talk, peer_closed}
+use Rattle.control_rules.specs.Talk.{Talk, peer_closed}
 use Rattle.control_session.proofs.Session.leave.Goals as goal
 
 pub returns-in-Some-clause-calls : goal.returns-in-Some-clause-calls

@@ -1,7 +1,7 @@
 use Rattle.std.proofs.Common.{◌≡◌, true, sym, ◌∙◌, ap}
 use Rattle.world_face.specs.Journal.{Close}
 use Rattle.world_face.proofs.Telling.{makes_one}
-use Rattle.control_session.specs.Talk.{Talk, closed_if, listener}
+use Rattle.control_rules.specs.Talk.{Talk, closed_if, listener}
 use Rattle.control_session.proofs.Session.stop_listening.Goals as goal
 
 pub returns-then-self-clause-calls : goal.returns-then-self-clause-calls

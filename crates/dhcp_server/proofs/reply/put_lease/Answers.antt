@@ -1,7 +1,7 @@
 -- One behind the other.
-use Rattle.host_policy.specs.Settings.{settings}
-use Rattle.dhcp_server.specs.Messages.{form}
-use Rattle.dhcp_server.specs.Replies.{lease_option, network_options}
+use Rattle.slirp_settings.specs.Settings.{settings}
+use Rattle.dhcp_rules.specs.Messages.{form}
+use Rattle.dhcp_rules.specs.Replies.{lease_option, network_options}
 use Rattle.dhcp_server.proofs.Adding.{then_options}
 use Rattle.dhcp_server.proofs.reply.put_lease.Goals as goal
 

@@ -1,9 +1,9 @@
 -- The options one after another.
 use Rattle.std.proofs.Common.{ℕ, List, [], ◌∷◌, ◌++◌}
 use Rattle.net_octets.specs.Octets.{four}
-use Rattle.host_policy.specs.Settings.{settings}
-use Rattle.dhcp_server.specs.Messages.{form}
-use Rattle.dhcp_server.specs.Replies.{router, name_server, text_option}
+use Rattle.slirp_settings.specs.Settings.{settings}
+use Rattle.dhcp_rules.specs.Messages.{form}
+use Rattle.dhcp_rules.specs.Replies.{router, name_server, text_option}
 use Rattle.dhcp_server.proofs.Adding.{then_options}
 use Rattle.dhcp_server.proofs.reply.put_network.Goals as goal
 

@@ -20,6 +20,6 @@ returns-clause-written c =
     let ours = our_mac route.vhost.0 in
     let kind = two ipv4_kind in
     let long : length ether ≡ 14 = omega (arith, length-append (route.mac.0 ++ ours ++ kind) [], length-append (route.mac.0 ++ ours) kind, length-append route.mac.0 ours, six) in
-    let first = written ether ip into _ _ 14 20 34 c.put_ether.ensures.written (c.copy_from_slice.ensures.after ∙ c.summed_header.ensures) long refl in
+    let first = written ether ip into _ _ 14 20 34 c.put_ether.ensures.written (c.copy_from_slice.ensures.after ∙ c.ip_header.ensures) long refl in
     written (ether ++ ip) (tcp_octets route.other.addr.0 route.guest.addr.0 tcp) into _ _ 34 (34 + size - 34) (34 + size) first c.write_segment.ensures
     (length-append ether ip ∙ ap (λ (n : ℕ). n + 20) long) (omega arith)

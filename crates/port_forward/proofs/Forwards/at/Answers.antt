@@ -1,8 +1,8 @@
 use Rattle.std.proofs.Common.{List, Some, slice_get, option_map, sym, ◌∙◌, ap}
 use Rattle.std.proofs.lemmas.Option.{slice_get-map}
-use Rattle.host_policy.specs.declared.Forward.{Forward}
+use Rattle.slirp_settings.specs.declared.Forward.{Forward}
 use Rattle.port_forward.specs.Entries.{opened_of}
-use Rattle.port_forward.specs.Opened.{Opened}
+use Rattle.forward_rules.specs.Opened.{Opened}
 use Rattle.port_forward.proofs.Forwards.at.Goals as goal
 
 pub returns : goal.returns

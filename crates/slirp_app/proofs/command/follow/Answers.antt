@@ -1,10 +1,10 @@
 use Rattle.std.proofs.Common.{ℕ, List, refl, sym, subst}
-use Rattle.host_policy.specs.Settings.{settings}
+use Rattle.slirp_settings.specs.Settings.{settings}
 use Rattle.world_face.specs.Journal.{Follows}
 use Rattle.world_face.specs.Tells.{Makes}
 use Rattle.world_face.proofs.Telling.{makes_none}
-use Rattle.slirp_config.specs.Meaning.{said}
-use Rattle.slirp_config.specs.declared.Command.{Command}
+use Rattle.command_words.specs.Meaning.{said}
+use Rattle.command_words.specs.declared.Command.{Command}
 use Rattle.slirp_app.specs.Causes.{Caused}
 use Rattle.slirp_app.specs.Doing.{Does}
 use Rattle.app_edges.specs.Fetching.{MayFetch}

@@ -1,9 +1,9 @@
 use Rattle.std.proofs.Common.{map, refl, sym, ap, subst, Result, IfOk}
 use Rattle.std.specs.String.{string_bytes}
 use Rattle.world_face.proofs.Telling.{makes_none}
-use Rattle.slirp_config.specs.Meaning.{HasPlace, Meaning, Means, broken_in, config_of, said}
-use Rattle.slirp_config.specs.declared.Command.{Command}
-use Rattle.slirp_config.specs.declared.WordFault.{WordFault}
+use Rattle.command_words.specs.Meaning.{HasPlace, Meaning, Means, broken_in, config_of, said}
+use Rattle.command_words.specs.declared.Command.{Command}
+use Rattle.command_words.specs.declared.WordFault.{WordFault}
 use Rattle.slirp_app.specs.Doing.{Course, Meant}
 use Rattle.app_edges.specs.declared.status.Outcome.{Outcome}
 use Rattle.slirp_app.proofs.Courses.{answered_by_none, can_be_done, none_broken, one_meaning, refused_course}

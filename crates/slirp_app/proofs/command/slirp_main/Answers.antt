@@ -1,8 +1,9 @@
-use Rattle.std.proofs.Common.{◌≡◌, ◌↔◌, ◌⊎◌, ℕ, IsTrue, List, Option, Result, map, refl, sym, ◌∙◌, ap, subst}
+use Rattle.std.proofs.Common.{◌≡◌, ◌↔◌, ◌⊎◌, ℕ, IsTrue, List, Option, None, Result, map, option_map, refl, sym, ◌∙◌, ap, subst}
 use Rattle.std.specs.String.{string_bytes}
-use Rattle.host_policy.specs.declared.Forward.{Forward}
-use Rattle.slirp_config.specs.Meaning.{Drives, Helps, Meaning, Means, Replays, Serves, TellsVersion}
-use Rattle.slirp_config.specs.Options.{Word}
+use Rattle.slirp_settings.specs.declared.Forward.{Forward}
+use Rattle.command_words.specs.Meaning.{Drives, Helps, Meaning, Means, Replays, Serves, TellsVersion, broken_in}
+use Rattle.command_words.specs.declared.Setting.TheVariants.{Of}
+use Rattle.command_words.specs.Options.{Word}
 use Rattle.slirp_app.specs.Doing.{DrivesRun, ReplaysFile, TellsText}
 use Rattle.world_face.specs.Puts.{Puts, added}
 use Rattle.world_face.specs.Tells.{Rose}
@@ -53,7 +54,8 @@ pub returns-clause-untouched : goal.returns-clause-untouched
 returns-clause-untouched g c is = courses.untouched _ _ _ _ _ _ c.run_words-outcome.ensures.course (subst (λ n. (n ≡ 1) ⊎ (n ≡ 2)) c.code.ensures is)
 
 pub returns-clause-replays : goal.returns-clause-replays
-returns-clause-replays g c file config means sound =
+returns-clause-replays g c file config means in_range =
+    let sound : broken_in (Replays file config) ≡ None = ap (option_map Of) in_range in
     let words = map string_bytes c.args.words.now.items in
     let outcome = c.run_words-outcome.result.0 in
     let new = c.run_words-outcome.new in
@@ -66,7 +68,8 @@ returns-clause-replays g c file config means sound =
     (told words _ config.forwards _ _ _ _ _ outcome c.tell-told.result (ap (map string_bytes) c.as_slice.ensures.value) led c.tell-told.ensures.text))
 
 pub returns-clause-serves : goal.returns-clause-serves
-returns-clause-serves g c config at tap means sound =
+returns-clause-serves g c config at tap means in_range =
+    let sound : broken_in (Serves config at tap) ≡ None = ap (option_map Of) in_range in
     let words = map string_bytes c.args.words.now.items in
     let outcome = c.run_words-outcome.result.0 in
     let led = c.forwards_of.ensures ∙ c.run_words-outcome.ensures.forwards (Serves config at tap) means sound in

@@ -1,5 +1,5 @@
 use Rattle.std.proofs.Common.{◌≡◌, ◌⊎◌, inl, inr, ℕ, IsTrue, refl, sym, subst, true, false, ◌∙◌}
-use Rattle.host_policy.specs.Settings.{settings}
+use Rattle.slirp_settings.specs.Settings.{settings}
 use Rattle.replay.specs.Rows.{TakesTooMuch}
 use Rattle.replay.specs.Unread.{IsFirstUnread}
 use Rattle.app_edges.specs.Fetching.{is_read}

@@ -2,8 +2,8 @@ use Rattle.std.proofs.Common.{◌≡◌, ◌++◌, ◌∙◌, ap, subst}
 use Rattle.std.specs.Result.{is_ok, is_err}
 use Rattle.world_face.specs.Puts.{added}
 use Rattle.world_face.specs.Tells.{Makes}
-use Rattle.host_policy.specs.Addresses.{Config}
-use Rattle.host_policy.specs.Settings.{settings}
+use Rattle.slirp_settings.specs.Addresses.{Config}
+use Rattle.slirp_settings.specs.Settings.{settings}
 use Rattle.replay.specs.Script.{script_tells}
 use Rattle.replay.specs.Text.{text}
 use Rattle.app_edges.specs.Texts.{end_line}

@@ -1,8 +1,8 @@
 use Rattle.std.proofs.Common.{subst, sym}
-use Rattle.host_policy.specs.Settings.{settings}
+use Rattle.slirp_settings.specs.Settings.{settings}
 use Rattle.world_face.specs.Journal.{place_of}
 use Rattle.world_face.specs.Tells.{Makes}
-use Rattle.slirp_config.specs.declared.Tap.{Tap}
+use Rattle.command_words.specs.declared.Tap.{Tap}
 use Rattle.slirp_app.specs.Serving.{ServesAt}
 use Rattle.slirp_app.proofs.Courses.{opens_code}
 use Rattle.slirp_app.proofs.Served.{served, served_plain}

@@ -1,6 +1,6 @@
 use Rattle.std.proofs.Common.{arith}
 use Rattle.ipv4_head.specs.Ip.{ip_of}
-use Rattle.udp_assoc.specs.Udp.{udp_of}
+use Rattle.udp_datagram.specs.Udp.{udp_of}
 use Rattle.slirp_core.proofs.Datagramming.{none_of_others, payload_fits}
 use Rattle.slirp_core.proofs.datagrams.datagram_in.Goals as goal
 

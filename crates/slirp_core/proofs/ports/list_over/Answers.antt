@@ -1,6 +1,6 @@
 use Rattle.std.proofs.Common.{◌++◌, ◌∷◌, [], Bool, List, length, take, sym, ◌∙◌, ap, arith, if◌then◌else◌}
 use Rattle.std.proofs.lemmas.List.{append-nil}
-use Rattle.port_forward.specs.Opened.{Opened}
+use Rattle.forward_rules.specs.Opened.{Opened}
 use Rattle.slirp_core.specs.Forwards.{sockets_over}
 use Rattle.slirp_core.proofs.Forwarding.{all_taken, at_ok, few_taken, none_further, over_taken}
 use Rattle.slirp_core.proofs.ports.list_over.Goals.{in-Some+then-is_over, in-Some+else-is_over, in_default}

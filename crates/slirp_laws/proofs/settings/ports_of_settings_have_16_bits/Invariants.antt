@@ -1,6 +1,6 @@
 use Rattle.std.proofs.Common.{◌<◌, ◌^◌, take}
 use Rattle.std.specs.Prelude.{All}
-use Rattle.host_policy.specs.declared.Forward.{Forward}
+use Rattle.slirp_settings.specs.declared.Forward.{Forward}
 use Rattle.slirp_laws.proofs.settings.ports_of_settings_have_16_bits.Given as goal
 
 -- the ports so far

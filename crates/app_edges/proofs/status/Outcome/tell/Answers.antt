@@ -1,5 +1,5 @@
 use Rattle.std.proofs.Common.{◌≡◌, ◌⊎◌, inl, inr, ℕ, List, [], ◌∷◌, ◌++◌, sym, ◌∙◌, ap, append_assoc, codes, decimal, map, string_bytes}
-use Rattle.host_policy.specs.declared.Forward.{Forward}
+use Rattle.slirp_settings.specs.declared.Forward.{Forward}
 use Rattle.replay.proofs.Putting.{puts_same}
 use Rattle.app_edges.specs.Texts.{told_text}
 use Rattle.app_edges.specs.declared.status.Outcome.{Outcome}

@@ -2,7 +2,7 @@ use Rattle.std.proofs.Common.{◌∷◌, refl, sym, ◌∙◌, ap, subst}
 use Rattle.poll_list.specs.Listing.{AreWants}
 use Rattle.poll_list.specs.Picks.{as_list}
 use Rattle.world_face.specs.Journal.{Allowed, Wait}
-use Rattle.control_session.specs.Apart.{reported_of}
+use Rattle.control_rules.specs.Apart.{reported_of}
 use Rattle.control_aside.proofs.Passing.{wait_told, waited_on}
 use Rattle.control_aside.proofs.Putting.{are_wanted, wait_seen}
 use Rattle.control_aside.proofs.aside.AsideWorld.wait.Goals as goal

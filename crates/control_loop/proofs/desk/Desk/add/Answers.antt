@@ -1,6 +1,6 @@
 use Rattle.std.proofs.Common.{◌++◌, [], None, Some, refl, sym, subst, arith, codes}
 use Rattle.world_face.proofs.Telling.{makes_as}
-use Rattle.control_session.specs.Talk.{listener, with_left}
+use Rattle.control_rules.specs.Talk.{listener, with_left}
 use Rattle.control_laws.specs.Replies.{fault_text, reply_line}
 use Rattle.control_loop.specs.Standing.{Stands}
 use Rattle.control_loop.specs.declared.desk.Desk.{Desk}

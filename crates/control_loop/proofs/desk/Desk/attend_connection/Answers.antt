@@ -1,8 +1,8 @@
 use Rattle.std.proofs.Common.{[], ◌++◌, refl, sym, ◌∙◌, ap, subst}
 use Rattle.world_face.proofs.Telling.{makes_as}
-use Rattle.host_policy.specs.Addresses.{Config}
+use Rattle.slirp_settings.specs.Addresses.{Config}
 use Rattle.world_face.specs.Tells.{Makes}
-use Rattle.control_session.specs.Talk.{after_read, after_write, fails, is_last}
+use Rattle.control_rules.specs.Talk.{after_read, after_write, fails, is_last}
 use Rattle.control_loop.specs.Standing.{Leads, Owes, Stands}
 use Rattle.control_loop.specs.declared.desk.Desk.{Desk}
 use Rattle.control_loop.proofs.Leading.{leads_still, leads_then}

@@ -1,9 +1,9 @@
 use Rattle.std.proofs.Common.{false, length, ◌∙◌, ap}
 use Rattle.world_face.proofs.Telling.{makes_as}
-use Rattle.host_policy.specs.Addresses.{Config}
+use Rattle.slirp_settings.specs.Addresses.{Config}
 use Rattle.slirp_core.specs.Holds.{Opens, after}
 use Rattle.serve_loop.specs.Turns.{AttendsNow}
-use Rattle.control_session.specs.Talk.{want_of}
+use Rattle.control_rules.specs.Talk.{want_of}
 use Rattle.control_aside.specs.Stretches.{Asided, beginning_with}
 use Rattle.control_loop.proofs.Below.{brought_below}
 use Rattle.control_loop.proofs.Waits.{own_item}

@@ -1,8 +1,8 @@
 use Rattle.std.proofs.Common.{◌≡◌, ℕ, ◌<◌, false, Option, Some, None, refl, ◌∙◌, ap}
 use Rattle.std.specs.List.{list_any}
 use Rattle.world_face.proofs.Telling.{makes_as}
-use Rattle.host_policy.specs.Addresses.{Config}
-use Rattle.port_forward.specs.Opened.{socket_at}
+use Rattle.slirp_settings.specs.Addresses.{Config}
+use Rattle.forward_rules.specs.Opened.{socket_at}
 use Rattle.slirp_core.specs.Added.{MayRemove, closed_at}
 use Rattle.slirp_core.specs.Holds.{after}
 use Rattle.serve_loop.specs.Turns.{AttendsNow}

@@ -4,7 +4,7 @@ use Rattle.std.proofs.lemmas.List.{length-append}
 use Rattle.record_flows.specs.Book.{book}
 use Rattle.slirp_core.specs.Holds.{after}
 use Rattle.serve_loop.specs.Turns.{AttendsNow}
-use Rattle.control_session.specs.Talk.{Talk, with_left}
+use Rattle.control_rules.specs.Talk.{Talk, with_left}
 use Rattle.control_laws.specs.Desk.{flows_in_use}
 use Rattle.control_laws.specs.Replies.{flow_lines, reply_line}
 use Rattle.control_loop.specs.Standing.{Says}

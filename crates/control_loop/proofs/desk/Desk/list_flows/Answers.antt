@@ -1,11 +1,11 @@
 use Rattle.std.proofs.Common.{◌≡◌, ℕ, ◌^◌, ◌<◌, false, ◌++◌, length, Option, Some, IfSome, refl, sym, ◌∙◌, ap, subst, arith}
 use Rattle.std.proofs.lemmas.List.{length-append}
-use Rattle.flow_table.specs.declared.Tuple.{Tuple}
+use Rattle.record_flows.specs.declared.Tuple.{Tuple}
 use Rattle.record_flows.specs.Book.{book}
 use Rattle.slirp_core.specs.Holds.{after}
 use Rattle.slirp_core.specs.NextFlow.{IsNextFlow}
 use Rattle.serve_loop.specs.Turns.{AttendsNow}
-use Rattle.control_session.specs.Talk.{Talk, with_left}
+use Rattle.control_rules.specs.Talk.{Talk, with_left}
 use Rattle.control_laws.specs.Desk.{flows_in_use}
 use Rattle.control_laws.specs.Replies.{flow_lines}
 use Rattle.control_loop.specs.declared.desk.Desk.{Desk}

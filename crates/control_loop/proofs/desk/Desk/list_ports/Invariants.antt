@@ -1,5 +1,5 @@
 use Rattle.std.proofs.Common.{◌≡◌, ◌*◌, ◌<◌, ◌≤◌, length, take}
-use Rattle.control_session.specs.Talk.{with_left}
+use Rattle.control_rules.specs.Talk.{with_left}
 use Rattle.control_laws.specs.Replies.{forward_lines}
 use Rattle.control_loop.proofs.desk.Desk.list_ports.Given as goal
 

@@ -5,14 +5,14 @@ use Rattle.net_octets.specs.declared.Endpoint.{Endpoint}
 use Rattle.world_face.specs.Journal.{Entry}
 use Rattle.world_face.specs.declared.Made.{Made}
 use Rattle.world_face.proofs.Telling.{makes_as}
-use Rattle.host_policy.specs.Addresses.{Config}
-use Rattle.host_policy.specs.declared.Forward.{Forward}
-use Rattle.host_policy.specs.declared.Proto.{Proto}
-use Rattle.host_policy.specs.declared.Proto.TheVariants.{Tcp, Udp}
-use Rattle.port_forward.specs.Adding.{Adds, fault_of, opening_of}
-use Rattle.port_forward.specs.Opened.{Opened}
-use Rattle.port_forward.specs.declared.FwdFault.{FwdFault}
-use Rattle.port_forward.specs.declared.FwdFault.TheVariants.{Taken}
+use Rattle.slirp_settings.specs.Addresses.{Config}
+use Rattle.slirp_settings.specs.declared.Forward.{Forward}
+use Rattle.slirp_settings.specs.declared.Proto.{Proto}
+use Rattle.slirp_settings.specs.declared.Proto.TheVariants.{Tcp, Udp}
+use Rattle.forward_rules.specs.Adding.{Adds, fault_of, opening_of}
+use Rattle.forward_rules.specs.Opened.{Opened}
+use Rattle.forward_rules.specs.declared.FwdFault.{FwdFault}
+use Rattle.forward_rules.specs.declared.FwdFault.TheVariants.{Taken}
 use Rattle.slirp_core.specs.Added.{MayAdd}
 use Rattle.slirp_core.specs.Holds.{after}
 use Rattle.serve_loop.specs.Turns.{AttendsNow}

@@ -1,10 +1,10 @@
 use Rattle.std.proofs.Common.{◌≡◌, ℕ, ◌++◌, true, false, is_some, [], Option, None, Some, refl, sym, subst, arith, codes}
 use Rattle.world_face.proofs.Telling.{makes_as}
-use Rattle.port_forward.specs.Opened.{socket_at}
+use Rattle.forward_rules.specs.Opened.{socket_at}
 use Rattle.run_laws.specs.Sockets.{is_among, open_sockets}
 use Rattle.slirp_laws.proofs.OpenSockets.{open_below}
-use Rattle.control_session.specs.Talk.{listener, with_left}
-use Rattle.control_session.specs.Apart.{is_controls, without_control}
+use Rattle.control_rules.specs.Talk.{listener, with_left}
+use Rattle.control_rules.specs.Apart.{is_controls, without_control}
 use Rattle.control_laws.specs.Replies.{reply_line}
 use Rattle.control_loop.specs.Standing.{Stands, with_lists}
 use Rattle.control_loop.specs.declared.desk.Desk.{Desk}

@@ -4,7 +4,7 @@ use Rattle.world_face.specs.Tells.{Makes}
 use Rattle.world_face.specs.declared.Made.{Made}
 use Rattle.world_face.specs.declared.Made.TheVariants.{Done, Failed}
 use Rattle.world_face.proofs.Telling.{makes_then}
-use Rattle.host_policy.specs.Addresses.{Config}
+use Rattle.slirp_settings.specs.Addresses.{Config}
 use Rattle.stream_netdev.specs.State.{LinkState}
 use Rattle.tcp_flows.specs.Kept.{Kept}
 use Rattle.tcp_flows.specs.Reading.{NoneInSlots}
@@ -18,7 +18,7 @@ use Rattle.serve_loop.specs.Turns.{AttendsNow}
 use Rattle.serve_loop.specs.declared.service.End.TheVariants.{ControlRefused}
 use Rattle.stream_netdev.specs.Keeps.{ReadsOn}
 use Rattle.stream_netdev.specs.State.{under_way}
-use Rattle.control_session.specs.Talk.{after_listen, listener, silent, want_of}
+use Rattle.control_rules.specs.Talk.{after_listen, listener, silent, want_of}
 use Rattle.control_aside.specs.Stretches.{AreSeen}
 use Rattle.control_laws.specs.Desk.{Reads}
 use Rattle.control_laws.specs.Laws.{IsReading}

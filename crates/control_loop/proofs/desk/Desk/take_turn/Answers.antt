@@ -1,9 +1,9 @@
 use Rattle.std.proofs.Common.{ℕ, ◌+◌, ◌<◌, false, refl, ◌∙◌, ap, arith}
 use Rattle.world_face.proofs.Telling.{makes_as}
-use Rattle.host_policy.specs.Addresses.{Config}
+use Rattle.slirp_settings.specs.Addresses.{Config}
 use Rattle.slirp_core.specs.Holds.{after}
 use Rattle.serve_loop.specs.Turns.{AttendsAfterWholeTurn, AttendsNow}
-use Rattle.control_session.specs.Talk.{want_of}
+use Rattle.control_rules.specs.Talk.{want_of}
 use Rattle.control_aside.specs.Stretches.{beginning_with}
 use Rattle.control_loop.proofs.Below.{brought_below}
 use Rattle.control_loop.proofs.Waits.{own_item}

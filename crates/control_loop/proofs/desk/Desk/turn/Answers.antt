@@ -1,14 +1,14 @@
 use Rattle.std.proofs.Common.{◌≡◌, ◌+◌, ◌<◌, List, [], ◌++◌, refl, sym, ◌∙◌, ap, subst, append_assoc, arith}
 use Rattle.world_face.proofs.Telling.{makes_as, makes_then}
 use Rattle.poll_list.specs.declared.Want.{Want}
-use Rattle.host_policy.specs.Addresses.{Config}
+use Rattle.slirp_settings.specs.Addresses.{Config}
 use Rattle.stream_netdev.specs.State.{LinkState, under_way}
 use Rattle.slirp_core.specs.State.{SlirpState}
 use Rattle.serve_loop.specs.Turns.{IsCalm}
-use Rattle.control_session.specs.Talk.{want_of}
+use Rattle.control_rules.specs.Talk.{want_of}
 use Rattle.poll_list.specs.Picks.{as_list}
 use Rattle.stream_netdev.specs.Keeps.{ReadsOn}
-use Rattle.control_session.specs.Apart.{reported_of, without_control}
+use Rattle.control_rules.specs.Apart.{reported_of, without_control}
 use Rattle.control_laws.specs.Desk.{desk}
 use Rattle.control_loop.specs.Standing.{Closes, Leads, Stands, with_lists}
 use Rattle.control_loop.specs.declared.desk.Desk.{Desk}

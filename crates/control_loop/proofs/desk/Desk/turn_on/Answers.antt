@@ -3,11 +3,11 @@ use Rattle.net_octets.specs.declared.Endpoint.{Endpoint}
 use Rattle.net_octets.specs.declared.Ip4.{Ip4}
 use Rattle.world_face.specs.Journal.{Entry}
 use Rattle.world_face.proofs.Telling.{makes_none, makes_then}
-use Rattle.host_policy.specs.Addresses.{Config}
+use Rattle.slirp_settings.specs.Addresses.{Config}
 use Rattle.slirp_core.proofs.Counted.{grown}
 use Rattle.serve_loop.proofs.Counted.{end_after, end_before, grown_then}
 use Rattle.serve_loop.specs.declared.service.End.TheVariants.{TurnsSpent}
-use Rattle.control_session.specs.Talk.{all_closed, want_of}
+use Rattle.control_rules.specs.Talk.{all_closed, want_of}
 use Rattle.control_loop.specs.Runs.{RunsWith}
 use Rattle.control_laws.specs.Desk.{Reads}
 use Rattle.control_laws.specs.Laws.{IsReading}

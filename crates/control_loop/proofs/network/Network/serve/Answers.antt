@@ -1,7 +1,7 @@
 use Rattle.std.proofs.Common.{Option, sym, subst}
 use Rattle.net_octets.specs.declared.Endpoint.{Endpoint}
 use Rattle.world_face.specs.Tells.{Makes}
-use Rattle.host_policy.specs.Addresses.{Config}
+use Rattle.slirp_settings.specs.Addresses.{Config}
 use Rattle.control_loop.specs.Networks.{IsControl}
 use Rattle.control_loop.specs.Runs.{IsRun, RunsTo}
 use Rattle.control_loop.proofs.network.Network.serve.Goals as goal

@@ -1,6 +1,7 @@
 use Rattle.std.proofs.Common.{◌≡◌, ◌+◌, ◌-◌, ◌≤◌, length, take, drop, sym, ◌∙◌, ap, arith}
 use Rattle.std.proofs.lemmas.List.{length-take-le, take-append-le, take-take}
-use Rattle.control_session.proofs.Windows.{front, length_window, window}
+use Rattle.control_session.proofs.Windows.{length_window}
+use Rattle.row_lists.proofs.Windows.{front, window}
 use Rattle.control_session.proofs.line.Line.drop_front.Goals as goal
 
 pub returns : goal.returns

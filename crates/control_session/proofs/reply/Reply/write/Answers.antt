@@ -1,9 +1,10 @@
 use Rattle.std.proofs.Common.{◌≡◌, ◌+◌, ◌-◌, ◌≤◌, length, take, drop, min, subst, ◌∙◌, ap, arith}
 use Rattle.world_face.specs.Journal.{TcpWrite, count_of}
 use Rattle.world_face.specs.Tells.{Answers}
-use Rattle.control_session.specs.Talk.{Pending, most_at_once}
+use Rattle.control_rules.specs.Talk.{Pending, most_at_once}
 use Rattle.control_session.proofs.Talking.{write_most}
-use Rattle.control_session.proofs.Windows.{length_window, taken, window, window_past}
+use Rattle.control_session.proofs.Windows.{length_window, taken}
+use Rattle.row_lists.proofs.Windows.{window, window_past}
 use Rattle.control_session.proofs.reply.Reply.write.Goals as goal
 
 pub returns-clause-left : goal.returns-clause-left

@@ -1,12 +1,12 @@
 -- What the message leaves and how it is answered is the definition's, and no hardware address has two addresses.
 use Rattle.std.proofs.Common.{◌≡◌, ◌≤◌, ◌++◌, List, ℕ, Some, length, drop, sym, ap, ◌∙◌, subst, arith}
-use Rattle.host_policy.specs.Settings.{settings}
-use Rattle.dhcp_server.specs.declared.serving.Outcome.{Outcome}
-use Rattle.dhcp_server.specs.Leases.{IsOneToOne}
+use Rattle.slirp_settings.specs.Settings.{settings}
+use Rattle.dhcp_rules.specs.declared.Outcome.{Outcome}
+use Rattle.dhcp_rules.specs.Leases.{IsOneToOne}
 use Rattle.dhcp_server.specs.Lending.{Lending}
-use Rattle.dhcp_server.specs.Messages.{read_message}
-use Rattle.dhcp_server.specs.Replies.{reply_of, octets_of_reply, reply_to, replied_octets}
-use Rattle.dhcp_server.proofs.Owning.{IsGood, good_outcome}
+use Rattle.dhcp_rules.specs.Messages.{read_message}
+use Rattle.dhcp_rules.specs.Replies.{reply_of, octets_of_reply, reply_to, replied_octets}
+use Rattle.dhcp_rules.proofs.Owning.{IsGood, good_outcome}
 use Rattle.dhcp_server.proofs.leases.Leases.message.Goals as goal
 
 pub write_reply-requires-clause-place : goal.write_reply-requires-clause-place

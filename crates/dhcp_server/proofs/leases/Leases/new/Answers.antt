@@ -3,10 +3,10 @@ use Rattle.std.proofs.Common.{◌≡◌, ℕ, ◌+◌, ◌^◌, ◌<◌, nat_lt,
 use Rattle.std.specs.List.{list_all}
 use Rattle.std.proofs.lemmas.Bool.{and_parts}
 use Rattle.std.proofs.lemmas.Bool.Decides.{nat_tests}
-use Rattle.host_policy.specs.Addresses.{Config, is_guest, pool}
-use Rattle.host_policy.specs.Settings.{settings}
-use Rattle.host_policy.specs.declared.config.Field.TheVariants.{VdhcpStart}
-use Rattle.dhcp_server.proofs.Owning.{all_free}
+use Rattle.slirp_settings.specs.Addresses.{Config, is_guest, pool}
+use Rattle.slirp_settings.specs.Settings.{settings}
+use Rattle.slirp_settings.specs.declared.fields.Field.TheVariants.{VdhcpStart}
+use Rattle.dhcp_rules.proofs.Owning.{all_free}
 use Rattle.dhcp_server.proofs.leases.Leases.new.Goals as goal
 
 below : (a b : ℕ) → nat_lt a b ≡ true → a < b

@@ -1,25 +1,26 @@
-use Rattle.std.proofs.Common.{List, length, ◌<◌, true, false, refl, sym, subst}
-use Rattle.world_face.specs.Tells.{Makes}
-use Rattle.world_face.specs.Journal.{Close}
-use Rattle.world_face.proofs.Telling.{makes_none, makes_one}
+use Rattle.std.proofs.Common.{true, length, refl, ap, subst, arith}
+use Rattle.world_face.proofs.Telling.{makes_as}
+use Rattle.idle_sockets.specs.Sockets.{number_of}
+use Rattle.idle_sockets.specs.declared.IdleSocket.{IdleSocket}
+use Rattle.idle_sockets.proofs.Mapping.{closes_mapped, length_mapped}
+use Rattle.dns_relay.specs.Kept.{as_question, questions}
 use Rattle.dns_relay.specs.Relaying.{ClosesLeast}
 use Rattle.dns_relay.specs.State.{RelayState}
-use Rattle.dns_relay.specs.declared.Question.{Question}
-use Rattle.dns_relay.proofs.Yielding.{fewer}
+use Rattle.dns_rules.specs.declared.Question.{Question}
 use Rattle.dns_relay.proofs.relay.Relay.close_first.Goals as goal
-
-pub returns-in_default-clause-closes : goal.returns-in_default-clause-closes
-returns-in_default-clause-closes g c =
-    subst (λ (s : RelayState). Makes (g.W.World.tells c.args.world.now) (g.W.World.tells c.args.world.now) (ClosesLeast (λ q. true) false s.list s.list)) c.self.view_is
-    (makes_none _ _ (refl, c.in_default.ensures, refl))
 
 pub returns-clause-closes : goal.returns-clause-closes
 returns-clause-closes g c =
-    subst (λ (s : RelayState). Makes (g.W.World.tells c.args.world.now) (g.W.World.tells c.close.new.self) (ClosesLeast (λ q. true) true s.list c.close-2.new.self)) c.self.view_is
-    (makes_one _ _ (Close c.in-Some.number) _ c.close.ensures (λ allowed. (c.in-Some.number, refl, c.in-Some.ensures, c.close-2.ensures)))
+    let old = c.self.inside.list in
+    let new = c.close_first.new.self in
+    makes_as _ _ _ _ c.close_first.ensures.closes
+    (λ made closes. subst (λ (s : RelayState). ClosesLeast (λ q. true) c.close_first.result s.list (questions new) made) c.self.view_is
+    (closes_mapped as_question number_of (λ (q : Question). q.number) (λ s. refl) (λ (s : IdleSocket). true) (λ (q : Question). true) (λ s. refl) c.close_first.result old new made closes))
 
 pub returns-clause-fewer : goal.returns-clause-fewer
 returns-clause-fewer g c is =
-    let list = c.self.inside.list in
-    let less = fewer c.in-Some.number (λ q. true) list c.in-Some.ensures.0 in
-    subst (λ (s : RelayState). length c.close-2.new.self < length s.list) c.self.view_is (subst (λ (l : List Question). length l < length list) (sym c.close-2.ensures) less)
+    let less = c.close_first.ensures.fewer is in
+    let before = length_mapped as_question c.self.inside.list in
+    let after = length_mapped as_question c.close_first.new.self in
+    let same = ap (λ (s : RelayState). length s.list) c.self.view_is in
+    omega (arith, less, before, after, same)

@@ -1,16 +1,36 @@
-use Rattle.std.proofs.Common.{◌≡◌, ℕ, List, ◌++◌, ◌∷◌, [], refl, ◌∙◌, ap, subst}
-use Rattle.host_policy.specs.Addresses.{endpoint}
-use Rattle.host_policy.specs.declared.Reply.TheVariants.{Unreachable}
+use Rattle.std.proofs.Common.{◌≡◌, ℕ, ◌<◌, All, List, ◌++◌, ◌∷◌, [], length, refl, sym, ◌∙◌, ap, subst, arith}
+use Rattle.std.proofs.lemmas.List.{map-append}
+use Rattle.slirp_settings.specs.Addresses.{endpoint}
+use Rattle.udp_rules.specs.declared.Reply.TheVariants.{Unreachable}
 use Rattle.world_face.specs.Journal.{Entry, UdpOpen, UdpSend}
 use Rattle.world_face.specs.Tells.{Makes}
 use Rattle.world_face.specs.declared.Made.TheVariants.{Done, Failed}
 use Rattle.world_face.proofs.Telling.{makes_one, makes_then}
+use Rattle.idle_sockets.specs.declared.IdleSocket.{IdleSocket}
+use Rattle.idle_sockets.proofs.Mapping.{length_mapped}
 use Rattle.dns_relay.specs.Asking.{asked_of}
-use Rattle.dns_relay.specs.Questions.{asked_from, moved_last}
+use Rattle.dns_relay.specs.Kept.{as_question, questions}
+use Rattle.dns_rules.specs.Questions.{asked_from, moved_last, numbers, socket_of}
 use Rattle.dns_relay.specs.Relaying.{Opens, OpensFor, OpensNone, no_network}
 use Rattle.dns_relay.specs.State.{RelayState}
-use Rattle.dns_relay.specs.declared.Question.{Question}
+use Rattle.dns_rules.specs.declared.Question.{Question}
+use Rattle.dns_relay.proofs.Keeping.{numbers_are, socket_is}
 use Rattle.dns_relay.proofs.relay.Relay.open_for.Goals as goal
+
+pub open-requires-clause-room : goal.open-requires-clause-room
+open-requires-clause-room g c =
+    let same = ap (λ (s : RelayState). length s.list) c.self.view_is in
+    let long = length_mapped as_question c.self.inside.list in
+    omega (arith, same, long, c.requires.room)
+
+pub open-requires-clause-above : goal.open-requires-clause-above
+open-requires-clause-above g c =
+    subst (All (λ (n : ℕ). n < c.args.number.now)) (sym (numbers_are c.self.inside.list ∙ ap (λ (s : RelayState). numbers s.list) c.self.view_is)) c.requires.above
+
+pub open-requires-clause-fresh : goal.open-requires-clause-fresh
+open-requires-clause-fresh g c =
+    let guest = c.args.asked.now.from in
+    socket_is guest c.args.ident c.self.inside.list ∙ ap (λ (s : RelayState). socket_of guest c.args.ident s.list) c.self.view_is ∙ c.requires.fresh
 
 pub returns-in-Done-clause-opens : goal.returns-in-Done-clause-opens
 returns-in-Done-clause-opens g c =
@@ -18,8 +38,10 @@ returns-in-Done-clause-opens g c =
     let now = c.args.now in
     let d = asked_of c.args.asked.now in
     let at = endpoint c.self.inside.bind.0 0 in
-    let old = c.self.inside.list in
-    let opened = c.open.ensures ∙ ap (λ (i : ℕ). let q : Question = record { number = number; guest = d.from; mac = d.mac; ident = i; used = now } in old ++ (q ∷ [])) c.requires.ident in
+    let old = questions c.self.inside.list in
+    let s : IdleSocket = record { number = number; guest = d.from; ident = c.args.ident; mac = d.mac; used = now } in
+    let opened = ap questions c.open.ensures ∙ map-append as_question c.self.inside.list (s ∷ [])
+    ∙ ap (λ (i : ℕ). let q : Question = record { number = number; guest = d.from; mac = d.mac; ident = i; used = now } in old ++ (q ∷ [])) c.requires.ident in
     let is = ap (λ (s : RelayState). s.list) c.send_on.ensures.list ∙ ap (moved_last (asked_from d.mac now) number) opened in
     subst (λ (s : RelayState). Makes (g.W.World.tells c.args.world.now) (g.W.World.tells c.send_on.new.world)
     (OpensFor s.bind d now number s.list c.send_on.new.self.list c.send_on.result)) c.self.view_is

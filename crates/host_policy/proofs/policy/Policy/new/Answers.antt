@@ -1,7 +1,7 @@
 use Rattle.std.proofs.Common.{ℕ, ◌≤◌, sym, ap, subst}
-use Rattle.host_policy.specs.Addresses.{Config}
-use Rattle.host_policy.specs.Settings.{settings}
-use Rattle.host_policy.proofs.Soundness.{mtu_between}
+use Rattle.slirp_settings.specs.Addresses.{Config}
+use Rattle.slirp_settings.specs.Settings.{settings}
+use Rattle.slirp_settings.proofs.Soundness.{mtu_between}
 use Rattle.host_policy.proofs.policy.Policy.new.Goals as goal
 
 pub invariant_of-result : goal.invariant_of-result

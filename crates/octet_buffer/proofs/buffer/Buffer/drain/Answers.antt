@@ -1,6 +1,6 @@
 use Rattle.std.proofs.Common.{◌-◌, drop, length-take, ap, ◌∙◌, arith}
 use Rattle.octet_buffer.specs.Buffered.{Buffered}
-use Rattle.octet_buffer.proofs.Windows.{window_past}
+use Rattle.row_lists.proofs.Windows.{window_past}
 use Rattle.octet_buffer.proofs.buffer.Buffer.drain.Goals as goal
 
 pub returns-clause-left : goal.returns-clause-left

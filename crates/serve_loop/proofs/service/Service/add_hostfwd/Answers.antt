@@ -1,8 +1,8 @@
 use Rattle.std.proofs.Common.{false, refl, sym, ◌∙◌, ap, subst}
 use Rattle.std.specs.Result.{result_err}
 use Rattle.world_face.specs.Tells.{Brings, Makes}
-use Rattle.host_policy.specs.Addresses.{Config}
-use Rattle.port_forward.specs.Adding.{Adds, fault_of}
+use Rattle.slirp_settings.specs.Addresses.{Config}
+use Rattle.forward_rules.specs.Adding.{Adds, fault_of}
 use Rattle.slirp_core.specs.Added.{MayAdd, number_after}
 use Rattle.slirp_core.specs.Holds.{after}
 use Rattle.slirp_core.specs.State.{SlirpState}

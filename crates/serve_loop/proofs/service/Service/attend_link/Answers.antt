@@ -14,7 +14,7 @@ use Rattle.serve_loop.proofs.service.Service.attend_link.Goals as goal
 pub returns-in-Again-clause-makes : goal.returns-in-Again-clause-makes
 returns-in-Again-clause-makes g c config count items wanted =
     let wants = c.args.self.now.wants in
-    let item = c.args.item.now in
+    let item = c.args.report.now in
     let slirp = c.args.self.now.slirp in
     let link = c.args.self.now.link in
     let mid = c.receive_frame.new.self in
@@ -29,9 +29,9 @@ returns-in-Again-clause-makes g c config count items wanted =
 
 pub returns-in-Ended-clause-makes : goal.returns-in-Ended-clause-makes
 returns-in-Ended-clause-makes g c config count items wanted =
-    let now = read_now c.args.to_read c.args.item.now (sym c.is_read_now.ensures ∙ c.if-is_read_now.true) in
+    let now = read_now c.args.to_read c.args.report.now (sym c.is_read_now.ensures ∙ c.if-is_read_now.true) in
     from_more _ _ _ _ _ (λ past serves. (serves.holds, serves.can_take))
-    (brings_as (c.in-Ended.ensures.makes config count c.args.self.now.wants c.args.item.now items (of_link c.args.self.now.wants c.args.item.now c.requires.of now.1
+    (brings_as (c.in-Ended.ensures.makes config count c.args.self.now.wants c.args.report.now items (of_link c.args.self.now.wants c.args.report.now c.requires.of now.1
     (wanted now.0))) (λ past after. after.0))
 
 pub returns-in-Again-clause-step : goal.returns-in-Again-clause-step
@@ -43,13 +43,13 @@ returns-in-Again-clause-step g c = record {
 
 pub returns-in-Again-clause-passed : goal.returns-in-Again-clause-passed
 returns-in-Again-clause-passed g c wanted passed =
-    let now = read_now c.args.to_read c.args.item.now (sym c.is_read_now.ensures ∙ c.if-is_read_now.true) in
-    absurd (read_counts c.args.self.now.wants c.args.item.now TheLink c.requires.of now.1 (wanted now.0) passed)
+    let now = read_now c.args.to_read c.args.report.now (sym c.is_read_now.ensures ∙ c.if-is_read_now.true) in
+    absurd (read_counts c.args.self.now.wants c.args.report.now TheLink c.requires.of now.1 (wanted now.0) passed)
 
 pub returns-in-Ended-clause-passed : goal.returns-in-Ended-clause-passed
 returns-in-Ended-clause-passed g c wanted passed =
-    let now = read_now c.args.to_read c.args.item.now (sym c.is_read_now.ensures ∙ c.if-is_read_now.true) in
-    absurd (read_counts c.args.self.now.wants c.args.item.now TheLink c.requires.of now.1 (wanted now.0) passed)
+    let now = read_now c.args.to_read c.args.report.now (sym c.is_read_now.ensures ∙ c.if-is_read_now.true) in
+    absurd (read_counts c.args.self.now.wants c.args.report.now TheLink c.requires.of now.1 (wanted now.0) passed)
 
 -- an item of the link that isn't the frame which is to be read
 not_now : (to_read : Bool) (item : Want) → item.of ≡ TheLink → is_read_now to_read item ≡ false → item.read ≡ true → to_read ≡ false
@@ -64,7 +64,7 @@ not_now to_read item of none read = by to_read (same_who TheLink item.of) item.r
 pub returns-then-writes_link-clause-makes : goal.returns-then-writes_link-clause-makes
 returns-then-writes_link-clause-makes g c config count items wanted =
     let wants = c.args.self.now.wants in
-    let item = c.args.item.now in
+    let item = c.args.report.now in
     let slirp = c.args.self.now.slirp in
     let link = c.args.self.now.link in
     let new = c.pump-then-writes_link.new.self in
@@ -78,8 +78,8 @@ returns-then-writes_link-clause-makes g c config count items wanted =
 
 pub returns-clause-makes : goal.returns-clause-makes
 returns-clause-makes g c config count items wanted =
-    brings_none (λ past now. link_passed config count c.args.self.now.wants items c.args.item.now c.args.self.now.slirp c.args.self.now.link past c.args.to_read c.requires.of wanted
-    (not_now c.args.to_read c.args.item.now c.requires.of (sym c.is_read_now.ensures ∙ c.if-is_read_now.false)) now)
+    brings_none (λ past now. link_passed config count c.args.self.now.wants items c.args.report.now c.args.self.now.slirp c.args.self.now.link past c.args.to_read c.requires.of wanted
+    (not_now c.args.to_read c.args.report.now c.requires.of (sym c.is_read_now.ensures ∙ c.if-is_read_now.false)) now)
 
 pub returns-in-Again-clause-calm : goal.returns-in-Again-clause-calm
 returns-in-Again-clause-calm g c items before again = inl (c.pump.ensures.calm again)

@@ -1,6 +1,6 @@
 use Rattle.std.proofs.Common.{rules, ◌++◌, length, sym, ◌∙◌, ap, subst, arith}
-use Rattle.host_policy.specs.Addresses.{Config}
-use Rattle.host_policy.specs.Ranges.{IsSound}
+use Rattle.slirp_settings.specs.Addresses.{Config}
+use Rattle.slirp_settings.specs.Ranges.{IsSound}
 use Rattle.slirp_core.specs.Holds.{as_given}
 use Rattle.slirp_core.specs.Numbers.{flows_for}
 use Rattle.slirp_core.specs.Pumps.{TcpOnce}

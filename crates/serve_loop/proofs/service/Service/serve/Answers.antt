@@ -1,7 +1,7 @@
 use Rattle.std.proofs.Common.{◌+◌, ◌<◌, ◌≤◌, ◌∙◌, ap, refl, sym, subst, arith}
 use Rattle.slirp_core.specs.Holds.{holders_of}
 use Rattle.world_face.proofs.Telling.{makes_as, makes_from}
-use Rattle.host_policy.specs.Addresses.{Config}
+use Rattle.slirp_settings.specs.Addresses.{Config}
 use Rattle.world_face.specs.Tells.{Makes}
 use Rattle.serve_loop.specs.Served.{ServiceState}
 use Rattle.serve_loop.specs.Turns.{Closes}

@@ -1,4 +1,4 @@
-use Rattle.std.proofs.Common.{◌≡◌, ℕ, ◌+◌, [], ◌∷◌, ◌++◌, List, if◌then◌else◌, true, false, refl, sym, ◌∙◌, ap, subst}
+use Rattle.std.proofs.Common.{◌≡◌, ◌+◌, [], ◌∷◌, ◌++◌, List, if◌then◌else◌, true, false, refl, sym, ◌∙◌, ap, subst}
 use Rattle.poll_list.specs.Listing.{Listing, writes}
 use Rattle.poll_list.specs.declared.Want.{Want}
 use Rattle.poll_list.specs.declared.Who.TheVariants.{Link as TheLink}
@@ -11,13 +11,11 @@ use Rattle.world_face.proofs.Counting.{some_failed, wait_rose}
 use Rattle.world_face.proofs.Telling.{brings_one, makes_one, makes_next}
 use Rattle.slirp_core.proofs.Telling.{brings_allowed}
 use Rattle.slirp_core.specs.Holds.{after, standing}
-use Rattle.serve_loop.specs.Turns.{AllSent, AreYoung, AttendsAfterSleep, HoldsNow, IsCalm, IsCalmAfter, IsInTime, MayRest, NoneGoesAgain, NoneTold}
+use Rattle.serve_loop.specs.Turns.{AllSent, AreYoung, AttendsAfterSleep, HoldsNow, IsCalm, IsCalmAfter, MayRest, NoneGoesAgain, NoneTold}
 use Rattle.serve_loop.specs.Served.{ServiceState}
 use Rattle.slirp_core.specs.State.{SlirpState}
 use Rattle.serve_loop.specs.declared.service.Slept.TheVariants.{Ready as SleptReady, Stopped as SleptStopped, Failed as SleepFailed}
-use Rattle.host_policy.specs.Addresses.{Config}
-use Rattle.run_duties.specs.Serving.{AllServed}
-use Rattle.slirp_core.proofs.Awaiting.{must_wait}
+use Rattle.serve_loop.proofs.Sleeping.{must_rest}
 use Rattle.slirp_core.proofs.Unserved.{wants_differ}
 use Rattle.slirp_core.proofs.Waiting.{wait_ends_it, wait_wakes}
 use Rattle.serve_loop.proofs.Left.{can_take_at_first, left_at_first}
@@ -31,11 +29,9 @@ returns-in-Stop-clause-makes g c config count few =
     let none_again : NoneGoesAgain slirp = subst (λ (s : ServiceState). NoneGoesAgain s.slirp) (sym c.self.view_is) c.requires.none in
     let young_now : AreYoung slirp = subst (λ (s : ServiceState). AreYoung s.slirp) (sym c.self.view_is) c.requires.young in
     let calm_now : IsCalm slirp link = subst (λ (s : ServiceState). IsCalm s.slirp s.link) (sym c.self.view_is) c.requires.calm in
-    let as_it_must = λ (config : Config) (count : ℕ) (past : List Entry) (holds : HoldsNow config (after count) true slirp link past) (early : IsInTime slirp link) (served : AllServed config past).
-    must_wait config (after count) slirp link past c.pollfds_fill-timeout.new.wants.items c.pollfds_fill-timeout.result holds none_again
-    (subst (λ (s : ServiceState). AllSent s.slirp s.link) (sym c.self.view_is) c.requires.sent) young_now.0 young_now.1 young_now.2 early.0
-    (λ free. (calm_now free, early.1 free)) c.pollfds_fill-timeout.ensures.timeout c.pollfds_fill-timeout.ensures.items
-    (c.pollfds_fill-timeout.ensures.waited_for config slirp.moment true past c.pollfds_fill-timeout.ensures.items.flows holds.flows.holds c.pollfds_fill-timeout.ensures.items.of_flows) served in
+    let sent_now : AllSent slirp link = subst (λ (s : ServiceState). AllSent s.slirp s.link) (sym c.self.view_is) c.requires.sent in
+    let fill = c.pollfds_fill-timeout in
+    let as_it_must = must_rest slirp link fill.new.wants.items fill.result none_again young_now calm_now sent_now fill.ensures.timeout fill.ensures.items fill.ensures.waited_for in
     subst (λ (s : ServiceState). Brings (g.W.World.tells c.args.world.now) (g.W.World.tells c.wait.new.self) (MayRest config (after count) s.slirp s.link)
     (AttendsAfterSleep SleptStopped config (count + 1) c.pollfds_fill-timeout.new.wants.items c.wait.new.ready.items slirp link)) c.self.view_is
     (brings_one (subst (λ (l : Listing). Answers (g.W.World.tells c.args.world.now) (g.W.World.tells c.wait.new.self)
@@ -51,11 +47,9 @@ returns-in-Failed-clause-makes g c config count few =
     let none_again : NoneGoesAgain slirp = subst (λ (s : ServiceState). NoneGoesAgain s.slirp) (sym c.self.view_is) c.requires.none in
     let young_now : AreYoung slirp = subst (λ (s : ServiceState). AreYoung s.slirp) (sym c.self.view_is) c.requires.young in
     let calm_now : IsCalm slirp link = subst (λ (s : ServiceState). IsCalm s.slirp s.link) (sym c.self.view_is) c.requires.calm in
-    let as_it_must = λ (config : Config) (count : ℕ) (past : List Entry) (holds : HoldsNow config (after count) true slirp link past) (early : IsInTime slirp link) (served : AllServed config past).
-    must_wait config (after count) slirp link past c.pollfds_fill-timeout.new.wants.items c.pollfds_fill-timeout.result holds none_again
-    (subst (λ (s : ServiceState). AllSent s.slirp s.link) (sym c.self.view_is) c.requires.sent) young_now.0 young_now.1 young_now.2 early.0
-    (λ free. (calm_now free, early.1 free)) c.pollfds_fill-timeout.ensures.timeout c.pollfds_fill-timeout.ensures.items
-    (c.pollfds_fill-timeout.ensures.waited_for config slirp.moment true past c.pollfds_fill-timeout.ensures.items.flows holds.flows.holds c.pollfds_fill-timeout.ensures.items.of_flows) served in
+    let sent_now : AllSent slirp link = subst (λ (s : ServiceState). AllSent s.slirp s.link) (sym c.self.view_is) c.requires.sent in
+    let fill = c.pollfds_fill-timeout in
+    let as_it_must = must_rest slirp link fill.new.wants.items fill.result none_again young_now calm_now sent_now fill.ensures.timeout fill.ensures.items fill.ensures.waited_for in
     subst (λ (s : ServiceState). Brings (g.W.World.tells c.args.world.now) (g.W.World.tells c.wait.new.self) (MayRest config (after count) s.slirp s.link)
     (AttendsAfterSleep SleepFailed config (count + 1) c.pollfds_fill-timeout.new.wants.items c.wait.new.ready.items slirp link)) c.self.view_is
     (brings_one (subst (λ (l : Listing). Answers (g.W.World.tells c.args.world.now) (g.W.World.tells c.wait.new.self)
@@ -71,11 +65,9 @@ returns-in-Ready-clause-makes g c config count few =
     let none_again : NoneGoesAgain slirp = subst (λ (s : ServiceState). NoneGoesAgain s.slirp) (sym c.self.view_is) c.requires.none in
     let young_now : AreYoung slirp = subst (λ (s : ServiceState). AreYoung s.slirp) (sym c.self.view_is) c.requires.young in
     let calm_now : IsCalm slirp link = subst (λ (s : ServiceState). IsCalm s.slirp s.link) (sym c.self.view_is) c.requires.calm in
-    let as_it_must = λ (config : Config) (count : ℕ) (past : List Entry) (holds : HoldsNow config (after count) true slirp link past) (early : IsInTime slirp link) (served : AllServed config past).
-    must_wait config (after count) slirp link past c.pollfds_fill-timeout.new.wants.items c.pollfds_fill-timeout.result holds none_again
-    (subst (λ (s : ServiceState). AllSent s.slirp s.link) (sym c.self.view_is) c.requires.sent) young_now.0 young_now.1 young_now.2 early.0
-    (λ free. (calm_now free, early.1 free)) c.pollfds_fill-timeout.ensures.timeout c.pollfds_fill-timeout.ensures.items
-    (c.pollfds_fill-timeout.ensures.waited_for config slirp.moment true past c.pollfds_fill-timeout.ensures.items.flows holds.flows.holds c.pollfds_fill-timeout.ensures.items.of_flows) served in
+    let sent_now : AllSent slirp link = subst (λ (s : ServiceState). AllSent s.slirp s.link) (sym c.self.view_is) c.requires.sent in
+    let fill = c.pollfds_fill-timeout in
+    let as_it_must = must_rest slirp link fill.new.wants.items fill.result none_again young_now calm_now sent_now fill.ensures.timeout fill.ensures.items fill.ensures.waited_for in
     let new = c.report.new.link in
     let wants = c.pollfds_fill-timeout.new.wants.items in
     let timeout = c.pollfds_fill-timeout.result in
@@ -95,14 +87,13 @@ returns-in-Ready-clause-makes g c config count few =
     let fine = subst AreAllowed is allowed in
     let must = as_it_must config count past now.0 rest.1 now.1.1 in
     let apart = fine.1.0.0.1 (wants_differ config past now.0.lawful wants must.waits_for fine.1.0.1) in
-    let sent = subst (λ (s : ServiceState). AllSent s.slirp s.link) (sym c.self.view_is) c.requires.sent in
     let untold = subst (λ (s : ServiceState). NoneTold s.slirp) (sym c.self.view_is) c.requires.untold in
     subst (λ (m : List Entry). AttendsAfterSleep SleptReady config (count + 1) wants ready c.tell_moment.new.self new (m ++ past)) (sym is) (
       record {
         holds = subst (λ (s : SlirpState). HoldsNow config (standing (count + 1) wants ready) false s new (Now told ∷ Wait wants timeout Ready ready ∷ past)) (sym c.tell_moment.ensures)
             (wait_wakes config count slirp slirp.flows link past wants timeout few c.pollfds_fill-timeout.ensures.few none_again now.0 ready told new fine.1.0 fine.0 (same_under_way link new same.0 same.1) same.2 free);
         left = left_at_first config past wants timeout ready told c.tell_moment.new.self (subst NoneTold (sym c.tell_moment.ensures) untold) apart;
-        can_take = can_take_at_first config past wants timeout ready told (after count) true slirp c.tell_moment.new.self link new now.0 sent must.waits_for same.2
+        can_take = can_take_at_first config past wants timeout ready told (after count) true slirp c.tell_moment.new.self link new now.0 sent_now must.waits_for same.2
             (ap (λ (s : SlirpState). s.pending) c.tell_moment.ensures);
       },
       (tt, (must, now.1.0)),

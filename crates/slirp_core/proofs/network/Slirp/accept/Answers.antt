@@ -1,9 +1,9 @@
 use Rattle.std.proofs.Common.{[], ◌∷◌, ◌++◌, ◌≡◌, ◌<◌, ◌&&◌, nat_lt, ℕ, Bool, true, false, List, Some, None, length, refl, sym, ◌∙◌, ap, subst, arith}
 use Rattle.std.specs.Option.{option_map_or}
-use Rattle.host_policy.specs.Ranges.{same_proto}
-use Rattle.host_policy.specs.declared.Proto.TheVariants.{Tcp}
-use Rattle.host_policy.specs.declared.Forward.{Forward}
-use Rattle.port_forward.specs.Opened.{forward_with}
+use Rattle.slirp_settings.specs.Ranges.{same_proto}
+use Rattle.slirp_settings.specs.declared.Proto.TheVariants.{Tcp}
+use Rattle.slirp_settings.specs.declared.Forward.{Forward}
+use Rattle.forward_rules.specs.Opened.{forward_with}
 use Rattle.std.proofs.lemmas.Bool.Decides.{nat_tests}
 use Rattle.net_octets.specs.declared.Endpoint.{Endpoint}
 use Rattle.poll_list.specs.declared.Who.TheVariants.{Listener as AListener}
@@ -11,7 +11,7 @@ use Rattle.world_face.specs.Journal.{Accept, AreAllowed, Entry}
 use Rattle.world_face.specs.declared.Accepted.TheVariants.{From}
 use Rattle.world_face.specs.Tells.{Answers, Brings}
 use Rattle.world_face.proofs.Telling.{brings_none, makes_one, makes_then}
-use Rattle.host_policy.specs.Addresses.{Config}
+use Rattle.slirp_settings.specs.Addresses.{Config}
 use Rattle.flows_follow.specs.Peers.{fits_peer, peer_slots}
 use Rattle.flows_follow.specs.Seats.{in_use_slots}
 use Rattle.record_flows.specs.Flows.{most_for_peers}

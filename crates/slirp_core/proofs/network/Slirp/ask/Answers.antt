@@ -1,7 +1,7 @@
 use Rattle.std.proofs.Common.{◌≡◌, ℕ, ◌≤◌, ◌+◌, ◌++◌, true, Some, sym, ◌∙◌, ap, subst}
 use Rattle.world_face.specs.Tells.{Brings}
 use Rattle.slirp_core.proofs.Telling.{brings_allowed}
-use Rattle.host_policy.specs.Addresses.{Config}
+use Rattle.slirp_settings.specs.Addresses.{Config}
 use Rattle.dns_relay.specs.Asking.{bind_for}
 use Rattle.dns_relay.specs.Relaying.{Relays}
 use Rattle.dns_relay.specs.State.{RelayState}

@@ -2,9 +2,9 @@ use Rattle.std.proofs.Common.{◌+◌, ◌++◌, ◌<◌, length, sym, ◌∙◌
 use Rattle.world_face.specs.Tells.{Makes}
 use Rattle.world_face.proofs.Telling.{makes_as}
 use Rattle.dns_relay.proofs.Below.{below_closed}
-use Rattle.dns_relay.specs.Questions.{numbers as question_numbers}
+use Rattle.dns_rules.specs.Questions.{numbers as question_numbers}
 use Rattle.dns_relay.specs.State.{RelayState}
-use Rattle.udp_assoc.specs.Associations.{numbers}
+use Rattle.udp_rules.specs.Associations.{numbers}
 use Rattle.tcp_flows.specs.Kept.{Kept}
 use Rattle.slirp_core.specs.Firsts.{IsFlowFirst, IsQuestionFirst, NoFlowFirst, NoQuestionFirst, others_open}
 use Rattle.slirp_core.specs.Forwards.{AreCloses, forward_sockets}

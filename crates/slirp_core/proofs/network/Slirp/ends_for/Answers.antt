@@ -1,5 +1,5 @@
 use Rattle.std.proofs.Common.{◌≡◌, None, Some, not, if◌then◌else◌, sym, ◌∙◌, ap, subst}
-use Rattle.host_policy.specs.Addresses.{Config}
+use Rattle.slirp_settings.specs.Addresses.{Config}
 use Rattle.record_flows.specs.Book.{book}
 use Rattle.host_policy.specs.Targets.{is_hidden, shown}
 use Rattle.flows_follow.specs.Core.{CoreHolds}

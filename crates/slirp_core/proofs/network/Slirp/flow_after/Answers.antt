@@ -1,5 +1,5 @@
 use Rattle.std.proofs.Common.{ℕ, ◌<◌, List, Option, None, Some, IfSome, false, sym, subst}
-use Rattle.flow_table.specs.declared.Tuple.{Tuple}
+use Rattle.record_flows.specs.declared.Tuple.{Tuple}
 use Rattle.flow_splice.specs.Splice.{Splice}
 use Rattle.flows_follow.specs.Core.{CoreHolds}
 use Rattle.tcp_flows.specs.InUse.{IsNextUse}

@@ -1,12 +1,12 @@
 use Rattle.std.proofs.Common.{◌≡◌, ◌≤◌, Some, inl, inr, slice_get, sym, ◌∙◌, subst, true, List, ℕ}
 use Rattle.flow_splice.specs.Splice.{Splice}
-use Rattle.host_policy.specs.declared.Forward.{Forward}
+use Rattle.slirp_settings.specs.declared.Forward.{Forward}
 use Rattle.run_laws.specs.Sockets.{is_among}
 use Rattle.flows_follow.specs.Core.{number_of}
 use Rattle.tcp_flows.specs.Reading.{IsFirst as FirstOfFlows, IsOpenAt}
-use Rattle.dns_relay.specs.Questions.{numbers as question_numbers}
-use Rattle.udp_assoc.specs.Associations.{numbers}
-use Rattle.port_forward.specs.Opened.{Opened}
+use Rattle.dns_rules.specs.Questions.{numbers as question_numbers}
+use Rattle.udp_rules.specs.Associations.{numbers}
+use Rattle.forward_rules.specs.Opened.{Opened}
 use Rattle.slirp_core.specs.Forwards.{forward_sockets}
 use Rattle.slirp_core.specs.Holds.{Holders, IsForwardFirst, IsOf, NoForwardFirst, carriers, holders_of}
 use Rattle.slirp_core.specs.State.{SlirpState}

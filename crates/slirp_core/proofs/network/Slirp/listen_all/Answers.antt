@@ -3,9 +3,9 @@ use Rattle.world_face.specs.Tells.{Brings, Makes}
 use Rattle.world_face.proofs.Telling.{brings_none, brings_then}
 use Rattle.world_face.proofs.Counting.{rose_after}
 use Rattle.slirp_core.proofs.Telling.{brings_allowed}
-use Rattle.host_policy.specs.Addresses.{Config}
-use Rattle.host_policy.specs.declared.Forward.{Forward}
-use Rattle.host_policy.specs.declared.Proto.TheVariants.{Tcp}
+use Rattle.slirp_settings.specs.Addresses.{Config}
+use Rattle.slirp_settings.specs.declared.Forward.{Forward}
+use Rattle.slirp_settings.specs.declared.Proto.TheVariants.{Tcp}
 use Rattle.slirp_core.specs.Forwards.{Listens}
 use Rattle.slirp_core.specs.Holds.{Opens}
 use Rattle.slirp_core.specs.State.{SlirpState}

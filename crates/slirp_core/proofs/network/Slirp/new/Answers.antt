@@ -1,16 +1,16 @@
 use Rattle.std.proofs.Common.{ℕ, ◌≡◌, ◌<◌, ◌≤◌, All, None, length, replicate, unwrap_or, sym, ◌∙◌, ap, subst, arith}
 use Rattle.std.proofs.lemmas.List.{length-replicate}
 use Rattle.std.proofs.lemmas.List.Elements.{All-nil}
-use Rattle.host_policy.specs.Addresses.{Config}
-use Rattle.host_policy.specs.Settings.{settings}
+use Rattle.slirp_settings.specs.Addresses.{Config}
+use Rattle.slirp_settings.specs.Settings.{settings}
 use Rattle.dns_relay.specs.Asking.{bind_for}
-use Rattle.dns_relay.specs.Questions.{numbers as question_numbers}
+use Rattle.dns_rules.specs.Questions.{numbers as question_numbers}
 use Rattle.dns_relay.specs.State.{RelayState}
 use Rattle.slirp_core.specs.Services.{AreAsked}
 use Rattle.flow_table.specs.Slots.{all_free}
 use Rattle.tcp_flows.specs.Rows.{AreSized}
 use Rattle.tcp_flows.specs.declared.flows.Sizes.{Sizes}
-use Rattle.udp_assoc.specs.Associations.{numbers}
+use Rattle.udp_rules.specs.Associations.{numbers}
 use Rattle.udp_assoc.specs.State.{AssocsState}
 use Rattle.slirp_core.specs.Numbers.{AreDrawn, flows_for}
 use Rattle.slirp_core.proofs.Drawn.{drawn_none}

@@ -1,7 +1,7 @@
 use Rattle.std.proofs.Common.{◌≡◌, Bool, false, [], length}
 use Rattle.world_face.specs.Tells.{Brings}
 use Rattle.stream_netdev.specs.State.{under_way}
-use Rattle.host_policy.specs.Addresses.{Config}
+use Rattle.slirp_settings.specs.Addresses.{Config}
 use Rattle.slirp_core.specs.Holds.{Standing, Holds, flowing}
 use Rattle.slirp_core.proofs.network.Slirp.pump_pending.Given as goal
 

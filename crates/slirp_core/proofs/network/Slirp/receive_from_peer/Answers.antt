@@ -4,9 +4,9 @@ use Rattle.poll_list.specs.declared.Who.TheVariants.{Udp}
 use Rattle.world_face.specs.Tells.{Brings}
 use Rattle.world_face.proofs.Telling.{makes_as}
 use Rattle.slirp_core.proofs.Telling.{brings_allowed}
-use Rattle.dns_relay.specs.Questions.{numbered}
+use Rattle.dns_rules.specs.Questions.{numbered}
 use Rattle.run_laws.specs.Sockets.{is_among}
-use Rattle.udp_assoc.specs.Associations.{numbers}
+use Rattle.udp_rules.specs.Associations.{numbers}
 use Rattle.udp_assoc.specs.Relays.{Hears}
 use Rattle.run_duties.specs.Serving.{is_left_to_read}
 use Rattle.slirp_core.specs.Forwards.{guest_on}

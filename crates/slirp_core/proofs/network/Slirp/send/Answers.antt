@@ -1,7 +1,7 @@
 use Rattle.std.proofs.Common.{◌≡◌, ℕ, ◌≤◌, ◌+◌, ◌++◌, false, unwrap_or, Option, Some, sym, ◌∙◌, ap, subst}
 use Rattle.world_face.specs.Tells.{Brings}
 use Rattle.slirp_core.proofs.Telling.{brings_allowed}
-use Rattle.host_policy.specs.Addresses.{Config}
+use Rattle.slirp_settings.specs.Addresses.{Config}
 use Rattle.udp_assoc.specs.Relays.{Relays}
 use Rattle.slirp_laws.specs.Datagrams.{asks_a_name}
 use Rattle.slirp_core.specs.Datagrams.{errand_of}

@@ -1,15 +1,17 @@
-use Rattle.std.proofs.Common.{◌≡◌, ℕ, ◌≤◌, ◌<◌, List, [], ◌∷◌, drop, length, nat_lt, true, false, Option, Some, None, option_map, refl, sym, ◌∙◌, ap, subst, arith}
+use Rattle.std.proofs.Common.{◌≡◌, ℕ, ◌≤◌, ◌<◌, List, [], ◌∷◌, drop, length, nat_lt, true, false, Option, Some, None, option_map, rules, refl, sym, ◌∙◌, ap, subst, arith}
 use Rattle.std.proofs.lemmas.Bool.Decides.{nat_tests}
 use Rattle.std.proofs.lemmas.List.{take_at}
-use Rattle.tftp_server.specs.Rows.{AreSound}
-use Rattle.tftp_server.specs.Serving.{IsFromServer, Serving, said_by}
-use Rattle.tftp_server.specs.Transfers.{Said, Transfer, begun, next_again, said_again, ticked}
-use Rattle.tftp_server.proofs.Turning.{due_count, fewer_due, next_left, ticked_none}
-use Rattle.host_policy.specs.Addresses.{Config}
+use Rattle.tftp_rules.specs.Soundness.{AreSound}
+use Rattle.tftp_server.specs.Serving.{Serving}
+use Rattle.tftp_rules.specs.Saying.{IsFromServer}
+use Rattle.tftp_rules.specs.Transfers.{Said, Transfer, begun, next_again, said_again, ticked}
+use Rattle.tftp_rules.proofs.Turning.{due_count, fewer_due, next_left, ticked_none}
+use Rattle.slirp_settings.specs.Addresses.{Config}
 use Rattle.slirp_laws.specs.Answers.{frames_of, told_of_files}
 use Rattle.slirp_core.specs.Holds.{Holds, flowing}
 use Rattle.slirp_core.specs.State.{SlirpState}
 use Rattle.slirp_core.proofs.Again.{frames_some, said_fits, sends_it}
+use Rattle.slirp_core.proofs.Taking.{file_fits, file_told}
 use Rattle.slirp_core.proofs.Viewed.{state_of}
 use Rattle.slirp_core.proofs.network.Slirp.send_again.Goals as goal
 
@@ -39,25 +41,27 @@ none_by config ident now ts (Some t) frames fits found is none =
     let nothing : frames_of config ident (told_of_files config (Some (said_again t))) ≡ [] = sym (ap (λ o. frames_of config ident (told_of_files config o)) goes) ∙ sym is ∙ none in
     absurd (omega (arith, some, ap length nothing))
 
-pub put_packet-requires-clause-none : goal.put_packet-requires-clause-none
-put_packet-requires-clause-none c = ap (λ (s : SlirpState). s.pending) c.self.view_is ∙ none_of c.args.self.now.pending (sym c.pending.ensures ∙ c.if-pending.false)
-
 pub returns-then-pending-clause-none : goal.returns-then-pending-clause-none
 returns-then-pending-clause-none c result none = absurd (some_of c.args.self.now.pending (sym c.pending.ensures ∙ c.if-pending.true) none)
 
-pub put_packet-requires-clause-from : goal.put_packet-requires-clause-from
-put_packet-requires-clause-from c = subst (λ (n : ℕ). IsFromServer n c.next_again-reply.result) c.self.invariant.7.vhost c.next_again-reply.ensures.from
+pub put_reply-requires-clause-fits : goal.put_reply-requires-clause-fits
+put_reply-requires-clause-fits c =
+    let i = c.self.inside in
+    let room = c.next_again-reply.new.into in
+    let whole : c.deref.result.now ≡ room = c.deref.ensures.value ∙ take_at room (drop (length room) i.message.items) i.message.len (c.next_again-reply.auto.into ∙ c.deref_mut.ensures.len) in
+    file_fits i.files.vhost c.next_again-reply.result (length c.deref.result.now) c.next_again-reply.ensures.from (search rules)
 
 pub returns-clause-holds : goal.returns-clause-holds
 returns-clause-holds c config at link past holds =
     let i = c.self.inside in
     let slirp : SlirpState = state_of i in
     let room = c.next_again-reply.new.into in
-    let pending = c.put_packet.new.outgoing in
-    let size : length room ≡ i.message.len = c.next_again-reply.auto.into ∙ c.deref_mut.ensures.len in
-    let whole : c.deref.result.now ≡ room = c.deref.ensures.value ∙ take_at room (drop (length room) i.message.items) i.message.len size in
+    let pending = c.put_reply.new.outgoing in
+    let whole : c.deref.result.now ≡ room = c.deref.ensures.value ∙ take_at room (drop (length room) i.message.items) i.message.len (c.next_again-reply.auto.into ∙ c.deref_mut.ensures.len) in
     let owed : pending ≡ frames_of i.policy i.sent (told_of_files i.policy (begun i.moment true i.files.transfers)) =
-    c.put_packet.ensures ∙ ap (λ (o : List ℕ). frames_of i.policy i.sent (told_of_files i.policy (said_by c.next_again-reply.result o))) whole ∙ ap
+    file_told i.policy i.sent c.next_again-reply.result i.outgoing pending c.deref.result.now room c.put_reply.ensures
+    (ap (λ (s : SlirpState). s.pending) c.self.view_is ∙ none_of c.args.self.now.pending (sym c.pending.ensures ∙ c.if-pending.false))
+    (subst (λ (n : ℕ). IsFromServer n c.next_again-reply.result) c.self.invariant.7.vhost c.next_again-reply.ensures.from) whole ∙ ap
     (λ o. frames_of i.policy i.sent (told_of_files i.policy o)) c.next_again-reply.ensures.says in
     let transfers : c.next_again-reply.new.self.transfers ≡ ticked i.moment true i.files.transfers = ap (λ (s : Serving). s.transfers) c.next_again-reply.ensures.list in
     let none : slirp.pending ≡ [] = ap (λ (s : SlirpState). s.pending) c.self.view_is ∙ none_of c.args.self.now.pending (sym c.pending.ensures ∙ c.if-pending.false) in
@@ -73,11 +77,12 @@ pub returns-clause-fewer : goal.returns-clause-fewer
 returns-clause-fewer c more =
     let i = c.self.inside in
     let room = c.next_again-reply.new.into in
-    let pending = c.put_packet.new.outgoing in
-    let size : length room ≡ i.message.len = c.next_again-reply.auto.into ∙ c.deref_mut.ensures.len in
-    let whole : c.deref.result.now ≡ room = c.deref.ensures.value ∙ take_at room (drop (length room) i.message.items) i.message.len size in
+    let pending = c.put_reply.new.outgoing in
+    let whole : c.deref.result.now ≡ room = c.deref.ensures.value ∙ take_at room (drop (length room) i.message.items) i.message.len (c.next_again-reply.auto.into ∙ c.deref_mut.ensures.len) in
     let owed : pending ≡ frames_of i.policy i.sent (told_of_files i.policy (begun i.moment true i.files.transfers)) =
-    c.put_packet.ensures ∙ ap (λ (o : List ℕ). frames_of i.policy i.sent (told_of_files i.policy (said_by c.next_again-reply.result o))) whole ∙ ap
+    file_told i.policy i.sent c.next_again-reply.result i.outgoing pending c.deref.result.now room c.put_reply.ensures
+    (ap (λ (s : SlirpState). s.pending) c.self.view_is ∙ none_of c.args.self.now.pending (sym c.pending.ensures ∙ c.if-pending.false))
+    (subst (λ (n : ℕ). IsFromServer n c.next_again-reply.result) c.self.invariant.7.vhost c.next_again-reply.ensures.from) whole ∙ ap
     (λ o. frames_of i.policy i.sent (told_of_files i.policy o)) c.next_again-reply.ensures.says in
     let transfers : c.next_again-reply.new.self.transfers ≡ ticked i.moment true i.files.transfers = ap (λ (s : Serving). s.transfers) c.next_again-reply.ensures.list in
     subst (λ (s : SlirpState). due_count i.moment c.next_again-reply.new.self.transfers < due_count s.moment s.transfers) c.self.view_is
@@ -88,11 +93,12 @@ pub returns-clause-none : goal.returns-clause-none
 returns-clause-none c ended none =
     let i = c.self.inside in
     let room = c.next_again-reply.new.into in
-    let pending = c.put_packet.new.outgoing in
-    let size : length room ≡ i.message.len = c.next_again-reply.auto.into ∙ c.deref_mut.ensures.len in
-    let whole : c.deref.result.now ≡ room = c.deref.ensures.value ∙ take_at room (drop (length room) i.message.items) i.message.len size in
+    let pending = c.put_reply.new.outgoing in
+    let whole : c.deref.result.now ≡ room = c.deref.ensures.value ∙ take_at room (drop (length room) i.message.items) i.message.len (c.next_again-reply.auto.into ∙ c.deref_mut.ensures.len) in
     let owed : pending ≡ frames_of i.policy i.sent (told_of_files i.policy (begun i.moment true i.files.transfers)) =
-    c.put_packet.ensures ∙ ap (λ (o : List ℕ). frames_of i.policy i.sent (told_of_files i.policy (said_by c.next_again-reply.result o))) whole ∙ ap
+    file_told i.policy i.sent c.next_again-reply.result i.outgoing pending c.deref.result.now room c.put_reply.ensures
+    (ap (λ (s : SlirpState). s.pending) c.self.view_is ∙ none_of c.args.self.now.pending (sym c.pending.ensures ∙ c.if-pending.false))
+    (subst (λ (n : ℕ). IsFromServer n c.next_again-reply.result) c.self.invariant.7.vhost c.next_again-reply.ensures.from) whole ∙ ap
     (λ o. frames_of i.policy i.sent (told_of_files i.policy o)) c.next_again-reply.ensures.says in
     let transfers : c.next_again-reply.new.self.transfers ≡ ticked i.moment true i.files.transfers = ap (λ (s : Serving). s.transfers) c.next_again-reply.ensures.list in
     ap (next_again i.moment) transfers
@@ -100,4 +106,4 @@ returns-clause-none c ended none =
     (λ said is. said_fits i.files.vhost c.next_again-reply.result room said c.next_again-reply.ensures.from (c.next_again-reply.ensures.says ∙ is)) refl owed none
 
 pub returns-clause-still : goal.returns-clause-still
-returns-clause-still c is = none_of c.put_packet.new.outgoing (sym c.pending-2.ensures ∙ is) ∙ sym (none_of c.args.self.now.pending (sym c.pending.ensures ∙ c.if-pending.false))
+returns-clause-still c is = none_of c.put_reply.new.outgoing (sym c.pending-2.ensures ∙ is) ∙ sym (none_of c.args.self.now.pending (sym c.pending.ensures ∙ c.if-pending.false))

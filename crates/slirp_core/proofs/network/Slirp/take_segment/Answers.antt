@@ -3,7 +3,7 @@ use Rattle.world_face.specs.Journal.{AreAllowed, Entry, Connect}
 use Rattle.world_face.specs.Tells.{Brings, Makes}
 use Rattle.world_face.specs.declared.Made.TheVariants.{Done, Failed}
 use Rattle.world_face.proofs.Telling.{makes_next, makes_then}
-use Rattle.host_policy.specs.Addresses.{Config}
+use Rattle.slirp_settings.specs.Addresses.{Config}
 use Rattle.slirp_laws.specs.Answers.{frames_of, reset_for}
 use Rattle.udp_assoc.proofs.Below.{below_up}
 use Rattle.flows_follow.specs.Seats.{in_use_slots}

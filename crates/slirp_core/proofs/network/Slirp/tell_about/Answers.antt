@@ -1,8 +1,8 @@
 use Rattle.std.proofs.Common.{◌≡◌, ℕ, ◌==◌, ◌||◌, false, List, sym, ◌∙◌, ap}
 use Rattle.net_octets.specs.Kinds.{icmp_proto}
 use Rattle.net_octets.specs.Octets.{our_mac}
-use Rattle.host_policy.specs.Addresses.{Config, last_address}
-use Rattle.host_policy.specs.Targets.{is_group_or_reserved}
+use Rattle.slirp_settings.specs.Addresses.{Config, last_address}
+use Rattle.slirp_settings.specs.Classes.{is_group_or_reserved}
 use Rattle.icmp_echo.specs.Icmp.{unreachable_octets}
 use Rattle.slirp_laws.specs.Answers.{datagram_frames, is_untold, frames_of, told_about}
 use Rattle.slirp_core.specs.Datagrams.{datagram_of}

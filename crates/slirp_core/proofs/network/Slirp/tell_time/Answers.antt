@@ -11,7 +11,7 @@ use Rattle.slirp_core.specs.Hearing.{WhereItTicks}
 use Rattle.slirp_core.proofs.Called.{flows_put, told_rising, told_the_time, without_over}
 use Rattle.slirp_core.proofs.Services.{server_on}
 use Rattle.tftp_server.specs.Serving.{Serving}
-use Rattle.tftp_server.specs.Transfers.{Transfer}
+use Rattle.tftp_rules.specs.Transfers.{Transfer}
 use Rattle.slirp_core.proofs.Drawn.{drawn_stay}
 use Rattle.slirp_core.proofs.Telling.{brings_allowed}
 use Rattle.slirp_core.proofs.Viewed.{state_of}

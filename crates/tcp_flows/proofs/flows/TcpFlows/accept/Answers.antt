@@ -4,7 +4,7 @@ use Rattle.sock_buffers.specs.Downward.{downward}
 use Rattle.sock_buffers.specs.Upward.{empty}
 use Rattle.tcp_connection.specs.Connection.{HasBuffers, to_guest}
 use Rattle.flow_laws.specs.Flow.{first_number}
-use Rattle.host_policy.specs.Addresses.{Config}
+use Rattle.slirp_settings.specs.Addresses.{Config}
 use Rattle.tcp_flows.specs.Kept.{IsFor, Kept}
 use Rattle.tcp_flows.specs.Runs.{Welcomes}
 use Rattle.tcp_flows.proofs.Joining.{welcomes_again, welcomes_of}

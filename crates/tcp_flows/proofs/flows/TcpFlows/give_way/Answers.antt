@@ -3,7 +3,7 @@ use Rattle.std.proofs.lemmas.List.{length-set}
 use Rattle.std.proofs.lemmas.Option.{slice_get_within}
 use Rattle.std.specs.List.{list_any}
 use Rattle.world_face.specs.Journal.{Close, Entry}
-use Rattle.host_policy.specs.Addresses.{Config}
+use Rattle.slirp_settings.specs.Addresses.{Config}
 use Rattle.slirp_laws.specs.Agenda.{agenda}
 use Rattle.tcp_flows.specs.Runs.{Between, Leaves}
 use Rattle.world_face.proofs.Telling.{makes_as, makes_none}

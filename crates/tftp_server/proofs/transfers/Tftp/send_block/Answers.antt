@@ -1,8 +1,8 @@
 -- The block's packet is the last of all.
 use Rattle.std.proofs.Common.{◌≡◌, ℕ, ◌+◌, ◌-◌, ◌*◌, ◌≤◌, ◌%◌, ◌^◌, min, nat_lt, List, [], ◌∷◌, ◌++◌, length, take, sym, ◌∙◌, ap, arith}
 use Rattle.std.proofs.lemmas.List.{length-take-le}
-use Rattle.tftp_server.specs.Packets.{block_octets}
-use Rattle.tftp_server.specs.Transfers.{sending}
+use Rattle.tftp_rules.specs.Packets.{block_octets}
+use Rattle.tftp_rules.specs.Transfers.{sending}
 use Rattle.tftp_server.specs.Serving.{Serving}
 use Rattle.tftp_server.specs.Rows.{next_of}
 use Rattle.tftp_server.proofs.transfers.Tftp.send_block.Goals as goal

@@ -1,10 +1,11 @@
-use Rattle.std.proofs.Common.{◌≡◌, ℕ, nat_lt, List, length, slice_get, get_or, Option, Some, None, is_some, IfSome, Bor, refl, sym, ◌∙◌, subst, arith}
+use Rattle.std.proofs.Common.{◌≡◌, ℕ, nat_lt, List, length, slice_get, get_or, Option, Some, None, is_some, IfSome, Bor, refl, sym, ◌∙◌, ap, subst, arith}
 use Rattle.std.proofs.lemmas.Bool.Decides.{nat_tests}
 use Rattle.std.proofs.lemmas.Option.{slice_get_past, slice_get_read}
-use Rattle.std.specs.List.Sorted.{IsPermutation, IsNonDecreasing}
+use Rattle.std.specs.List.Sorted.{IsPermutation}
 use Rattle.std.specs.Option.{option_copied}
-use Rattle.udp_assoc.specs.Associations.{numbers}
+use Rattle.udp_rules.specs.Associations.{numbers}
 use Rattle.udp_assoc.specs.State.{AssocsState}
+use Rattle.udp_assoc.proofs.Keeping.{numbers_are}
 use Rattle.udp_assoc.proofs.sockets.Assocs.socket.Goals as goal
 
 -- the item at a place
@@ -16,5 +17,5 @@ pub returns : goal.returns
 returns c =
     let rising = c.rising.result.now in
     let found = c.copied.ensures ∙ item_at rising c.args.k c.get.result c.get.ensures.lookup.0 c.get.ensures.lookup.1 in
-    subst (λ (s : AssocsState). (l : List ℕ) × IsPermutation (numbers s.list) l × IsNonDecreasing l × (c.copied.result ≡ slice_get l c.args.k)) c.self.view_is
-    (rising, c.rising.ensures.all, c.rising.ensures.rising, found)
+    let all = subst (λ (l : List ℕ). IsPermutation l rising) (numbers_are c.self.inside.list ∙ ap (λ (s : AssocsState). numbers s.list) c.self.view_is) c.rising.ensures.all in
+    (rising, all, c.rising.ensures.rising, found)

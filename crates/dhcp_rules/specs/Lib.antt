@@ -1,0 +1,5 @@
+pub mod History
+pub mod Leases
+pub mod Messages
+pub mod Replies
+pub mod Serving

@@ -1,0 +1,65 @@
+//! Which addresses are lent to whom, and how a client's message is answered (RFC 2131). What is said of them is in `specs/`; the laws of a history of messages are in `history`.
+#![tactic(auto)]
+
+mod history;
+
+pub use history::{
+    a_refusal_is_sent_where_the_rules_have_one, an_address_that_was_lent_stays_its_clients,
+    each_answer_has_its_reason,
+};
+use net_octets::{Ip4, Mac};
+
+/// How many addresses are lent.
+pub const POOL: usize = 16;
+
+/// What has become of an address, and until which moment, in milliseconds.
+#[derive(Clone, Copy, Debug, PartialEq, Eq)]
+pub enum Lease {
+    /// Nobody has it.
+    Free,
+    /// It was offered to this hardware address.
+    Reserved(Mac, u64),
+    /// It is lent to this hardware address.
+    Bound(Mac, u64),
+    /// A client found it in use, and nobody gets it.
+    Declined(u64),
+}
+
+/// What a message of a client says.
+#[derive(Clone, Copy, Debug, PartialEq, Eq)]
+pub struct Message {
+    /// The number by which the client knows its reply.
+    pub ident: [u8; 4],
+    pub flags: [u8; 2],
+    /// The address that the client has, or 0.
+    pub client: Ip4,
+    pub mac: Mac,
+    /// Option 53.
+    pub kind: u8,
+    /// Option 50, the address that the client asks for.
+    pub asked: Option<Ip4>,
+    /// Option 54, the server that it chose.
+    pub server: Option<Ip4>,
+}
+
+/// How a message is answered.
+#[derive(Clone, Copy, Debug, PartialEq, Eq)]
+pub enum Answer {
+    /// Not at all.
+    Silence,
+    /// By an OFFER of the address at this place.
+    Offers(usize),
+    /// By an ACK with the address at this place.
+    Lends(usize),
+    /// By an ACK without an address.
+    Informs,
+    /// By a NAK.
+    Refuses,
+}
+
+/// What a message leaves of the leases, and how it is answered.
+#[derive(Clone, Copy, Debug, PartialEq, Eq)]
+pub struct Outcome {
+    pub leases: [Lease; POOL],
+    pub answer: Answer,
+}

@@ -1,5 +1,0 @@
-use Rattle.std.proofs.Common.{length}
-use Rattle.host_policy.proofs.ranges.+no_host_port_twice.Given as goal
-
-abbrev pub decreases-no_host_port_twice : goal.decreases-no_host_port_twice
-decreases-no_host_port_twice l = length l.forwards.now

@@ -1,0 +1,9 @@
+pub mod Changing
+pub mod Finding
+pub mod Keeping
+pub mod Linking
+pub mod Mapping
+pub mod Ordering
+pub mod Tabling
+pub mod Using
+pub mod Yielding

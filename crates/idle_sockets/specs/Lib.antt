@@ -1,0 +1,5 @@
+pub mod Numbers
+pub mod Sockets
+pub mod Rows
+pub mod Links
+pub mod Closing

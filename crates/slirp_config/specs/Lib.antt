@@ -1,8 +1,0 @@
-pub mod Texts
-pub mod Rules
-pub mod Options
-pub mod Values
-pub mod Meaning
-pub mod Stops
-pub mod Walking
-pub mod Narrowing

@@ -1,0 +1,11 @@
+pub mod Choosing
+pub mod Listing
+pub mod Naming
+pub mod Repeating
+pub mod Staying
+pub mod Turning
+pub mod Following
+pub mod Bringing
+pub mod Reading
+pub mod Ticking
+pub mod Waiting

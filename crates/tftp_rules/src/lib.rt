@@ -1,0 +1,9 @@
+//! Which file a port of a guest gets, block after block, and what a packet says (RFC 1350; RFC 2347 to 2349). What is said of these is in `specs/`; there is no code to run: each function of `laws` is a law.
+#![tactic(auto)]
+
+mod laws;
+
+pub use laws::{
+    a_block_is_told_after_the_acknowledgement_of_the_one_before, a_packet_goes_again_five_times,
+    names_stay_in_the_folder, the_octets_of_a_block_are_those_read_at_its_place,
+};
