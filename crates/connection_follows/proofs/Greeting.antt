@@ -6,10 +6,10 @@ use Rattle.seq_space.specs.Places.{number_of}
 use Rattle.sock_buffers.specs.Downward.{Downward}
 use Rattle.sock_buffers.specs.Kept.{Octets}
 use Rattle.sock_buffers.specs.Upward.{Upward}
-use Rattle.tcp_segment.specs.Tcp.{Tcp}
+use Rattle.tcp_segment.specs.Tcp.{Tcp, mss_of}
 use Rattle.tcp_transmit.specs.Transmission.{Transmission}
 use Rattle.tcp_connection.specs.Connection.{Connection, HasBuffers, is_synchronized}
-use Rattle.tcp_connection.specs.Segments.{greeted, mss_of}
+use Rattle.tcp_connection.specs.Segments.{greeted}
 use Rattle.tcp_connection.specs.declared.Stage.{Stage}
 use Rattle.tcp_connection.specs.declared.Stage.TheVariants as stage
 use Rattle.flow_laws.specs.Settings.{Settings}

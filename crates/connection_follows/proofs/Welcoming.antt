@@ -10,14 +10,14 @@ use Rattle.seq_space.specs.Places.{number_of}
 use Rattle.seq_space.specs.declared.Seq.{Seq}
 use Rattle.sock_buffers.specs.Downward.{Downward}
 use Rattle.sock_buffers.specs.Upward.{Upward}
-use Rattle.tcp_segment.specs.Tcp.{Tcp}
+use Rattle.tcp_segment.specs.Tcp.{Tcp, mss_of}
 use Rattle.tcp_transmit.specs.Acks.{IsSeenAs, after_ack, is_acceptable as is_accepted_ack, octets_acked, place_acked, without}
 use Rattle.tcp_transmit.specs.Timing.{watched_over}
 use Rattle.tcp_transmit.specs.Transmission.{Feeds, IsOfSegments, Transmission, is_sent, octets_read, places}
 use Rattle.tcp_transmit.specs.declared.AckSeen.{AckSeen}
 use Rattle.tcp_transmit.specs.declared.AckSeen.TheVariants.{Old, Same, Forward, FinToo, TooFar}
 use Rattle.tcp_connection.specs.Connection.{Connection, HasBuffers, has_gone, is_opening, is_synchronized, shift_of}
-use Rattle.tcp_connection.specs.Segments.{acknowledged, congested, established, greeted, is_fin_too, mss_of, seen_of}
+use Rattle.tcp_connection.specs.Segments.{acknowledged, congested, established, greeted, is_fin_too, seen_of}
 use Rattle.tcp_connection.specs.declared.Stage.{Stage}
 use Rattle.tcp_connection.specs.declared.Stage.TheVariants as stage
 use Rattle.tcp_connection.proofs.Keeping.{greeted_has}

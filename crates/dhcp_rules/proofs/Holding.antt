@@ -17,8 +17,8 @@ use Rattle.dhcp_rules.specs.declared.Answer.TheVariants.{Silence, Lends, Informs
 use Rattle.dhcp_rules.specs.declared.Outcome.{Outcome}
 use Rattle.dhcp_rules.specs.Leases.{same_mac, at_moment, is_free, is_of, lease_at, place_of, offered, not_reserved, can_have, lend}
 use Rattle.dhcp_rules.specs.Leases.{declined_time, IsOneToOne}
-use Rattle.dhcp_rules.specs.Serving.{leaves, asked_place, offers, discovered, is_for_another, wanted, lends, requested, given_up, outcome_of, served}
-use Rattle.dhcp_rules.specs.History.{Received, Says, leases_over, entry_over, answer_over, discover, request, decline, release, IsForUs, IsOutside, IsAt, IsTaken, IsOpen}
+use Rattle.dhcp_rules.specs.Serving.{discover, request, decline, release, leaves, asked_place, offers, discovered, is_for_another, wanted, lends, requested, given_up, outcome_of, served}
+use Rattle.dhcp_rules.specs.History.{Received, Says, leases_over, entry_over, answer_over, IsForUs, IsOutside, IsAt, IsTaken, IsOpen}
 use Rattle.dhcp_rules.specs.History.{IsRefusal, HasReason}
 use Rattle.dhcp_rules.proofs.Owning.{same_is, map_one, moment_frees, is_offered, all_free, good_after, asked_within}
 

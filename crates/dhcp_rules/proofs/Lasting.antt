@@ -17,9 +17,9 @@ use Rattle.dhcp_rules.specs.declared.Answer.TheVariants.{Silence, Offers, Lends,
 use Rattle.dhcp_rules.specs.declared.Outcome.{Outcome}
 use Rattle.dhcp_rules.specs.Leases.{same_mac, at_moment, is_free, is_of, lease_at, place_of, free_asked, offered, reserved, freed, not_reserved, can_have, lend}
 use Rattle.dhcp_rules.specs.Leases.{lease_time, declined_time}
-use Rattle.dhcp_rules.specs.Serving.{leaves, asked_place, offers, is_for_another, wanted, lends, requested, given_up, outcome_of, served}
+use Rattle.dhcp_rules.specs.Serving.{discover, request, decline, release, leaves, asked_place, offers, is_for_another, wanted, lends, requested, given_up, outcome_of, served}
 use Rattle.dhcp_rules.specs.Messages.{read_message}
-use Rattle.dhcp_rules.specs.History.{Received, Says, leases_over, entry_over, answer_over, discover, request, decline, release, IsForUs, IsAt, IsOpen, IsTaken}
+use Rattle.dhcp_rules.specs.History.{Received, Says, leases_over, entry_over, answer_over, IsForUs, IsAt, IsOpen, IsTaken}
 use Rattle.dhcp_rules.specs.History.{HasReason, IsInDay, GivesUp, KeepsIt, IsLent, IsLentTo, Gives}
 use Rattle.dhcp_rules.proofs.Owning.{same_is, lease_at-map, none_found}
 use Rattle.dhcp_rules.proofs.Holding.{same_of, place_is, inside_some, asked_is, either_if, by_kind, one_at_moment, long_at_moment, answer_is, of_request, of_discover, lends_if}

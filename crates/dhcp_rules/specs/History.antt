@@ -9,23 +9,7 @@ use Rattle.dhcp_rules.specs.declared.Answer.{Answer}
 use Rattle.dhcp_rules.specs.declared.Answer.TheVariants.{Silence, Offers, Lends, Informs, Refuses}
 use Rattle.dhcp_rules.specs.Leases.{at_moment, lease_at, lease_time, address_of, is_of}
 use Rattle.dhcp_rules.specs.Messages.{read_message}
-use Rattle.dhcp_rules.specs.Serving.{leases_after, served, wanted}
-
--- the kinds of a client's messages (RFC 2132, 9.6)
-abbrev pub discover : ℕ
-discover = 1
-
-abbrev pub request : ℕ
-request = 3
-
-abbrev pub decline : ℕ
-decline = 4
-
-abbrev pub release : ℕ
-release = 7
-
-abbrev pub inform : ℕ
-inform = 8
+use Rattle.dhcp_rules.specs.Serving.{discover, request, decline, release, inform, leases_after, served, wanted}
 
 -- what reached the server: at which moment, in milliseconds, and its octets
 pub record Received : Type 0 where

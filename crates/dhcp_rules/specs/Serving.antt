@@ -12,6 +12,22 @@ use Rattle.dhcp_rules.specs.declared.Outcome.{Outcome}
 use Rattle.dhcp_rules.specs.Leases.{at_moment, declined_time, lease_at, place_of, offered, reserve, not_reserved, can_have, lend, replaced}
 use Rattle.dhcp_rules.specs.Messages.{read_message}
 
+-- the kinds of a client's messages (RFC 2132, 9.6)
+abbrev pub discover : ℕ
+discover = 1
+
+abbrev pub request : ℕ
+request = 3
+
+abbrev pub decline : ℕ
+decline = 4
+
+abbrev pub release : ℕ
+release = 7
+
+abbrev pub inform : ℕ
+inform = 8
+
 abbrev pub leaves : List Lease → Answer → Outcome
 leaves leases answer = record { leases = leases; answer = answer }
 
@@ -50,14 +66,14 @@ abbrev pub given_up : Mac → Lease → List Lease → Option ℕ → Outcome
 given_up mac lease leases None = leaves leases Silence
 given_up mac lease leases (Some place) = leaves (replaced mac place lease leases) Silence
 
--- by the kind of the message: DISCOVER, REQUEST, DECLINE, RELEASE, INFORM (RFC 2132, 9.6)
+-- by the kind of the message
 abbrev pub outcome_of : Config → ℕ → Message → List Lease → Outcome
 outcome_of config now m leases =
-    if m.kind == 1 then discovered config now m leases
-    else (if m.kind == 3 then requested config now m leases
-    else (if m.kind == 4 then given_up m.mac (Declined (now + declined_time)) leases (asked_place config m)
-    else (if m.kind == 7 then given_up m.mac Free leases (place_of config m.client.0)
-    else (if m.kind == 8 then leaves leases Informs
+    if m.kind == discover then discovered config now m leases
+    else (if m.kind == request then requested config now m leases
+    else (if m.kind == decline then given_up m.mac (Declined (now + declined_time)) leases (asked_place config m)
+    else (if m.kind == release then given_up m.mac Free leases (place_of config m.client.0)
+    else (if m.kind == inform then leaves leases Informs
     else leaves leases Silence))))
 
 -- the leases whose time is over are free before a message is looked at

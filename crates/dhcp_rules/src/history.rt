@@ -4,10 +4,10 @@ ghost use Rattle.std.specs.Prelude.{◌≡◌, ◌≢◌, ℕ, ◌*◌, List, �
 ghost use Rattle.slirp_settings.specs.Addresses.{Config};
 ghost use Rattle.dhcp_rules.specs.declared.Message.{Message};
 ghost use Rattle.dhcp_rules.specs.declared.Answer.TheVariants.{Informs, Lends, Offers, Refuses};
-ghost use Rattle.dhcp_rules.specs.History.{Received, Says, answer_over, entry_over, discover, inform, request};
+ghost use Rattle.dhcp_rules.specs.History.{Received, Says, answer_over, entry_over};
 ghost use Rattle.dhcp_rules.specs.History.{Gives, HasReason, IsAt, IsForUs, IsInDay, IsLease, IsLent, IsLentTo, IsOffer, IsRefusal};
 ghost use Rattle.dhcp_rules.specs.Leases.{lease_time};
-ghost use Rattle.dhcp_rules.specs.Serving.{wanted};
+ghost use Rattle.dhcp_rules.specs.Serving.{discover, inform, request, wanted};
 
 /// Each answer answers the message that asks for it. An OFFER is sent only for a DISCOVER, and by it an address that the client can have, its own where it has
 /// one (RFC 2131, 4.3.1); an ACK with an address only for a REQUEST for it, and without one only for an INFORM (4.3.2, 4.3.5).

@@ -12,6 +12,24 @@ use net_octets::{Ip4, Mac};
 /// How many addresses are lent.
 pub const POOL: usize = 16;
 
+// The kinds of messages (RFC 2132, 9.6).
+
+pub const DISCOVER: u8 = 1;
+
+pub const OFFER: u8 = 2;
+
+pub const REQUEST: u8 = 3;
+
+pub const DECLINE: u8 = 4;
+
+pub const ACK: u8 = 5;
+
+pub const NAK: u8 = 6;
+
+pub const RELEASE: u8 = 7;
+
+pub const INFORM: u8 = 8;
+
 /// What has become of an address, and until which moment, in milliseconds.
 #[derive(Clone, Copy, Debug, PartialEq, Eq)]
 pub enum Lease {

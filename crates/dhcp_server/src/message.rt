@@ -5,7 +5,7 @@ ghost use Rattle.net_octets.specs.Octets.{part};
 ghost use Rattle.tlv_table.specs.Reading.{first_body};
 ghost use Rattle.dhcp_rules.specs.Messages.{is_request, one_in, address_in, options_in, message_of, read_message};
 
-use crate::options_read;
+use crate::options::{ASKED_ADDRESS, MESSAGE_KIND, SERVER, options_read};
 use byteorder::{BigEndian, ByteOrder};
 use dhcp_rules::Message;
 use net_octets::{Ip4, Mac};
@@ -51,8 +51,8 @@ fn message_with(octets: &[u8], fields: &Fields<'_, 5>) -> Option<Message>
             client: Ip4(BigEndian::read_u32(&octets[12..16])),
             mac: Mac::at(octets, 28),
             kind,
-            asked: address_of(fields, 50),
-            server: address_of(fields, 54),
+            asked: address_of(fields, ASKED_ADDRESS),
+            server: address_of(fields, SERVER),
         }),
         None => None,
     }
@@ -62,7 +62,7 @@ fn message_with(octets: &[u8], fields: &Fields<'_, 5>) -> Option<Message>
 fn kind_in(fields: &Fields<'_, 5>) -> Option<u8>
     ensures { result ≡ option_and_then one_in (first_body 53 fields.now) }
 {
-    match fields.first(53) {
+    match fields.first(MESSAGE_KIND) {
         Some(body) => one_in(body),
         None => None,
     }

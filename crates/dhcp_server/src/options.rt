@@ -5,6 +5,32 @@ ghost use Rattle.dhcp_rules.specs.Replies.{rows_written};
 
 use tlv_table::{Form, Table, rows};
 
+// The codes of options (RFC 2132, 3 and 9). `rows!` takes no names: the tables below have the numbers.
+
+pub(crate) const SUBNET_MASK: u8 = 1;
+
+pub(crate) const ROUTER: u8 = 3;
+
+pub(crate) const NAME_SERVERS: u8 = 6;
+
+pub(crate) const HOST_NAME: u8 = 12;
+
+pub(crate) const DOMAIN_NAME: u8 = 15;
+
+pub(crate) const ASKED_ADDRESS: u8 = 50;
+
+/// In seconds.
+pub(crate) const LEASE_TIME: u8 = 51;
+
+pub(crate) const MESSAGE_KIND: u8 = 53;
+
+/// The address of the server that answers, or that a client chose.
+pub(crate) const SERVER: u8 = 54;
+
+pub(crate) const TFTP_SERVER_NAME: u8 = 66;
+
+pub(crate) const BOOT_FILE: u8 = 67;
+
 /// Options are a code, the length of the body and the body, a pad is 0, and 255 ends them (RFC 2132, 2).
 const FORM: Form = Form {
     end: 255,

@@ -8,9 +8,12 @@ ghost use Rattle.dhcp_rules.specs.Replies.{rows_written, kind_of, is_ack, is_sil
 ghost use Rattle.dhcp_rules.specs.Replies.{name_server, lease_option, network_options, further_options, options, goes_to_all, datagram_of, reply_octets, reply_of, octets_of_reply};
 ghost use Rattle.dhcp_server.specs.Writing.{Adds};
 
-use crate::options_written;
+use crate::options::{
+    BOOT_FILE, DOMAIN_NAME, HOST_NAME, LEASE_TIME, MESSAGE_KIND, NAME_SERVERS, ROUTER, SERVER,
+    SUBNET_MASK, TFTP_SERVER_NAME, options_written,
+};
 use arrayvec::ArrayVec;
-use dhcp_rules::{Answer, Message};
+use dhcp_rules::{ACK, Answer, Message, NAK, OFFER};
 use net_octets::{Endpoint, Ip4, Mac};
 use slirp_settings::{CLIENT_PORT, LEASES_PORT, SlirpConfig};
 use tlv_table::Table;
@@ -132,7 +135,11 @@ fn put_addresses(
 fn own_address(m: &Message, answer: Answer) -> u32
     ensures { result ≡ (if is_ack answer then m.now.client.0 else 0) }
 {
-    if kind_of(answer) == 5 { m.client.0 } else { 0 }
+    if kind_of(answer) == ACK {
+        m.client.0
+    } else {
+        0
+    }
 }
 
 // The server that comes next is the virtual host.
@@ -176,8 +183,8 @@ fn put_options(config: &SlirpConfig, answer: Answer, into: &mut [u8], at: usize)
     ensures end { result ≤ at + 549 }
 {
     let table = options_written();
-    let at = put(&table, 53, &[kind_of(answer)], into, at);
-    let at = put_number(&table, 54, config.vhost.0, into, at);
+    let at = put(&table, MESSAGE_KIND, &[kind_of(answer)], into, at);
+    let at = put_number(&table, SERVER, config.vhost.0, into, at);
     put_further(&table, config, answer, into, at)
 }
 
@@ -210,7 +217,7 @@ fn put_lease(table: &Table<10>, config: &SlirpConfig, into: &mut [u8], at: usize
     ensures written { Adds into.old at into.new result (put_octets form (lease_option ++ network_options (settings config.now))) }
     ensures end { result ≤ at + 540 }
 {
-    let at = put_number(table, 51, LEASE_SECONDS, into, at);
+    let at = put_number(table, LEASE_TIME, LEASE_SECONDS, into, at);
     put_network(table, config, into, at)
 }
 
@@ -221,13 +228,13 @@ fn put_network(table: &Table<10>, config: &SlirpConfig, into: &mut [u8], at: usi
     ensures written { Adds into.old at into.new result (put_octets form (network_options (settings config.now))) }
     ensures end { result ≤ at + 534 }
 {
-    let at = put_number(table, 1, config.vnetmask.0, into, at);
+    let at = put_number(table, SUBNET_MASK, config.vnetmask.0, into, at);
     let at = put_router(table, config, into, at);
     let at = put_name_server(table, config, into, at);
-    let at = put_text(table, 12, &config.vhostname, into, at);
-    let at = put_text(table, 15, &config.vdomainname, into, at);
-    let at = put_text(table, 66, &config.tftp_server_name, into, at);
-    put_text(table, 67, &config.bootfile, into, at)
+    let at = put_text(table, HOST_NAME, &config.vhostname, into, at);
+    let at = put_text(table, DOMAIN_NAME, &config.vdomainname, into, at);
+    let at = put_text(table, TFTP_SERVER_NAME, &config.tftp_server_name, into, at);
+    put_text(table, BOOT_FILE, &config.bootfile, into, at)
 }
 
 // The router, where guests aren't restricted.
@@ -240,7 +247,7 @@ fn put_router(table: &Table<10>, config: &SlirpConfig, into: &mut [u8], at: usiz
     if config.restricted {
         return at;
     }
-    put_number(table, 3, config.vhost.0, into, at)
+    put_number(table, ROUTER, config.vhost.0, into, at)
 }
 
 // The name server, where names are served.
@@ -251,7 +258,7 @@ fn put_name_server(table: &Table<10>, config: &SlirpConfig, into: &mut [u8], at:
     ensures end { result ≤ at + 6 }
 {
     if config.resolver.is_some() && !config.restricted && !config.disable_dns {
-        put_number(table, 6, config.vnameserver.0, into, at)
+        put_number(table, NAME_SERVERS, config.vnameserver.0, into, at)
     } else {
         at
     }
@@ -295,9 +302,9 @@ fn kind_of(answer: Answer) -> u8
 {
     match answer {
         Answer::Silence => 0,
-        Answer::Offers(_) => 2,
-        Answer::Lends(_) | Answer::Informs => 5,
-        Answer::Refuses => 6,
+        Answer::Offers(_) => OFFER,
+        Answer::Lends(_) | Answer::Informs => ACK,
+        Answer::Refuses => NAK,
     }
 }
 

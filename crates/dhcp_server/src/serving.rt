@@ -5,30 +5,32 @@ ghost use Rattle.dhcp_rules.specs.Leases.{at_moment, is_free, is_of, place_of, o
 ghost use Rattle.dhcp_rules.specs.Serving.{asked_place, discovered, is_for_another, wanted, lends, requested, given_up, outcome_of};
 
 use crate::leases::{at_moment, bound, can_have, freed, is_free, is_of, not_reserved, reserved};
-use dhcp_rules::{Answer, Lease, Message, Outcome, POOL};
+use dhcp_rules::{
+    Answer, DECLINE, DISCOVER, INFORM, Lease, Message, Outcome, POOL, RELEASE, REQUEST,
+};
 use net_octets::{Ip4, Mac};
 use slirp_settings::SlirpConfig;
 
 /// How many milliseconds an address that a client declined is kept from use.
 const DECLINED_TIME: u64 = 3_600_000;
 
-/// What a message does at a moment, by its kind: DISCOVER (1), REQUEST (3), DECLINE (4), RELEASE (7) or INFORM (8).
+/// What a message does at a moment, by its kind: DISCOVER, REQUEST, DECLINE, RELEASE or INFORM.
 pub fn outcome_of(config: &SlirpConfig, now: u64, m: &Message, leases: [Lease; POOL]) -> Outcome
     requires { now ≤ 2 ^ 62 }
     ensures { result ≡ outcome_of (settings config.now) now m.now (map (at_moment now) leases) }
 {
     let leases = leases_at(leases, now);
     match m.kind {
-        1 => discovered(config, now, m, leases),
-        3 => requested(config, now, m, leases),
-        4 => given_up(
+        DISCOVER => discovered(config, now, m, leases),
+        REQUEST => requested(config, now, m, leases),
+        DECLINE => given_up(
             m.mac,
             Lease::Declined(now + DECLINED_TIME),
             leases,
             asked_place(config, m),
         ),
-        7 => given_up(m.mac, Lease::Free, leases, place_of(config, m.client)),
-        8 => leaves(leases, Answer::Informs),
+        RELEASE => given_up(m.mac, Lease::Free, leases, place_of(config, m.client)),
+        INFORM => leaves(leases, Answer::Informs),
         _ => leaves(leases, Answer::Silence),
     }
 }

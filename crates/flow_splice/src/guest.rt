@@ -7,6 +7,7 @@ ghost use Rattle.tcp_segment.specs.Tcp.{tcp_of};
 ghost use Rattle.tcp_transmit.specs.Transmission.{octets_read};
 ghost use Rattle.world_face.specs.Tells.{Makes};
 ghost use Rattle.flow_laws.specs.Flow.{is_ahead};
+ghost use Rattle.flow_splice.specs.Guests.{renews};
 
 use crate::{Place, Spliced};
 use seq_space::Seq;
@@ -15,7 +16,7 @@ use tcp_segment::TcpView;
 use world_face::World;
 
 impl Spliced {
-    ghost use Rattle.flow_splice.specs.Guests.{Hears, ends_rest as ends_rest_by, heard, heard_at_rest, is_unfit, renews, turns_away};
+    ghost use Rattle.flow_splice.specs.Guests.{Hears, ends_rest as ends_rest_by, heard, heard_at_rest, is_unfit, turns_away};
     ghost use Rattle.flow_splice.specs.Stays.{StaysButHeard};
     ghost use Rattle.flow_splice.specs.Shapes.{is_at_most_a_close};
     ghost use Rattle.flow_splice.specs.Splice.{is_at_rest, is_open as is_open_by, is_time_wait, rests_by};
@@ -129,9 +130,15 @@ impl Spliced {
         requires { is_time_wait self.old.conn.stage ≡ true }
         ensures { self.new ≡ record self.old { place = Resting (if renews (tcp_of seg.now) then now else since) } }
     {
-        let anew = seg.is_fin() && seg.is_ack() && !seg.is_syn() && !seg.is_rst();
-        self.place = Place::Resting(later_if(anew, now, since));
+        self.place = Place::Resting(later_if(renews(seg), now, since));
     }
+}
+
+/// Whether a segment that comes to a flow at rest begins the rest anew: FIN and ACK, and neither SYN nor RST (RFC 9293, 3.10.7.4, TIME-WAIT).
+pub fn renews(seg: &TcpView<'_>) -> bool
+    ensures { result ≡ renews (tcp_of seg.now) }
+{
+    seg.is_fin() && seg.is_ack() && !seg.is_syn() && !seg.is_rst()
 }
 
 // The later moment, or the earlier.

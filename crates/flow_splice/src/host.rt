@@ -182,11 +182,25 @@ impl Spliced {
         ensures few { count_of result ≤ min 16384 (length self.old.up.held) }
         ensures buffers { HasBuffers self.new.conn self.new.up self.new.down }
     {
-        let count = self.up.front_piece(&mut scratch.octets);
-        let answer = world.tcp_write(self.number, &scratch.octets[..count]);
+        let answer = self.write_front(world, scratch);
         self.up.written(answer.count());
         self.last = later_if(answer.count() > 0, now, self.last);
         answer
+    }
+
+    // Offers the oldest octets as they stand, where they stand in one piece.
+    fn write_front<W: World>(&self, world: &mut W, scratch: &mut Scratch) -> Io
+        requires some { 0 < length self.now.up.held }
+        ensures offers { Answers (W.tells world.old) (W.tells world.new)
+            (TcpWrite self.now.face.number (take (min 16384 (length self.now.up.held)) self.now.up.held) result) }
+        ensures few { count_of result ≤ min 16384 (length self.now.up.held) }
+    {
+        let most = self.up.held().min(MOST_TO_FLOW);
+        if let Some(octets) = self.up.front(most) {
+            return world.tcp_write(self.number, octets);
+        }
+        let count = self.up.front_piece(&mut scratch.octets);
+        world.tcp_write(self.number, &scratch.octets[..count])
     }
 
     // Passes on the guest's end, where it was taken and none of its octets is held any more.

@@ -30,6 +30,7 @@ ghost use Rattle.connection_follows.specs.Holding.{is_connects, is_live};
 ghost use Rattle.connection_follows.specs.Seen.{segment_of};
 ghost use Rattle.flow_splice.specs.Wants.{sooner};
 
+pub use guest::renews;
 use net_octets::{Endpoint, Ip4, Mac, NoMemory};
 use poll_list::{Want, Who};
 pub use scratch::Scratch;
@@ -38,6 +39,7 @@ use sock_buffers::{Down, Up};
 use std::alloc::Global;
 use std::marker::Model;
 use tcp_connection::{Change, Conn};
+use tcp_segment::USUAL_MSS;
 use world_face::World;
 
 /// How long a socket may take to connect, in milliseconds.
@@ -172,7 +174,7 @@ impl Spliced {
             asked: 0,
             ask_at: 0,
             asks: true,
-            conn: Conn::to_guest(Seq(0), 536, ring as u32, false),
+            conn: Conn::to_guest(Seq(0), USUAL_MSS, ring as u32, false),
             up,
             down,
             mru,

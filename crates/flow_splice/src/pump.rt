@@ -1,6 +1,7 @@
 // What a flow owes its guest goes out on the link.
 ghost use Rattle.std.specs.Prelude.{◌≡◌, ℕ, ◌^◌, ◌<◌, ◌≤◌, List, ◌++◌, [], None, Some, length, true, false};
 ghost use Rattle.world_face.specs.Frames.{spelling};
+ghost use Rattle.world_face.specs.Limits.{most_to_link};
 ghost use Rattle.world_face.specs.Journal.{Entry};
 ghost use Rattle.world_face.specs.Tells.{Makes, Rose};
 ghost use Rattle.stream_netdev.specs.Keeps.{Keeps, Settles, Writes};
@@ -22,7 +23,7 @@ use crate::time::REQUESTS;
 use crate::{Place, Spliced};
 use net_octets::{Ip4, Mac};
 use sock_buffers::Down;
-use stream_netdev::{Link, Offered, Pumped, outcome};
+use stream_netdev::{LENGTH, Link, Offered, Pumped, outcome, spell};
 use tcp_connection::{Change, Head, Owed};
 use world_face::World;
 
@@ -87,7 +88,7 @@ fn offer_frame<W: World>(
     requires held { IsHeld down.now what.now }
     requires mru { 40 ≤ mru }
     requires fits { frame_length head.now mru down.now what.now ≤ most_frame }
-    requires room { most_frame ≤ length buffer.old }
+    requires room { most_to_link ≤ length buffer.old }
     requires none { link.old.tail ≡ [] }
     requires free { link.old.blocked ≡ false }
     ensures makes { (number : ℕ) → Makes (W.tells world.old) (W.tells world.new) (λ made.
@@ -102,8 +103,9 @@ fn offer_frame<W: World>(
     ensures sized { (number : ℕ) → IsSized (record { guest = route.now.guest; other = route.now.other; number = number; vhost = route.now.vhost })
         route.now.mac route.now.ident (with_head head.now mru down.now what.now) }
 {
-    let length = write_frame(route, head, what, mru, down, buffer);
-    link.offer(world, &buffer[..length])
+    let length = write_frame(route, head, what, mru, down, &mut buffer[LENGTH..]);
+    let size = spell(buffer, length);
+    link.offer(world, &buffer[..size])
 }
 
 impl Spliced {
@@ -411,7 +413,7 @@ fn offer_arp<W: World>(
     guest: Ip4,
     buffer: &mut [u8],
 ) -> Offered
-    requires room { most_frame ≤ length buffer.old }
+    requires room { most_to_link ≤ length buffer.old }
     requires none { link.old.tail ≡ [] }
     requires free { link.old.blocked ≡ false }
     ensures makes { (other at : Endpoint) (number : ℕ) → Makes (W.tells world.old) (W.tells world.new) (λ made.
@@ -422,8 +424,9 @@ fn offer_arp<W: World>(
     ensures same { under_way link.new ≡ under_way link.old }
     ensures room { length buffer.new ≡ length buffer.old }
 {
-    let length = write_request(vhost, guest, buffer);
-    link.offer(world, &buffer[..length])
+    let length = write_request(vhost, guest, &mut buffer[LENGTH..]);
+    let size = spell(buffer, length);
+    link.offer(world, &buffer[..size])
 }
 
 // Whether it is our SYN or SYN-ACK.

@@ -1,3 +1,4 @@
+mod Blocks
 pub mod Folds
 pub mod Oks
 pub mod Parts

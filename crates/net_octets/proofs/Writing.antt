@@ -1,6 +1,6 @@
 -- Octets that are written one part after another stand one after another.
 use Rattle.std.proofs.Common.{◌≡◌, ℕ, ◌+◌, ◌-◌, ◌≤◌, List, ◌++◌, length, take, drop, sym, ap, ◌∙◌, arith, append_assoc}
-use Rattle.std.proofs.lemmas.List.{take_at, drop_at, drop-drop, drop-take, take-append-drop}
+use Rattle.std.proofs.lemmas.List.{take_at, drop_at, drop-drop, drop-take, length-take-le, take-append-drop, take-append-le}
 use borrow.Rule.Slice.PartMut.{put_mid}
 
 -- what a part of a slice keeps behind its front, and what follows that part
@@ -39,3 +39,8 @@ written done w old now ys i n j is wrote long at =
     ∙ ap (λ (xs : List ℕ). done ++ (w ++ drop n xs)) back
     ∙ sym (append_assoc done w (drop n rest))
     ∙ ap (λ (xs : List ℕ). (done ++ w) ++ xs) (drop-drop n i old ∙ ap (λ (m : ℕ). drop m old) at)
+
+-- what is written behind a front stands behind it
+pub behind : (i k n : ℕ) (now ys : List ℕ) → i ≤ length now → n ≤ length ys → take n (drop i (put_mid i k now ys)) ≡ take n ys
+behind i k n now ys le few =
+    ap (take n) (drop_at (take i now) (ys ++ drop k (drop i now)) i (length-take-le i now le)) ∙ take-append-le n ys (drop k (drop i now)) few

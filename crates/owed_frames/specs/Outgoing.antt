@@ -1,5 +1,6 @@
 -- The frames that aren't out yet.
-use Rattle.std.specs.Prelude.{ℕ, ◌==◌, ◌≤◌, List, [], ◌∷◌, map, take, if◌then◌else◌}
+use Rattle.std.specs.Prelude.{◌≡◌, ℕ, ◌==◌, ◌<◌, ◌≤◌, List, [], ◌∷◌, drop, map, take, if◌then◌else◌}
+use Rattle.world_face.specs.Frames.{spelling}
 use Rattle.net_octets.specs.Kinds.{icmp_proto, tcp_proto, udp_proto}
 use Rattle.icmp_echo.specs.Icmp.{Icmp, icmp_octets}
 use Rattle.ipv4_head.specs.Cuts.{cuts_from}
@@ -15,9 +16,13 @@ frames_left plan octets =
     map (part_frame plan.course.to_mac.0 plan.course.from_mac.0 plan.course.ident plan.proto plan.course.from.0 plan.course.to.0)
     (cuts_from plan.course.mtu (uncut (take plan.size octets)) plan.next plan.left)
 
--- a frame of this length at the front of the octets, or none
+-- the frame that stands behind its length in so many octets at the front, or none
 abbrev pub frames_in : ℕ → List ℕ → List (List ℕ)
-frames_in length octets = if length == 0 then [] else take length octets ∷ []
+frames_in size octets = if size == 0 then [] else drop 4 (take size octets) ∷ []
+
+-- what stands there is a frame behind its length
+abbrev pub IsSpelt : ℕ → List ℕ → Type 0
+IsSpelt size octets = 0 < size → take size octets ≡ spelling (drop 4 (take size octets))
 
 -- the octets of a segment, as one word
 unfoldable pub segment_octets : (from to : ℕ) → Tcp → List ℕ

@@ -10,7 +10,7 @@ ghost use Rattle.tcp_segment.specs.Tcp.{tcp_length, tcp_of};
 ghost use Rattle.owed_frames.specs.Outgoing.{MayBeCut, message_frames, segment_frames, segment_octets, udp_frames};
 ghost use Rattle.slirp_laws.specs.Answers.{part_frame, uncut};
 ghost use Rattle.net_octets.specs.Sizes.{most_carried, most_frame};
-ghost use Rattle.world_face.specs.Limits.{most_to_udp};
+ghost use Rattle.world_face.specs.Limits.{most_to_link, most_to_udp};
 
 use crate::outgoing::Course;
 use ether_frame::EtherView;
@@ -20,6 +20,7 @@ use ipv4_reasm::cut;
 use net_octets::{ICMP_PROTO, IPV4_KIND, Ip4, MOST_CARRIED, Mac, NoMemory, TCP_PROTO, UDP_PROTO};
 use std::alloc::Global;
 use std::marker::Model;
+use stream_netdev::{LENGTH, spell};
 use tcp_segment::TcpView;
 use udp_datagram::UdpView;
 
@@ -65,7 +66,7 @@ impl Model for Cutting {
 
 impl Cutting {
     ghost use Rattle.std.specs.Prelude.{[], ◌++◌, IfOk};
-    ghost use Rattle.owed_frames.specs.Outgoing.{frames_in};
+    ghost use Rattle.owed_frames.specs.Outgoing.{IsSpelt, frames_in};
 
     /// No datagram, and the room for one.
     pub fn open(alloc: Global) -> Result<Cutting, NoMemory>
@@ -130,21 +131,26 @@ impl Cutting {
         self.plan = plan_of(course, TCP_PROTO, size);
     }
 
-    /// Cuts the next part and writes its frame, and answers the length of that: 0 exactly where no part is left.
+    /// Cuts the next part and writes its frame behind its length, and answers how many octets both have: 0 exactly where no part is left.
     pub fn write_next(&mut self, frame: &mut [u8]) -> usize
-        requires room { length frame.old ≡ most_frame }
+        requires room { length frame.old ≡ most_to_link }
         ensures frame { frames_in result frame.new ++ self.new ≡ self.old }
+        ensures spelt { IsSpelt result frame.new }
         ensures none { result ≡ 0 → self.new ≡ [] }
-        ensures length { result ≤ most_frame }
-        ensures room { length frame.new ≡ most_frame }
+        ensures length { result ≤ most_to_link }
+        ensures room { length frame.new ≡ most_to_link }
     {
         if self.plan.left == 0 {
             return 0;
         }
-        let length = write_part(&self.plan, &self.body[..self.plan.size], frame);
+        let length = write_part(
+            &self.plan,
+            &self.body[..self.plan.size],
+            &mut frame[LENGTH..],
+        );
         self.plan.next += 1;
         self.plan.left -= 1;
-        length
+        spell(frame, length)
     }
 }
 

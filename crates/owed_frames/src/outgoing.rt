@@ -1,28 +1,31 @@
 // The frames that are owed to a guest and aren't out yet.
-ghost use Rattle.std.specs.Prelude.{◌≡◌, ℕ, ◌≤◌, ◌<◌, List, [], ◌∷◌, length, take};
+ghost use Rattle.std.specs.Prelude.{◌≡◌, ℕ, ◌≤◌, ◌<◌, List, [], ◌∷◌, drop, length, take};
 ghost use Rattle.net_octets.specs.Kinds.{arp_kind};
 ghost use Rattle.arp_table.specs.Arp.{arp_of, arp_octets};
 ghost use Rattle.ether_frame.specs.Ether.{ether_octets};
 ghost use Rattle.icmp_echo.specs.Icmp.{CanWrite, icmp_of, icmp_with};
 ghost use Rattle.udp_datagram.specs.Udp.{udp_of};
 ghost use Rattle.tcp_segment.specs.Tcp.{tcp_length, tcp_of};
-ghost use Rattle.owed_frames.specs.Outgoing.{MayBeCut, message_frames, segment_frames, udp_frames};
+ghost use Rattle.owed_frames.specs.Outgoing.{IsSpelt, MayBeCut, message_frames, segment_frames, udp_frames};
 ghost use Rattle.slirp_laws.specs.Answers.{datagrams_in};
 ghost use Rattle.net_octets.specs.Sizes.{most_carried, most_frame};
-ghost use Rattle.world_face.specs.Limits.{most_to_udp};
+ghost use Rattle.world_face.specs.Frames.{spelling};
+ghost use Rattle.world_face.specs.Limits.{most_to_link, most_to_udp};
 
 use crate::cutting::Cutting;
 use arp_table::ArpView;
 use byteorder::{BigEndian, ByteOrder};
 use ether_frame::EtherView;
 use icmp_echo::IcmpView;
-use net_octets::{ARP_KIND, IPV4_KIND, Ip4, MOST_FRAME, Mac, NoMemory};
+use net_octets::{ARP_KIND, IPV4_KIND, Ip4, Mac, NoMemory};
 use std::alloc::Global;
 use std::marker::Model;
+use stream_netdev::{LENGTH, spell};
 use tcp_segment::TcpView;
 use udp_datagram::UdpView;
+use world_face::MOST_TO_LINK;
 
-/// The frame that is next, whole, and the datagram of which the parts behind it aren't cut yet.
+/// The frame that is next, behind its length, and the datagram of which the parts behind it aren't cut yet.
 #[derive(Drop)]
 pub struct Outgoing {
     frame: Vec<u8>,
@@ -45,25 +48,25 @@ pub struct Course {
 
 impl Model for Outgoing {
     ghost use Rattle.std.specs.Prelude.{◌≡◌, ℕ, ◌≤◌, ◌++◌, [], List, length};
-    ghost use Rattle.owed_frames.specs.Outgoing.{frames_in};
-    ghost use Rattle.net_octets.specs.Sizes.{most_frame};
+    ghost use Rattle.owed_frames.specs.Outgoing.{IsSpelt, frames_in};
+    ghost use Rattle.world_face.specs.Limits.{most_to_link};
 
     ghost Value = { List (List ℕ) };
 
     ghost view = { λ o. frames_in o.used o.frame.items ++ o.cutting };
 
-    ghost invariant = { λ o. (o.used ≤ most_frame) × (length o.frame.items ≡ most_frame)
-        × (o.used ≡ 0 → o.cutting ≡ []) };
+    ghost invariant = { λ o. (o.used ≤ most_to_link) × (length o.frame.items ≡ most_to_link)
+        × (o.used ≡ 0 → o.cutting ≡ []) × IsSpelt o.used o.frame.items };
 }
 
 impl Outgoing {
-    ghost use Rattle.std.specs.Prelude.{nat_lt, drop, IfOk};
+    ghost use Rattle.std.specs.Prelude.{nat_lt, IfOk};
 
     /// No frame, and the room for those of a datagram.
     pub fn open(alloc: Global) -> Result<Outgoing, NoMemory>
         ensures { IfOk result (λ outgoing. outgoing ≡ []) }
     {
-        let Ok(frame) = vec![in alloc; 0; MOST_FRAME] else {
+        let Ok(frame) = vec![in alloc; 0; MOST_TO_LINK] else {
             return Err(NoMemory);
         };
         let cutting = Cutting::open(alloc)?;
@@ -85,7 +88,15 @@ impl Outgoing {
     pub fn frame(&self) -> &[u8]
         requires { 0 < length self.now }
         ensures frame { self.now ≡ result.now ∷ drop 1 self.now }
-        ensures length { length result.now ≤ most_frame }
+    {
+        behind_length(&self.frame[..self.used])
+    }
+
+    /// The same behind its length, as it goes out.
+    pub fn spelt(&self) -> &[u8]
+        requires { 0 < length self.now }
+        ensures spelt { (frame : List ℕ) × (result.now ≡ spelling frame) × (self.now ≡ frame ∷ drop 1 self.now) }
+        ensures length { length result.now ≤ most_to_link }
     {
         &self.frame[..self.used]
     }
@@ -146,8 +157,20 @@ impl Outgoing {
     }
 }
 
-// Writes the frame of an ARP packet, and answers its length.
+// Writes the frame of an ARP packet behind its length, and answers how many octets both have.
 fn write_arp(to: Mac, packet: &ArpView, frame: &mut [u8]) -> usize
+    requires room { length frame.old ≡ most_to_link }
+    ensures frame { drop 4 (take result frame.new) ≡ ether_octets to.0 packet.now.sender_mac.0 arp_kind (arp_octets (arp_of packet.now)) }
+    ensures spelt { IsSpelt result frame.new }
+    ensures length { (0 < result) × (result ≤ most_to_link) }
+    ensures room { length frame.new ≡ most_to_link }
+{
+    let length = write_arp_frame(to, packet, &mut frame[LENGTH..]);
+    spell(frame, length)
+}
+
+// Writes the frame of an ARP packet, and answers its length.
+fn write_arp_frame(to: Mac, packet: &ArpView, frame: &mut [u8]) -> usize
     requires room { length frame.old ≡ most_frame }
     ensures frame { take result frame.new ≡ ether_octets to.0 packet.now.sender_mac.0 arp_kind (arp_octets (arp_of packet.now)) }
     ensures length { (0 < result) × (result ≤ most_frame) }
@@ -162,6 +185,13 @@ fn write_arp(to: Mac, packet: &ArpView, frame: &mut [u8]) -> usize
         body: &body[..written],
     };
     ether_frame::write(&ether, frame)
+}
+
+// The frame that stands behind its length.
+fn behind_length(octets: &[u8]) -> &[u8]
+    ensures { result.now ≡ drop 4 octets.now }
+{
+    &octets[octets.len().min(LENGTH)..]
 }
 
 /// How many datagrams begin in the frame: one where it carries one, or the first part of one.

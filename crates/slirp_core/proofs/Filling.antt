@@ -62,27 +62,27 @@ few_wants false true = omega arith
 few_wants false false = omega arith
 
 -- how many are wanted for reading
-pub few_read : (wants : List Want) (listeners forwards some others : List ℕ) → wants ≡ (link_want true false ++ map listener_want listeners) ++ map udp_want (merged (merged forwards some) others)
+pub few_read : (write : Bool) (wants : List Want) (listeners forwards some others : List ℕ) → wants ≡ (link_want true write ++ map listener_want listeners) ++ map udp_want (merged (merged forwards some) others)
     → length listeners + length forwards ≤ 32 → length some ≤ 512 → length others ≤ 512 → length wants ≤ 1057
-few_read wants listeners forwards some others is few one two =
+few_read write wants listeners forwards some others is few one two =
     let long = ap length is in
-    let all = length-append (link_want true false ++ map listener_want listeners) (map udp_want (merged (merged forwards some) others)) in
+    let all = length-append (link_want true write ++ map listener_want listeners) (map udp_want (merged (merged forwards some) others)) in
     let given = length-map (merged (merged forwards some) others) udp_want in
     let behind = length_merged forwards some in
     let both = length_merged (merged forwards some) others in
     let before = length-map listeners listener_want in
     omega (arith, long, all, given, behind, both, before)
 
--- the same listeners and sockets, all for reading
-pub same_rows : (listeners forwards some others their_listeners their_forwards their_some their_others : List ℕ) → listeners ≡ their_listeners → forwards ≡ their_forwards →
+-- the same listeners and sockets, behind the link, all for reading
+pub same_rows : (write : Bool) (listeners forwards some others their_listeners their_forwards their_some their_others : List ℕ) → listeners ≡ their_listeners → forwards ≡ their_forwards →
     some ≡ their_some → others ≡ their_others
-    → (link_want true false ++ map listener_want listeners) ++ map udp_want (merged (merged forwards some) others) ≡ (link_want true false ++ map listener_want their_listeners)
+    → (link_want true write ++ map listener_want listeners) ++ map udp_want (merged (merged forwards some) others) ≡ (link_want true write ++ map listener_want their_listeners)
     ++ map udp_want (merged (merged their_forwards their_some) their_others)
-same_rows listeners forwards some others their_listeners their_forwards their_some their_others one two three four =
-    ap (λ l. (link_want true false ++ map listener_want l) ++ map udp_want (merged (merged forwards some) others)) one
-    ∙ ap (λ l. (link_want true false ++ map listener_want their_listeners) ++ map udp_want (merged (merged l some) others)) two
-    ∙ ap (λ l. (link_want true false ++ map listener_want their_listeners) ++ map udp_want (merged (merged their_forwards l) others)) three
-    ∙ ap (λ l. (link_want true false ++ map listener_want their_listeners) ++ map udp_want (merged (merged their_forwards their_some) l)) four
+same_rows write listeners forwards some others their_listeners their_forwards their_some their_others one two three four =
+    ap (λ l. (link_want true write ++ map listener_want l) ++ map udp_want (merged (merged forwards some) others)) one
+    ∙ ap (λ l. (link_want true write ++ map listener_want their_listeners) ++ map udp_want (merged (merged l some) others)) two
+    ∙ ap (λ l. (link_want true write ++ map listener_want their_listeners) ++ map udp_want (merged (merged their_forwards l) others)) three
+    ∙ ap (λ l. (link_want true write ++ map listener_want their_listeners) ++ map udp_want (merged (merged their_forwards their_some) l)) four
 
 more_of : (wants : List Want) (w : Want) → (w.read || w.write) ≡ true → is_who w.of ≡ true → AreWants wants → AreWants (wants ++ (w ∷ []))
 more_of [] w some who are = both (w.read || w.write) (is_who w.of) some who

@@ -60,6 +60,9 @@ impl Slirp {
         if self.pending() {
             return false;
         }
+        if !self.files.has_transfers() {
+            return false;
+        }
         let reply = self.files.next_again(self.moment, &mut self.message);
         put_reply(
             &self.policy,

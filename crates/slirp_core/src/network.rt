@@ -22,15 +22,13 @@ use slirp_settings::SlirpConfig;
 use std::alloc::Global;
 use std::marker::Model;
 use tcp_flows::{Sizes, TcpFlows};
+use tftp_rules::MOST_PACKET;
 use tftp_server::Tftp;
 use udp_assoc::Assocs;
 use world_face::World;
 
 /// The greatest moment, in milliseconds.
 const LAST_MOMENT: u64 = 1 << 62;
-
-/// The room for what a server of ours answers, in octets: a reply to a client of DHCP has at most 790, a packet of a file 1,472.
-const MESSAGE_ROOM: usize = 1472;
 
 /// The virtual network: who its guests are, which sockets are open for their datagrams and their questions, how many datagrams went out, the frames that are
 /// owed to a guest and aren't out yet, the fragments that wait to be joined, the flows of TCP, who has which address, the ports of the host that are given to
@@ -50,13 +48,14 @@ pub struct Slirp {
     pub(crate) leases: Leases,
     pub(crate) forwards: Ports,
     pub(crate) files: Tftp,
-    /// Room for what a server of ours answers.
+    /// Room for what a server of ours answers: a packet of a file, or a reply to a client of DHCP, which has at most 790 octets.
     pub(crate) message: Vec<u8>,
 }
 
 impl Model for Slirp {
     ghost use Rattle.std.specs.Prelude.{◌≡◌, ◌<◌, ◌≤◌, ◌^◌, All, length, unwrap_or};
     ghost use Rattle.udp_rules.specs.Associations.{numbers};
+    ghost use Rattle.tftp_rules.specs.Saying.{most_packet};
     ghost use Rattle.slirp_core.specs.State.{SlirpState};
     ghost use Rattle.slirp_core.specs.Numbers.{AreDrawn};
     ghost use Rattle.slirp_core.specs.Services.{AreAsked, IsServer};
@@ -83,7 +82,7 @@ impl Model for Slirp {
     // address of the settings, or at 0.0.0.0, every address of the host; and the servers of leases and of files and the relay of questions have the settings,
     // and there is room for a reply
     ghost invariant = { λ s. All (λ n. n < s.number) (numbers s.associations.list) × (s.moment ≤ 2 ^ 62) × (s.associations.bind ≡ unwrap_or s.policy.outbound 0)
-        × AreDrawn s.number s.flows × (s.leases.config ≡ s.policy) × (length s.message.items ≡ 1472) × AreAsked s.number s.policy s.questions
+        × AreDrawn s.number s.flows × (s.leases.config ≡ s.policy) × (length s.message.items ≡ most_packet) × AreAsked s.number s.policy s.questions
         × IsServer s.policy s.files };
 }
 
@@ -142,7 +141,7 @@ impl Slirp {
         ensures forwards { IfOk result (λ slirp. slirp.forwards ≡ []) }
         ensures transfers { IfOk result (λ slirp. slirp.transfers ≡ []) }
     {
-        let Ok(message) = vec![in alloc; 0; MESSAGE_ROOM] else {
+        let Ok(message) = vec![in alloc; 0; MOST_PACKET] else {
             return Err(NoMemory);
         };
         let outgoing = Outgoing::open(alloc)?;

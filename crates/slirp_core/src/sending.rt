@@ -177,7 +177,7 @@ impl Slirp {
         ensures same { under_way link.new ≡ under_way link.old }
         ensures others { self.new ≡ record self.old { pending = self.new.pending; sent = self.new.sent } }
     {
-        let offered = link.offer(world, self.outgoing.frame());
+        let offered = link.offer(world, self.outgoing.spelt());
         self.mark_out(offered);
         outcome(offered, link.blocked())
     }

@@ -26,8 +26,9 @@ use world_face::sooner;
 
 /// What a turn waits for: a list with room for a fixed number of wants, all of it taken at opening.
 ///
-/// Most turns wait for what the turn before waited for, up to the sockets of flows: the link, and the same listeners and sockets of datagrams, for reading. So
-/// the numbers of these are kept, and where they are the same that part of the list stands, and only what flows wait for is put behind it anew.
+/// Most turns wait for what the turn before waited for, up to the sockets of flows: the link, in the same directions, and the same listeners and sockets of
+/// datagrams, for reading. So the numbers of these are kept, and where they are the same that part of the list stands, and only what flows wait for is put behind
+/// it anew.
 #[derive(Drop)]
 pub struct TurnWants {
     list: Wants,
@@ -37,6 +38,8 @@ pub struct TurnWants {
     questions: ArrayVec<u64, 512>,
     // whether the list begins with the link, these listeners and these sockets, all for reading
     reads: bool,
+    // whether the link is waited for to write, too
+    writes: bool,
     // how many stand before the sockets of datagrams
     front: usize,
     // how many stand before those of flows
@@ -71,7 +74,7 @@ impl Model for TurnWants {
     ghost view = { λ w. w.list };
 
     ghost invariant = { λ w. AreWants w.list.items × (w.front ≤ w.before) × (w.before ≤ length w.list.items)
-        × (w.reads ≡ true → take w.before w.list.items ≡ (link_want true false ++ map listener_want w.listeners.items) ++ map udp_want
+        × (w.reads ≡ true → take w.before w.list.items ≡ (link_want true w.writes ++ map listener_want w.listeners.items) ++ map udp_want
         (merged (merged w.forwards.items w.associations.items) w.questions.items))
         × InThreeParts w.front w.before w.list.items };
 }
@@ -92,6 +95,7 @@ impl TurnWants {
             associations: ArrayVec::new(),
             questions: ArrayVec::new(),
             reads: false,
+            writes: false,
             front: 0,
             before: 0,
             rows: Rows {
@@ -195,27 +199,38 @@ impl TurnWants {
         ensures few { length self.new.items ≤ 1057 }
         ensures capacity { self.new.capacity ≡ self.old.capacity }
     {
-        if read && !write {
-            self.read_all(listeners, carriers);
+        if read {
+            self.read_all(write, listeners, carriers);
         } else {
-            self.reads = false;
-            self.front = begin(read, write, listeners, &mut self.list);
-            add_wanted(read, carriers, &mut self.rows, &mut self.list);
-            self.before = self.list.items().len();
+            self.read_none(write, listeners);
         }
     }
 
-    // From now on the link, these listeners and these sockets are waited for, for reading.
-    fn read_all(&mut self, listeners: &[u64], carriers: Carriers<'_>)
+    // From now on nothing is waited for to read but listeners, and the link for writing, or not.
+    fn read_none(&mut self, write: bool, listeners: &[u64])
+        requires room { 33 ≤ self.old.capacity }
+        requires few { length listeners.now ≤ 32 }
+        ensures items { self.new.items ≡ link_want false write ++ map listener_want listeners.now }
+        ensures wants { AreWants self.new.items }
+        ensures few { length self.new.items ≤ 33 }
+        ensures capacity { self.new.capacity ≡ self.old.capacity }
+    {
+        self.reads = false;
+        self.front = begin(false, write, listeners, &mut self.list);
+        self.before = self.front;
+    }
+
+    // From now on the link, these listeners and these sockets are waited for, for reading, and the link for writing, too, or not.
+    fn read_all(&mut self, write: bool, listeners: &[u64], carriers: Carriers<'_>)
         requires room { 1057 ≤ self.old.capacity }
         requires few { length listeners.now + length carriers.forwards.now ≤ 32 }
         requires most { HasRoom carriers }
-        ensures items { self.new.items ≡ (link_want true false ++ map listener_want listeners.now) ++ map udp_want (sockets_of carriers.entry) }
+        ensures items { self.new.items ≡ (link_want true write ++ map listener_want listeners.now) ++ map udp_want (sockets_of carriers.entry) }
         ensures wants { AreWants self.new.items }
         ensures few { length self.new.items ≤ 1057 }
         ensures capacity { self.new.capacity ≡ self.old.capacity }
     {
-        if self.reads
+        if holds_for(self.reads, self.writes, write)
             && are_same(self.listeners.as_slice(), listeners)
             && are_same(self.forwards.as_slice(), carriers.forwards)
             && are_same(self.associations.as_slice(), carriers.associations)
@@ -224,7 +239,7 @@ impl TurnWants {
             self.list.truncate(self.before);
             return;
         }
-        self.front = begin(true, false, listeners, &mut self.list);
+        self.front = begin(true, write, listeners, &mut self.list);
         add_carriers(carriers, &mut self.rows, &mut self.list);
         self.before = self.list.items().len();
         keep(&mut self.listeners, listeners);
@@ -232,6 +247,7 @@ impl TurnWants {
         keep(&mut self.associations, carriers.associations);
         keep(&mut self.questions, carriers.questions);
         self.reads = true;
+        self.writes = write;
     }
 }
 
@@ -300,6 +316,13 @@ impl Slirp {
     }
 }
 
+// Whether a list that begins for reading, and for writing to the link too or not, begins as it is to.
+fn holds_for(reads: bool, writes: bool, write: bool) -> bool
+    ensures { result ≡ true → (reads ≡ true) × (writes ≡ write) }
+{
+    reads && writes == write
+}
+
 // Whether two lists of numbers are the same.
 fn are_same(some: &[u64], others: &[u64]) -> bool
     ensures { result ≡ true → some.now ≡ others.now }
@@ -354,21 +377,6 @@ fn add_link(read: bool, write: bool, wants: &mut Wants)
             read,
             write,
         });
-    }
-}
-
-// Puts these sockets at the end, for reading, where they are wanted.
-fn add_wanted(wanted: bool, carriers: Carriers<'_>, rows: &mut Rows, wants: &mut Wants)
-    requires wants { AreWants wants.old.items }
-    requires room { length wants.old.items + length carriers.forwards.now + 1024 ≤ wants.old.capacity }
-    requires most { HasRoom carriers }
-    ensures items { wants.new.items ≡ wants.old.items ++ socket_wants wanted (sockets_of carriers.entry) }
-    ensures wants { AreWants wants.new.items }
-    ensures room { length wants.new.items ≤ length wants.old.items + length carriers.entry.forwards.now + 1024 }
-    ensures capacity { wants.new.capacity ≡ wants.old.capacity }
-{
-    if wanted {
-        add_carriers(carriers, rows, wants);
     }
 }
 

@@ -2,7 +2,7 @@
 //! A buffer takes all its room when it is opened, and no other call takes memory.
 #![tactic(auto)]
 
-ghost use Rattle.std.specs.Prelude.{◌≡◌, ℕ, ◌+◌, ◌-◌, ◌^◌, ◌<◌, ◌≤◌, [], ◌++◌, length, take, drop, min, None, IfOk, IsSome, IsTrue, ◌↔◌, true};
+ghost use Rattle.std.specs.Prelude.{◌≡◌, ℕ, ◌+◌, ◌-◌, ◌^◌, ◌<◌, ◌≤◌, [], ◌++◌, length, take, drop, min, None, IfOk, IfSome, IsSome, IsTrue, ◌↔◌, true};
 ghost use Rattle.sock_buffers.specs.Downward.{downward};
 ghost use Rattle.sock_buffers.specs.Kept.{AreApart, covers, first_covered, octet_at};
 ghost use Rattle.sock_buffers.specs.Upward.{after_join, after_keep, after_take, empty, fitting, newly_kept, room_of};
@@ -180,6 +180,18 @@ impl Up {
         let (older, newer) = self.ring.as_slices();
         let count = into.len().min(self.held);
         copy_two(older, newer, &mut into[..count])
+    }
+
+    /// The `count` oldest octets, where they are held and stand in one piece. `front_piece` copies those that stand in two.
+    pub fn front(&self, count: usize) -> Option<&[u8]>
+        ensures oldest { IfSome result (λ octets. octets.now ≡ take count self.now.held) }
+        ensures held { IfSome result (λ octets. count ≤ length self.now.held) }
+    {
+        let (older, _) = self.ring.as_slices();
+        if count > self.held || count > older.len() {
+            return None;
+        }
+        Some(&older[..count])
     }
 
     /// Gives up the `n` oldest octets, which the host socket took.

@@ -2,11 +2,13 @@
 use Rattle.std.proofs.Common.{◌≡◌, ℕ, ◌+◌, ◌-◌, ◌<◌, ◌≤◌, true, false, List, [], ◌∷◌, length, take, drop, nat_lt, sym, ◌∙◌, ap, subst, arith, refl, length-take, length-drop}
 use Rattle.std.proofs.lemmas.List.{drop-take, drop-drop, drop_all}
 use Rattle.std.proofs.lemmas.Bool.Decides.{nat_tests}
+use Rattle.net_octets.proofs.Writing.{behind}
 use Rattle.world_face.specs.Journal.{Entry, LinkWrite, Allowed, MayWrite, count_of}
 use Rattle.world_face.specs.declared.Io.{Io}
 use Rattle.world_face.specs.declared.Io.TheVariants.{Done, End, NotYet, Failed}
 use Rattle.world_face.specs.Frames.{tail, rest_after, MayOffer, spelling}
 use Rattle.stream_netdev.specs.Offers.{left, offered}
+use borrow.Rule.Slice.PartMut.{put_mid}
 use Rattle.stream_netdev.specs.Keeps.{Keeps, Settles}
 use Rattle.stream_netdev.specs.State.{LinkState, under_way}
 use Rattle.stream_netdev.specs.declared.Offered.{Offered}
@@ -52,20 +54,33 @@ after_rest old new answer past some free allowed rest blocked same keeps = recor
     left NotYet = keeps.rest
     left Failed = keeps.rest
 
--- a write of a frame, which has at most 1514 octets
-spelled : (frame : List ℕ) → length frame ≤ 1514 → MayOffer [] (spelling frame)
+-- a write of a frame behind its length
+spelled : (frame : List ℕ) → spelling frame ≡ spelling (drop 4 (spelling frame))
 unfolding spelling
-spelled frame fits = (refl, omega (arith, fits))
+spelled frame = refl
 
-pub after_frame : (old new : LinkState) (frame : List ℕ) (answer : Io) (past : List Entry) → length frame ≤ 1514 → old.tail ≡ [] → old.blocked ≡ false →
-    new.tail ≡ rest_after answer (spelling frame) [] → new.blocked ≡ nat_lt (count_of answer) (length (spelling frame)) → under_way new ≡ under_way old
-    → Keeps old past → Keeps new (LinkWrite (spelling frame) answer ∷ past)
-after_frame old new frame answer past fits none free rest blocked same keeps =
+-- the frame behind its length
+pub frame_of_spelt : (frame : List ℕ) → drop 4 (spelling frame) ≡ frame
+unfolding spelling
+frame_of_spelt frame = refl
+
+-- a frame that was written behind the room for its length, and then spelt
+pub spelt_is : (octets now ys frame : List ℕ) (k n : ℕ) → octets ≡ spelling (take n (drop 4 (put_mid 4 k now ys))) → 4 ≤ length now → n ≤ length ys → take n ys ≡ frame
+    → octets ≡ spelling frame
+spelt_is octets now ys frame k n spelt room few is = spelt ∙ ap spelling (behind 4 k n now ys room few ∙ is)
+
+pub may_offer : (octets frame : List ℕ) → octets ≡ spelling frame → length octets ≤ 1518 → MayOffer [] octets
+may_offer octets frame is fits = (subst (λ l. l ≡ spelling (drop 4 l)) (sym is) (spelled frame), fits)
+
+pub after_frame : (old new : LinkState) (octets frame : List ℕ) (answer : Io) (past : List Entry) → octets ≡ spelling frame → length octets ≤ 1518 → old.tail ≡ [] → old.blocked ≡ false →
+    new.tail ≡ rest_after answer octets [] → new.blocked ≡ nat_lt (count_of answer) (length octets) → under_way new ≡ under_way old
+    → Keeps old past → Keeps new (LinkWrite octets answer ∷ past)
+after_frame old new octets frame answer past is fits none free rest blocked same keeps =
     let no_tail : tail past ≡ [] = keeps.rest ∙ none in
     record {
-      framed = ((subst (λ t. MayOffer t (spelling frame)) (sym no_tail) (spelled frame fits), keeps.blocked ∙ free), keeps.framed);
+      framed = ((subst (λ t. MayOffer t octets) (sym no_tail) (may_offer octets frame is fits), keeps.blocked ∙ free), keeps.framed);
       partly = keeps.partly ∙ sym same;
-      rest = ap (rest_after answer (spelling frame)) no_tail ∙ sym rest;
+      rest = ap (rest_after answer octets) no_tail ∙ sym rest;
       blocked = sym blocked;
     }
 

@@ -1,8 +1,8 @@
 //! The link to the guest: frames after their lengths on a stream, in whatever pieces its octets come and go (QEMU's stream netdev).
 //!
 //! A frame stands behind its length, four octets with the most significant first. `read_frame` asks for what is missing of the length, then for what is
-//! missing of the frame, and keeps what came until it is whole; it is called only where a wait reported the link. `offer` writes a length and a frame by
-//! one call. What isn't taken of them is the tail, which `flush` offers first the next time; the link is blocked from a write that took less than it was
+//! missing of the frame, and keeps what came until it is whole; it is called only where a wait reported the link. `offer` writes a length and a frame,
+//! which `spell` put behind one another, by one call. What isn't taken of them is the tail, which `flush` offers first the next time; the link is blocked from a write that took less than it was
 //! offered until a wait reports it ready for writing, and nothing is offered meanwhile.
 #![tactic(auto)]
 
@@ -12,18 +12,17 @@ ghost use Rattle.world_face.specs.Tells.{Answers, Rose};
 ghost use Rattle.world_face.specs.Frames.{spelling};
 ghost use Rattle.stream_netdev.specs.Offers.{offered, pumped_of};
 ghost use Rattle.world_face.specs.Limits.{most_to_link};
-ghost use Rattle.net_octets.specs.Sizes.{most_frame};
 
 use net_octets::NoMemory;
 use std::alloc::Global;
 use std::marker::Model;
-use world_face::{Io, MOST_TO_LINK, World};
+use world_face::{Io, MOST_FROM_LINK, MOST_TO_LINK, World};
 
-/// The octets of the longest frame that is taken from the guest.
-const LIMIT: u32 = 69632;
+/// The octets in which the length of a frame stands before it.
+pub const LENGTH: usize = 4;
 
-/// Room for it and its length.
-const ROOM: usize = 69636;
+/// Room for the greatest frame that may come and its length.
+const ROOM: usize = LENGTH + MOST_FROM_LINK;
 
 /// What a read of the link came to.
 #[derive(Clone, Copy, Debug, PartialEq, Eq)]
@@ -84,16 +83,16 @@ pub struct Link {
 }
 
 impl Model for Link {
-    ghost use Rattle.std.specs.Prelude.{◌≡◌, ◌-◌, ◌≤◌, length, take, drop};
+    ghost use Rattle.std.specs.Prelude.{◌≡◌, ◌+◌, ◌-◌, ◌≤◌, length, take, drop};
     ghost use Rattle.stream_netdev.specs.State.{LinkState};
-    ghost use Rattle.world_face.specs.Limits.{most_to_link};
+    ghost use Rattle.world_face.specs.Limits.{most_from_link, most_to_link};
 
     ghost Value = { LinkState };
 
     ghost view = { λ l. record { octets = take l.have l.buffer.items; whole = l.whole; tail = take (l.to - l.from) (drop l.from l.out.items); blocked = l.blocked } };
 
-    ghost invariant = { λ l. (l.from ≤ l.to) × (l.to ≤ most_to_link) × (length l.out.items ≡ most_to_link) × (length l.buffer.items ≡ 69636)
-        × (l.have ≤ 69636) };
+    ghost invariant = { λ l. (l.from ≤ l.to) × (l.to ≤ most_to_link) × (length l.out.items ≡ most_to_link) × (length l.buffer.items ≡ 4 + most_from_link)
+        × (l.have ≤ 4 + most_from_link) };
 }
 
 impl Link {
@@ -202,7 +201,7 @@ impl Link {
             return Look::More;
         }
         let length = self.length();
-        if length > LIMIT {
+        if length as usize > MOST_FROM_LINK {
             Look::TooLong(length)
         } else if self.have < 4 + length as usize {
             Look::More
@@ -281,27 +280,15 @@ impl Link {
         offered_of(answer)
     }
 
-    #[tactic(auto, unfolding(world_face::specs::Frames::spelling))]
-    // Puts a frame and its length where the rest is sent from.
-    fn load(&mut self, frame: &[u8])
-        requires { length frame.now ≤ most_frame }
-        ensures rest { self.new.tail ≡ spelling frame.now }
+    // Keeps what is left of a frame of which the link took something.
+    fn keep(&mut self, rest: &[u8])
+        requires { length rest.now ≤ most_to_link }
+        ensures rest { self.new.tail ≡ rest.now }
         ensures same { (under_way self.new ≡ under_way self.old) × (self.new.blocked ≡ self.old.blocked) }
     {
-        spell(&mut self.out, frame);
+        put_front(&mut self.out, rest);
         self.from = 0;
-        self.to = 4 + frame.len();
-    }
-
-    // Gives up a frame of which nothing was taken.
-    fn settle(&mut self, offer: &Offered)
-        ensures rest { self.new.tail ≡ left offer.now self.old.tail }
-        ensures same { (under_way self.new ≡ under_way self.old) × (self.new.blocked ≡ self.old.blocked) }
-    {
-        match offer {
-            Offered::Taken => {}
-            Offered::Blocked | Offered::Failed => self.from = self.to,
-        }
+        self.to = rest.len();
     }
 
     /// Offers the rest of the frame that went out last.
@@ -317,21 +304,38 @@ impl Link {
         self.send(world)
     }
 
-    /// Offers a frame.
-    pub fn offer<W: World>(&mut self, world: &mut W, frame: &[u8]) -> Offered
+    /// Offers a frame behind its length, as `spell` leaves them. Of what is taken in part the rest is kept, and of the rest alone there is a copy.
+    pub fn offer<W: World>(&mut self, world: &mut W, octets: &[u8]) -> Offered
         requires none { self.old.tail ≡ [] }
         requires free { self.old.blocked ≡ false }
-        requires fits { length frame.now ≤ most_frame }
-        ensures makes { Makes (W.tells world.old) (W.tells world.new) (λ made. Writes result (spelling frame.now) made
+        requires spelt { (frame : List ℕ) × (octets.now ≡ spelling frame) }
+        requires fits { length octets.now ≤ most_to_link }
+        ensures makes { Makes (W.tells world.old) (W.tells world.new) (λ made. Writes result octets.now made
             × ((past : List Entry) → Keeps self.old past → Keeps self.new (made ++ past))) }
         ensures failed { result ≡ Offered.Failed → Rose (W.tells world.old).faults.link (W.tells world.new).faults.link }
         ensures settles { Settles result self.new }
         ensures same { under_way self.new ≡ under_way self.old }
     {
-        self.load(frame);
-        let result = self.send(world);
-        self.settle(&result);
-        result
+        let answer = world.link_write(octets);
+        self.settle(octets, answer);
+        offered_of(answer)
+    }
+
+    // What is left after an answer of a frame that was offered goes out next: nothing where none of it was taken.
+    fn settle(&mut self, octets: &[u8], answer: Io)
+        requires fits { length octets.now ≤ most_to_link }
+        requires few { count_of answer ≤ length octets.now }
+        requires none { self.old.tail ≡ [] }
+        ensures rest { self.new.tail ≡ left (offered answer) (drop (count_of answer) octets.now) }
+        ensures blocked { self.new.blocked ≡ nat_lt (count_of answer) (length octets.now) }
+        ensures same { under_way self.new ≡ under_way self.old }
+    {
+        let count = answer.count();
+        self.blocked = count < octets.len();
+        match answer {
+            Io::Done(_) => self.keep(&octets[count..]),
+            Io::End | Io::NotYet | Io::Failed => {}
+        }
     }
 }
 
@@ -357,16 +361,26 @@ fn offered_of(answer: Io) -> Offered
     }
 }
 
-// Writes a frame's length and the frame to the front of a buffer.
-#[tactic(auto, unfolding(world_face::specs::Frames::spelling))]
-fn spell(into: &mut [u8], frame: &[u8])
-    requires small { length frame.now < 2 ^ 32 }
-    requires fits { 4 + length frame.now ≤ length into.old }
-    ensures { take (4 + length frame.now) into.new ≡ spelling frame.now }
+// Writes octets at the front of a buffer.
+fn put_front(into: &mut [u8], octets: &[u8])
+    requires { length octets.now ≤ length into.old }
+    ensures { take (length octets.now) into.new ≡ octets.now }
 {
-    let length = (frame.len() as u32).to_be_bytes();
-    into[..4].copy_from_slice(&length);
-    into[4..4 + frame.len()].copy_from_slice(frame);
+    into[..octets.len()].copy_from_slice(octets);
+}
+
+/// Writes the length of a frame, which stands in a buffer behind the first `LENGTH` octets, into these, and answers how many octets both have.
+#[tactic(auto, unfolding(world_face::specs::Frames::spelling))]
+pub fn spell(buffer: &mut [u8], frame: usize) -> usize
+    requires small { frame < 2 ^ 32 }
+    requires fits { 4 + frame ≤ length buffer.old }
+    ensures spelt { take result buffer.new ≡ spelling (take frame (drop 4 buffer.old)) }
+    ensures count { result ≡ 4 + frame }
+    ensures room { length buffer.new ≡ length buffer.old }
+{
+    let length = (frame as u32).to_be_bytes();
+    buffer[..LENGTH].copy_from_slice(&length);
+    LENGTH + frame
 }
 
 /// What an offer comes to, where the link is then blocked or not.

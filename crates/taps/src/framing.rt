@@ -3,6 +3,7 @@ ghost use Rattle.std.specs.Prelude.{◌≡◌, ◌+◌, ◌<◌, ◌≤◌, ◌+
 ghost use Rattle.taps.specs.Capturing.{number_text, moment_text, counts_text, frame_text, seen_text, entry_text, FitsBy, Tracks, whole_frame, under_way, begins, left_by};
 ghost use Rattle.replay.specs.Views.{viewed};
 ghost use Rattle.world_face.specs.Frames.{spelt_length, missing, is_whole};
+ghost use Rattle.world_face.specs.Limits.{most_from_link};
 ghost use Rattle.world_face.specs.Puts.{Puts, added};
 ghost use Rattle.world_face.specs.Tells.{Rose};
 
@@ -10,12 +11,10 @@ use crate::page::Page;
 use replay::LineView;
 use std::alloc::Global;
 use std::marker::Model;
-use world_face::{Failed, Io, NoMemory, Sink};
+use world_face::{Failed, Io, MOST_FROM_LINK, NoMemory, Sink};
 
-// The longest frame, and room for it and its length.
-const LIMIT: usize = 69_632;
-
-const ROOM: usize = 69_636;
+// Room for the greatest frame that may come, and the four octets of its length.
+const ROOM: usize = 4 + MOST_FROM_LINK;
 
 /// What is under way on the link: the octets of a length or frame that isn't whole, how many are left of the frame that went out last, and the moment
 /// in force. Its memory is taken at opening.
@@ -28,15 +27,16 @@ pub struct Framing {
 }
 
 impl Model for Framing {
-    ghost use Rattle.std.specs.Prelude.{◌≤◌};
+    ghost use Rattle.std.specs.Prelude.{◌+◌, ◌≤◌};
     ghost use Rattle.std.specs.Vec.{vec_capacity};
     ghost use Rattle.taps.specs.Capturing.{Sight};
+    ghost use Rattle.world_face.specs.Limits.{most_from_link};
 
     ghost Value = { Sight };
 
     ghost view = { λ f. record { octets = f.octets.items; left = f.left; moment = f.moment } };
 
-    ghost invariant = { λ f. 69636 ≤ vec_capacity f.octets };
+    ghost invariant = { λ f. 4 + most_from_link ≤ vec_capacity f.octets };
 }
 
 // Puts a number in four octets.
@@ -68,7 +68,7 @@ fn put_counts<K: Sink>(octets: u32, out: &mut K) -> Result<(), Failed>
 // Puts a frame behind its moment and its length.
 #[tactic(auto, unfolding(crate::specs::Capturing::frame_text))]
 fn put_frame<K: Sink>(moment: u64, frame: &[u8], out: &mut K) -> Result<(), Failed>
-    requires { length frame.now ≤ 69632 }
+    requires { length frame.now ≤ most_from_link }
     ensures { Puts (K.holds out.old) (K.holds out.new) (K.faults out.old) (K.faults out.new) (frame_text moment frame.now) result }
 {
     put_moment(moment, out)?;
@@ -78,7 +78,7 @@ fn put_frame<K: Sink>(moment: u64, frame: &[u8], out: &mut K) -> Result<(), Fail
 
 // The same by one put, where there is room on the page.
 fn put_whole<K: Sink>(moment: u64, frame: &[u8], page: &mut Page, out: &mut K) -> Result<(), Failed>
-    requires { length frame.now ≤ 69632 }
+    requires { length frame.now ≤ most_from_link }
     ensures { Puts (K.holds out.old) (K.holds out.new) (K.faults out.old) (K.faults out.new) (frame_text moment frame.now) result }
 {
     page.empty();
@@ -140,8 +140,8 @@ impl Framing {
     // Takes octets that were read, where they may belong to a frame. Answers whether they may.
     fn take(&mut self, octets: &[u8]) -> bool
         ensures taken { result ≡ true → self.new.octets ≡ self.old.octets ++ octets.now }
-        ensures fits { result ≡ true → length self.old.octets + length octets.now ≤ 69636 }
-        ensures long { result ≡ false → 69636 < length self.old.octets + length octets.now }
+        ensures fits { result ≡ true → length self.old.octets + length octets.now ≤ 4 + most_from_link }
+        ensures long { result ≡ false → 4 + most_from_link < length self.old.octets + length octets.now }
         ensures same { (self.new.left ≡ self.old.left) × (self.new.moment ≡ self.old.moment) }
     {
         let have = self.octets.len();
@@ -150,7 +150,7 @@ impl Framing {
 
     // Puts the frame that is whole, where one is, and makes way for the next.
     fn show<K: Sink>(&mut self, out: &mut K) -> Result<(), Failed>
-        requires { length self.old.octets ≤ 69636 }
+        requires { length self.old.octets ≤ 4 + most_from_link }
         ensures octets { IsOk result → self.new.octets ≡ under_way self.old.octets }
         ensures puts { Puts (K.holds out.old) (K.holds out.new) (K.faults out.old) (K.faults out.new)
             (seen_text self.old.moment (whole_frame self.old.octets)) result }
@@ -172,7 +172,7 @@ impl Framing {
     fn read<K: Sink>(&mut self, octets: &[u8], out: &mut K) -> Result<(), Failed>
         ensures octets { IsOk result → self.new.octets ≡ under_way (self.old.octets ++ octets.now) }
         ensures put { IsOk result → K.holds out.new ≡ added (seen_text self.old.moment (whole_frame (self.old.octets ++ octets.now))) (K.holds out.old) }
-        ensures fault { IsErr result → length self.old.octets + length octets.now ≤ 69636 → Rose (K.faults out.old) (K.faults out.new) }
+        ensures fault { IsErr result → length self.old.octets + length octets.now ≤ 4 + most_from_link → Rose (K.faults out.old) (K.faults out.new) }
         ensures later { K.faults out.old ≤ K.faults out.new }
         ensures same { (self.new.left ≡ self.old.left) × (self.new.moment ≡ self.old.moment) }
     {
@@ -186,7 +186,7 @@ impl Framing {
     fn wrote<K: Sink>(&mut self, octets: &[u8], answer: Io, out: &mut K) -> Result<(), Failed>
         ensures left { IsOk result → self.new.left ≡ left_by self.old.left answer octets.now }
         ensures put { IsOk result → K.holds out.new ≡ added (seen_text self.old.moment (begins self.old.left answer octets.now)) (K.holds out.old) }
-        ensures fault { IsErr result → length octets.now ≤ 69636 → Rose (K.faults out.old) (K.faults out.new) }
+        ensures fault { IsErr result → length octets.now ≤ 4 + most_from_link → Rose (K.faults out.old) (K.faults out.new) }
         ensures later { K.faults out.old ≤ K.faults out.new }
         ensures same { (self.new.octets ≡ self.old.octets) × (self.new.moment ≡ self.old.moment) }
     {
@@ -195,7 +195,7 @@ impl Framing {
         };
         if self.left == 0 {
             let frame = frame_of(octets);
-            if frame.len() > LIMIT {
+            if frame.len() > MOST_FROM_LINK {
                 return Err(Failed);
             }
             put_whole(self.moment, frame, &mut self.page, out)?;

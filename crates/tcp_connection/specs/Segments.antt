@@ -1,5 +1,5 @@
 -- What a segment of the guest changes (RFC 9293, 3.10.7).
-use Rattle.std.specs.Prelude.{ℕ, ◌+◌, ◌-◌, ◌^◌, Bool, true, false, not, ◌&&◌, ◌||◌, nat_lt, nat_eq, min, max, length, List, Option, Some, unwrap_or, if◌then◌else◌}
+use Rattle.std.specs.Prelude.{ℕ, ◌+◌, ◌-◌, ◌^◌, Bool, true, false, not, ◌&&◌, ◌||◌, nat_lt, nat_eq, min, length, List, Option, Some, if◌then◌else◌}
 use Rattle.cwnd.specs.Congestion.{at_first}
 use Rattle.retransmit.specs.Resending.{after_stop}
 use Rattle.seq_space.specs.Places.{number_of, shifted_place}
@@ -7,7 +7,7 @@ use Rattle.seq_space.specs.declared.Seq.{Seq}
 use Rattle.sock_buffers.specs.Downward.{Downward}
 use Rattle.sock_buffers.specs.Upward.{Upward}
 use Rattle.tcp_receive.specs.Received.{Received, places_taken, received, up_after}
-use Rattle.tcp_segment.specs.Tcp.{Tcp}
+use Rattle.tcp_segment.specs.Tcp.{Tcp, mss_of}
 use Rattle.tcp_transmit.specs.Acks.{after_ack, octets_acked, without}
 use Rattle.tcp_transmit.specs.Transmission.{Transmission, octets_read}
 use Rattle.tcp_transmit.specs.declared.AckSeen.{AckSeen}
@@ -22,10 +22,6 @@ use Rattle.tcp_connection.specs.Connection.{Connection, closes_first, has_gone_a
 use Rattle.tcp_connection.specs.Windows.{window_in}
 
 -- ---- opening
-
--- the most octets of a piece that the guest's SYN says: 536 where it names none (RFC 9293, 3.7.1), and 64 at least
-abbrev pub mss_of : Option ℕ → ℕ
-mss_of mss = max 64 (unwrap_or mss 536)
 
 -- 3.10.7.3: the guest's SYN came. Our SYN-ACK is owed, and an acknowledgement, which that pays.
 abbrev pub greeted : Connection → Tcp → Connection

@@ -10,7 +10,7 @@ ghost use Rattle.tcp_transmit.specs.Transmission.{Feeds, is_sent, octets_read};
 ghost use Rattle.tcp_connection.specs.Checks.{is_ack, acknowledges_syn as acknowledges_syn_by};
 ghost use Rattle.tcp_connection.specs.Connection.{HasBuffers, IsSound, closes_first as closes_first_by, has_gone_again, is_answering, is_opening, is_synchronized, shift_of, state_between};
 ghost use Rattle.tcp_connection.specs.Segments.{acknowledged, arrived, change_heeding, confirmed, congested, down_heeding, down_welcoming, established, greeted, heard, heeded};
-ghost use Rattle.tcp_connection.specs.Segments.{is_bare as is_bare_by, is_done as is_done_by, is_fin_too as is_fin_too_by, is_past, is_too_far as is_too_far_by, mss_of, opened, seen_of};
+ghost use Rattle.tcp_connection.specs.Segments.{is_bare as is_bare_by, is_done as is_done_by, is_fin_too as is_fin_too_by, is_past, is_too_far as is_too_far_by, opened, seen_of};
 ghost use Rattle.tcp_connection.specs.Segments.{settled, settling, up_heeding, welcomed};
 ghost use Rattle.tcp_connection.specs.Windows.{window_in as window_in_by};
 
@@ -19,7 +19,7 @@ use cwnd::Cwnd;
 use seq_space::number_at;
 use sock_buffers::{Down, Up};
 use tcp_receive::Receive;
-use tcp_segment::TcpView;
+use tcp_segment::{TcpView, mss_of};
 use tcp_transmit::{AckSeen, End};
 
 impl Conn {
@@ -50,7 +50,7 @@ impl Conn {
     {
         self.stage = Stage::Answers;
         self.receive = Receive::new(seg.seq);
-        let most = most_octets(seg.mss).min(self.transmit.mss());
+        let most = mss_of(seg.mss).min(self.transmit.mss());
         self.transmit.limit(most);
         self.acknowledged = number_at(seg.seq, 0);
         self.scale = shift(seg.scale);
@@ -299,14 +299,6 @@ fn is_fin_too(seen: AckSeen) -> bool
         AckSeen::FinToo(_) => true,
         AckSeen::Old | AckSeen::Same | AckSeen::Forward(_) | AckSeen::TooFar => false,
     }
-}
-
-// The most octets of a piece that a guest's SYN says, 64 at least, and 536 where it says none (RFC 9293, 3.7.1).
-fn most_octets(mss: Option<u16>) -> u16
-    ensures value { result ≡ mss_of mss }
-    ensures low { 64 ≤ result }
-{
-    mss.unwrap_or(536).max(64)
 }
 
 // A window scale, of which the part over 14 doesn't count (RFC 7323, 2.3).

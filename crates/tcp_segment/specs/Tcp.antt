@@ -1,6 +1,6 @@
 -- Segments of TCP (RFC 9293, 3.1).
 use Rattle.std.specs.Prelude.{◌≡◌, ℕ, ◌+◌, ◌-◌, ◌*◌, ◌/◌, ◌^◌, ◌<◌, ◌≤◌, ◌||◌, not, Bool, true, false, nat_lt, nat_eq, bit_and, List, [], ◌∷◌, ◌++◌, length, drop, Option, Some, None}
-use Rattle.std.specs.Prelude.{option_map, Result, Ok, Err, if◌then◌else◌}
+use Rattle.std.specs.Prelude.{option_map, unwrap_or, max, Result, Ok, Err, if◌then◌else◌}
 use Rattle.std.specs.Result.{result_ok, result_err}
 use Rattle.net_octets.specs.Kinds.{tcp_proto}
 use Rattle.net_octets.specs.Octets.{one_at, two_at, four_at, part, two, four, word_sum, checksum, sum_ok, before_sum}
@@ -145,6 +145,10 @@ read_tcp from to octets = result_ok (tcp_reading from to octets)
 
 abbrev pub tcp_fault : (from to : ℕ) → List ℕ → Option Fault
 tcp_fault from to octets = result_err (tcp_reading from to octets)
+
+-- the most octets of a piece that a SYN with this option says: 536 where it has none (RFC 9293, 3.7.1), and 64 at least
+abbrev pub mss_of : Option ℕ → ℕ
+mss_of mss = max 64 (unwrap_or mss 536)
 
 -- the options that we write: the greatest segment size, where there is one, and after it a pad and the window scale, where there is one
 abbrev pub mss_octets : Option ℕ → List ℕ

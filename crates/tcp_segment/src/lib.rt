@@ -4,7 +4,7 @@
 ghost use Rattle.std.specs.Prelude.{◌≡◌, ℕ, List, [], None, Some, Ok, Err, ◌+◌, ◌-◌, ◌*◌, ◌/◌, ◌≤◌, ◌<◌, ◌^◌, ◌↔◌, ◌++◌, ◌∷◌, length, take, drop, IsOk, IfOk, IfSome, OnErr, MatchResult};
 ghost use Rattle.std.specs.Result.{result_err};
 ghost use Rattle.net_octets.specs.Octets.{IsOctets, two};
-ghost use Rattle.tcp_segment.specs.Tcp.{Tcp, Fits, IsTcp, has, head_length, head_reading, options_reading, fields_of, tcp_reading, read_tcp, tcp_fault, mss_octets, scale_octets};
+ghost use Rattle.tcp_segment.specs.Tcp.{Tcp, Fits, IsTcp, has, head_length, head_reading, options_reading, fields_of, mss_of, tcp_reading, read_tcp, tcp_fault, mss_octets, scale_octets};
 ghost use Rattle.tcp_segment.specs.Tcp.{words_of as words_by, numbers_of, head_octets, tcp_length, tcp_with, tcp_octets, tcp_of};
 
 use byteorder::{BigEndian, ByteOrder};
@@ -22,6 +22,12 @@ const FORM: Form = Form {
     end_needed: false,
     counts_head: true,
 };
+
+/// The most octets of a piece of a peer whose SYN doesn't say it (RFC 9293, 3.7.1).
+pub const USUAL_MSS: u16 = 536;
+
+/// The least that counts of what a SYN says.
+pub const LEAST_MSS: u16 = 64;
 
 /// The flag of a segment after which its sender sends no more.
 pub const FIN: u8 = 0x01;
@@ -219,6 +225,14 @@ fn length_of(v: &TcpView<'_>) -> usize
     ensures { result ≡ tcp_length (tcp_of v.now) }
 {
     head_size(v) + v.body.len()
+}
+
+/// The most octets of a piece that a SYN with this option says: `USUAL_MSS` where it has none, and `LEAST_MSS` at least (RFC 9293, 3.7.1).
+pub fn mss_of(mss: Option<u16>) -> u16
+    ensures value { result ≡ mss_of mss }
+    ensures low { 64 ≤ result }
+{
+    mss.unwrap_or(USUAL_MSS).max(LEAST_MSS)
 }
 
 fn mss_size(mss: Option<u16>) -> usize

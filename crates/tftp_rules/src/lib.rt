@@ -7,3 +7,6 @@ pub use laws::{
     a_block_is_told_after_the_acknowledgement_of_the_one_before, a_packet_goes_again_five_times,
     names_stay_in_the_folder, the_octets_of_a_block_are_those_read_at_its_place,
 };
+
+/// The most octets of a packet: what UDP carries in a packet of IPv4 of 1,500 octets, behind heads of 20 and 8.
+pub const MOST_PACKET: usize = 1472;

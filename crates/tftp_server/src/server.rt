@@ -6,7 +6,7 @@ ghost use Rattle.tftp_rules.specs.Packets.{error_octets, file_in, options_octets
 ghost use Rattle.tftp_rules.specs.Transfers.{Transfer, acknowledged, came, is_for, measured, most_transfers, octets_of, place_of, requested, seeks_next, sends, sends_block, settled, transfer};
 ghost use Rattle.tftp_rules.specs.Asking.{IsServed};
 ghost use Rattle.tftp_server.specs.Reading.{are_pairs};
-ghost use Rattle.tftp_rules.specs.Saying.{said_by, IsFromServer};
+ghost use Rattle.tftp_rules.specs.Saying.{most_packet, said_by, IsFromServer};
 ghost use Rattle.tftp_server.specs.Rows.{folder_octets, next_of, seeking_length, sought, transfer_of};
 ghost use Rattle.tftp_rules.specs.Soundness.{AreSound};
 ghost use Rattle.tftp_rules.specs.Blocks.{ReadsBlock};
@@ -56,7 +56,7 @@ impl Tftp {
         into: &mut [u8],
     ) -> Reply
         requires moment { now ≤ 2 ^ 62 }
-        requires room { 1472 ≤ length into.old }
+        requires room { most_packet ≤ length into.old }
         ensures serves { Makes (W.tells world.old) (W.tells world.new)
             (IsServed now (came self.old.folder now mac.0 from body.now (settled self.old.transfers)) self.new.transfers (said_by result into.new)) }
         ensures from { IsFromServer self.old.vhost result }
@@ -80,7 +80,7 @@ impl Tftp {
         into: &mut [u8],
     ) -> Reply
         requires moment { now ≤ 2 ^ 62 }
-        requires room { 1472 ≤ length into.old }
+        requires room { most_packet ≤ length into.old }
         ensures serves { Makes (W.tells world.old) (W.tells world.new)
             (IsServed now (came self.old.folder now asker.mac.0 asker.guest body.now (settled self.old.transfers))
             self.new.transfers (said_by result into.new)) }
@@ -118,7 +118,7 @@ impl Tftp {
         into: &mut [u8],
     ) -> Reply
         requires moment { now ≤ 2 ^ 62 }
-        requires room { 1472 ≤ length into.old }
+        requires room { most_packet ≤ length into.old }
         requires fresh { find (is_for asker.guest) self.old.transfers ≡ None }
         ensures serves { Makes (W.tells world.old) (W.tells world.new)
             (IsServed now (requested self.old.folder asker.mac.0 asker.guest (request_in texts.now) self.old.transfers) self.new.transfers
@@ -152,7 +152,7 @@ impl Tftp {
         into: &mut [u8],
     ) -> Reply
         requires moment { now ≤ 2 ^ 62 }
-        requires room { 1472 ≤ length into.old }
+        requires room { most_packet ≤ length into.old }
         requires few { length name.now ≤ 255 }
         requires pairs { are_pairs options.now ≡ true }
         requires fresh { find (is_for asker.guest) self.old.transfers ≡ None }
@@ -184,7 +184,7 @@ impl Tftp {
         into: &mut [u8],
     ) -> Reply
         requires moment { now ≤ 2 ^ 62 }
-        requires room { 1472 ≤ length into.old }
+        requires room { most_packet ≤ length into.old }
         requires few { length name.now ≤ 255 }
         requires pairs { are_pairs options.now ≡ true }
         requires fresh { find (is_for asker.guest) self.old.transfers ≡ None }
@@ -208,7 +208,7 @@ impl Tftp {
     // Sends the options that are answered.
     fn send_options(&mut self, now: u64, mut row: Row, agreed: &Agreed, into: &mut [u8]) -> Reply
         requires moment { now ≤ 2 ^ 62 }
-        requires room { 1472 ≤ length into.old }
+        requires room { most_packet ≤ length into.old }
         requires more { row.is_last ≡ false }
         requires few { length self.old.transfers < most_transfers }
         requires fresh { find (is_for row.guest) self.old.transfers ≡ None }
@@ -231,7 +231,7 @@ impl Tftp {
         into: &mut [u8],
     ) -> Reply
         requires moment { now ≤ 2 ^ 62 }
-        requires room { 1472 ≤ length into.old }
+        requires room { most_packet ≤ length into.old }
         ensures serves { Makes (W.tells world.old) (W.tells world.new)
             (IsServed now (acknowledged now block (find (is_for guest) self.old.transfers) self.old.transfers) self.new.transfers (said_by result into.new)) }
         ensures from { IsFromServer self.old.vhost result }
@@ -255,7 +255,7 @@ impl Tftp {
         into: &mut [u8],
     ) -> Reply
         requires moment { now ≤ 2 ^ 62 }
-        requires room { 1472 ≤ length into.old }
+        requires room { most_packet ≤ length into.old }
         requires more { row.is_last ≡ false }
         requires few { length self.old.transfers < most_transfers }
         requires fresh { find (is_for row.guest) self.old.transfers ≡ None }
@@ -280,7 +280,7 @@ impl Tftp {
     // The next block of a file, so many octets that stand at the front of `into`, goes out.
     fn send_block(&mut self, now: u64, mut row: Row, count: usize, into: &mut [u8]) -> Reply
         requires moment { now ≤ 2 ^ 62 }
-        requires room { 1472 ≤ length into.old }
+        requires room { most_packet ≤ length into.old }
         requires more { row.is_last ≡ false }
         requires whole { count ≡ min (row.length - row.block * row.size) row.size }
         requires few { length self.old.transfers < most_transfers }
@@ -345,7 +345,7 @@ fn first_row(asker: Asker, name: &str, size: u64, agreed: &Agreed) -> Row
 
 // The guest is told an error.
 fn refuse(vhost: Ip4, code: u16, asker: Asker, into: &mut [u8]) -> Reply
-    requires { 1472 ≤ length into.old }
+    requires { most_packet ≤ length into.old }
     ensures says { said_by result into.new ≡ Some (record { mac = asker.mac.0; guest = asker.guest; octets = error_octets code }) }
     ensures from { IsFromServer vhost.0 result }
 {

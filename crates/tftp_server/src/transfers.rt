@@ -6,7 +6,7 @@ ghost use Rattle.slirp_settings.specs.Classes.{same_endpoint};
 ghost use Rattle.net_octets.specs.declared.Endpoint.{Endpoint as AnEndpoint};
 ghost use Rattle.tftp_rules.specs.Transfers.{is_for, without, with_room, sending, ticked, begun, most_transfers};
 ghost use Rattle.tftp_server.specs.Serving.{earlier, IsNextDue};
-ghost use Rattle.tftp_rules.specs.Saying.{said_by, IsFromServer};
+ghost use Rattle.tftp_rules.specs.Saying.{most_packet, said_by, IsFromServer};
 ghost use Rattle.tftp_server.specs.Rows.{transfer_of, transfers_of, IsSentAgain, TakesAcknowledged};
 ghost use Rattle.tftp_rules.specs.Soundness.{AreSound};
 
@@ -65,11 +65,18 @@ impl Tftp {
         }
     }
 
+    /// Whether a file is got. Where none is, no packet goes again.
+    pub fn has_transfers(&self) -> bool
+        ensures some { result ≡ nat_lt 0 (length self.now.transfers) }
+    {
+        !self.rows.is_empty()
+    }
+
     /// The packet of the longest unused transfer that is due to go again goes again: it is counted, and stands at the front of `into`, which has room for 1,472
     /// octets. Nothing exactly where none is due. Ask where nothing else is left to be sent.
     pub fn next_again(&mut self, now: u64, into: &mut [u8]) -> Reply
         requires moment { now ≤ 2 ^ 62 }
-        requires room { 1472 ≤ length into.old }
+        requires room { most_packet ≤ length into.old }
         ensures sound { AreSound self.old.transfers }
         ensures list { self.new ≡ record self.old { transfers = ticked now true self.old.transfers } }
         ensures says { said_by result into.new ≡ begun now true self.old.transfers }
@@ -133,7 +140,7 @@ impl Tftp {
     // A packet goes out for the first time, and its transfer is the last of all.
     pub(crate) fn send(&mut self, now: u64, mut row: Row, into: &mut [u8]) -> Reply
         requires moment { now ≤ 2 ^ 62 }
-        requires room { 1472 ≤ length into.old }
+        requires room { most_packet ≤ length into.old }
         requires few { length self.old.transfers < most_transfers }
         requires fresh { find (is_for row.guest) self.old.transfers ≡ None }
         ensures list { self.new ≡ record self.old {
@@ -153,8 +160,8 @@ impl Tftp {
 
 /// A datagram of the server to a guest, whose octets stand at the front of `into`.
 pub(crate) fn tell(vhost: Ip4, guest: Endpoint, mac: Mac, packet: &[u8], into: &mut [u8]) -> Reply
-    requires few { length packet.now ≤ 1472 }
-    requires room { 1472 ≤ length into.old }
+    requires few { length packet.now ≤ most_packet }
+    requires room { most_packet ≤ length into.old }
     ensures says { said_by result into.new ≡ Some (record { mac = mac.0; guest = guest; octets = packet.now }) }
     ensures from { IsFromServer vhost.0 result }
 {

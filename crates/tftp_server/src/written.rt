@@ -1,12 +1,13 @@
 //! What a guest is told: the options that are answered, a block of a file, an error (RFC 1350, 5; RFC 2347).
 ghost use Rattle.std.specs.Prelude.{◌≡◌, ◌+◌, ◌%◌, ◌^◌, ◌≤◌, ◌++◌, ◌∷◌, [], length};
 ghost use Rattle.tftp_rules.specs.Packets.{answered_octets, block_octets, error_octets, options_octets};
+ghost use Rattle.tftp_rules.specs.Saying.{most_packet};
 ghost use Rattle.tftp_server.specs.Options.{answered_pair};
 
-use crate::MOST_PACKET;
 use crate::options::{Agreed, Answer};
 use arrayvec::ArrayVec;
 use itoa::Buffer;
+use tftp_rules::MOST_PACKET;
 
 /// The options that are answered.
 pub fn options_packet(agreed: &Agreed) -> ArrayVec<u8, MOST_PACKET>
@@ -22,7 +23,7 @@ pub fn options_packet(agreed: &Agreed) -> ArrayVec<u8, MOST_PACKET>
 
 // The option's name, and the number in decimal digits, each ended by a 0.
 fn put_answer(packet: &mut ArrayVec<u8, MOST_PACKET>, answer: &Answer)
-    requires { length packet.old.items + 40 ≤ 1472 }
+    requires { length packet.old.items + 40 ≤ most_packet }
     ensures octets { packet.new.items ≡ packet.old.items ++ answered_octets (answered_pair answer.now ∷ []) }
     ensures few { length packet.new.items ≤ length packet.old.items + 40 }
 {
@@ -57,7 +58,7 @@ pub fn error_packet(code: u16) -> ArrayVec<u8, MOST_PACKET>
 
 // Puts octets behind those that are there.
 fn put(packet: &mut ArrayVec<u8, MOST_PACKET>, octets: &[u8])
-    requires { length packet.old.items + length octets.now ≤ 1472 }
+    requires { length packet.old.items + length octets.now ≤ most_packet }
     ensures { packet.new.items ≡ packet.old.items ++ octets.now }
 {
     match packet.try_extend_from_slice(octets) {

@@ -6,6 +6,7 @@ ghost use Rattle.tcp_connection.specs.Connection.{HasBuffers};
 use crate::steps::{Said, head_of};
 use seq_space::Seq;
 use tcp_connection::Conn;
+use tcp_segment::mss_of;
 
 /// How a connection is opened.
 #[derive(Clone, Copy)]
@@ -85,7 +86,7 @@ impl Opening {
         match &self.syn {
             None => Conn::to_guest(Seq(self.ours), link, self.ring, self.congestion),
             Some(syn) => {
-                let most = link.min(syn.mss.unwrap_or(536).max(64));
+                let most = link.min(mss_of(syn.mss));
                 Conn::from_guest(
                     Seq(syn.seq),
                     Seq(self.ours),

@@ -19,6 +19,9 @@ pub use sink::{Failed, Sink, VecSink};
 /// The octets of one write to the link at most: those of the greatest frame out, and the four of its length.
 pub const MOST_TO_LINK: usize = 1518;
 
+/// The octets of the greatest frame that may come from the guest.
+pub const MOST_FROM_LINK: usize = 69_632;
+
 /// The octets of one write to a connection at most.
 pub const MOST_TO_FLOW: usize = 16_384;
 

@@ -1,48 +1,35 @@
-use Rattle.std.proofs.Common.{◌≡◌, ◌<◌, [], drop, length, nat_lt, refl, sym, ◌∙◌, ap, subst}
+use Rattle.std.proofs.Common.{◌≡◌, ◌<◌, [], length, refl, sym, ◌∙◌, subst}
 use Rattle.world_face.specs.Journal.{LinkWrite, count_of}
-use Rattle.world_face.specs.Tells.{Answers}
 use Rattle.world_face.proofs.Telling.{makes_one}
 use Rattle.world_face.specs.Frames.{spelling, rest_after}
-use Rattle.stream_netdev.specs.Offers.{left, offered}
-use Rattle.stream_netdev.proofs.Writing.{after_frame, left_after, spelling_some, settles}
+use Rattle.stream_netdev.proofs.Writing.{after_frame, left_after, spelling_some, settles, write_most}
 use Rattle.stream_netdev.proofs.Failing.{write_rose}
 use Rattle.stream_netdev.proofs.Link.offer.Goals as goal
+
+pub link_write-answer-requires-clause-some : goal.link_write-answer-requires-clause-some
+link_write-answer-requires-clause-some g c = subst (λ l. 0 < length l) (sym c.requires.spelt.1) (spelling_some c.requires.spelt.0)
+
+pub settle-requires-clause-few : goal.settle-requires-clause-few
+settle-requires-clause-few g c = write_most (length c.args.octets.now) c.link_write-answer.result c.link_write-answer.ensures.allowed.0
 
 pub returns-clause-makes : goal.returns-clause-makes
 returns-clause-makes g c =
     let old = c.args.self.now in
     let new = c.settle.new.self in
-    let frame = c.args.frame.now in
-    let sent = c.send-result.ensures.sent in
-    let answer = sent.0 in
-    let loaded = c.load.ensures.rest in
-    let rest : new.tail ≡ rest_after answer (spelling frame) [] =
-    c.settle.ensures.rest ∙ ap (λ l. left c.send-result.result l) sent.3 ∙ ap (λ r. left r (drop (count_of answer) c.load.new.self.tail)) sent.2
-    ∙ ap (λ l. left (offered answer) (drop (count_of answer) l)) loaded ∙ left_after answer (spelling frame) in
-    let blocked : new.blocked ≡ nat_lt (count_of answer) (length (spelling frame)) =
-    c.settle.ensures.same.1 ∙ sent.4 ∙ ap (λ l. nat_lt (count_of answer) (length l)) loaded in
-    let same = c.settle.ensures.same.0 ∙ c.send-result.ensures.same ∙ c.load.ensures.same.0 in
-    let answers = subst (λ l. Answers (g.W.World.tells c.args.world.now) (g.W.World.tells c.send-result.new.world) (LinkWrite l answer)) loaded sent.1 in
-    makes_one _ _ (LinkWrite (spelling frame) answer) _ answers (λ allowed.
-    ((answer, refl, sent.2), λ past keeps. after_frame old new frame answer past c.requires.fits c.requires.none c.requires.free rest blocked same keeps))
-
-pub send-result-requires : goal.send-result-requires
-send-result-requires g c = subst (λ l. 0 < length l) (sym c.load.ensures.rest) (spelling_some c.args.frame.now)
+    let octets = c.args.octets.now in
+    let answer = c.link_write-answer.result in
+    let rest : new.tail ≡ rest_after answer octets [] = c.settle.ensures.rest ∙ left_after answer octets in
+    makes_one _ _ (LinkWrite octets answer) _ c.link_write-answer.ensures (λ allowed. (
+      (answer, refl, c.offered_of.ensures),
+      λ past keeps. after_frame old new octets c.requires.spelt.0 answer past c.requires.spelt.1 c.requires.fits c.requires.none c.requires.free rest c.settle.ensures.blocked
+          c.settle.ensures.same keeps,
+    ))
 
 pub returns-clause-settles : goal.returns-clause-settles
 returns-clause-settles g c =
-    let new = c.settle.new.self in
-    let frame = c.args.frame.now in
-    let sent = c.send-result.ensures.sent in
-    let answer = sent.0 in
-    let loaded = c.load.ensures.rest in
-    let answers = subst (λ l. Answers (g.W.World.tells c.args.world.now) (g.W.World.tells c.send-result.new.world) (LinkWrite l answer)) loaded sent.1 in
-    let rest : new.tail ≡ left (offered answer) (drop (count_of answer) (spelling frame)) =
-    c.settle.ensures.rest ∙ ap (λ l. left c.send-result.result l) sent.3 ∙ ap (λ r. left r (drop (count_of answer) c.load.new.self.tail)) sent.2
-    ∙ ap (λ l. left (offered answer) (drop (count_of answer) l)) loaded in
-    let blocked : new.blocked ≡ nat_lt (count_of answer) (length (spelling frame)) =
-    c.settle.ensures.same.1 ∙ sent.4 ∙ ap (λ l. nat_lt (count_of answer) (length l)) loaded in
-    settles new answer (spelling frame) c.send-result.result (spelling_some frame) answers.allowed blocked rest sent.2
+    let octets = c.args.octets.now in
+    let some = subst (λ l. 0 < length l) (sym c.requires.spelt.1) (spelling_some c.requires.spelt.0) in
+    settles c.settle.new.self c.link_write-answer.result octets c.offered_of.result some c.link_write-answer.ensures.allowed c.settle.ensures.blocked c.settle.ensures.rest c.offered_of.ensures
 
 pub returns-clause-failed : goal.returns-clause-failed
 returns-clause-failed g c is = write_rose _ _ _ _ _ (returns-clause-makes g c) is

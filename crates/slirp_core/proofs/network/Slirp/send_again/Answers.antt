@@ -15,9 +15,9 @@ use Rattle.slirp_core.proofs.Taking.{file_fits, file_told}
 use Rattle.slirp_core.proofs.Viewed.{state_of}
 use Rattle.slirp_core.proofs.network.Slirp.send_again.Goals as goal
 
-none_of : (frames : List (List ℕ)) → nat_lt 0 (length frames) ≡ false → frames ≡ []
+none_of : {X : Type 0} (xs : List X) → nat_lt 0 (length xs) ≡ false → xs ≡ []
 none_of [] is = refl
-none_of (f ∷ frames) is = absurd (grind (arith, nat_tests, is))
+none_of (x ∷ xs) is = absurd (grind (arith, nat_tests, is))
 
 some_of : (frames : List (List ℕ)) → nat_lt 0 (length frames) ≡ true → frames ≡ [] → ⊥
 some_of [] is none = cc
@@ -43,6 +43,12 @@ none_by config ident now ts (Some t) frames fits found is none =
 
 pub returns-then-pending-clause-none : goal.returns-then-pending-clause-none
 returns-then-pending-clause-none c result none = absurd (some_of c.args.self.now.pending (sym c.pending.ensures ∙ c.if-pending.true) none)
+
+pub returns-then-not-has_transfers-clause-none : goal.returns-then-not-has_transfers-clause-none
+returns-then-not-has_transfers-clause-none c result pending =
+    let i = c.self.inside in
+    let some : nat_lt 0 (length i.files.transfers) ≡ false = sym c.if-not-has_transfers.ensures.some in
+    subst (λ (s : SlirpState). next_again s.moment s.transfers ≡ None) c.self.view_is (ap (next_again i.moment) (none_of i.files.transfers some))
 
 pub put_reply-requires-clause-fits : goal.put_reply-requires-clause-fits
 put_reply-requires-clause-fits c =

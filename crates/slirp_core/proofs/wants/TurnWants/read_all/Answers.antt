@@ -1,9 +1,10 @@
-use Rattle.std.proofs.Common.{◌++◌, true, false, List, length, map, take, drop, sym, ◌∙◌, ap, subst, arith, length-append, take-append-drop}
+use Rattle.std.proofs.Common.{◌++◌, Bool, true, List, length, map, take, drop, sym, ◌∙◌, ap, subst, arith, length-append, take-append-drop}
 use Rattle.std.proofs.lemmas.List.{length-take-le, take_all}
 use Rattle.poll_list.specs.Listing.{AreWants}
 use Rattle.poll_list.specs.declared.Want.{Want}
 use Rattle.slirp_core.specs.Carrying.{sockets_of}
-use Rattle.waiting_flows.specs.Wants.{udp_want}
+use Rattle.slirp_core.specs.Pumps.{merged}
+use Rattle.waiting_flows.specs.Wants.{link_want, listener_want, udp_want}
 use Rattle.slirp_core.proofs.Dividing.{begun_in_parts, cut_in_parts}
 use Rattle.slirp_core.proofs.Filling.{are_front, few_read, same_rows}
 use Rattle.slirp_core.proofs.wants.TurnWants.read_all.Goals as goal
@@ -24,10 +25,12 @@ returns-then-are_same-4-clause-few c =
     let forwards = sym c.as_slice-then-are_same.ensures.value ∙ c.are_same-then-are_same.ensures c.if-are_same-2.true in
     let some = sym c.as_slice-then-are_same-2.ensures.value ∙ c.are_same-then-are_same-2.ensures c.if-are_same-3.true in
     let others = sym c.as_slice-then-are_same-3.ensures.value ∙ c.are_same-then-are_same-3.ensures c.if-are_same-4.true in
-    let same = same_rows i.listeners.items i.forwards.items i.associations.items i.questions.items c.args.listeners.now carriers.forwards.now carriers.associations.now
+    let same = same_rows c.args.write i.listeners.items i.forwards.items i.associations.items i.questions.items c.args.listeners.now carriers.forwards.now carriers.associations.now
     carriers.questions.now listeners forwards some others in
-    few_read c.truncate.new.self.items c.args.listeners.now carriers.forwards.now carriers.associations.now carriers.questions.now
-    (c.truncate.ensures.items ∙ c.self.invariant.3 c.if-self.true ∙ same) c.requires.few c.requires.most.1 c.requires.most.2
+    let held = c.holds_for.ensures c.if-holds_for.true in
+    few_read c.args.write c.truncate.new.self.items c.args.listeners.now carriers.forwards.now carriers.associations.now carriers.questions.now
+    (c.truncate.ensures.items ∙ c.self.invariant.3 held.0 ∙ ap (λ (w : Bool). (link_want true w ++ map listener_want i.listeners.items)
+    ++ map udp_want (merged (merged i.forwards.items i.associations.items) i.questions.items)) held.1 ∙ same) c.requires.few c.requires.most.1 c.requires.most.2
 
 pub invariant_of-self : goal.invariant_of-self
 invariant_of-self c =
@@ -61,6 +64,6 @@ invariant_of-self-2 c =
       omega (arith, long),
       λ is.
           take_all before items (omega (arith, long)) ∙ all ∙ ap (λ (l : List Want). l ++ map udp_want (sockets_of carriers)) c.begin-self-inside.ensures.items
-          ∙ sym (same_rows _ _ _ _ c.args.listeners.now carriers.forwards.now carriers.associations.now carriers.questions.now c.keep.ensures c.keep-2.ensures c.keep-3.ensures c.keep-4.ensures),
-      begun_in_parts true false c.args.listeners.now (sockets_of carriers) c.begin-self-inside.result before begun items c.begin-self-inside.ensures.items all count long,
+          ∙ sym (same_rows c.args.write _ _ _ _ c.args.listeners.now carriers.forwards.now carriers.associations.now carriers.questions.now c.keep.ensures c.keep-2.ensures c.keep-3.ensures c.keep-4.ensures),
+      begun_in_parts true c.args.write c.args.listeners.now (sockets_of carriers) c.begin-self-inside.result before begun items c.begin-self-inside.ensures.items all count long,
     )

@@ -2,13 +2,14 @@
 use Rattle.std.proofs.Common.{◌≡◌, ℕ, ◌+◌, ◌-◌, ◌*◌, ◌≤◌, ◌%◌, ◌^◌, min, nat_lt, List, [], ◌∷◌, ◌++◌, length, take, sym, ◌∙◌, ap, arith}
 use Rattle.std.proofs.lemmas.List.{length-take-le}
 use Rattle.tftp_rules.specs.Packets.{block_octets}
+use Rattle.tftp_rules.specs.Saying.{most_packet}
 use Rattle.tftp_rules.specs.Transfers.{sending}
 use Rattle.tftp_server.specs.Serving.{Serving}
 use Rattle.tftp_server.specs.Rows.{next_of}
 use Rattle.tftp_server.proofs.transfers.Tftp.send_block.Goals as goal
 
 -- how many octets there are
-there : (count long size place : ℕ) (into : List ℕ) → count ≡ min (long - place) size → size ≤ 1468 → 1472 ≤ length into → length (take count into) ≡ count
+there : (count long size place : ℕ) (into : List ℕ) → count ≡ min (long - place) size → size ≤ 1468 → most_packet ≤ length into → length (take count into) ≡ count
 there count long size place into is few room = length-take-le count into (omega (arith, is, few, room))
 
 pub returns-clause-list : goal.returns-clause-list

@@ -6,13 +6,13 @@ use Rattle.tftp_rules.specs.Packets.{file_in}
 use Rattle.tftp_rules.specs.Transfers.{Transfer, octets_of, sends_block}
 use Rattle.tftp_rules.specs.Blocks.{ReadsBlock}
 use Rattle.tftp_server.specs.Serving.{Serving}
-use Rattle.tftp_rules.specs.Saying.{said_by}
+use Rattle.tftp_rules.specs.Saying.{most_packet, said_by}
 use Rattle.tftp_server.specs.Rows.{folder_octets, next_of}
 use Rattle.tftp_server.proofs.Serving.{makes_block, makes_no_block}
 use Rattle.tftp_server.proofs.transfers.Tftp.send_next.Goals as goal
 
 -- the octets of a block are those that are asked for
-block_size : (block size long count : ℕ) (into : List ℕ) → count ≡ min (long - block * size) size → size ≤ 1468 → 1472 ≤ length into → min size
+block_size : (block size long count : ℕ) (into : List ℕ) → count ≡ min (long - block * size) size → size ≤ 1468 → most_packet ≤ length into → min size
     (long - (block + 1 - 1) * size) ≡ length (take count into)
 block_size block size long count into is few room =
     let same : (block + 1 - 1) * size ≡ block * size = ap (λ n. n * size) (omega arith) in
