@@ -231,7 +231,7 @@ pub opens_awaited_port : (read : Reads) (config : Config) (past : List Entry) (s
     → is_opening (phase (by_control read config past) (without_control past)) ≡ false → MayControl read config past (CallUdpOpen socket at) → IsAwaited (desk read config past).awaited
 opens_awaited_port read config past socket at named late may = open_by (desk read config past).awaited read config past socket at named late may
 
-no_close : (p : Proto) (number : ℕ) (f : Forward) (socket : ℕ) → CallClose socket ≡ opening_of p number f → ⊥
+pub no_close : (p : Proto) (number : ℕ) (f : Forward) (socket : ℕ) → CallClose socket ≡ opening_of p number f → ⊥
 no_close Tcp number f socket is = cc
 no_close Udp number f socket is = cc
 

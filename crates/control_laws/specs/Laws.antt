@@ -167,6 +167,3 @@ pub record Refuses (config : Config) (past : List Entry) : Type 0 where
 -- whatever reads lines as they are meant; in a RULE without an address of a guest it is the first that is lent
 abbrev pub IsReading : Config → Reads → Type 0
 IsReading config read = (line : List ℕ) → Means config.dhcp_start line (read line)
-
-abbrev pub IsRun : Config → List Entry → Type 0
-IsRun config past = (read : Reads) → IsReading config read → RunsBy read config past ⊎ Refuses config past

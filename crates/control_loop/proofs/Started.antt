@@ -19,7 +19,8 @@ use Rattle.slirp_laws.specs.Laws.{Finished, Lawful}
 use Rattle.run_duties.specs.Duties.{Dutiful}
 use Rattle.run_duties.proofs.Ended.{dutiful_unwaited, refused_unwaited}
 use Rattle.stream_netdev.specs.State.{LinkState}
-use Rattle.slirp_core.specs.Forwards.{forward_sockets, with_numbers}
+use Rattle.slirp_core.specs.Forwards.{with_numbers}
+use Rattle.forward_rules.specs.Opened.{forward_sockets}
 use Rattle.slirp_core.specs.Holds.{Opens, Ran, after, as_given}
 use Rattle.slirp_core.specs.State.{SlirpState}
 use Rattle.serve_loop.specs.Ends.{end_of}

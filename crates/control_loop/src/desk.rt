@@ -14,7 +14,8 @@ ghost use Rattle.serve_loop.specs.Ends.{IsCounted};
 ghost use Rattle.serve_loop.specs.Served.{IsNew};
 ghost use Rattle.serve_loop.specs.Turns.{AttendsAfterWholeTurn, AttendsNow, IsStep};
 ghost use Rattle.slirp_core.specs.Counts.{AreGrown};
-ghost use Rattle.slirp_core.specs.Forwards.{AreCloses, forward_sockets};
+ghost use Rattle.slirp_core.specs.Forwards.{AreCloses};
+ghost use Rattle.forward_rules.specs.Opened.{forward_sockets};
 ghost use Rattle.slirp_core.specs.Holds.{AfterListening, ClosesAll, HoldsNothingElse, Opens, after, as_given, holders_of};
 
 use control_aside::Aside;

@@ -68,6 +68,11 @@ impl Network {
         Ok(Network { service, control })
     }
 
+    /// Lets go of it, with all its memory, where it doesn't serve: `serve` does so at its end.
+    pub fn let_go(self) {
+        self.service.let_go();
+    }
+
     /// Opens the ports of the host that are given to guests, and the control's where the settings have one, and runs until the link ends, a wait is told to stop,
     /// or the turns are spent; then all sockets are closed. Where the host refuses a port the run ends before its first turn.
     pub fn serve<W: World>(self, world: &mut W) -> End
@@ -117,7 +122,7 @@ fn serve_alone<W: World>(mut service: Service, world: &mut W) -> End
     ensures faults { IsCounted (Turn.Ended result) (W.tells world.old).faults (W.tells world.new).faults }
 {
     let end = service.serve(world);
-    let_go(service);
+    service.let_go();
     end
 }
 
@@ -155,11 +160,6 @@ fn run_aside<W: World>(world: W, run: (Service, Control)) -> (W, End)
         guest,
     };
     let end = desk.run(&mut aside, turns);
-    let_go_of_desk(desk);
+    desk.service.let_go();
     (aside.into_world(), end)
 }
-
-// Let go of a service, and of a desk: since what a function lets go of is proved in it, and they are large.
-fn let_go(_service: Service) {}
-
-fn let_go_of_desk(_desk: Desk) {}

@@ -2,7 +2,7 @@
 use Rattle.std.proofs.Common.{refl, ◌≡◌, ℕ, ◌≤◌, List, MatchOption, is_some, option_map, [], ◌∷◌, Bool, true, false, not, ◌&&◌, ◌||◌, Option, None, Some, if◌then◌else◌, nat_eq, arith, ap}
 use Rattle.std.proofs.Common.{subst, sym, ◌∙◌}
 use Rattle.std.specs.Option.{option_or, option_map, unwrap_or}
-use Rattle.seq_space.specs.Places.{number_of}
+use Rattle.seq_space.specs.Places.{is_ahead, number_of}
 use Rattle.sock_buffers.specs.Downward.{Downward}
 use Rattle.sock_buffers.specs.Upward.{Upward}
 use Rattle.tcp_segment.specs.Tcp.{Tcp}
@@ -12,7 +12,7 @@ use Rattle.tcp_connection.specs.Segments.{after_segment, down_after_segment, up_
 use Rattle.flow_laws.specs.Settings.{Settings}
 use Rattle.flow_laws.specs.Lawful.{HasNumberThatCame}
 use Rattle.flow_laws.specs.Event.{Arrives, At, Segment, Story}
-use Rattle.flow_laws.specs.Flow.{confirms, greets, host, is_accepted, is_ahead, is_closed, our_number, push, syn_is_out, their_number, their_syn, guest, is_heeded, is_plain}
+use Rattle.flow_laws.specs.Flow.{confirms, greets, host, is_accepted, is_closed, our_number, push, syn_is_out, their_number, their_syn, guest, is_heeded, is_plain}
 use Rattle.flow_laws.specs.Guest.{ackd, Up, Acked, Came, HasCome, Honest, Known}
 use Rattle.flow_laws.specs.Host.{Confirmed, sent}
 use Rattle.flow_laws.specs.Flow.{guest}

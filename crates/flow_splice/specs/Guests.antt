@@ -10,7 +10,7 @@ use Rattle.tcp_connection.specs.declared.Change.TheVariants.{Nothing, GuestReset
 use Rattle.world_face.specs.Journal.{Entry}
 use Rattle.flow_laws.specs.Settings.{Settings}
 use Rattle.flow_laws.specs.Event.{Arrives, At, Story}
-use Rattle.flow_laws.specs.Flow.{is_ahead}
+use Rattle.seq_space.specs.Places.{is_ahead}
 use Rattle.connection_follows.specs.Seen.{segment_of}
 use Rattle.flow_splice.specs.Follows.{Follows}
 use Rattle.flow_splice.specs.Serves.{Serves}

@@ -6,11 +6,10 @@ ghost use Rattle.tcp_receive.specs.Coming.{Comes};
 ghost use Rattle.tcp_segment.specs.Tcp.{tcp_of};
 ghost use Rattle.tcp_transmit.specs.Transmission.{octets_read};
 ghost use Rattle.world_face.specs.Tells.{Makes};
-ghost use Rattle.flow_laws.specs.Flow.{is_ahead};
 ghost use Rattle.flow_splice.specs.Guests.{renews};
 
 use crate::{Place, Spliced};
-use seq_space::Seq;
+use seq_space::is_ahead;
 use tcp_connection::{Change, Owed};
 use tcp_segment::TcpView;
 use world_face::World;
@@ -146,12 +145,4 @@ pub(crate) fn later_if(anew: bool, now: u64, since: u64) -> u64
     ensures { result ≡ (if anew then now else since) }
 {
     if anew { now } else { since }
-}
-
-// Whether a number is ahead of another, the short way round.
-fn is_ahead(a: Seq, b: Seq) -> bool
-    ensures { result ≡ is_ahead a.0 b.0 }
-{
-    let steps = a.0.wrapping_sub(b.0);
-    0 < steps && steps < 1 << 31
 }

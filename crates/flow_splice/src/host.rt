@@ -28,7 +28,7 @@ impl Spliced {
 
     /// The host's socket was reported ready, for reading, for writing or for both. It is asked whether it connected, or gets octets, and the guest's end
     /// where no octet is left before it; and then what it has is read, as far as there is room. Where a call fails, or both ends passed, the socket is closed.
-    /// A direction that wasn't reported isn't served. The octets pass through the scratch.
+    /// A direction that wasn't reported isn't served. Octets are read into the scratch, and written from where they stand in one piece, else from it.
     pub fn host_ready<W: World>(
         &mut self,
         world: &mut W,

@@ -1,5 +1,5 @@
 -- The list of open forwards: in the order in which they were added, each with the number of the socket that was opened for it.
-use Rattle.std.specs.Prelude.{ℕ, ◌==◌, ◌&&◌, not, Bool, List, filter, find, Option, option_map}
+use Rattle.std.specs.Prelude.{ℕ, ◌==◌, ◌&&◌, not, Bool, List, filter, find, map, Option, option_map}
 use Rattle.std.specs.List.{list_any}
 use Rattle.net_octets.specs.declared.Endpoint.{Endpoint}
 use Rattle.slirp_settings.specs.declared.Forward.{Forward}
@@ -47,3 +47,14 @@ is_on socket opened = socket_of opened == socket
 -- the forward whose socket has this number
 abbrev pub forward_with : ℕ → List Opened → Option Forward
 forward_with socket list = option_map (λ opened. opened.0) (find (is_on socket) list)
+
+-- the numbers of their sockets
+abbrev pub forward_sockets : List Opened → List ℕ
+forward_sockets forwards = map socket_of forwards
+
+-- of those that are for connections, or for datagrams
+abbrev pub is_over : Proto → Opened → Bool
+is_over proto opened = same_proto proto opened.0.proto
+
+abbrev pub sockets_over : Proto → List Opened → List ℕ
+sockets_over proto forwards = forward_sockets (filter (is_over proto) forwards)

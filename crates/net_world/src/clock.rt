@@ -4,9 +4,7 @@ ghost use Rattle.std.specs.Time.{instant_nanos};
 ghost use Rattle.net_world.specs.Moments.{moment_at};
 
 use std::time::{Clock, Instant};
-
-/// A moment is at most this, in milliseconds.
-const LAST_MOMENT: u64 = 1 << 62;
+use world_face::LAST_MOMENT;
 
 /// The moments since an instant, in milliseconds, by the system's monotonic clock, as they were asked for.
 #[derive(Drop)]

@@ -4,6 +4,8 @@ use Rattle.std.specs.List.{list_any}
 use Rattle.poll_list.specs.declared.Who.{Who}
 use Rattle.poll_list.specs.declared.Who.TheVariants.{Link, Listener, Udp, Tcp}
 use Rattle.poll_list.specs.declared.Want.{Want}
+use Rattle.poll_list.specs.declared.Way.{Way}
+use Rattle.poll_list.specs.declared.Way.TheVariants.{Read, Write}
 
 -- what contracts see of a list with room for a fixed number
 pub record Listing : Type 0 where
@@ -60,3 +62,14 @@ reads who wants = list_any (λ want. same_who who want.of && want.read) wants
 
 abbrev pub writes : Who → List Want → Bool
 writes who wants = list_any (λ want. same_who who want.of && want.write) wants
+
+-- either, by the direction
+abbrev pub goes : Way → Want → Bool
+goes Read want = want.read
+goes Write want = want.write
+
+abbrev pub is_of : Who → Way → Want → Bool
+is_of who way want = same_who who want.of && goes way want
+
+abbrev pub is_among : Who → Way → List Want → Bool
+is_among who way wants = list_any (λ want. same_who who want.of && goes way want) wants

@@ -1,9 +1,12 @@
 //! Lists of what a program waits for, and of what became ready.
 #![tactic(auto)]
 
+mod among;
+
 ghost use Rattle.std.specs.Prelude.{◌≡◌};
 ghost use Rattle.poll_list.specs.Writes.{count_to_write};
 
+pub use among::is_among;
 use std::alloc::{AllocError, Global};
 use std::marker::Model;
 
@@ -22,6 +25,13 @@ pub struct Want {
     pub of: Who,
     pub read: bool,
     pub write: bool,
+}
+
+/// A direction in which something is wanted or ready.
+#[derive(Clone, Copy, Debug, PartialEq, Eq)]
+pub enum Way {
+    Read,
+    Write,
 }
 
 /// What a wait is for: a list with room for a fixed number of wants, all of it taken at opening.

@@ -2,3 +2,4 @@ pub mod Adding
 pub mod Listing
 pub mod Refilling
 pub mod Removing
+pub mod Forwarding

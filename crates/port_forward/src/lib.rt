@@ -4,6 +4,7 @@
 //! takes any: a forward that is removed leaves its room to the next.
 #![tactic(auto)]
 
+mod by_proto;
 mod ports;
 
 ghost use Rattle.std.specs.Prelude.{◌≡◌, ◌≢◌, ◌≤◌, ℕ, ◌+◌, [], ◌∷◌, Some, None, IfOk, IsOk, IsErr, length, slice_get};
@@ -14,6 +15,7 @@ ghost use Rattle.forward_rules.specs.declared.FwdFault.TheVariants.{Refused};
 ghost use Rattle.forward_rules.specs.Adding.{Adds, fault_of, opening_of};
 ghost use Rattle.forward_rules.specs.Opened.{forward_with, socket_at, socket_for, without};
 
+pub use crate::by_proto::{Ports, closes_before};
 use crate::ports::{Lead, Port, forward_of, is_for, port_of, put, remove};
 use forward_rules::FwdFault;
 use host_policy::Policy;

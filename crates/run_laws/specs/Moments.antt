@@ -1,10 +1,11 @@
 -- Moments and waits.
-use Rattle.std.specs.Prelude.{ℕ, ◌+◌, ◌^◌, min, max, List, [], ◌∷◌}
+use Rattle.std.specs.Prelude.{ℕ, ◌+◌, min, max, List, [], ◌∷◌}
 use Rattle.world_face.specs.Journal.{Entry, Now, Wait}
+use Rattle.world_face.specs.Limits.{last_moment}
 
--- the moment in force: the greatest that the clock has told, cut at 2 ^ 62
+-- the moment in force: the greatest that the clock has told, cut at the last moment
 abbrev pub moment_after : Entry → ℕ → ℕ
-moment_after (Now told) moment = max (min told (2 ^ 62)) moment
+moment_after (Now told) moment = max (min told last_moment) moment
 moment_after _ moment = moment
 
 abbrev pub moment : List Entry → ℕ

@@ -1,5 +1,5 @@
 -- Sequence numbers of 32 bits (RFC 9293, 3.4), and the places in a stream for which they stand.
-use Rattle.std.specs.Prelude.{◌≡◌, ℕ, ◌+◌, ◌-◌, ◌%◌, ◌^◌, ℤ, pos, ◌+ℤ◌, ◌-ℤ◌, ◌*ℤ◌, ◌≤ℤ◌, ◌<ℤ◌}
+use Rattle.std.specs.Prelude.{◌≡◌, Bool, ◌&&◌, nat_lt, ℕ, ◌+◌, ◌-◌, ◌%◌, ◌^◌, ℤ, pos, ◌+ℤ◌, ◌-ℤ◌, ◌*ℤ◌, ◌≤ℤ◌, ◌<ℤ◌}
 
 -- a multiple of 2^32
 abbrev pub IsWhole : ℤ → Type 0
@@ -25,6 +25,10 @@ number_of first place = (first + 1 + place) % 2 ^ 32
 -- how far b has to go up to come to a, modulo 2^32
 abbrev pub steps_up : ℕ → ℕ → ℕ
 steps_up a b = (a + 2 ^ 32 - b) % 2 ^ 32
+
+-- the number a is ahead of the number b, the short way round
+abbrev pub is_ahead : ℕ → ℕ → Bool
+is_ahead a b = nat_lt 0 (steps_up a b) && nat_lt (steps_up a b) (2 ^ 31)
 
 -- the nearest place, by numbers from 0 on: 2^31 more than it
 abbrev pub shifted_place : ℕ → ℕ → ℕ → ℕ

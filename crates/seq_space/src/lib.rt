@@ -1,8 +1,8 @@
 //! Sequence numbers of 32 bits (RFC 9293, 3.4), and the places in a stream for which they stand.
 #![tactic(auto)]
 
-ghost use Rattle.std.specs.Prelude.{◌≡◌, ◌≤◌, ◌^◌};
-ghost use Rattle.seq_space.specs.Places.{IsAhead, IsPlace, number_of, place as place_of};
+ghost use Rattle.std.specs.Prelude.{◌≡◌, ◌≤◌, ◌^◌, ◌↔◌, ℤ, pos, ◌<ℤ◌, IsTrue};
+ghost use Rattle.seq_space.specs.Places.{IsAhead, IsPlace, is_ahead, number_of, place as place_of};
 
 /// A sequence number of TCP, modulo 2^32 (RFC 9293, 3.4).
 #[derive(Clone, Copy, Debug, PartialEq, Eq)]
@@ -14,6 +14,15 @@ pub fn ahead(a: Seq, b: Seq) -> i32
     ensures { IsAhead a.0 b.0 result }
 {
     a.0.wrapping_sub(b.0).cast_signed()
+}
+
+/// Whether `a` is ahead of `b`, the short way round.
+pub fn is_ahead(a: Seq, b: Seq) -> bool
+    ensures value { result ≡ is_ahead a.0 b.0 }
+    ensures way { (d : ℤ) → IsAhead a.0 b.0 d → IsTrue result ↔ (pos 0 <ℤ d) }
+{
+    let steps = a.0.wrapping_sub(b.0);
+    0 < steps && steps < 1 << 31
 }
 
 /// The number at a place of the stream whose SYN has the number `first`. The first octet after the

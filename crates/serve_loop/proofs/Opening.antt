@@ -1,5 +1,7 @@
 -- A service that is opened.
-use Rattle.std.proofs.Common.{ℕ, ◌≤◌, ◌^◌, nat_le, ◌&&◌, IsTrue, arith}
+use Rattle.std.proofs.Common.{◌≡◌, ℕ, ◌≤◌, ◌^◌, nat_le, ◌&&◌, true, IsTrue, arith}
+use Rattle.std.specs.Prelude.{Result, Ok, Err, OnOk}
+use Rattle.std.specs.Result.{is_ok}
 use Rattle.std.proofs.lemmas.Bool.Decides.{nat_tests}
 use Rattle.slirp_settings.specs.Addresses.{Config}
 use Rattle.slirp_settings.specs.Ranges.{IsSound}
@@ -25,3 +27,8 @@ has_some_turns config sound = some config.turns (sound.each Turns)
   where
     some : (turns : ℕ) → IsTrue (nat_le 1 turns && nat_le turns 17592186044416) → 1 ≤ turns
     some turns is = grind (arith, nat_tests, is)
+
+-- of what came to Ok holds what was said of that
+pub at_ok : {T E P : Type 0} (result : Result T E) → is_ok result ≡ true → OnOk result P → P
+at_ok (Ok x) is p = p
+at_ok (Err e) is p = cc

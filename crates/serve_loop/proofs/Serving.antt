@@ -18,7 +18,8 @@ use Rattle.stream_netdev.specs.State.{LinkState, under_way}
 use Rattle.stream_netdev.proofs.Reading.{reads_first}
 use Rattle.tcp_flows.specs.Kept.{IsFor, Kept}
 use Rattle.forward_rules.specs.Opened.{Opened}
-use Rattle.slirp_core.specs.Forwards.{AreCloses, forward_sockets}
+use Rattle.slirp_core.specs.Forwards.{AreCloses}
+use Rattle.forward_rules.specs.Opened.{forward_sockets}
 use Rattle.slirp_core.specs.Holds.{AfterListening, after, flowing, Begins, ClosesAll, Closing, Opens, Stands, Turns, Holders, as_given, holders_of}
 use Rattle.slirp_core.specs.Numbers.{flows_for}
 use Rattle.slirp_core.specs.State.{SlirpState}

@@ -109,17 +109,6 @@ of_listener number wants item of read wanted =
     ap (λ (who : Who). same_who (Listener number) who && (item.read && reads who wants)) of
     ∙ ap (λ (b : Bool). b && (item.read && reads (Listener number) wants)) (same number) ∙ ap (λ (b : Bool). b && reads (Listener number) wants) read ∙ wanted
 
--- what stands at a place is among all
-pub reads_there : (who : Who) (wants : List Want) (n : ℕ) (want other : Want) → n < length wants → want ≡ get_or wants n other → is_to_read who want ≡ true → reads who wants ≡ true
-reads_there who [] n want other few there is = absurd (omega (arith, few))
-reads_there who (x ∷ wants) zero want other few there is = ap (λ (w : Want). is_to_read who w || reads who wants) (sym there) ∙ ap (λ (b : Bool). b || reads who wants) is
-reads_there who (x ∷ wants) (suc n) want other few there is = or_second (is_to_read who x) (reads who wants) (reads_there who wants n want other (omega (arith, few)) there is)
-
-pub writes_there : (who : Who) (wants : List Want) (n : ℕ) (want other : Want) → n < length wants → want ≡ get_or wants n other → is_to_write who want ≡ true → writes who wants ≡ true
-writes_there who [] n want other few there is = absurd (omega (arith, few))
-writes_there who (x ∷ wants) zero want other few there is = ap (λ (w : Want). is_to_write who w || writes who wants) (sym there) ∙ ap (λ (b : Bool). b || writes who wants) is
-writes_there who (x ∷ wants) (suc n) want other few there is = or_second (is_to_write who x) (writes who wants) (writes_there who wants n want other (omega (arith, few)) there is)
-
 -- none is left from the end on
 pub drop_all : (items : List Want) (n : ℕ) → length items ≤ n → drop n items ≡ []
 drop_all [] zero all = refl

@@ -20,7 +20,7 @@ use Rattle.tftp_rules.specs.Transfers.{next_again}
 use Rattle.stream_netdev.specs.Keeps.{ReadsOn}
 use Rattle.stream_netdev.specs.State.{LinkState, under_way}
 use Rattle.forward_rules.specs.Opened.{Opened}
-use Rattle.slirp_core.specs.Forwards.{forward_sockets}
+use Rattle.forward_rules.specs.Opened.{forward_sockets}
 use Rattle.slirp_core.specs.Holds.{Standing, after, standing, flowing, Holders, holders_of, Holds, Ended, Closing}
 use Rattle.slirp_core.specs.Calm.{AreClear}
 use Rattle.tcp_flows.specs.Settled.{HaveTime}

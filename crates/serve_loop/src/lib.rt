@@ -2,7 +2,6 @@
 #![tactic(auto)]
 
 mod forwards;
-mod listed;
 mod reports;
 mod service;
 

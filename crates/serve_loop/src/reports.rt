@@ -9,9 +9,8 @@ ghost use Rattle.poll_list.specs.Listing.{reads};
 ghost use Rattle.poll_list.specs.declared.Who.TheVariants.{Link as TheLink, Listener, Udp, Tcp};
 ghost use Rattle.poll_list.specs.declared.Want.{Want as AnItem};
 
-use crate::listed::{reads_among, writes_among};
 use crate::service::{End, Service, Turn, writes_link};
-use poll_list::{Want, Who};
+use poll_list::{Want, Way, Who, is_among};
 use stream_netdev::Arrived;
 use world_face::World;
 
@@ -151,8 +150,8 @@ impl Service {
         ensures none { result ≡ None → ((wanted_of self.now.wants item.now).read || (wanted_of self.now.wants item.now).write) ≡ false }
     {
         let wants = self.wants.of_flows();
-        let read = item.read && reads_among(wants, Who::Tcp(number));
-        let write = item.write && writes_among(wants, Who::Tcp(number));
+        let read = item.read && is_among(wants, Who::Tcp(number), Way::Read);
+        let write = item.write && is_among(wants, Who::Tcp(number), Way::Write);
         if !(read || write) {
             return None;
         }
@@ -167,14 +166,14 @@ impl Service {
     fn waits_for_peers(&self, number: u64, item: &Want) -> bool
         ensures { result ≡ (item.now.read && reads (Listener number) self.now.wants) }
     {
-        item.read && reads_among(self.wants.of_listeners(), Who::Listener(number))
+        item.read && is_among(self.wants.of_listeners(), Who::Listener(number), Way::Read)
     }
 
     // Whether a report on this socket is for reading, and datagrams on it were waited for.
     fn waits_for(&self, number: u64, item: &Want) -> bool
         ensures { result ≡ (item.now.read && reads (Udp number) self.now.wants) }
     {
-        item.read && reads_among(self.wants.of_datagrams(), Who::Udp(number))
+        item.read && is_among(self.wants.of_datagrams(), Who::Udp(number), Way::Read)
     }
 
     // Reads a frame where nothing is left to be sent, and hands it to the network.

@@ -14,7 +14,7 @@ ghost use Rattle.world_face.specs.Limits.{most_ready, most_to_udp};
 use crate::reports::still;
 use arrayvec::ArrayVec;
 use net_octets::NoMemory;
-use poll_list::{ReadyList, Want, Who};
+use poll_list::{ReadyList, Want, Way, Who, is_among};
 use slirp_core::{LONGEST_ASSEMBLED, Slirp, TurnWants};
 use slirp_settings::{Forward, SlirpConfig};
 use std::alloc::Global;
@@ -106,7 +106,8 @@ impl Service {
     ghost use Rattle.stream_netdev.specs.State.{under_way};
     ghost use Rattle.serve_loop.specs.Ends.{end_of, IsCounted};
     ghost use Rattle.slirp_core.specs.Counts.{AreGrown};
-    ghost use Rattle.slirp_core.specs.Forwards.{AreCloses, forward_sockets};
+    ghost use Rattle.slirp_core.specs.Forwards.{AreCloses};
+    ghost use Rattle.forward_rules.specs.Opened.{forward_sockets};
     ghost use Rattle.slirp_core.specs.Holds.{AfterListening, ClosesAll, HoldsNothingElse, Opens, after, as_given, holders_of};
     ghost use Rattle.serve_loop.specs.Turns.{AfterTurn, AllSent, AreYoung, AttendsAfterSleep, AttendsAfterTaking, AttendsAfterTurn, AttendsAfterWholeTurn, AttendsNow};
     ghost use Rattle.serve_loop.specs.Turns.{HoldsNow, IsCalm, IsCalmAfter, IsInTime, IsStep, MayRest, NoneGoesAgain, NoneTold, ServedAfter, ServesNow, all_passed_over, is_frame_due};
@@ -215,6 +216,11 @@ impl Service {
     {
         let told = world.now();
         self.slirp.tell_moment(told);
+    }
+
+    /// Lets go of it, with all its memory. Whoever has one calls this: what a function lets go of is proved in it, and a service is large.
+    pub fn let_go(self) {
+        self.slirp.let_go();
     }
 
     /// Closes all sockets of the network, by rising number, and does nothing else.
@@ -462,14 +468,14 @@ fn report(link: &mut Link, ready: &[Want])
 pub(crate) fn writes_link(items: &[Want]) -> bool
     ensures { result ≡ writes TheLink items.now }
 {
-    items.iter().any(|item| item.of == Who::Link && item.write)
+    is_among(items, Who::Link, Way::Write)
 }
 
 // Whether the link is among these for reading.
 fn reads_link(items: &[Want]) -> bool
     ensures { result ≡ reads TheLink items.now }
 {
-    items.iter().any(|item| item.of == Who::Link && item.read)
+    is_among(items, Who::Link, Way::Read)
 }
 
 // What a pump comes to in a turn.

@@ -42,14 +42,14 @@ pub(crate) fn serve<W: World, K: Sink>(
         Tap::Record => match Lines::open(alloc) {
             Ok(lines) => record_link(network, lines, at, world, out),
             Err(_) => {
-                let_go(network);
+                network.let_go();
                 Outcome::NoMemory
             }
         },
         Tap::Capture => match Framing::open(alloc) {
             Ok(framing) => capture_link(network, framing, at, world, out),
             Err(_) => {
-                let_go(network);
+                network.let_go();
                 Outcome::NoMemory
             }
         },
@@ -65,7 +65,7 @@ pub(crate) fn serve_link<W: World>(network: Network, at: &LinkAt, world: &mut W)
     match world.link_open(at) {
         Made::Done => run_network(network, world),
         Made::Failed => {
-            let_go(network);
+            network.let_go();
             Outcome::LinkFault
         }
     }
@@ -80,9 +80,6 @@ pub(crate) fn run_network<W: World>(network: Network, world: &mut W) -> Outcome
     let end = network.serve(world);
     outcome_of(end)
 }
-
-// Lets go of a network. It is called wherever one goes, since what a function lets go of is proved in it, and a network is large.
-pub(crate) fn let_go(_network: Network) {}
 
 // The outcome of a run that ended so.
 fn outcome_of(end: End) -> Outcome

@@ -7,7 +7,7 @@ ghost use Rattle.taps.specs.Capturing.{Tracks};
 ghost use Rattle.world_face.specs.Journal.{IsPlace, place_of};
 ghost use Rattle.world_face.specs.Tells.{Makes, Rose};
 
-use crate::serving::{let_go, run_network, serve_link};
+use crate::serving::{run_network, serve_link};
 use app_edges::Outcome;
 use control_loop::Network;
 use core::mem::replace_with;
@@ -32,7 +32,7 @@ pub(crate) fn record_link<W: World, K: Sink>(
     match world.link_open(at) {
         Made::Done => record(network, lines, world, out),
         Made::Failed => {
-            let_go(network);
+            network.let_go();
             Outcome::LinkFault
         }
     }

@@ -41,7 +41,8 @@ use Rattle.slirp_laws.proofs.Longest.{same_port}
 use Rattle.stream_netdev.specs.State.{LinkState}
 use Rattle.flows_follow.proofs.Options.{true_false}
 use Rattle.slirp_core.specs.Added.{MayAdd, MayRemove, closed_at, number_after, was_asked}
-use Rattle.slirp_core.specs.Forwards.{AreInForce, IsInForce, forward_sockets, given_kind, is_given}
+use Rattle.slirp_core.specs.Forwards.{AreInForce, IsInForce, given_kind, is_given}
+use Rattle.forward_rules.specs.Opened.{forward_sockets}
 use Rattle.slirp_core.specs.Holds.{Flowing, Holds, InTurn, Turns, Unbegun, after, asked_by, carriers, flowing, holders_of}
 use Rattle.slirp_core.specs.Sockets.{AllAbove, IsRising}
 use Rattle.slirp_core.specs.State.{SlirpState}

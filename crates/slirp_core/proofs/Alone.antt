@@ -13,7 +13,8 @@ use Rattle.dns_rules.specs.declared.Question.{Question}
 use Rattle.flows_follow.proofs.Options.{true_false}
 use Rattle.forward_rules.specs.Opened.{Opened}
 use Rattle.slirp_core.specs.Firsts.{IsQuestionFirst}
-use Rattle.slirp_core.specs.Forwards.{ClosesForward, forward_sockets}
+use Rattle.slirp_core.specs.Forwards.{ClosesForward}
+use Rattle.forward_rules.specs.Opened.{forward_sockets}
 use Rattle.slirp_core.specs.Holds.{HoldsNothingElse, IsOf, NoForwardFirst, carriers, holders_of}
 use Rattle.slirp_core.specs.State.{SlirpState}
 

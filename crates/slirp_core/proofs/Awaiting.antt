@@ -66,7 +66,8 @@ use Rattle.run_duties.specs.Waiting.{WaitsFor, is_all_sent, is_for_datagrams, ta
 use Rattle.waiting_flows.proofs.Listing.{AreOfFlows, AreOver, AreOverBy, DoRise, DoRiseBy, all_waited_for, of_flows}
 use Rattle.slirp_core.specs.Calm.{AreClear}
 use Rattle.tcp_flows.specs.Settled.{HaveTime}
-use Rattle.slirp_core.specs.Forwards.{forward_sockets, given_kind, is_over, sockets_over}
+use Rattle.slirp_core.specs.Forwards.{given_kind}
+use Rattle.forward_rules.specs.Opened.{forward_sockets, is_over, sockets_over}
 use Rattle.slirp_core.specs.Sockets.{AllAbove, IsRising}
 use Rattle.slirp_core.specs.Holds.{Flowing, Holds, Standing, carriers, flowing, holders_of}
 use Rattle.slirp_core.specs.Owed.{IsOwed, OfFile, OfLeft}

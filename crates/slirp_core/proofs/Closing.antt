@@ -36,7 +36,8 @@ use Rattle.slirp_settings.specs.Ranges.{same_proto}
 use Rattle.slirp_settings.specs.Classes.{same_endpoint}
 use Rattle.slirp_laws.proofs.Longest.{same_port}
 use Rattle.slirp_laws.proofs.Joining.{numbers_without}
-use Rattle.slirp_core.specs.Forwards.{ClosesForward, forward_sockets}
+use Rattle.slirp_core.specs.Forwards.{ClosesForward}
+use Rattle.forward_rules.specs.Opened.{forward_sockets}
 use Rattle.slirp_core.specs.Firsts.{IsLeastOf}
 use Rattle.slirp_core.specs.Holds.{AfterClosing, AreOpen, AreTwo, Closing, ClosesAll, ClosesNext, ClosesOther, Holders, IsForwardFirst, IsOf, NoForwardFirst, Ran, carriers, Rests}
 use Rattle.slirp_core.specs.Holds.{OverFor, AllWaited}

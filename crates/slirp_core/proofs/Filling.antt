@@ -17,7 +17,7 @@ use Rattle.flows_follow.specs.Core.{number_of}
 use Rattle.tcp_flows.specs.Reading.{AreAbove, AreRising, AreWantsOf, want_of}
 use Rattle.slirp_settings.specs.declared.Proto.TheVariants.{Udp as OverUdp}
 use Rattle.flows_follow.proofs.Options.{true_false}
-use Rattle.slirp_core.specs.Forwards.{sockets_over}
+use Rattle.forward_rules.specs.Opened.{sockets_over}
 use Rattle.slirp_core.specs.Holds.{carriers, holders_of}
 use Rattle.slirp_core.specs.Pumps.{TcpOnce, WantsOf, is_settled, listeners_of, merged}
 use Rattle.waiting_flows.specs.Wants.{link_want, listener_want, udp_want, socket_wants}

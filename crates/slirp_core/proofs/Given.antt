@@ -25,7 +25,8 @@ use Rattle.slirp_laws.proofs.OpenSockets.{open_below, peer_next}
 use Rattle.slirp_laws.proofs.Giving.{leads}
 use Rattle.slirp_laws.specs.Ports.{forward_for, given_by, is_port, opened_for}
 use Rattle.tcp_flows.specs.Runs.{LeavesOthers}
-use Rattle.slirp_core.specs.Forwards.{AreInForce, IsInForce, forward_sockets, given_kind, guest_on, is_given, is_over, sockets_over}
+use Rattle.slirp_core.specs.Forwards.{AreInForce, IsInForce, given_kind, guest_on, is_given}
+use Rattle.forward_rules.specs.Opened.{forward_sockets, is_over, sockets_over}
 use Rattle.slirp_core.specs.Sockets.{AllAbove, IsRising}
 use Rattle.flows_follow.proofs.Seats.{same_or_not}
 use Rattle.flows_follow.proofs.Options.{true_false}

@@ -19,7 +19,6 @@ pub mod Dividing
 pub mod Filling
 pub mod Given
 pub mod Listening
-pub mod Forwarding
 pub mod Marking
 pub mod Merging
 pub mod Guests

@@ -21,7 +21,8 @@ use Rattle.port_forward.proofs.Adding.{no_cause}
 use Rattle.run_laws.specs.Shape.{Over, Refused}
 use Rattle.run_laws.specs.Sockets.{next_number}
 use Rattle.stream_netdev.specs.State.{LinkState}
-use Rattle.slirp_core.specs.Forwards.{Listens, forward_sockets, with_numbers}
+use Rattle.slirp_core.specs.Forwards.{Listens, with_numbers}
+use Rattle.forward_rules.specs.Opened.{forward_sockets}
 use Rattle.slirp_core.specs.Holds.{Closing, Opens, holders_of}
 use Rattle.slirp_core.specs.State.{SlirpState}
 use Rattle.slirp_laws.proofs.Bools.{first_of, second_of, turned}

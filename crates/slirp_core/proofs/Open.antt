@@ -13,7 +13,8 @@ use Rattle.slirp_laws.specs.Names.{questions}
 use Rattle.slirp_laws.specs.Relayed.{associations}
 use Rattle.slirp_laws.proofs.Bools.{and_both, first_of, second_of}
 use Rattle.stream_netdev.specs.State.{LinkState}
-use Rattle.slirp_core.specs.Forwards.{AreInForce, forward_sockets, is_given}
+use Rattle.slirp_core.specs.Forwards.{AreInForce, is_given}
+use Rattle.forward_rules.specs.Opened.{forward_sockets}
 use Rattle.slirp_core.specs.Holds.{Standing, AreOpen, Flowing, HoldsOn, IsOf, carriers, holders_with, is_ours}
 use Rattle.slirp_core.specs.State.{SlirpState}
 use Rattle.flows_follow.specs.Core.{CoreHolds, number_of}

@@ -24,7 +24,7 @@ use Rattle.run_duties.specs.Serving.{is_left_to_read, serves_reading}
 use Rattle.run_duties.specs.Waiting.{takes_datagrams, takes_in}
 use Rattle.run_duties.proofs.Serving.{read_since, reading_on, unread}
 use Rattle.forward_rules.specs.Opened.{forward_with}
-use Rattle.slirp_core.specs.Forwards.{sockets_over}
+use Rattle.forward_rules.specs.Opened.{sockets_over}
 use Rattle.slirp_core.specs.Hearing.{Receives, is_heard}
 use Rattle.slirp_core.specs.Holds.{Flowing, Holds, Standing, carriers, holders_of, standing}
 use Rattle.slirp_core.specs.State.{SlirpState}

@@ -40,7 +40,8 @@ use Rattle.slirp_laws.specs.Laws.{May, due, due_for_services}
 use Rattle.slirp_laws.proofs.Bools.{among_last, same}
 use Rattle.slirp_laws.proofs.Deeds.{asks, listens, opens as opens_socket}
 use Rattle.stream_netdev.specs.State.{LinkState, under_way}
-use Rattle.slirp_core.specs.Forwards.{AreInForce, forward_sockets, given_kind, with_numbers}
+use Rattle.slirp_core.specs.Forwards.{AreInForce, given_kind, with_numbers}
+use Rattle.forward_rules.specs.Opened.{forward_sockets}
 use Rattle.slirp_core.specs.Fragments.{IsHeld}
 use Rattle.slirp_core.specs.Holds.{Standing, after, Begins, Holders, Closing, asked_by, carriers, holders_of, holders_with, Ended, Flowing, Holds, IsOf, OfFlows, Opens, Rests, OverFor, as_given}
 use Rattle.slirp_core.specs.Holds.{AllWaited, Stands, Turns, flowing, is_ours}

@@ -17,7 +17,7 @@ use Rattle.slirp_laws.specs.Datagrams.{Step, NeedsNothing, due_for}
 use Rattle.slirp_laws.specs.Laws.{Lawful, due, most_wanted}
 use Rattle.slirp_laws.proofs.Deeds.{asks, waits_now}
 use Rattle.stream_netdev.specs.State.{LinkState, under_way}
-use Rattle.slirp_core.specs.Forwards.{forward_sockets}
+use Rattle.forward_rules.specs.Opened.{forward_sockets}
 use Rattle.slirp_core.specs.Holds.{after, standing, AreOpen, carriers, holders_with, Begins, Ended, Holds, OfFlows, Stands, Turns, flowing}
 use Rattle.slirp_core.specs.State.{SlirpState}
 use Rattle.slirp_core.proofs.Guests.{guests_stay}

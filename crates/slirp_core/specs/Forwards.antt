@@ -10,7 +10,7 @@ use Rattle.slirp_settings.specs.Ranges.{same_proto}
 use Rattle.slirp_settings.specs.declared.Proto.{Proto}
 use Rattle.slirp_settings.specs.declared.Proto.TheVariants.{Tcp, Udp}
 use Rattle.forward_rules.specs.Adding.{opening_of}
-use Rattle.forward_rules.specs.Opened.{Opened, forward_with, socket_of}
+use Rattle.forward_rules.specs.Opened.{Opened, forward_sockets, forward_with, socket_of}
 use Rattle.run_laws.specs.Sockets.{Kind, Forward as OfForward, Listener, is_among, is_forward, is_listener, kind_of, next_number, open_sockets}
 use Rattle.slirp_laws.specs.Ports.{given_by}
 use Rattle.slirp_core.specs.Sockets.{IsRising}
@@ -19,17 +19,6 @@ use Rattle.slirp_core.specs.Sockets.{IsRising}
 abbrev pub with_numbers : ℕ → List Forward → List Opened
 with_numbers n [] = []
 with_numbers n (forward ∷ forwards) = (forward, n) ∷ with_numbers (n + 1) forwards
-
--- the numbers of their sockets
-abbrev pub forward_sockets : List Opened → List ℕ
-forward_sockets forwards = map socket_of forwards
-
--- of those that are for connections, or for datagrams
-abbrev pub is_over : Proto → Opened → Bool
-is_over proto opened = same_proto proto opened.0.proto
-
-abbrev pub sockets_over : Proto → List Opened → List ℕ
-sockets_over proto forwards = forward_sockets (filter (is_over proto) forwards)
 
 -- the port of a guest to which the port for datagrams with this socket is given
 abbrev pub guest_on : List Opened → ℕ → Option Endpoint

@@ -30,7 +30,8 @@ use Rattle.slirp_laws.specs.Laws.{Finished, Lawful, due_for_services, is_closing
 use Rattle.slirp_laws.specs.Names.{answered, questions}
 use Rattle.stream_netdev.specs.Keeps.{Keeps}
 use Rattle.stream_netdev.specs.State.{LinkState}
-use Rattle.slirp_core.specs.Forwards.{AreInForce, forward_sockets, is_given, with_numbers}
+use Rattle.slirp_core.specs.Forwards.{AreInForce, is_given, with_numbers}
+use Rattle.forward_rules.specs.Opened.{forward_sockets}
 use Rattle.slirp_core.specs.Owed.{IsOwedAt}
 use Rattle.slirp_core.specs.Packets.{Request, ToSend, ToServe}
 use Rattle.slirp_core.specs.Segments.{Coming}

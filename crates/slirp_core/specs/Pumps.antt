@@ -15,7 +15,7 @@ use Rattle.stream_netdev.specs.declared.Offered.TheVariants.{Taken, Blocked as O
 use Rattle.flows_follow.specs.Peers.{fits_peer}
 use Rattle.tcp_flows.specs.Reading.{AreWantsOf}
 use Rattle.waiting_flows.specs.Wants.{link_want, listener_want, socket_wants}
-use Rattle.slirp_core.specs.Forwards.{sockets_over}
+use Rattle.forward_rules.specs.Opened.{sockets_over}
 use Rattle.slirp_core.specs.Holds.{carriers, holders_of}
 use Rattle.slirp_core.specs.State.{SlirpState}
 

@@ -1,9 +1,10 @@
 -- What contracts see of the network.
-use Rattle.std.specs.Prelude.{ℕ, List, None}
+use Rattle.std.specs.Prelude.{ℕ, List, [], None, replicate}
 use Rattle.net_octets.specs.declared.Ip4.{Ip4}
 use Rattle.net_octets.specs.declared.Mac.{Mac}
 use Rattle.slirp_settings.specs.Addresses.{Config}
 use Rattle.dhcp_rules.specs.declared.Lease.{Lease}
+use Rattle.dhcp_rules.specs.declared.Lease.TheVariants.{Free}
 use Rattle.dns_rules.specs.declared.Question.{Question}
 use Rattle.udp_rules.specs.declared.Association.{Association}
 use Rattle.ipv4_reasm.specs.Areas.{Gathered}
@@ -11,6 +12,7 @@ use Rattle.forward_rules.specs.Opened.{Opened}
 use Rattle.tftp_rules.specs.Transfers.{Transfer, settled}
 use Rattle.slirp_laws.specs.Answers.{Serving}
 use Rattle.tcp_flows.specs.Kept.{Kept}
+use Rattle.slirp_core.specs.Numbers.{flows_for}
 
 -- its settings, the guests that are known, the identification of the next datagram, the frames that are owed and aren't out yet, the moment in force, the
 -- number of the next socket, the associations, the questions that wait for an answer, what is in the areas of fragments, the flows of TCP, who has which
@@ -33,3 +35,21 @@ pub record SlirpState : Type 0 where
 -- what its services keep, where no packet of a file is on its way again: the leases and the transfers
 abbrev pub serving_of : SlirpState → Serving
 serving_of slirp = record { now = slirp.moment; leases = slirp.leases; files = settled slirp.transfers; again = None }
+
+-- one with these settings, of which nothing was asked yet
+abbrev pub fresh : Config → SlirpState
+fresh config = record {
+  config = config;
+  known = [];
+  sent = 0;
+  pending = [];
+  moment = 0;
+  number = 0;
+  associations = [];
+  questions = [];
+  fragments = [];
+  flows = flows_for config;
+  leases = replicate 16 Free;
+  forwards = [];
+  transfers = [];
+}

@@ -8,7 +8,7 @@ mod forwards;
 mod fragments;
 mod icmp;
 mod network;
-mod ports;
+mod opening;
 mod sending;
 mod tcp;
 mod timeouts;

@@ -8,7 +8,7 @@ ghost use Rattle.ipv4_head.specs.Ip.{ip_of, is_unbroken};
 use crate::datagrams::datagram_in;
 use crate::fragments::datagram_at;
 use crate::icmp::is_message_to_us;
-use crate::ports::Ports;
+use crate::opening::{Frames, Servers};
 use crate::tcp::{is_segment, segment_in};
 use arp_table::ArpTable;
 use dhcp_server::Leases;
@@ -18,17 +18,14 @@ use ipv4_head::IpView;
 use ipv4_reasm::Reasm;
 use net_octets::{ARP_KIND, IPV4_KIND, Ip4, Mac, NoMemory};
 use owed_frames::Outgoing;
+use port_forward::{Ports, closes_before};
 use slirp_settings::SlirpConfig;
 use std::alloc::Global;
 use std::marker::Model;
-use tcp_flows::{Sizes, TcpFlows};
-use tftp_rules::MOST_PACKET;
+use tcp_flows::TcpFlows;
 use tftp_server::Tftp;
 use udp_assoc::Assocs;
-use world_face::World;
-
-/// The greatest moment, in milliseconds.
-const LAST_MOMENT: u64 = 1 << 62;
+use world_face::{LAST_MOMENT, World};
 
 /// The virtual network: who its guests are, which sockets are open for their datagrams and their questions, how many datagrams went out, the frames that are
 /// owed to a guest and aren't out yet, the fragments that wait to be joined, the flows of TCP, who has which address, the ports of the host that are given to
@@ -88,6 +85,10 @@ impl Model for Slirp {
 
 impl Slirp {
     ghost use Rattle.dhcp_rules.specs.declared.Lease.TheVariants.{Free};
+    ghost use Rattle.tftp_rules.specs.Saying.{most_packet};
+    ghost use Rattle.slirp_core.specs.Services.{IsServer};
+    ghost use Rattle.slirp_core.specs.State.{fresh};
+    ghost use Rattle.world_face.specs.Limits.{last_moment};
     ghost use Rattle.std.specs.Prelude.{map, replicate, reverse, slice_get, false, Bool, ℕ, List, ◌∷◌, ◌≤◌, ◌+◌, IfOk, Some, None, min, max};
     ghost use Rattle.std.specs.Option.{option_map};
     ghost use Rattle.slirp_settings.specs.Addresses.{Config};
@@ -121,7 +122,8 @@ impl Slirp {
     ghost use Rattle.slirp_core.specs.Counts.{AreGrown};
     ghost use Rattle.slirp_core.specs.Marks.{KeepsMarks};
     ghost use Rattle.tftp_rules.specs.Transfers.{are_left};
-    ghost use Rattle.slirp_core.specs.Forwards.{AreCloses, ClosesForward, forward_sockets};
+    ghost use Rattle.slirp_core.specs.Forwards.{AreCloses, ClosesForward};
+    ghost use Rattle.forward_rules.specs.Opened.{forward_sockets};
     ghost use Rattle.slirp_core.specs.Holds.{Standing, after, carriers, flowing, Holds, holders_of, standing, ClosesAll, ClosesNext, ClosesOther, HoldsNothingElse, IsForwardFirst, NoForwardFirst};
 
     /// A network in which no guest is known, no socket is open and nothing is owed, with room for as many flows of TCP as the settings say. It takes all the memory that it will ever need.
@@ -141,35 +143,49 @@ impl Slirp {
         ensures forwards { IfOk result (λ slirp. slirp.forwards ≡ []) }
         ensures transfers { IfOk result (λ slirp. slirp.transfers ≡ []) }
     {
-        let Ok(message) = vec![in alloc; 0; MOST_PACKET] else {
-            return Err(NoMemory);
-        };
-        let outgoing = Outgoing::open(alloc)?;
-        let reasm = Reasm::open(alloc)?;
-        let flows = TcpFlows::open(alloc, &sizes_of(c))?;
-        let forwards = Ports::open(alloc)?;
-        let files = Tftp::open(alloc, c)?;
-        Ok(Slirp {
+        let frames = Frames::open(alloc)?;
+        let servers = Servers::open(alloc, c)?;
+        Ok(Slirp::begun(c, frames, servers))
+    }
+
+    // A network of these parts, of which nothing was asked yet.
+    fn begun(c: &SlirpConfig, frames: Frames, servers: Servers) -> Slirp
+        requires sound { IsSound (settings c.now) }
+        requires outgoing { frames.outgoing ≡ [] }
+        requires reasm { frames.reasm ≡ [] }
+        requires message { length frames.message.items ≡ most_packet }
+        requires flows { servers.flows ≡ flows_for (settings c.now) }
+        requires forwards { servers.forwards ≡ [] }
+        requires files { IsServer (settings c.now) servers.files }
+        requires transfers { servers.files.transfers ≡ [] }
+        ensures { result ≡ fresh (settings c.now) }
+    {
+        Slirp {
             policy: Policy::new(c),
             guests: ArpTable::new(),
             associations: Assocs::new(bind_for(c)),
             questions: Relay::new(c),
             sent: 0,
-            outgoing,
+            outgoing: frames.outgoing,
             moment: 0,
             number: 0,
-            reasm,
-            flows,
+            reasm: frames.reasm,
+            flows: servers.flows,
             leases: Leases::new(c),
-            forwards,
-            files,
-            message,
-        })
+            forwards: servers.forwards,
+            files: servers.files,
+            message: frames.message,
+        }
     }
 
-    /// The clock told a moment, in milliseconds: the moment in force is the greatest so far, at most 2^62.
+    /// Lets go of it, with all its memory: what a function lets go of is proved in it, and a network is large.
+    pub fn let_go(self) {
+        self.flows.let_go();
+    }
+
+    /// The clock told a moment, in milliseconds: the moment in force is the greatest so far, at most the last one.
     pub fn tell_moment(&mut self, told: u64)
-        ensures { self.new ≡ record self.old { moment = max (min told (2 ^ 62)) self.old.moment } }
+        ensures { self.new ≡ record self.old { moment = max (min told last_moment) self.old.moment } }
     {
         self.moment = told.min(LAST_MOMENT).max(self.moment);
     }
@@ -455,7 +471,7 @@ impl Slirp {
         ensures no { result ≡ false → (n : ℕ) × IsFirst n self.now.flows.flows.slots × (n ≤ number) }
     {
         match self.flows.first() {
-            Some(flow) => number < flow,
+            Some(flow) => closes_before(number, flow),
             None => true,
         }
     }
@@ -500,27 +516,6 @@ fn bind_for(c: &SlirpConfig) -> Ip4
     ensures { result.0 ≡ unwrap_or (settings c.now).outbound 0 }
 {
     c.outbound.unwrap_or(Ip4(0))
-}
-
-// What the settings say of flows.
-fn sizes_of(c: &SlirpConfig) -> Sizes
-    ensures { result ≡ record {
-      slots = c.now.flows;
-      ring = c.now.ring;
-      mtu = c.now.if_mtu;
-      mru = c.now.if_mru;
-      congestion = c.now.congestion;
-      vhost = c.now.vhost;
-    } }
-{
-    Sizes {
-        slots: c.flows as usize,
-        ring: c.ring as usize,
-        mtu: c.if_mtu,
-        mru: c.if_mru,
-        congestion: c.congestion,
-        vhost: c.vhost,
-    }
 }
 
 // Whether a datagram is a part of a greater one.

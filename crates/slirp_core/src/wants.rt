@@ -254,7 +254,7 @@ impl TurnWants {
 impl Slirp {
     ghost use Rattle.ipv4_head.specs.Sets.{PartSet};
     ghost use Rattle.slirp_settings.specs.declared.Proto.TheVariants.{Tcp, Udp};
-    ghost use Rattle.slirp_core.specs.Forwards.{sockets_over};
+    ghost use Rattle.forward_rules.specs.Opened.{sockets_over};
     ghost use Rattle.slirp_core.specs.Fragments.{IsHeld};
     ghost use Rattle.slirp_core.specs.Pumps.{WantsOf, listeners_of};
     ghost use Rattle.slirp_core.specs.Timeouts.{IsTimeout};

@@ -11,7 +11,7 @@ use crate::page::Page;
 use replay::LineView;
 use std::alloc::Global;
 use std::marker::Model;
-use world_face::{Failed, Io, MOST_FROM_LINK, NoMemory, Sink};
+use world_face::{Failed, Io, LAST_MOMENT, MOST_FROM_LINK, NoMemory, Sink};
 
 // Room for the greatest frame that may come, and the four octets of its length.
 const ROOM: usize = 4 + MOST_FROM_LINK;
@@ -213,7 +213,7 @@ impl Framing {
         ensures later { K.faults out.old ≤ K.faults out.new }
     {
         match line {
-            LineView::Now(moment) => self.moment = (*moment).min(1 << 62).max(self.moment),
+            LineView::Now(moment) => self.moment = (*moment).min(LAST_MOMENT).max(self.moment),
             LineView::LinkRead(_, _, octets) => return self.read(octets, out),
             LineView::LinkWrite(octets, answer) => return self.wrote(octets, *answer, out),
             LineView::Wait(..)

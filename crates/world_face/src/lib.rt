@@ -31,6 +31,9 @@ pub const MOST_TO_UDP: usize = 65_507;
 /// The octets of the name of a file at most.
 pub const MOST_NAME: usize = 1_280;
 
+/// The last moment, in milliseconds: a later one is taken for it.
+pub const LAST_MOMENT: u64 = 1 << 62;
+
 /// The wants of one wait at most.
 pub const MOST_WANTS: usize = 5_155;
 

@@ -1,7 +1,7 @@
 use Rattle.std.proofs.Common.{◌+◌, ◌++◌, ◌∷◌, [], ℕ, List, drop, get_or, refl, ◌∙◌, ap, append_assoc, arith, rules}
 use Rattle.std.proofs.lemmas.Grind.{common_steps}
 use Rattle.slirp_core.specs.Pumps.{merged}
-use Rattle.slirp_core.proofs.Forwarding.{at_ok}
+use Rattle.port_forward.proofs.Forwarding.{at_ok}
 use Rattle.slirp_core.proofs.Merging.{all_came, comes_next}
 use Rattle.slirp_core.proofs.wants.merge.Goals as goal
 

@@ -20,8 +20,8 @@ module _ (c : goal.After-result-1) where
   read_is : c.if-item.read ≡ (c.args.item.now.read && reads c.args.item.now.of c.args.self.now.wants)
   read_is =
       elim c.if-item.branch [
-        | then-item w ↦ so c.args.item.now.read (reads c.args.item.now.of c.args.self.now.wants) c.if-item.read w.reads_among-read.result w.if-item.true w.read-is
-            (w.reads_among-read.ensures ∙ ap (reads (Tcp c.args.number)) c.of_flows-wants.ensures.all ∙ flows_among c.args.number c.self.inside.wants.items
+        | then-item w ↦ so c.args.item.now.read (reads c.args.item.now.of c.args.self.now.wants) c.if-item.read w.is_among-read.result w.if-item.true w.read-is
+            (w.is_among-read.ensures ∙ ap (reads (Tcp c.args.number)) c.of_flows-wants.ensures.all ∙ flows_among c.args.number c.self.inside.wants.items
             ∙ ap (λ (s : ServiceState). reads (Tcp c.args.number) s.wants) c.self.view_is ∙ sym (ap (λ (who : Who). reads who c.args.self.now.wants) c.requires))
         | else-item w ↦ not_so c.args.item.now.read (reads c.args.item.now.of c.args.self.now.wants) c.if-item.read w.if-item.false (w.read-is ∙ w.if-item.false)
       ]
@@ -29,8 +29,8 @@ module _ (c : goal.After-result-1) where
   write_is : c.if-item-2.write ≡ (c.args.item.now.write && writes c.args.item.now.of c.args.self.now.wants)
   write_is =
       elim c.if-item-2.branch [
-        | then-item-2 w ↦ so c.args.item.now.write (writes c.args.item.now.of c.args.self.now.wants) c.if-item-2.write w.writes_among-write.result w.if-item-2.true w.write-is
-            (w.writes_among-write.ensures ∙ ap (writes (Tcp c.args.number)) c.of_flows-wants.ensures.all ∙ flows_written c.args.number c.self.inside.wants.items
+        | then-item-2 w ↦ so c.args.item.now.write (writes c.args.item.now.of c.args.self.now.wants) c.if-item-2.write w.is_among-write.result w.if-item-2.true w.write-is
+            (w.is_among-write.ensures ∙ ap (writes (Tcp c.args.number)) c.of_flows-wants.ensures.all ∙ flows_written c.args.number c.self.inside.wants.items
             ∙ ap (λ (s : ServiceState). writes (Tcp c.args.number) s.wants) c.self.view_is ∙ sym (ap (λ (who : Who). writes who c.args.self.now.wants) c.requires))
         | else-item-2 w ↦ not_so c.args.item.now.write (writes c.args.item.now.of c.args.self.now.wants) c.if-item-2.write w.if-item-2.false (w.write-is ∙ w.if-item-2.false)
       ]
@@ -42,8 +42,8 @@ module _ (c : goal.Then-not-write) where
   none_read : c.if-item.read ≡ (c.args.item.now.read && reads c.args.item.now.of c.args.self.now.wants)
   none_read =
       elim c.if-item.branch [
-        | then-item w ↦ so c.args.item.now.read (reads c.args.item.now.of c.args.self.now.wants) c.if-item.read w.reads_among-read.result w.if-item.true w.read-is
-            (w.reads_among-read.ensures ∙ ap (reads (Tcp c.args.number)) c.of_flows-wants.ensures.all ∙ flows_among c.args.number c.self.inside.wants.items
+        | then-item w ↦ so c.args.item.now.read (reads c.args.item.now.of c.args.self.now.wants) c.if-item.read w.is_among-read.result w.if-item.true w.read-is
+            (w.is_among-read.ensures ∙ ap (reads (Tcp c.args.number)) c.of_flows-wants.ensures.all ∙ flows_among c.args.number c.self.inside.wants.items
             ∙ ap (λ (s : ServiceState). reads (Tcp c.args.number) s.wants) c.self.view_is ∙ sym (ap (λ (who : Who). reads who c.args.self.now.wants) c.requires))
         | else-item w ↦ not_so c.args.item.now.read (reads c.args.item.now.of c.args.self.now.wants) c.if-item.read w.if-item.false (w.read-is ∙ w.if-item.false)
       ]
@@ -51,8 +51,8 @@ module _ (c : goal.Then-not-write) where
   none_written : c.if-item-2.write ≡ (c.args.item.now.write && writes c.args.item.now.of c.args.self.now.wants)
   none_written =
       elim c.if-item-2.branch [
-        | then-item-2 w ↦ so c.args.item.now.write (writes c.args.item.now.of c.args.self.now.wants) c.if-item-2.write w.writes_among-write.result w.if-item-2.true w.write-is
-            (w.writes_among-write.ensures ∙ ap (writes (Tcp c.args.number)) c.of_flows-wants.ensures.all ∙ flows_written c.args.number c.self.inside.wants.items
+        | then-item-2 w ↦ so c.args.item.now.write (writes c.args.item.now.of c.args.self.now.wants) c.if-item-2.write w.is_among-write.result w.if-item-2.true w.write-is
+            (w.is_among-write.ensures ∙ ap (writes (Tcp c.args.number)) c.of_flows-wants.ensures.all ∙ flows_written c.args.number c.self.inside.wants.items
             ∙ ap (λ (s : ServiceState). writes (Tcp c.args.number) s.wants) c.self.view_is ∙ sym (ap (λ (who : Who). writes who c.args.self.now.wants) c.requires))
         | else-item-2 w ↦ not_so c.args.item.now.write (writes c.args.item.now.of c.args.self.now.wants) c.if-item-2.write w.if-item-2.false (w.write-is ∙ w.if-item-2.false)
       ]

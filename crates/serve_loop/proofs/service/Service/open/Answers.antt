@@ -4,8 +4,7 @@ use Rattle.slirp_settings.specs.Ranges.{IsSound}
 use Rattle.slirp_core.specs.Holds.{as_given}
 use Rattle.slirp_core.specs.Numbers.{flows_for}
 use Rattle.slirp_core.specs.Pumps.{TcpOnce}
-use Rattle.slirp_core.proofs.Forwarding.{at_ok}
-use Rattle.serve_loop.proofs.Opening.{has_few_turns, has_room_for_a_unit, has_some_turns}
+use Rattle.serve_loop.proofs.Opening.{at_ok, has_few_turns, has_room_for_a_unit, has_some_turns}
 use Rattle.serve_loop.proofs.service.Service.open.Goals as goal
 
 pub invariant_of-result : goal.invariant_of-result

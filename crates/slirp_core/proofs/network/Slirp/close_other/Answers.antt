@@ -7,7 +7,8 @@ use Rattle.dns_relay.specs.State.{RelayState}
 use Rattle.udp_rules.specs.Associations.{numbers}
 use Rattle.tcp_flows.specs.Kept.{Kept}
 use Rattle.slirp_core.specs.Firsts.{IsFlowFirst, IsQuestionFirst, NoFlowFirst, NoQuestionFirst, others_open}
-use Rattle.slirp_core.specs.Forwards.{AreCloses, forward_sockets}
+use Rattle.slirp_core.specs.Forwards.{AreCloses}
+use Rattle.forward_rules.specs.Opened.{forward_sockets}
 use Rattle.slirp_core.specs.Holds.{ClosesOther, Holders, carriers, holders_of}
 use Rattle.slirp_core.specs.Numbers.{open_flows}
 use Rattle.slirp_core.specs.Services.{AreAsked}

@@ -7,7 +7,7 @@ use Rattle.tcp_flows.specs.Reading.{IsFirst as FirstOfFlows, IsOpenAt}
 use Rattle.dns_rules.specs.Questions.{numbers as question_numbers}
 use Rattle.udp_rules.specs.Associations.{numbers}
 use Rattle.forward_rules.specs.Opened.{Opened}
-use Rattle.slirp_core.specs.Forwards.{forward_sockets}
+use Rattle.forward_rules.specs.Opened.{forward_sockets}
 use Rattle.slirp_core.specs.Holds.{Holders, IsForwardFirst, IsOf, NoForwardFirst, carriers, holders_of}
 use Rattle.slirp_core.specs.State.{SlirpState}
 use Rattle.slirp_core.proofs.Askers.{among_first, among_second}

@@ -14,9 +14,9 @@ use Rattle.slirp_core.specs.State.{SlirpState}
 use Rattle.world_face.specs.Moments.{sooner}
 use Rattle.slirp_core.specs.Timeouts.{IsFlowTime, SuitsFlows}
 use Rattle.slirp_core.proofs.Filling.{wants_of}
-use Rattle.slirp_core.proofs.Forwarding.{both_over}
+use Rattle.port_forward.proofs.Forwarding.{both_over}
 use Rattle.slirp_settings.specs.declared.Proto.TheVariants.{Udp as OverUdp}
-use Rattle.slirp_core.specs.Forwards.{sockets_over}
+use Rattle.forward_rules.specs.Opened.{sockets_over}
 use Rattle.slirp_core.proofs.Merging.{merged_rises, merged_three}
 use Rattle.slirp_core.proofs.network.Slirp.pollfds_fill.Goals as goal
 

@@ -1,19 +1,18 @@
-// The ports of the host that are given to guests, told apart by their protocol.
-ghost use Rattle.std.specs.Prelude.{◌≡◌, ◌≢◌, ◌≤◌, ◌+◌, [], ◌∷◌, ℕ, Some, None, IfOk, IsErr, IsOk, length, slice_get};
+//! The open forwards told apart by their protocol.
+ghost use Rattle.std.specs.Prelude.{◌≡◌, ◌≢◌, ◌≤◌, ◌+◌, [], ◌∷◌, ℕ, nat_lt, Some, None, IfOk, IsErr, IsOk, length, slice_get};
 ghost use Rattle.std.specs.Result.{result_err};
 ghost use Rattle.world_face.specs.Journal.{Close};
 ghost use Rattle.world_face.specs.Tells.{Makes, Rose};
 ghost use Rattle.slirp_settings.specs.Ranges.{same_proto};
 ghost use Rattle.forward_rules.specs.declared.FwdFault.TheVariants.{Refused};
 ghost use Rattle.forward_rules.specs.Adding.{Adds, fault_of};
-ghost use Rattle.forward_rules.specs.Opened.{forward_with, socket_at, socket_for, without};
-ghost use Rattle.slirp_core.specs.Forwards.{sockets_over};
+ghost use Rattle.forward_rules.specs.Opened.{forward_with, socket_at, socket_for, sockets_over, without};
 
+use crate::{Forwards, NotThere};
 use arrayvec::ArrayVec;
 use forward_rules::FwdFault;
 use host_policy::Policy;
 use net_octets::{Endpoint, NoMemory};
-use port_forward::{Forwards, NotThere};
 use slirp_settings::{Forward, Proto};
 use std::alloc::Global;
 use std::marker::Model;
@@ -22,7 +21,7 @@ use world_face::World;
 /// The open forwards, and the numbers of their sockets by protocol. Forwards change only where one is opened or closed, and what is waited for is asked at every
 /// turn: so the numbers are kept. A contract sees the list of forwards.
 #[derive(Drop)]
-pub(crate) struct Ports {
+pub struct Ports {
     list: Forwards,
     listeners: ArrayVec<u64, 32>,
     carriers: ArrayVec<u64, 32>,
@@ -31,8 +30,7 @@ pub(crate) struct Ports {
 impl Model for Ports {
     ghost use Rattle.std.specs.Prelude.{◌≡◌, ◌≤◌, List, length};
     ghost use Rattle.slirp_settings.specs.declared.Proto.TheVariants.{Tcp, Udp};
-    ghost use Rattle.forward_rules.specs.Opened.{Opened};
-    ghost use Rattle.slirp_core.specs.Forwards.{sockets_over};
+    ghost use Rattle.forward_rules.specs.Opened.{Opened, sockets_over};
 
     ghost Value = { List Opened };
 
@@ -42,8 +40,11 @@ impl Model for Ports {
 }
 
 impl Ports {
-    /// No forward is open.
-    pub(crate) fn open(alloc: Global) -> Result<Ports, NoMemory>
+    /// No forward is open. All memory that is ever needed is taken here.
+    ///
+    /// # Errors
+    /// `NoMemory` where no memory is left.
+    pub fn open(alloc: Global) -> Result<Ports, NoMemory>
         ensures empty { IfOk result (λ ports. ports ≡ []) }
     {
         let list = Forwards::open(alloc)?;
@@ -59,7 +60,7 @@ impl Ports {
     }
 
     /// The numbers of the sockets with this protocol, in the order in which they were opened.
-    pub(crate) fn over(&self, proto: Proto) -> &[u64]
+    pub fn over(&self, proto: Proto) -> &[u64]
         ensures sockets { result.now ≡ sockets_over proto self.now }
         ensures few { length self.now ≤ 32 }
     {
@@ -69,30 +70,33 @@ impl Ports {
         }
     }
 
-    /// The forward at a place of the list, counted from 0, and the number of its socket.
-    pub(crate) fn at(&self, place: usize) -> Option<(Forward, u64)>
+    /// The forward at a place of the list, counted from 0, and the number of its socket. None exactly where there are no more.
+    pub fn at(&self, place: usize) -> Option<(Forward, u64)>
         ensures at { result ≡ slice_get self.now place }
         ensures few { length self.now ≤ 32 }
     {
         self.list.at(place)
     }
 
-    /// The forward whose socket has this number.
-    pub(crate) fn with_socket(&self, number: u64) -> Option<Forward>
+    /// The forward whose socket has this number. None exactly where there is none.
+    pub fn with_socket(&self, number: u64) -> Option<Forward>
         ensures { result ≡ forward_with number self.now }
     {
         self.list.with_socket(number)
     }
 
-    /// The socket of the first forward of datagrams to this port of a guest.
-    pub(crate) fn socket_for(&self, guest: Endpoint) -> Option<u64>
+    /// The socket of the first forward of datagrams to this port of a guest. None exactly where there is none.
+    pub fn socket_for(&self, guest: Endpoint) -> Option<u64>
         ensures { result ≡ socket_for guest self.now }
     {
         self.list.socket_for(guest)
     }
 
-    /// Adds a forward at the end, on a socket with this number, as `Forwards` does.
-    pub(crate) fn add_hostfwd<W: World>(
+    /// Adds a forward at the end, on a socket with this number.
+    ///
+    /// # Errors
+    /// As `Forwards::add_hostfwd`.
+    pub fn add_hostfwd<W: World>(
         &mut self,
         world: &mut W,
         policy: &Policy,
@@ -111,8 +115,11 @@ impl Ports {
         added
     }
 
-    /// Removes the forward of a port of the host, as `Forwards` does.
-    pub(crate) fn remove_hostfwd<W: World>(
+    /// Removes the forward of a port of the host, and closes its socket.
+    ///
+    /// # Errors
+    /// As `Forwards::remove_hostfwd`.
+    pub fn remove_hostfwd<W: World>(
         &mut self,
         world: &mut W,
         proto: Proto,
@@ -129,6 +136,13 @@ impl Ports {
         list_over(Proto::Udp, &self.list, &mut self.carriers);
         removed
     }
+}
+
+/// Whether a socket is closed before another at the end of a run: they are closed by rising number, a forward's among them.
+pub fn closes_before(number: u64, other: u64) -> bool
+    ensures { result ≡ nat_lt number other }
+{
+    number < other
 }
 
 // Puts the numbers of the sockets with this protocol into a list, in the order in which they were opened, in place of what it held.
