@@ -1,4 +1,3 @@
 pub mod Fetching
-pub mod Statuses
 pub mod Texts
 pub mod Writers

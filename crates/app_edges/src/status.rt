@@ -1,117 +1,61 @@
-// The statuses of the program, and their texts.
+// What the program came to, as text.
 #![tactic(auto, using(world_face::proofs::Putting::puts_then, world_face::proofs::Putting::puts_failed, replay::proofs::Putting::added_none))]
 
 ghost use Rattle.std.specs.Prelude.{◌≡◌, ◌++◌, ◌∷◌, [], map, codes, decimal, option_copied, slice_get};
 ghost use Rattle.std.specs.String.{string_bytes};
 ghost use Rattle.replay.specs.Names.{name_text};
 ghost use Rattle.world_face.specs.Puts.{Puts};
-ghost use Rattle.app_edges.specs.Statuses.{code_of};
 ghost use Rattle.app_edges.specs.Texts.{port_text, text_of, told_text, wanted_text};
-ghost use Rattle.app_edges.specs.declared.status.Outcome.TheVariants.{Diverged as IsDiverged, Usage as IsUsage};
+ghost use Rattle.app_outcome.specs.declared.Outcome.TheVariants.{Diverged as IsDiverged, Usage as IsUsage};
 
 use crate::mistake::{put_forward, tell_mistake};
-use command_words::{Setting, Stop};
+use app_outcome::Outcome;
+use command_words::Stop;
 use itoa::Buffer;
 use replay::{CallName, Divergence};
 use slirp_settings::Forward;
 use world_face::{Failed, Sink};
 
-/// What the program came to.
-#[derive(Clone, Copy)]
-pub enum Outcome {
-    Done,
-    /// The words have no reading, which stops here.
-    Usage(Stop),
-    /// This field of the settings isn't in its range.
-    BadConfig(Setting),
-    ScheduleRead,
-    /// Each line has a reading, but the room for stars passes its limit.
-    ScheduleTooLarge,
-    ScheduleLine(u64),
-    Diverged(Divergence),
-    FrameTooLong(u32),
-    FrameCut(usize),
-    LinkFault,
-    WaitFault,
-    TurnsSpent(u64),
-    /// The host refused the forward with this number, counted from 0.
-    ListenRefused(usize),
-    SinkFault,
-    NoMemory,
-    /// The host refused the port of the control.
-    ControlRefused,
-}
-
-impl Outcome {
-    /// The status with which the program ends.
-    pub fn code(&self) -> u8
-        ensures { result ≡ code_of self.now }
-    {
-        match self {
-            Outcome::Done => 0,
-            Outcome::Usage(_) => 1,
-            Outcome::BadConfig(_) => 2,
-            Outcome::ScheduleRead | Outcome::ScheduleTooLarge => 3,
-            Outcome::ScheduleLine(_) => 4,
-            Outcome::Diverged(_) => 5,
-            Outcome::FrameTooLong(_) => 6,
-            Outcome::FrameCut(_) => 7,
-            Outcome::LinkFault => 8,
-            Outcome::WaitFault => 9,
-            Outcome::TurnsSpent(_) => 10,
-            Outcome::ListenRefused(_) => 11,
-            Outcome::SinkFault => 12,
-            Outcome::NoMemory => 13,
-            Outcome::ControlRefused => 14,
+/// Puts the text that tells what the program came to, with a line feed, of these words of the command line, whose settings have these forwards. There is
+/// none where all went well or a sink failed.
+pub fn tell<E: Sink>(
+    outcome: &Outcome,
+    words: &[String],
+    forwards: &[Forward],
+    err: &mut E,
+) -> Result<(), Failed>
+    ensures text { Puts (E.holds err.old) (E.holds err.new) (E.faults err.old) (E.faults err.new) (told_text (map string_bytes words.now) forwards.now outcome.now) result }
+    ensures silent { text_of (map string_bytes words.now) forwards.now outcome.now ≡ [] → (E.holds err.new ≡ E.holds err.old) × (E.faults err.new ≡ E.faults err.old) }
+{
+    match outcome {
+        Outcome::Done | Outcome::SinkFault => Ok(()),
+        Outcome::Usage(stop) => tell_usage(err, words, *stop),
+        Outcome::BadConfig(setting) => {
+            tell_named(err, b"slirpd: config: ", setting.name(), b"\n")
         }
-    }
-
-    /// Puts the text that tells it, with a line feed, of these words of the command line, whose settings have these forwards. There is none where all
-    /// went well or a sink failed.
-    pub fn tell<E: Sink>(
-        &self,
-        words: &[String],
-        forwards: &[Forward],
-        err: &mut E,
-    ) -> Result<(), Failed>
-        ensures text { Puts (E.holds err.old) (E.holds err.new) (E.faults err.old) (E.faults err.new) (told_text (map string_bytes words.now) forwards.now self.now) result }
-        ensures silent { text_of (map string_bytes words.now) forwards.now self.now ≡ [] → (E.holds err.new ≡ E.holds err.old) × (E.faults err.new ≡ E.faults err.old) }
-    {
-        match self {
-            Outcome::Done | Outcome::SinkFault => Ok(()),
-            Outcome::Usage(stop) => tell_usage(err, words, *stop),
-            Outcome::BadConfig(setting) => {
-                tell_named(err, b"slirpd: config: ", setting.name(), b"\n")
-            }
-            Outcome::ScheduleRead | Outcome::ScheduleTooLarge => {
-                err.put(b"slirpd: schedule cannot be read\n")
-            }
-            Outcome::ScheduleLine(line) => tell_number(
-                err,
-                b"slirpd: schedule line ",
-                *line,
-                b"\n",
-            ),
-            Outcome::Diverged(divergence) => tell_divergence(err, *divergence),
-            Outcome::FrameTooLong(length) => tell_number(
-                err,
-                b"slirpd: frame of ",
-                *length as u64,
-                b" octets\n",
-            ),
-            Outcome::FrameCut(octets) => tell_number(
-                err,
-                b"slirpd: link ended inside a frame, ",
-                *octets as u64,
-                b" octets\n",
-            ),
-            Outcome::LinkFault => err.put(b"slirpd: link fault\n"),
-            Outcome::WaitFault => err.put(b"slirpd: wait fault\n"),
-            Outcome::TurnsSpent(turns) => tell_number(err, b"slirpd: ", *turns, b" turns spent\n"),
-            Outcome::ListenRefused(forward) => tell_refused(err, *forward, forwards),
-            Outcome::NoMemory => err.put(b"slirpd: out of memory\n"),
-            Outcome::ControlRefused => err.put(b"slirpd: control refused\n"),
+        Outcome::ScheduleRead | Outcome::ScheduleTooLarge => {
+            err.put(b"slirpd: schedule cannot be read\n")
         }
+        Outcome::ScheduleLine(line) => tell_number(err, b"slirpd: schedule line ", *line, b"\n"),
+        Outcome::Diverged(divergence) => tell_divergence(err, *divergence),
+        Outcome::FrameTooLong(length) => tell_number(
+            err,
+            b"slirpd: frame of ",
+            *length as u64,
+            b" octets\n",
+        ),
+        Outcome::FrameCut(octets) => tell_number(
+            err,
+            b"slirpd: link ended inside a frame, ",
+            *octets as u64,
+            b" octets\n",
+        ),
+        Outcome::LinkFault => err.put(b"slirpd: link fault\n"),
+        Outcome::WaitFault => err.put(b"slirpd: wait fault\n"),
+        Outcome::TurnsSpent(turns) => tell_number(err, b"slirpd: ", *turns, b" turns spent\n"),
+        Outcome::ListenRefused(forward) => tell_refused(err, *forward, forwards),
+        Outcome::NoMemory => err.put(b"slirpd: out of memory\n"),
+        Outcome::ControlRefused => err.put(b"slirpd: control refused\n"),
     }
 }
 

@@ -18,7 +18,7 @@ use crate::denied::put_denied;
 use crate::guests::put_guests;
 use crate::line::Line;
 use crate::rules::put_forwards;
-use crate::values::{held_folder, held_text, read_network};
+use crate::values::{held_folder, hold_text, read_network};
 use address_text::{NoReading, read_address, read_endpoint, read_number, read_short};
 use arrayvec::{ArrayString, ArrayVec};
 use net_octets::{Endpoint, Ip4};
@@ -64,10 +64,10 @@ impl<'a> Line<'a> {
         config.vdhcp_start = self.address("--dhcpstart", network, 15)?;
         config.restricted = self.has("--restrict");
         config.disable_host_loopback = self.has("--no-loopback");
-        config.vhostname = self.text("--hostname");
-        config.vdomainname = self.text("--domainname");
-        config.tftp_server_name = self.text("--tftp-server-name");
-        config.bootfile = self.text("--bootfile");
+        self.put_text("--hostname", &mut config.vhostname);
+        self.put_text("--domainname", &mut config.vdomainname);
+        self.put_text("--tftp-server-name", &mut config.tftp_server_name);
+        self.put_text("--bootfile", &mut config.bootfile);
         config.tftp_path = self.folder();
         config.if_mtu = self.short("--mtu", config.if_mtu)?;
         config.if_mru = self.short("--mru", config.if_mru)?;
@@ -109,13 +109,13 @@ impl<'a> Line<'a> {
         }
     }
 
-    // The octets of the text that the option of this name gives; none without it.
-    fn text(&self, name: &str) -> ArrayVec<u8, 127>
-        ensures { result.items ≡ option_map_or held_text (value_in (walk_of self.now).options name.now) [] }
+    // Puts the octets of the text that the option of this name gives in the place of what stands; none without it.
+    fn put_text(&self, name: &str, into: &mut ArrayVec<u8, 127>)
+        ensures { into.new.items ≡ option_map_or held_text (value_in (walk_of self.now).options name.now) [] }
     {
-        match self.value(name) {
-            Some(text) => held_text(text.as_bytes()),
-            None => ArrayVec::new(),
+        into.clear();
+        if let Some(text) = self.value(name) {
+            hold_text(text.as_bytes(), into);
         }
     }
 

@@ -1,5 +1,5 @@
 //! The values of options beside numbers and addresses: networks, texts and the place of the link.
-ghost use Rattle.std.specs.Prelude.{◌≡◌, ◌∷◌, ◌<◌, ◌≤◌, ℕ, IfOk, MatchBool, OnErr, length};
+ghost use Rattle.std.specs.Prelude.{[], ◌≡◌, ◌∷◌, ◌<◌, ◌≤◌, ℕ, IfOk, MatchBool, OnErr, length};
 ghost use Rattle.slirp_settings.specs.Ranges.{mask_of};
 ghost use Rattle.world_face.specs.Journal.{AreOctets, AtPath, IsPlace, Place, place_of as link_place};
 ghost use Rattle.address_text.specs.Texts.{IsNumber};
@@ -47,17 +47,13 @@ fn mask_of(ones: u32) -> Ip4
     Ip4(((1u64 << 32) - (1u64 << (32 - ones))) as u32)
 }
 
-/// The octets of a text. One of over 127 isn't held: in its place stands an octet that no text has, for which its field is refused.
-pub(crate) fn held_text(text: &[u8]) -> ArrayVec<u8, 127>
-    ensures { result.items ≡ held_text text.now }
+/// Holds the octets of a text. One of over 127 isn't held: in its place stands an octet that no text has, for which its field is refused.
+pub(crate) fn hold_text(text: &[u8], into: &mut ArrayVec<u8, 127>)
+    requires { into.old.items ≡ [] }
+    ensures { into.new.items ≡ held_text text.now }
 {
-    match ArrayVec::try_from(text) {
-        Ok(held) => held,
-        Err(_) => {
-            let mut refused = ArrayVec::new();
-            refused.push(0);
-            refused
-        }
+    if into.try_extend_from_slice(text).is_err() {
+        into.push(0);
     }
 }
 

@@ -23,7 +23,7 @@ use Rattle.control_rules.specs.Talk.{Talk, after_accept, after_line, after_liste
 use Rattle.control_rules.specs.Apart.{is_controls, is_on_control, without_control}
 use Rattle.control_rules.specs.declared.Command.{Command}
 use Rattle.control_rules.specs.declared.Command.TheVariants.{Add, Remove, List as Lists, What}
-use Rattle.control_laws.specs.Replies.{fault_text, list_reply, reply_line}
+use Rattle.control_laws.specs.Replies.{added_text, list_reply, removed_text, reply_line}
 
 -- how lines are read
 abbrev pub Reads : Type 0
@@ -68,7 +68,7 @@ awaits awaited d = record d { awaited = awaited }
 
 -- a port of the host is to be given to a guest: why not, or its socket is opened next
 abbrev pub adds_unless : Option FwdFault → Forward → Desk → Desk
-adds_unless (Some fault) f d = says (reply_line (fault_text fault)) d
+adds_unless (Some fault) f d = says (reply_line (added_text (Some fault))) d
 adds_unless None f d = awaits (Opening f) d
 
 abbrev pub adds : Config → Forward → Desk → Desk
@@ -76,9 +76,9 @@ adds config f d = adds_unless (if is_its_own config f then Some Taken else fault
 
 -- one is to be taken back: its socket is closed next, and its connections go on
 abbrev pub removes : Option ℕ → Proto → Endpoint → Desk → Desk
-removes None proto host d = says (reply_line (codes "not there")) d
+removes None proto host d = says (reply_line (removed_text false)) d
 removes (Some socket) proto host d =
-    says (reply_line (codes "ok")) (record d { forwards = without proto host d.forwards; removed = d.removed ++ (socket ∷ []); awaited = Shutting socket })
+    says (reply_line (removed_text true)) (record d { forwards = without proto host d.forwards; removed = d.removed ++ (socket ∷ []); awaited = Shutting socket })
 
 -- the flows that are in use, by rising number
 abbrev pub flow_entry : Flow → ℕ × Tuple
@@ -104,8 +104,8 @@ serves read config past d = if is_out d.talk && is_some d.talk.peer then answers
 
 -- the socket that was awaited was opened, or the host refused it
 abbrev pub opened : Made → Forward → ℕ → Desk → Desk
-opened MadeDone f socket d = says (reply_line (codes "ok")) (record d { forwards = d.forwards ++ ((f, socket) ∷ []); added = d.added ++ ((socket, f) ∷ []); awaited = Nothing })
-opened MadeFailed f socket d = says (reply_line (fault_text Refused)) (record d { added = d.added ++ ((socket, f) ∷ []); awaited = Nothing })
+opened MadeDone f socket d = says (reply_line (added_text None)) (record d { forwards = d.forwards ++ ((f, socket) ∷ []); added = d.added ++ ((socket, f) ∷ []); awaited = Nothing })
+opened MadeFailed f socket d = says (reply_line (added_text (Some Refused))) (record d { added = d.added ++ ((socket, f) ∷ []); awaited = Nothing })
 
 abbrev pub opens_awaited : Awaited → Made → ℕ → Desk → Desk
 opens_awaited Nothing answer socket d = d

@@ -1,5 +1,5 @@
 -- What the control answers, each line with its line feed.
-use Rattle.std.specs.Prelude.{ℕ, List, [], ◌∷◌, ◌++◌, codes, decimal}
+use Rattle.std.specs.Prelude.{ℕ, Bool, true, false, List, [], ◌∷◌, ◌++◌, Option, Some, None, codes, decimal}
 use Rattle.slirp_settings.specs.declared.Forward.{Forward}
 use Rattle.forward_rules.specs.Opened.{Opened}
 use Rattle.forward_rules.specs.declared.FwdFault.{FwdFault}
@@ -17,6 +17,16 @@ fault_text Taken = codes "taken"
 fault_text BadGuest = codes "bad guest"
 fault_text Full = codes "full"
 fault_text Refused = codes "refused"
+
+-- what an addition came to, by what spoke against it
+abbrev pub added_text : Option FwdFault → List ℕ
+added_text None = codes "ok"
+added_text (Some fault) = fault_text fault
+
+-- and a removal, by whether a forward had the port
+abbrev pub removed_text : Bool → List ℕ
+removed_text false = codes "not there"
+removed_text true = codes "ok"
 
 -- `forward tcp HOST GUEST`, or with `udp`
 abbrev pub forward_text : Forward → List ℕ

@@ -1,5 +1,5 @@
 -- A line is answered: what the desk comes to is what the connection and the network have afterwards.
-use Rattle.std.proofs.Common.{◌≡◌, ℕ, ◌+◌, ◌<◌, ◌≤◌, ◌==◌, ◌&&◌, ◌||◌, nat_le, not, Bool, true, false, cond, List, [], ◌∷◌, ◌++◌, Option, Some, None, refl, sym, ◌∙◌, ap, subst, arith, codes}
+use Rattle.std.proofs.Common.{◌≡◌, ℕ, ◌+◌, ◌<◌, ◌≤◌, ◌==◌, ◌&&◌, ◌||◌, nat_le, not, Bool, true, false, cond, List, [], ◌∷◌, ◌++◌, Option, Some, None, refl, sym, ◌∙◌, ap, subst, arith}
 use Rattle.std.proofs.lemmas.Bool.Decides.{nat_tests}
 use Rattle.net_octets.specs.declared.Endpoint.{Endpoint}
 use Rattle.poll_list.specs.declared.Want.{Want}
@@ -27,15 +27,10 @@ use Rattle.control_rules.specs.Apart.{is_controls, is_on_control, seen as seen_o
 use Rattle.control_rules.specs.Talk.{Talk, after_listen, deaf, hung_up, listener, with_left}
 use Rattle.control_laws.specs.Desk.{Awaited, Desk, Nothing, Opening, Shutting, Reads, after_entry, awaits, desk, is_peer, opened, removes, says, shut, with_changes, with_talk}
 use Rattle.control_laws.specs.Laws.{MayControl, MayWhere, reported}
-use Rattle.control_laws.specs.Replies.{fault_text, reply_line}
+use Rattle.control_laws.specs.Replies.{added_text, removed_text, reply_line}
 use Rattle.control_laws.proofs.Staying.{OwnPeer, no_peer, own_peer}
 use Rattle.control_loop.specs.Standing.{Agrees, HasAll, Stands, with_lists}
 use Rattle.control_loop.proofs.Added.{added_new, and_one, has_closed, has_fewer, has_just, has_open, later_none}
-
--- what the control says of an add that came to this
-abbrev pub outcome_text : Option FwdFault → List ℕ
-outcome_text None = codes "ok"
-outcome_text (Some fault) = fault_text fault
 
 -- ---- nothing is called
 
@@ -149,10 +144,10 @@ module _ {talk : Talk} {slirp : SlirpState} {link : LinkState} (read : Reads) (c
     later_on m above = later_none config d.added d.removed slirp.number f slirp.number refl agrees.later m (omega (arith, above, number))
 
     agrees_by : (made : Made) (fault : Option FwdFault) → answer ≡ made → AddsBy made f slirp.number slirp.forwards new.forwards fault
-        → Agrees config (opened made f slirp.number (awaits (Opening f) d)) count (with_left (reply_line (outcome_text fault)) talk) new link (opens ∷ saw)
+        → Agrees config (opened made f slirp.number (awaits (Opening f) d)) count (with_left (reply_line (added_text fault)) talk) new link (opens ∷ saw)
     agrees_by Done fault same adds = record {
       calm = refl;
-      talk = ap (λ t. with_left (reply_line (codes "ok")) t) agrees.talk ∙ ap (λ o. with_left (reply_line (outcome_text o)) talk) (sym adds.0);
+      talk = ap (λ t. with_left (reply_line (added_text None)) t) agrees.talk ∙ ap (λ o. with_left (reply_line (added_text o)) talk) (sym adds.0);
       forwards = ap (λ l. l ++ ((f, slirp.number) ∷ [])) agrees.forwards ∙ sym adds.1;
       network = network_on;
       later = later_on;
@@ -160,7 +155,7 @@ module _ {talk : Talk} {slirp : SlirpState} {link : LinkState} (read : Reads) (c
     }
     agrees_by Failed fault same adds = record {
       calm = refl;
-      talk = ap (λ t. with_left (reply_line (fault_text Refused)) t) agrees.talk ∙ ap (λ o. with_left (reply_line (outcome_text o)) talk) (sym adds.0);
+      talk = ap (λ t. with_left (reply_line (added_text (Some Refused))) t) agrees.talk ∙ ap (λ o. with_left (reply_line (added_text o)) talk) (sym adds.0);
       forwards = agrees.forwards ∙ sym adds.1;
       network = network_on;
       later = later_on;
@@ -168,13 +163,13 @@ module _ {talk : Talk} {slirp : SlirpState} {link : LinkState} (read : Reads) (c
     }
 
     pub added : (fault : Option FwdFault) → AddsBy answer f slirp.number slirp.forwards new.forwards fault
-        → Stands [] (with_left (reply_line (outcome_text fault)) talk) new link read config count (opens ∷ past)
+        → Stands [] (with_left (reply_line (added_text fault)) talk) new link read config count (opens ∷ past)
     added fault adds =
         stands_as read config count (opens ∷ past) (opened answer f slirp.number (awaits (Opening f) d))
         (awaited_may read config past (call_of opens) (Opening f) (ap (λ (x : Desk). x.awaited) is) (call_opens f f.proto slirp.number answer ∙ ap (λ n. opening_call f.proto n f) (sym next_is)), control)
         (no_wait_opens f.proto slirp.number f.host answer past ∙ none)
         (ap (λ x. after_entry read (with_changes config x) saw opens x) is ∙ opened_desk read (with_changes config (awaits (Opening f) d)) saw f.proto slirp.number f.host answer f d off)
-        (subst (λ l. Agrees config (opened answer f slirp.number (awaits (Opening f) d)) count (with_left (reply_line (outcome_text fault)) talk) new link l)
+        (subst (λ l. Agrees config (opened answer f slirp.number (awaits (Opening f) d)) count (with_left (reply_line (added_text fault)) talk) new link l)
         (sym (seen_next opens past (opening_off f.proto slirp.number f.host answer off) (opening_seen f.proto slirp.number f.host answer))) (agrees_by answer fault refl adds))
 
   -- ---- one is taken back
@@ -220,16 +215,16 @@ module _ {talk : Talk} {slirp : SlirpState} {link : LinkState} (read : Reads) (c
         own : OwnPeer d.talk.peer
         own = subst (λ (x : Desk). OwnPeer x.talk.peer) is (own_peer read config past)
 
-    pub removed : Stands [] (with_left (reply_line (codes "ok")) talk) new link read config count (Close socket ∷ past)
+    pub removed : Stands [] (with_left (reply_line (removed_text true)) talk) new link read config count (Close socket ∷ past)
     removed =
         stands_as read config count (Close socket ∷ past) (awaits Nothing waits_for_close)
         (awaited_may read config past (CallClose socket) (Shutting socket) (ap (λ (x : Desk). x.awaited) is) refl, control)
         none
         (ap (λ x. shut socket x) is ∙ shut_desk)
-        (subst (λ l. Agrees config (awaits Nothing waits_for_close) count (with_left (reply_line (codes "ok")) talk) new link l) (sym (seen_next (Close socket) past off refl))
+        (subst (λ l. Agrees config (awaits Nothing waits_for_close) count (with_left (reply_line (removed_text true)) talk) new link l) (sym (seen_next (Close socket) past off refl))
         (record {
           calm = refl;
-          talk = ap (λ t. with_left (reply_line (codes "ok")) t) agrees.talk;
+          talk = ap (λ t. with_left (reply_line (removed_text true)) t) agrees.talk;
           forwards = ap (without proto host) agrees.forwards ∙ sym forwards;
           network = network_without;
           later = λ n above. agrees.later n (omega (arith, above, number));

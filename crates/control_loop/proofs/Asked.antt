@@ -8,7 +8,7 @@ use Rattle.slirp_core.specs.Holds.{after, as_given}
 use Rattle.slirp_core.specs.State.{SlirpState}
 use Rattle.serve_loop.specs.Turns.{AttendsNow}
 use Rattle.control_rules.specs.Apart.{without_control}
-use Rattle.control_rules.specs.Talk.{Talk, after_line, first_line, has_line, is_out, line_and_rest, line_end, with_left}
+use Rattle.control_rules.specs.Talk.{Talk, after_line, first_line, is_out, is_to_answer, line_and_rest, line_end, with_left}
 use Rattle.control_rules.specs.Commands.{Means}
 use Rattle.control_rules.specs.declared.Command.{Command}
 use Rattle.control_rules.specs.declared.Command.TheVariants.{List as Lists, What}
@@ -20,7 +20,7 @@ use Rattle.control_loop.specs.Standing.{Agrees, Asks, Owes, Stands, with_lists}
 use Rattle.control_loop.proofs.Answering.{agrees_with, attends, said, stands_as}
 
 -- nothing is answered where no line is whole, no connection is open, or a reply is left
-serves_none : (read : Reads) (config : Config) (seen : List Entry) (d : Desk) → (is_out d.talk && is_some d.talk.peer && has_line d.talk.kept) ≡ false → serves read config seen d ≡ d
+serves_none : (read : Reads) (config : Config) (seen : List Entry) (d : Desk) → is_to_answer d.talk ≡ false → serves read config seen d ≡ d
 serves_none read config seen d quiet = by (is_out d.talk) (is_some d.talk.peer) (line_end d.talk.kept) quiet
   where
     by : (out open_yet : Bool) (end : Option ℕ) → (out && open_yet && is_some end) ≡ false
@@ -37,11 +37,11 @@ serves_line read config seen d split out open_yet whole =
     ∙ ap (λ b. cond b (answers_line read config seen (first_line d.talk.kept) d) d) open_yet ∙ ap (λ o. answers_line read config seen o d) whole
 
 module _ {talk : Talk} {slirp : SlirpState} {link : LinkState} (read : Reads) (config : Config) (count : ℕ) (past : List Entry) where
-  pub none_asked : (is_out talk && is_some talk.peer && has_line talk.kept) ≡ false → Owes talk slirp link read config count past → Stands [] talk slirp link read config count past
+  pub none_asked : is_to_answer talk ≡ false → Owes talk slirp link read config count past → Stands [] talk slirp link read config count past
   none_asked quiet owes =
       stands_as read config count past owes.before owes.control owes.reported
       (owes.is ∙ serves_none read (with_changes config owes.before) (without_control past) owes.before
-      (ap (λ (t : Talk). is_out t && is_some t.peer && has_line t.kept) owes.agrees.talk ∙ quiet)) owes.agrees
+      (ap is_to_answer owes.agrees.talk ∙ quiet)) owes.agrees
 
   pub asked : (guest : ℕ) (split : List ℕ × List ℕ) (command : Command) → guest ≡ config.dhcp_start → IsReading config read → is_out talk ≡ true → is_some talk.peer ≡ true
       → first_line talk.kept ≡ Some split → Means guest split.0 command → Owes talk slirp link read config count past → Asks command (after_line talk) slirp link read config count past

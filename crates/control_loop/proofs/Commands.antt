@@ -1,5 +1,5 @@
 -- A command is followed: what was called for it, and what is said, is what the desk comes to.
-use Rattle.std.proofs.Common.{◌≡◌, ℕ, ◌+◌, ◌<◌, ◌&&◌, nat_le, not, Bool, true, false, cond, List, [], ◌∷◌, ◌++◌, find, length, Option, Some, None, option_map, refl, sym, ◌∙◌, ap, subst, codes, if◌then◌else◌}
+use Rattle.std.proofs.Common.{◌≡◌, ℕ, ◌+◌, ◌<◌, ◌&&◌, nat_le, not, Bool, true, false, cond, is_some, List, [], ◌∷◌, ◌++◌, find, length, Option, Some, None, option_map, refl, sym, ◌∙◌, ap, subst, if◌then◌else◌}
 use Rattle.net_octets.specs.declared.Endpoint.{Endpoint}
 use Rattle.std.specs.Option.{option_map_or}
 use Rattle.world_face.specs.Journal.{Close, Entry}
@@ -26,11 +26,11 @@ use Rattle.serve_loop.specs.Turns.{AttendsNow}
 use Rattle.control_rules.specs.Apart.{is_controls, without_control}
 use Rattle.control_rules.specs.Talk.{Talk, with_left}
 use Rattle.control_laws.specs.Desk.{Desk, Reads, adds_unless, desk, is_its_own, removes, with_changes}
-use Rattle.control_laws.specs.Replies.{fault_text, reply_line}
+use Rattle.control_laws.specs.Replies.{added_text, removed_text, reply_line}
 use Rattle.control_rules.specs.declared.Command.TheVariants.{Add, Remove}
 use Rattle.control_loop.specs.Standing.{Asks, AttendsOn, Stands, cause_against, with_lists}
 use Rattle.control_loop.proofs.Added.{has_closed, has_just, has_open}
-use Rattle.control_loop.proofs.Answering.{added, outcome_text, removed, said}
+use Rattle.control_loop.proofs.Answering.{added, removed, said}
 
 -- the host alone refuses
 never_refused : (config : Config) (at : Endpoint) (f : Forward) (forwards : List Opened) → cause_against config at f forwards ≡ Some Refused → ⊥
@@ -63,11 +63,6 @@ not_found : (o : Option Opened) → option_map socket_of o ≡ None → o ≡ No
 not_found None none = refl
 not_found (Some x) none = cc
 
--- what is said of it
-abbrev pub removal_text : Option ℕ → List ℕ
-removal_text None = codes "not there"
-removal_text (Some socket) = codes "ok"
-
 module _ (talk : Talk) (old new : ServiceState) (read : Reads) (config : Config) (count : ℕ) (some : 0 < count) (past : List Entry) (given : config ≡ as_given config) (its : old.slirp.config ≡ config) where
   -- ---- an add
 
@@ -87,25 +82,25 @@ module _ (talk : Talk) (old new : ServiceState) (read : Reads) (config : Config)
     pub add_led : (fault : Option FwdFault) (made : List Entry) → new.slirp ≡ record old.slirp { number = number_after fault old.slirp.number; forwards = new.slirp.forwards }
         → Adds (cause_against old.slirp.config at f old.slirp.forwards) f old.slirp.number old.slirp.forwards new.slirp.forwards fault made
         → AttendsOn (λ settings. MayAdd settings old.slirp f) old new made
-        → Stands [] (with_left (reply_line (outcome_text fault)) talk) new.slirp new.link read config count (made ++ past)
+        → Stands [] (with_left (reply_line (added_text fault)) talk) new.slirp new.link read config count (made ++ past)
     add_led fault made slirp adds attends = by (cause_against old.slirp.config at f old.slirp.forwards) refl adds
       where
         by : (cause : Option FwdFault) → cause_against old.slirp.config at f old.slirp.forwards ≡ cause → Adds cause f old.slirp.number old.slirp.forwards new.slirp.forwards fault made
-            → Stands [] (with_left (reply_line (outcome_text fault)) talk) new.slirp new.link read config count (made ++ past)
+            → Stands [] (with_left (reply_line (added_text fault)) talk) new.slirp new.link read config count (made ++ past)
         by (Some cause) is adds =
             let kept : new.slirp ≡ old.slirp =
             slirp ∙ ap (λ o. record old.slirp { number = number_after o old.slirp.number; forwards = new.slirp.forwards }) adds.0
             ∙ ap (λ n. record old.slirp { number = n; forwards = new.slirp.forwards }) (number_kept cause old.slirp.number (λ refused. never_refused old.slirp.config at f old.slirp.forwards (is ∙ ap Some refused)))
             ∙ ap (λ l. record old.slirp { forwards = l }) adds.1 in
-            subst (λ l. Stands [] (with_left (reply_line (outcome_text fault)) talk) new.slirp new.link read config count (l ++ past)) (sym adds.2)
-            (subst (λ o. Stands [] (with_left (reply_line (outcome_text o)) talk) new.slirp new.link read config count past) (sym adds.0)
-            (subst (λ (s : SlirpState). Stands [] (with_left (reply_line (fault_text cause)) talk) s new.link read config count past) (sym kept)
-            (subst (λ (l : LinkState). Stands [] (with_left (reply_line (fault_text cause)) talk) old.slirp l read config count past) (sym link)
-            (said read config count past d (reply_line (fault_text cause)) asks.control asks.reported (is_by (Some cause) is) asks.agrees))))
+            subst (λ l. Stands [] (with_left (reply_line (added_text fault)) talk) new.slirp new.link read config count (l ++ past)) (sym adds.2)
+            (subst (λ o. Stands [] (with_left (reply_line (added_text o)) talk) new.slirp new.link read config count past) (sym adds.0)
+            (subst (λ (s : SlirpState). Stands [] (with_left (reply_line (added_text (Some cause))) talk) s new.link read config count past) (sym kept)
+            (subst (λ (l : LinkState). Stands [] (with_left (reply_line (added_text (Some cause))) talk) old.slirp l read config count past) (sym link)
+            (said read config count past d (reply_line (added_text (Some cause))) asks.control asks.reported (is_by (Some cause) is) asks.agrees))))
         by None is adds =
             let answer = adds.0 in
-            subst (λ l. Stands [] (with_left (reply_line (outcome_text fault)) talk) new.slirp new.link read config count (l ++ past)) (sym adds.1)
-            (subst (λ (l : LinkState). Stands [] (with_left (reply_line (outcome_text fault)) talk) new.slirp l read config count (adds_entry answer ∷ past)) (sym link)
+            subst (λ l. Stands [] (with_left (reply_line (added_text fault)) talk) new.slirp new.link read config count (l ++ past)) (sym adds.1)
+            (subst (λ (l : LinkState). Stands [] (with_left (reply_line (added_text fault)) talk) new.slirp l read config count (adds_entry answer ∷ past)) (sym link)
             (added read config count past d given asks.control asks.reported asks.agrees f answer new.slirp (is_by None is) off
             (λ settings on attended. subst (λ (l : LinkState). AttendsNow settings (after count) false new.slirp l (adds_entry answer ∷ without_control past)) link
             (subst (λ l. AttendsNow settings (after count) false new.slirp new.link (l ++ without_control past)) adds.1
@@ -127,8 +122,8 @@ module _ (talk : Talk) (old new : ServiceState) (read : Reads) (config : Config)
     its_desk = asks.is ∙ ap (λ l. removes (socket_at proto host l) proto host asks.before) asks.agrees.forwards
 
     pub remove_led : (made : List Entry) → made ≡ closed_at (socket_at proto host old.slirp.forwards) → AttendsOn (λ settings. MayRemove settings old.slirp proto host) old new made
-        → Stands [] (with_left (reply_line (removal_text (socket_at proto host old.slirp.forwards))) talk) new.slirp new.link read config count (made ++ past)
-    remove_led made is attends = subst (λ l. Stands [] (with_left (reply_line (removal_text (socket_at proto host old.slirp.forwards))) talk) new.slirp new.link read config count (l ++ past)) (sym is)
+        → Stands [] (with_left (reply_line (removed_text (is_some (socket_at proto host old.slirp.forwards)))) talk) new.slirp new.link read config count (made ++ past)
+    remove_led made is attends = subst (λ l. Stands [] (with_left (reply_line (removed_text (is_some (socket_at proto host old.slirp.forwards)))) talk) new.slirp new.link read config count (l ++ past)) (sym is)
         (by (socket_at proto host old.slirp.forwards) refl)
       where
         some_number : (n m : ℕ) → ◌≡◌ {A = Option ℕ} (Some n) (Some m) → n ≡ m
@@ -148,14 +143,14 @@ module _ (talk : Talk) (old new : ServiceState) (read : Reads) (config : Config)
             (brings_it socket there settings (has_closed config asks.before.added asks.before.removed socket settings (has_just config asks.before.added (asks.before.removed ++ (socket ∷ [])) given))
             (asks.agrees.network settings (has_open config asks.before.added asks.before.removed socket settings (has_just config asks.before.added (asks.before.removed ++ (socket ∷ [])) given)))).0.lawful.0
 
-        by : (o : Option ℕ) → socket_at proto host old.slirp.forwards ≡ o → Stands [] (with_left (reply_line (removal_text o)) talk) new.slirp new.link read config count (closed_at o ++ past)
+        by : (o : Option ℕ) → socket_at proto host old.slirp.forwards ≡ o → Stands [] (with_left (reply_line (removed_text (is_some o))) talk) new.slirp new.link read config count (closed_at o ++ past)
         by None none =
             let kept : new.slirp ≡ old.slirp = slirp ∙ ap (λ l. record old.slirp { forwards = l }) (none_there proto host old.slirp.forwards (not_found (find (is_at proto host) old.slirp.forwards) none)) in
-            subst (λ (s : SlirpState). Stands [] (with_left (reply_line (codes "not there")) talk) s new.link read config count past) (sym kept)
-            (subst (λ (l : LinkState). Stands [] (with_left (reply_line (codes "not there")) talk) old.slirp l read config count past) (sym link)
-            (said read config count past asks.before (reply_line (codes "not there")) asks.control asks.reported (its_desk ∙ ap (λ o. removes o proto host asks.before) none) asks.agrees))
+            subst (λ (s : SlirpState). Stands [] (with_left (reply_line (removed_text false)) talk) s new.link read config count past) (sym kept)
+            (subst (λ (l : LinkState). Stands [] (with_left (reply_line (removed_text false)) talk) old.slirp l read config count past) (sym link)
+            (said read config count past asks.before (reply_line (removed_text false)) asks.control asks.reported (its_desk ∙ ap (λ o. removes o proto host asks.before) none) asks.agrees))
         by (Some socket) there =
-            subst (λ (l : LinkState). Stands [] (with_left (reply_line (codes "ok")) talk) new.slirp l read config count (Close socket ∷ past)) (sym link)
+            subst (λ (l : LinkState). Stands [] (with_left (reply_line (removed_text true)) talk) new.slirp l read config count (Close socket ∷ past)) (sym link)
             (removed read config count past asks.before given asks.control asks.reported asks.agrees proto host socket new.slirp (its_desk ∙ ap (λ o. removes o proto host asks.before) there)
             (off socket (closes_it socket there))
             (brings_it socket there) (ap (λ (s : SlirpState). s.forwards) slirp) (ap (λ (s : SlirpState). s.number) slirp))

@@ -7,7 +7,7 @@ use Rattle.world_face.specs.declared.Accepted.{Accepted}
 use Rattle.world_face.specs.declared.Accepted.TheVariants.{From, NotYet as NoPeer, Failed as AcceptFailed}
 use Rattle.world_face.specs.declared.Io.{Io}
 use Rattle.world_face.specs.declared.Io.TheVariants.{Done, End, NotYet, Failed}
-use Rattle.control_rules.specs.Talk.{Talk, after_accept, after_line, after_read, after_write, first_line, free, has_line, hung_up, is_endless, is_last, is_out, line_and_rest, line_end, listener, rest_of, with_kept}
+use Rattle.control_rules.specs.Talk.{Talk, after_accept, after_line, after_read, after_write, first_line, free, has_line, hung_up, is_endless, is_last, is_out, is_to_answer, line_and_rest, line_end, listener, rest_of, with_kept}
 use Rattle.control_loop.specs.Standing.{IsHeld, IsReady, Says}
 
 -- a connection that is over leaves no line
@@ -100,7 +100,7 @@ said_ready t new split n held open_yet is says = record {
     short = subst (λ l. length l ≤ 128) (sym (says.kept ∙ ap (rest_of t.kept) is)) (rest_short t.kept split (line_end t.kept) held.few is)
 
 -- nothing was to be answered
-pub quiet_ready : (t : Talk) → IsHeld t → (is_out t && is_some t.peer && has_line t.kept) ≡ false → IsReady t
+pub quiet_ready : (t : Talk) → IsHeld t → is_to_answer t ≡ false → IsReady t
 quiet_ready t held none = record { held = held; answered = λ out. by t.peer refl (is_out t) out (has_line t.kept) refl none }
   where
     by : (o : Option ℕ) → t.peer ≡ o → (out : Bool) → out ≡ true → (l : Bool) → has_line t.kept ≡ l → (out && is_some o && l) ≡ false → has_line t.kept ≡ false

@@ -1,17 +1,14 @@
 // Between two turns: what was reported of the control gets its call, and a line that is whole is answered.
-ghost use Rattle.std.specs.Prelude.{◌≡◌, ◌≢◌, ◌≤◌, ◌<◌, ◌+◌, ◌^◌, ◌++◌, ◌∷◌, ◌&&◌, [], ℕ, List, Option, Some, None, IfNone, IfSome, true, false, is_some, length, take};
+ghost use Rattle.std.specs.Prelude.{◌≡◌, ◌≢◌, ◌≤◌, ◌<◌, ◌+◌, ◌^◌, ◌++◌, ◌∷◌, [], ℕ, List, Option, Some, None, IfNone, IfSome, true, false, is_some, length, take};
 ghost use Rattle.std.specs.Result.{is_ok, result_err};
 ghost use Rattle.world_face.specs.Journal.{Accept, Allowed, Entry as AnEntry, TcpRead, TcpWrite};
 ghost use Rattle.world_face.specs.Tells.{Makes};
 ghost use Rattle.world_face.specs.declared.Accepted.{Accepted as AnAccepted};
 ghost use Rattle.world_face.specs.declared.Io.{Io as AnIo};
-ghost use Rattle.control_rules.specs.Talk.{after_accept, after_line, after_read, after_write, closed_if, fails, first_line, free, has_line, is_last, is_out, listener, most_at_once, next_peer, want_of, with_left};
+ghost use Rattle.control_rules.specs.Talk.{after_accept, after_line, after_read, after_write, closed_if, fails, first_line, free, has_line, is_last, is_out, is_to_answer, listener, most_at_once, next_peer, want_of, with_left};
 ghost use Rattle.control_rules.specs.Commands.{Means};
 ghost use Rattle.control_laws.specs.Replies.{flow_lines, forward_lines, list_reply, reply_line};
 ghost use Rattle.slirp_settings.specs.Addresses.{Config};
-ghost use Rattle.slirp_settings.specs.Ranges.{same_proto};
-ghost use Rattle.slirp_settings.specs.Classes.{same_endpoint};
-ghost use Rattle.slirp_settings.specs.declared.Proto.TheVariants.{Tcp};
 ghost use Rattle.forward_rules.specs.Adding.{Adds};
 ghost use Rattle.forward_rules.specs.Opened.{socket_at, without};
 ghost use Rattle.slirp_core.specs.Added.{MayAdd, MayRemove, closed_at, number_after};
@@ -27,8 +24,8 @@ ghost use Rattle.slirp_core.specs.Holds.{after};
 
 use crate::desk::Desk;
 use control_aside::{Aside, Reported};
-use control_replies::{fault_text, flow_line, forward_line};
-use control_rules::Command;
+use control_replies::{added_text, flow_line, forward_line, removed_text};
+use control_rules::{Command, is_its_own};
 use control_words::read_command;
 use net_octets::Endpoint;
 use serve_loop::{FwdFault, NotThere};
@@ -85,15 +82,12 @@ impl Desk {
         world.begin(None);
     }
 
-    // Takes the first whole line out, where no reply is left and a connection is open, and reads it.
+    // Takes the line out that is to be answered now, where one is, and reads it.
     fn next_command(&mut self) -> Option<Command>
-        ensures none { IfNone result ((self.new ≡ self.old) × ((is_out self.old.session && is_some self.old.session.peer && has_line self.old.session.kept) ≡ false)) }
+        ensures none { IfNone result ((self.new ≡ self.old) × (is_to_answer self.old.session ≡ false)) }
         ensures some { IfSome result (λ command. (split : List ℕ × List ℕ) × (is_out self.old.session ≡ true) × (is_some self.old.session.peer ≡ true)
             × (first_line self.old.session.kept ≡ Some split) × Means self.old.guest.0 split.0 command × (self.new ≡ record self.old { session = after_line self.old.session })) }
     {
-        if self.session.left() > 0 || self.session.connection().is_none() {
-            return None;
-        }
         let line = self.session.line()?;
         let command = read_command(line, self.guest);
         self.session.drop_line();
@@ -110,13 +104,6 @@ impl Desk {
     {
         self.session.reply(text.as_bytes());
         self.session.reply(b"\n");
-    }
-
-    // Whether a forward has the control's own port of the host.
-    fn is_its_own(&self, forward: &Forward) -> bool
-        ensures { result ≡ (same_proto forward.now.proto Tcp && same_endpoint forward.now.host self.now.at) }
-    {
-        forward.proto == Proto::Tcp && forward.host == self.at
     }
 
     // Gives a port of the host to a guest, unless something speaks against it.
@@ -136,7 +123,7 @@ impl Desk {
         ensures link { self.new.service.link ≡ self.old.service.link }
         ensures others { self.new ≡ record self.old { service = self.new.service } }
     {
-        if self.is_its_own(&forward) {
+        if is_its_own(&forward, self.at) {
             return Err(FwdFault::Taken);
         }
         world.begin(None);
@@ -181,10 +168,8 @@ impl Desk {
         ensures keeps { KeepsOn self.old.service self.new.service }
         ensures others { self.new ≡ record self.old { service = self.new.service; session = self.new.session } }
     {
-        match self.open_port(world, forward) {
-            Ok(()) => self.say("ok"),
-            Err(fault) => self.say(fault_text(fault)),
-        }
+        let added = self.open_port(world, forward);
+        self.say(added_text(added));
     }
 
     // Takes a port of the host back, where a forward has it, and says whether one had.
@@ -200,10 +185,8 @@ impl Desk {
         ensures keeps { KeepsOn self.old.service self.new.service }
         ensures others { self.new ≡ record self.old { service = self.new.service; session = self.new.session } }
     {
-        match self.close_port(world, proto, host) {
-            Ok(()) => self.say("ok"),
-            Err(NotThere) => self.say("not there"),
-        }
+        let removed = self.close_port(world, proto, host);
+        self.say(removed_text(removed.is_ok()));
     }
 
     // Follows a command, and says what came of it.

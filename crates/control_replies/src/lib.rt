@@ -2,10 +2,11 @@
 #![tactic(auto)]
 
 ghost use Rattle.std.specs.Prelude.{◌≡◌, ◌≤◌, ◌+◌, ◌++◌, codes, decimal, length};
+ghost use Rattle.std.specs.Result.{result_err};
 ghost use Rattle.arrayvec.specs.ArrayString.{array_string_len};
 ghost use Rattle.address_text.specs.Texts.{endpoint_text};
 ghost use Rattle.control_rules.specs.Commands.{proto_text};
-ghost use Rattle.control_laws.specs.Replies.{fault_text, flow_text, forward_text, reply_line};
+ghost use Rattle.control_laws.specs.Replies.{added_text, fault_text, flow_text, forward_text, removed_text, reply_line};
 
 use address_text::endpoint_string;
 use arrayvec::ArrayString;
@@ -15,8 +16,27 @@ use net_octets::Endpoint;
 use record_flows::Tuple;
 use slirp_settings::{Forward, Proto};
 
-/// Why a port of the host isn't given to a guest.
-pub fn fault_text(fault: FwdFault) -> &'static str
+/// What the addition of a port of the host came to: `ok`, or why it isn't given to a guest.
+pub fn added_text(added: Result<(), FwdFault>) -> &'static str
+    ensures text { result.now ≡ added_text (result_err added) }
+    ensures short { length result.now ≤ 9 }
+{
+    match added {
+        Ok(()) => "ok",
+        Err(fault) => fault_text(fault),
+    }
+}
+
+/// What a removal came to, by whether a forward had the port.
+pub fn removed_text(was_there: bool) -> &'static str
+    ensures text { result.now ≡ removed_text was_there }
+    ensures short { length result.now ≤ 9 }
+{
+    if was_there { "ok" } else { "not there" }
+}
+
+// Why a port of the host isn't given to a guest.
+fn fault_text(fault: FwdFault) -> &'static str
     ensures text { result.now ≡ fault_text fault }
     ensures short { length result.now ≤ 9 }
 {

@@ -111,6 +111,10 @@ closed_if false socket = []
 abbrev pub is_out : Talk → Bool
 is_out t = length t.left == 0
 
+-- a line is to be answered now: a connection is open, a line is whole, and no reply is left
+abbrev pub is_to_answer : Talk → Bool
+is_to_answer t = is_out t && is_some t.peer && has_line t.kept
+
 -- What is waited for: a peer where no connection is open, and the listener is; of a connection lines where no reply is left, and else that some of it is taken.
 abbrev pub listener_want : Bool → Option Want
 listener_want true = Some (record { of = Listener listener; read = true; write = false })

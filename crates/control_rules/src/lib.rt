@@ -1,6 +1,11 @@
 //! What the lines of a control connection ask for, what is kept of it, and what the network sees of a record: what is said of these is in `specs/`.
 #![tactic(auto)]
 
+ghost use Rattle.std.specs.Prelude.{◌≡◌, ◌&&◌};
+ghost use Rattle.slirp_settings.specs.Classes.{same_endpoint};
+ghost use Rattle.slirp_settings.specs.Ranges.{same_proto};
+ghost use Rattle.slirp_settings.specs.declared.Proto.TheVariants.{Tcp};
+
 use net_octets::Endpoint;
 use slirp_settings::{Forward, Proto};
 
@@ -18,4 +23,11 @@ pub enum Command {
     List,
     /// Nothing that is known here.
     What,
+}
+
+/// Whether a forward has the control's own port of the host, which is taken at this place.
+pub fn is_its_own(forward: &Forward, at: Endpoint) -> bool
+    ensures { result ≡ (same_proto forward.now.proto Tcp && same_endpoint forward.now.host at) }
+{
+    forward.proto == Proto::Tcp && forward.host == at
 }

@@ -8,14 +8,13 @@
 mod line;
 mod reply;
 
-ghost use Rattle.std.specs.Prelude.{◌≡◌, ℕ, ◌+◌, ◌≤◌, ◌<◌, ◌^◌, ◌++◌, ◌∷◌, List, [], length, take, true, false, is_some, Some, None, IfOk};
-ghost use Rattle.std.specs.Option.{option_map};
+ghost use Rattle.std.specs.Prelude.{◌≡◌, ℕ, ◌+◌, ◌≤◌, ◌<◌, ◌^◌, ◌++◌, ◌∷◌, List, [], length, take, true, false, is_some, Some, None, IfNone, IfOk, IfSome};
 ghost use Rattle.world_face.specs.Journal.{Listen, Accept, Close, TcpRead, TcpWrite};
 ghost use Rattle.world_face.specs.declared.Accepted.{Accepted as AnAccepted};
 ghost use Rattle.world_face.specs.declared.Io.{Io as AnIo};
 ghost use Rattle.world_face.specs.Tells.{Answers, Makes};
 ghost use Rattle.control_rules.specs.Talk.{after_accept, after_line, after_listen, after_read, after_write, all_closed, closed_if, deaf, fails, first_line, free, has_line};
-ghost use Rattle.control_rules.specs.Talk.{hung_up, is_last, is_out, listener, listener_want, longest_reply, most_at_once, next_peer, over, peer_closed, peer_want, silent, want_of};
+ghost use Rattle.control_rules.specs.Talk.{hung_up, is_last, is_out, is_to_answer, listener, listener_want, longest_reply, most_at_once, next_peer, over, peer_closed, peer_want, silent, want_of};
 
 use crate::line::Line;
 use crate::reply::Reply;
@@ -92,11 +91,11 @@ impl Session {
         self.listening
     }
 
-    /// How many octets are left of the reply.
-    pub fn left(&self) -> usize
-        ensures { result ≡ length self.now.left }
+    // Whether nothing is left of the reply.
+    fn is_out(&self) -> bool
+        ensures { result ≡ is_out self.now }
     {
-        self.reply.left().len()
+        self.reply.left().is_empty()
     }
 
     /// What is waited for now: a peer where no connection is open, lines where no reply is left, and else that the connection takes some of it. None where the listener isn't open either.
@@ -126,7 +125,7 @@ impl Session {
     fn want_of_peer(&self, connection: u64) -> Want
         ensures { result ≡ peer_want connection (is_out self.now) }
     {
-        let is_out = self.left() == 0;
+        let is_out = self.is_out();
         Want {
             of: Who::Tcp(connection),
             read: is_out,
@@ -134,10 +133,15 @@ impl Session {
         }
     }
 
-    /// The first whole line, without its line feed. None exactly where no line is whole.
+    /// The line that is to be answered now, without its line feed: the first one. None exactly where no line is whole, a reply is left or no connection is open.
     pub fn line(&self) -> Option<&[u8]>
-        ensures { option_map (λ line. line.now) result ≡ option_map (λ split. split.0) (first_line self.now.kept) }
+        ensures none { IfNone result (is_to_answer self.now ≡ false) }
+        ensures some { IfSome result (λ line. (split : List ℕ × List ℕ) × (is_out self.now ≡ true) × (is_some self.now.peer ≡ true)
+            × (first_line self.now.kept ≡ Some split) × (line.now ≡ split.0)) }
     {
+        if !self.is_out() || self.peer.is_none() {
+            return None;
+        }
         self.line.first()
     }
 

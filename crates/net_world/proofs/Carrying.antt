@@ -1,10 +1,11 @@
 -- What the calls of a record carry to a connection, and from it.
-use Rattle.std.proofs.Common.{◌≡◌, ℕ, List, [], ◌∷◌, ◌++◌, Option, None, Some, refl, ap, sym, subst, ◌∙◌}
+use Rattle.std.proofs.Common.{◌≡◌, ℕ, List, [], ◌∷◌, ◌++◌, Option, None, Some, refl, ap, sym, subst}
 use Rattle.std.proofs.lemmas.List.{append-nil}
-use Rattle.std.specs.Io.KnownBytes.{Appends, Consumes, Keeps}
+use Rattle.std.specs.Io.KnownBytes.{Appends, Consumes}
 use Rattle.world_face.specs.Journal.{Entry}
-use Rattle.net_world.specs.Recording.{written_to, written_to_by, read_from, read_from_by, Carrying, AllCarry}
-use Rattle.net_world.proofs.Joining.{appends_both, consumes_both}
+use Rattle.socket_calls.specs.Carrying.{Carrying}
+use Rattle.net_world.specs.Recording.{written_to, written_to_by, read_from, read_from_by, AllCarry}
+use Rattle.guest_link.proofs.Joining.{appends_both, consumes_both}
 
 appends_none : (a : Option (List ℕ)) → Appends a a []
 appends_none None = tt
@@ -13,16 +14,6 @@ appends_none (Some xs) = sym (append-nil xs)
 consumes_none : (a : Option (List ℕ)) → Consumes a a []
 consumes_none None = tt
 consumes_none (Some xs) = refl
-
-pub kept_appends : (old new : Option (List ℕ)) → Keeps old new → Appends old new []
-kept_appends None new kept = tt
-kept_appends (Some xs) None kept = elim kept [ ]
-kept_appends (Some xs) (Some ys) kept = kept ∙ sym (append-nil xs)
-
-pub kept_consumes : (old new : Option (List ℕ)) → Keeps old new → Consumes old new []
-kept_consumes None new kept = tt
-kept_consumes (Some xs) None kept = elim kept [ ]
-kept_consumes (Some xs) (Some ys) kept = sym kept
 
 all_went : (connection : ℕ) (entries : List Entry) (first last : Carrying) → AllCarry connection first entries last → Appends first.taken last.taken (written_to connection entries)
 all_went connection [] first last same = rw same (appends_none first.taken)

@@ -5,7 +5,7 @@ use Rattle.std.specs.declared.io.ErrorKind.TheVariants.{WouldBlock, ConnectionAb
 use Rattle.octet_buffer.specs.Streams.{Answer}
 use Rattle.net_world.specs.declared.slot.Came.{Came}
 use Rattle.net_world.specs.declared.slot.Came.TheVariants.{NotYet, Failed}
-use Rattle.net_world.specs.declared.stream_calls.Ready.{Ready}
+use Rattle.socket_calls.specs.declared.stream_calls.Ready.{Ready}
 
 -- Of a call that failed so: it would have waited; the connection was given up before it was taken; or the system had no descriptor for it, and it stays there.
 abbrev pub none_by : ErrorKind → Came

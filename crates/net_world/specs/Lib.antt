@@ -1,13 +1,7 @@
 pub mod Accepting
-pub mod Datagramming
 pub mod Faults
-pub mod Places
-pub mod Linking
-pub mod Keeping
-pub mod Moments
 pub mod Orders
 pub mod Recording
 pub mod Slots
-pub mod Streaming
 pub mod Tables
 pub mod Telling

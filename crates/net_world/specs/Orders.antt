@@ -1,6 +1,6 @@
 -- What many calls in a row make of the octets.
 use Rattle.std.specs.Prelude.{◌≡◌, ℕ, List, [], ◌∷◌, ◌++◌, Option}
-use Rattle.net_world.specs.Keeping.{HandsOn, SendsOn}
+use Rattle.guest_link.specs.Keeping.{HandsOn, SendsOn}
 
 -- all octets, one part behind the other
 abbrev pub joined : List (List ℕ) → List ℕ

@@ -4,8 +4,7 @@ use Rattle.std.specs.List.{Contains}
 use Rattle.poll_list.specs.declared.Want.{Want}
 use Rattle.poll_list.specs.declared.Who.{Who}
 use Rattle.poll_list.specs.declared.Who.TheVariants.{Link}
-use Rattle.net_world.specs.declared.link.Link.{Link as Stands}
-use Rattle.net_world.specs.Linking.{is_told_readable, is_told_writable}
+use Rattle.guest_link.specs.Linking.{Linked, is_told_readable, is_told_writable}
 use Rattle.poll_list.specs.Listing.{same_who}
 use Rattle.net_world.specs.declared.slot.Slot.{Slot}
 use Rattle.net_world.specs.declared.sockets.Known.{Known}
@@ -73,5 +72,5 @@ abbrev pub AreInOrder : List Want → Type 0
 AreInOrder wants = Rise by_rank (λ want. rank_of want.of) wants
 
 -- in which directions the link is told
-abbrev pub link_known : {S : Type 0} → Stands S → Known
+abbrev pub link_known : {S : Type 0} → Linked S → Known
 link_known link = record { read = is_told_readable link; write = is_told_writable link }

@@ -3,7 +3,9 @@ ghost use Rattle.std.specs.Prelude.{◌≡◌, ℕ, List, [], ◌++◌, Some, tr
 ghost use Rattle.std.specs.declared.option.Option.{Option};
 ghost use Rattle.world_face.specs.Journal.{Entry};
 ghost use Rattle.net_world.specs.Orders.{joined, SendAll, HandAll};
-ghost use Rattle.net_world.specs.Recording.{AllCarry, Carrying, read_from, written_to, written, handed, Passing, AllPass};
+ghost use Rattle.guest_link.specs.Passing.{Passing};
+ghost use Rattle.net_world.specs.Recording.{AllCarry, AllPass, handed, read_from, written, written_to};
+ghost use Rattle.socket_calls.specs.Carrying.{Carrying};
 
 /// What a stream got, and behind it what waits to go out, is what the calls put, in their order: of each the octets that it told as taken, as
 /// the clause `sends` of the link's calls says.

@@ -2,21 +2,15 @@
 //! ready only where nothing is known to be.
 #![tactic(auto)]
 
-mod clock;
 mod counting;
-mod datagram_calls;
 mod edge;
 mod files;
 mod gathering;
 mod laws;
-mod link;
 mod net_world;
-mod place;
 mod ready_list;
 mod slot;
-mod socket_file;
 mod sockets;
-mod stream_calls;
 
 pub use laws::{
     what_a_connection_gave_its_reads_brought, what_a_record_wrote_to_a_connection_it_got,

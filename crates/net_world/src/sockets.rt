@@ -8,7 +8,7 @@ ghost use Rattle.std.specs.declared.cmp.Ordering.TheVariants.{Greater};
 ghost use Rattle.mio.specs.Event.{event_token};
 ghost use Rattle.world_face.specs.Journal.{MayRead, MayWrite, MayGet, filled};
 ghost use Rattle.net_world.specs.Slots.{is_connection, are_datagrams};
-ghost use Rattle.net_world.specs.Streaming.{after_event};
+ghost use Rattle.socket_calls.specs.Streaming.{after_event};
 ghost use Rattle.net_world.specs.Tables.{rank_of, number_of, by_rank, InOrder, listed_at, slot_at, AreListed, ArePlaced, IsKnownStarved, Finds, OthersStay, Becomes, known_of, nothing_known, last_read};
 ghost use Rattle.net_world.specs.Telling.{IsKnown};
 ghost use Rattle.net_world.specs.Tables.{IsRead, IsWritten, IsReceived, IsTaken, IsAsked, Joins, Opens, Table, fed, fed_at};
@@ -18,7 +18,6 @@ use crate::ready_list::{Listed, find_listed, last_read, rank, relist};
 use crate::slot::{
     Came, Slot, Socket, end, joined, new_socket, read, receive, register, send, take_from, write,
 };
-use crate::stream_calls::{self, Ready};
 use mio::event::Event;
 use mio::net::TcpStream;
 use mio::{Registry, Token};
@@ -26,10 +25,12 @@ use net_octets::NoMemory;
 use octet_buffer::Stream;
 use poll_list::{Want, Who};
 use slab::Slab;
+use socket_calls::send_at_once;
+use socket_calls::stream_calls::{self, Ready};
 use std::alloc::Global;
 use std::marker::Model;
-use std::net::{Ipv4Addr, Net, SocketAddr};
-use world_face::{Accepted, Endpoint, Got, Io, Ip4, Joined, Sent};
+use std::net::Net;
+use world_face::{Accepted, Endpoint, Got, Io, Joined, Sent};
 
 /// How many sockets are open at once at most, without the link.
 pub(crate) const MOST: usize = 5160;
@@ -529,25 +530,4 @@ fn find(places: &[Place], number: u64) -> Result<usize, usize>
     ensures position { IsBinarySearchResult (λ p. nat_cmp p.number number) places.now result }
 {
     places.binary_search_by_key(&number, |place| place.number)
-}
-
-/// Has the system send what is written at once, where it can, in place of waiting for more (RFC 1122, 4.2.3.4).
-pub(crate) fn send_at_once(stream: &TcpStream) {
-    let _set = stream.set_nodelay(true);
-}
-
-/// An endpoint, as the system has it.
-pub(crate) fn address(of: Endpoint) -> SocketAddr {
-    SocketAddr::from((Ipv4Addr::from_bits(of.addr.0), of.port))
-}
-
-/// An endpoint of version 4 that the system told.
-pub(crate) fn endpoint(of: SocketAddr) -> Option<Endpoint> {
-    match of {
-        SocketAddr::V4(of) => Some(Endpoint {
-            addr: Ip4(of.ip().to_bits()),
-            port: of.port(),
-        }),
-        SocketAddr::V6(_) => None,
-    }
 }

@@ -9,12 +9,12 @@ use Rattle.slirp_app.specs.Doing.{ReplaysFile}
 use Rattle.app_edges.specs.Fetching.{IsUnreadable, MayFetch, is_read, octets_read}
 use Rattle.slirp_app.specs.Ran.{Ceased, EndsBy, Replayed}
 use Rattle.slirp_app.specs.Serving.{ComesTo}
-use Rattle.app_edges.specs.Statuses.{code_of, is_run}
+use Rattle.app_outcome.specs.Statuses.{code_of, is_run}
 use Rattle.slirp_app.specs.Statuses.{outcome_of}
 use Rattle.app_edges.specs.Texts.{text_of}
-use Rattle.app_edges.specs.declared.status.Outcome.{Outcome}
-use Rattle.app_edges.specs.declared.status.Outcome.TheVariants.{Done, Usage, BadConfig, ScheduleRead, ScheduleTooLarge, ScheduleLine, Diverged, FrameTooLong, FrameCut, LinkFault}
-use Rattle.app_edges.specs.declared.status.Outcome.TheVariants.{WaitFault, TurnsSpent, ListenRefused, SinkFault, NoMemory, ControlRefused}
+use Rattle.app_outcome.specs.declared.Outcome.{Outcome}
+use Rattle.app_outcome.specs.declared.Outcome.TheVariants.{Done, Usage, BadConfig, ScheduleRead, ScheduleTooLarge, ScheduleLine, Diverged, FrameTooLong, FrameCut, LinkFault}
+use Rattle.app_outcome.specs.declared.Outcome.TheVariants.{WaitFault, TurnsSpent, ListenRefused, SinkFault, NoMemory, ControlRefused}
 use Rattle.slirp_app.proofs.Courses.{other}
 use Rattle.slirp_app.proofs.Ending.{Meant, ends_by, long_frame, meant_by, waited}
 use Rattle.slirp_app.proofs.Seen.{refused, sees}

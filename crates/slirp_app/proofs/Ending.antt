@@ -16,8 +16,8 @@ use Rattle.world_face.specs.declared.Made.TheVariants.{Done as MadeDone, Failed 
 use Rattle.world_face.specs.declared.Waited.TheVariants.{Ready, Stop, Failed as WaitFails}
 use Rattle.slirp_app.specs.Ran.{EndsBy}
 use Rattle.slirp_app.specs.Statuses.{outcome_of}
-use Rattle.app_edges.specs.declared.status.Outcome.{Outcome}
-use Rattle.app_edges.specs.declared.status.Outcome.TheVariants.{Done, FrameTooLong, FrameCut, LinkFault, WaitFault, TurnsSpent, ListenRefused}
+use Rattle.app_outcome.specs.declared.Outcome.{Outcome}
+use Rattle.app_outcome.specs.declared.Outcome.TheVariants.{Done, FrameTooLong, FrameCut, LinkFault, WaitFault, TurnsSpent, ListenRefused}
 
 -- an entry that ends nothing leaves a run over that was over
 

@@ -21,7 +21,7 @@ use Rattle.slirp_app.specs.Serving.{IsRefused, OpensAt, Runs}
 use Rattle.slirp_app.proofs.Apart.{partial_apart}
 use Rattle.slirp_app.proofs.Rightly.{AreRightReads, right_apart, right_before, right_reads}
 use Rattle.slirp_app.proofs.Seen.{BySight, RanTo, Unserved, ran_to}
-use Rattle.app_edges.specs.declared.status.Outcome.{Outcome}
+use Rattle.app_outcome.specs.declared.Outcome.{Outcome}
 use Rattle.taps.specs.Capturing.{Fits}
 
 -- what is under way was brought by one read, and what is left by one write

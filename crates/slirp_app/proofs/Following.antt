@@ -17,11 +17,11 @@ use Rattle.slirp_app.specs.Causes.{RanOn}
 use Rattle.slirp_app.specs.Doing.{ReplaysFile}
 use Rattle.app_edges.specs.Fetching.{IsWhole, octets_read}
 use Rattle.slirp_app.specs.Serving.{ComesTo}
-use Rattle.app_edges.specs.Statuses.{code_of, is_run}
+use Rattle.app_outcome.specs.Statuses.{code_of, is_run}
 use Rattle.slirp_app.specs.Statuses.{outcome_of}
 use Rattle.slirp_app.specs.Untroubled.{CanBeFollowed, IsBegun, Untroubled}
-use Rattle.app_edges.specs.declared.status.Outcome.{Outcome}
-use Rattle.app_edges.specs.declared.status.Outcome.TheVariants.{Done}
+use Rattle.app_outcome.specs.declared.Outcome.{Outcome}
+use Rattle.app_outcome.specs.declared.Outcome.TheVariants.{Done}
 use Rattle.slirp_app.proofs.Alone.{begun_lawfully}
 use Rattle.slirp_app.proofs.Apart.{before_first, ended_apart, fewer_before, fewer_on_link, fewer_waits_fail, octets_apart, waits_apart}
 use Rattle.slirp_app.proofs.Completed.{ends_well, none_failed}

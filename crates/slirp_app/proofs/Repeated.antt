@@ -20,10 +20,10 @@ use Rattle.slirp_app.specs.Doing.{ReplaysFile, ServesLink}
 use Rattle.app_edges.specs.Fetching.{octets_read}
 use Rattle.app_edges.specs.Texts.{end_line}
 use Rattle.slirp_app.specs.Serving.{ComesTo, IsGiven, IsUnopened, HasNoMemory, Records, RecordsAt, Serves, ServesAt, Took, TookNot}
-use Rattle.app_edges.specs.Statuses.{code_of, is_run}
+use Rattle.app_outcome.specs.Statuses.{code_of, is_run}
 use Rattle.slirp_app.specs.Statuses.{outcome_of}
-use Rattle.app_edges.specs.declared.status.Outcome.{Outcome}
-use Rattle.app_edges.specs.declared.status.Outcome.TheVariants.{TurnsSpent}
+use Rattle.app_outcome.specs.declared.Outcome.{Outcome}
+use Rattle.app_outcome.specs.declared.Outcome.TheVariants.{TurnsSpent}
 use Rattle.slirp_laws.specs.Laws.{Finished, Lawful, May}
 use Rattle.command_words.specs.declared.Tap.TheVariants.{Record}
 use Rattle.world_face.proofs.Telling.{makes_as}

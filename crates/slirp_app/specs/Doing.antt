@@ -27,11 +27,11 @@ use Rattle.slirp_app.specs.Causes.{CannotRead, Caused, IsTooLarge, RanOn}
 use Rattle.app_edges.specs.Fetching.{IsUnreadable, IsWhole, MayFetch, is_read, octets_read}
 use Rattle.slirp_app.specs.Ran.{Ceased, EndsBy}
 use Rattle.slirp_app.specs.Serving.{IsCounted, ServesAt}
-use Rattle.app_edges.specs.Statuses.{code_of, is_run}
+use Rattle.app_outcome.specs.Statuses.{code_of, is_run}
 use Rattle.app_edges.specs.Texts.{help_text, version_text}
 use Rattle.slirp_app.specs.Statuses.{outcome_of}
-use Rattle.app_edges.specs.declared.status.Outcome.{Outcome}
-use Rattle.app_edges.specs.declared.status.Outcome.TheVariants.{BadConfig, Diverged, FrameCut, FrameTooLong, ListenRefused, ScheduleLine, TurnsSpent, Usage}
+use Rattle.app_outcome.specs.declared.Outcome.{Outcome}
+use Rattle.app_outcome.specs.declared.Outcome.TheVariants.{BadConfig, Diverged, FrameCut, FrameTooLong, ListenRefused, ScheduleLine, TurnsSpent, Usage}
 
 -- What `replay FILE` does: the calls on the outer World, and by each status what came of the schedule and of the run. Told says that `err` got the text of an outcome.
 pub record ReplaysFile (file : Word) (config : Config) (status : ℕ) (world world_new : Telling) (old new : Option (List ℕ)) (Told : Outcome → Type 0) : Type 0 where

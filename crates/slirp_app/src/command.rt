@@ -10,17 +10,18 @@ ghost use Rattle.command_words.specs.Stops.{StopsAt};
 ghost use Rattle.command_words.specs.declared.Stop.{Stop as AStop};
 ghost use Rattle.command_words.specs.declared.Tap.{Tap as ATap};
 ghost use Rattle.slirp_app.specs.Doing.{CanBeDone, Course, Does, DrivesRun, ReplaysFile, ServesLink, TellsText, forwards_in, refusal_of};
-ghost use Rattle.app_edges.specs.Statuses.{code_of, is_unrun};
+ghost use Rattle.app_outcome.specs.Statuses.{code_of, is_unrun};
 ghost use Rattle.app_edges.specs.Texts.{Got, help_text, version_text};
-ghost use Rattle.app_edges.specs.declared.status.Outcome.{Outcome as AnOutcome};
-ghost use Rattle.app_edges.specs.declared.status.Outcome.TheVariants.{BadConfig, Done, NoMemory as OfMemory, SinkFault, Usage};
+ghost use Rattle.app_outcome.specs.declared.Outcome.{Outcome as AnOutcome};
+ghost use Rattle.app_outcome.specs.declared.Outcome.TheVariants.{BadConfig, Done, NoMemory as OfMemory, SinkFault, Usage};
 ghost use Rattle.world_face.specs.Journal.{Place};
 ghost use Rattle.world_face.specs.Tells.{Makes, Rose};
 
 use crate::driving::drive;
 use crate::replaying::replay_file;
 use crate::serving::serve;
-use app_edges::{Outcome, put_help, put_version};
+use app_edges::{put_help, put_version, tell};
+use app_outcome::Outcome;
 use command_words::{Command, WordFault, read_words};
 use slirp_settings::Forward;
 use std::alloc::Global;
@@ -77,7 +78,7 @@ pub fn slirp_main<W: World, K: Sink, E: Sink>(
     ensures refused { result ≡ 12 → Rose (K.faults out.old) (K.faults out.new) }
 {
     let (outcome, command) = run_words(alloc, words, world, out);
-    let _told = outcome.tell(words.as_slice(), forwards_of(&command), err);
+    let _told = tell(&outcome, words.as_slice(), forwards_of(&command), err);
     outcome.code()
 }
 
@@ -86,7 +87,7 @@ pub fn out_of_memory<E: Sink>(err: &mut E) -> u8
     ensures status { result ≡ 13 }
     ensures told { Got [] [] (E.holds err.old) (E.holds err.new) (E.faults err.old) (E.faults err.new) OfMemory }
 {
-    let _told = Outcome::NoMemory.tell(&[], &[], err);
+    let _told = tell(&Outcome::NoMemory, &[], &[], err);
     Outcome::NoMemory.code()
 }
 

@@ -1,6 +1,6 @@
 ghost use Rattle.std.specs.Prelude.{◌≤◌};
 
-use crate::run::{Ran, drilled, run_with};
+use crate::run::{Ran, put_drill, run_with};
 use drive_world::{How, Kind};
 use serve_loop::End;
 use std::alloc::{AllocError, Global};
@@ -11,24 +11,24 @@ const MOST_OCTETS: u64 = 10_000_000;
 /// Before this call a run has to be over.
 const MOST_CALLS: u64 = 1_000_000;
 
-/// What a case came to.
-pub fn verdict(alloc: Global, line: &str) -> Result<String, AllocError> {
+/// Puts what a case came to.
+pub fn put_verdict(told: &mut String, alloc: Global, line: &str) -> Result<(), AllocError> {
     let (asked, wanted) = line.split_once(" = ").unwrap_or((line, ""));
     let mut words = asked.split_whitespace();
     let verb = words.next().unwrap_or("");
     let (number, octets) = (number_of(words.next()), number_of(words.next()));
     let (Some(number), Some(octets)) = (number, octets) else {
-        return "no case".to_string(alloc);
+        return told.push_str("no case");
     };
     if octets > MOST_OCTETS {
-        return "too many octets".to_string(alloc);
+        return told.push_str("too many octets");
     }
     if verb == "drill" {
-        return drilled(alloc, number, octets);
+        return put_drill(told, alloc, number, octets);
     }
     match how_of(verb) {
-        Some(how) => faulted(alloc, how, number, octets, wanted),
-        None => "no case".to_string(alloc),
+        Some(how) => put_faulted(told, alloc, how, number, octets, wanted),
+        None => told.push_str("no case"),
     }
 }
 
@@ -47,26 +47,37 @@ fn how_of(verb: &str) -> Option<How> {
     }
 }
 
-// Gives the fault to each call in turn that can get it, and says whether each run came to what it was to come to.
-fn faulted(
+// Gives the fault to each call in turn that can get it, and puts whether each run came to what it was to come to.
+fn put_faulted(
+    told: &mut String,
     alloc: Global,
     how: How,
     number: u64,
     octets: u64,
     wanted: &str,
-) -> Result<String, AllocError>
+) -> Result<(), AllocError>
     requires { octets ≤ 10000000 }
 {
     for at in 0..MOST_CALLS {
         let ran = run_with(alloc, how, at, number, octets)?;
         let Some(kind) = ran.given else {
-            return over_at(at).to_string(alloc);
+            return told.push_str(over_at(at));
         };
-        if !wanted.split(',').any(|one| is_met(one, kind, &ran)) {
-            return missed(alloc, at, kind, &ran);
+        if !is_met_by_any(wanted, kind, &ran) {
+            return put_missed(told, at, kind, &ran);
         }
     }
-    "FAILED: it never ended without a fault".to_string(alloc)
+    told.push_str("FAILED: it never ended without a fault")
+}
+
+// Whether a run with the fault at a call of this kind came to what one of the parts wants.
+fn is_met_by_any(wanted: &str, kind: Kind, ran: &Ran) -> bool {
+    for one in wanted.split(',') {
+        if is_met(one, kind, ran) {
+            return true;
+        }
+    }
+    false
 }
 
 // What is told of a case whose run made no call from this number on that could get the fault.
@@ -78,13 +89,21 @@ fn over_at(at: u64) -> &'static str {
     }
 }
 
-// Tells that a run came to something else.
-fn missed(alloc: Global, at: u64, kind: Kind, ran: &Ran) -> Result<String, AllocError> {
-    let (end, up, down, wrong) = (name_of(ran.end), ran.up, ran.down, ran.wrong);
-    format!(in alloc;
-        "FAILED: with the fault from call {at} on, of the {}, it came to {end}, up {up}, down {down}, wrong {wrong}",
-        kind_name(kind)
-    )
+// Puts that a run came to something else.
+fn put_missed(told: &mut String, at: u64, kind: Kind, ran: &Ran) -> Result<(), AllocError> {
+    put_part(told, "FAILED: with the fault from call ", at)?;
+    told.push_str(" on, of the ")?;
+    told.push_str(kind_name(kind))?;
+    told.push_str(", it came to ")?;
+    told.push_str(name_of(ran.end))?;
+    put_part(told, ", up ", ran.up)?;
+    put_part(told, ", down ", ran.down)?;
+    put_part(told, ", wrong ", ran.wrong)
+}
+
+// Puts a number behind a text.
+fn put_part(told: &mut String, before: &str, number: u64) -> Result<(), AllocError> {
+    write!(told, "{before}{number}")
 }
 
 // Whether a run with the fault at a call of this kind came to what is wanted of that kind.

@@ -15,13 +15,28 @@ use std::{env, fs, io};
 
 fn main(rt: HostRuntime) -> io::Result<()> {
     for name in env::args(&rt)?.skip(1) {
-        let text = fs::read_to_string(&rt, name.as_str())?;
-        for line in text.lines() {
-            if !line.is_empty() && !line.starts_with('#') {
-                let verdict = case::verdict(rt.alloc(), line)?;
-                println!(rt; "{name}: {line}: {verdict}")?;
-            }
+        run_file(&rt, name.as_str())?;
+    }
+    Ok(())
+}
+
+// Runs the cases of a file.
+fn run_file(rt: &HostRuntime, name: &str) -> io::Result<()> {
+    let text = fs::read_to_string(rt, name)?;
+    run_lines(rt, name, text.as_str())
+}
+
+fn run_lines(rt: &HostRuntime, name: &str, text: &str) -> io::Result<()> {
+    for line in text.lines() {
+        if !line.is_empty() && !line.starts_with('#') {
+            run_case(rt, name, line)?;
         }
     }
     Ok(())
+}
+
+fn run_case(rt: &HostRuntime, name: &str, line: &str) -> io::Result<()> {
+    let mut verdict = String::new(rt.alloc());
+    case::put_verdict(&mut verdict, rt.alloc(), line)?;
+    println!(rt; "{name}: {line}: {verdict}")
 }

@@ -49,8 +49,13 @@ pub fn run_with(
     })
 }
 
-/// Runs the network without a fault, and tells what the World counted before and behind it.
-pub fn drilled(alloc: Global, number: u64, octets: u64) -> Result<String, AllocError>
+/// Runs the network without a fault, and puts what the World counted before and behind it.
+pub fn put_drill(
+    told: &mut String,
+    alloc: Global,
+    number: u64,
+    octets: u64,
+) -> Result<(), AllocError>
     requires { octets ≤ 10000000 }
 {
     let Ok(mut counted) = VecSink::open(alloc, ROOM, None) else {
@@ -65,7 +70,7 @@ pub fn drilled(alloc: Global, number: u64, octets: u64) -> Result<String, AllocE
         How::Fail,
         &mut counted,
     )?;
-    joined(alloc, text_of(&counted))
+    put_joined(told, text_of(&counted))
 }
 
 // Runs the network on a World whose call with this number, or the first behind it that can, gets the fault. Answers the kind of that call, and how the run ended; what
@@ -99,7 +104,9 @@ fn let_go(_world: FaultWorld<DriveWorld>) {}
 // Runs a network that has room for so many flows. What it promises is not needed here.
 fn served<W: World>(alloc: Global, flows: u32, world: &mut W) -> Result<End, AllocError> {
     let mut service = service_for(alloc, flows)?;
-    Ok(service.serve(world))
+    let end = service.serve(world);
+    service.let_go();
+    Ok(end)
 }
 
 // A network with the usual settings that has room for so many flows, and has served nothing.
@@ -122,16 +129,15 @@ fn text_of(counted: &VecSink) -> &str {
     str::from_utf8(counted.octets()).unwrap_or("")
 }
 
-// The lines of two summaries, one behind another.
-fn joined(alloc: Global, summaries: &str) -> Result<String, AllocError> {
-    let mut text = String::new(alloc);
+// Puts the lines of two summaries, one behind another.
+fn put_joined(told: &mut String, summaries: &str) -> Result<(), AllocError> {
     for line in summaries.lines() {
-        if !text.is_empty() {
-            text.push_str(mark_before(line))?;
+        if !told.is_empty() {
+            told.push_str(mark_before(line))?;
         }
-        text.push_str(line)?;
+        told.push_str(line)?;
     }
-    Ok(text)
+    Ok(())
 }
 
 // What stands before a line that isn't the first: a summary begins with the number of its World.

@@ -1,5 +1,5 @@
 use Rattle.std.proofs.Common.{◌≡◌}
-use Rattle.net_world.specs.Recording.{passing_untold}
+use Rattle.guest_link.specs.Passing.{passing_untold}
 use Rattle.net_world.proofs.edge.note_events.Given as goal
 
 abbrev pub invariant-loop-event : goal.invariant-loop-event

@@ -83,7 +83,7 @@ returns-clause-set c = λ guests all led held.
     let folder = option_map (λ path. path.bytes) c.folder-config.result in
     let set = λ (u : Config) (f r : ℕ) (g : List GuestFwd) (ds : List Denial). made u network mask c.in_ok-config.field-0.0 c.in_ok-config-2.field-0.0 c.in_ok-config-3.field-0.0
     c.has-config.result c.has-config-2.result
-    c.text-config.result.items c.text-config-2.result.items c.text-config-3.result.items c.text-config-4.result.items folder mtu mru f r resolver turns outbound control
+    c.put_text.new.into.items c.put_text-2.new.into.items c.put_text-3.new.into.items c.put_text-4.new.into.items folder mtu mru f r resolver turns outbound control
     c.has-config-3.result c.has-config-4.result c.has-config-5.result c.version-config.result u.forwards g ds in (
       set usual flows ring guests all,
       record {
@@ -94,10 +94,10 @@ returns-clause-set c = λ guests all led held.
         dhcp_start = c.in_ok-config-3.ensures.read;
         restricted = c.has-config.ensures;
         no_loopback = c.has-config-2.ensures;
-        hostname = c.text-config.ensures;
-        domainname = c.text-config-2.ensures;
-        tftp_server_name = c.text-config-3.ensures;
-        bootfile = c.text-config-4.ensures;
+        hostname = c.put_text.ensures;
+        domainname = c.put_text-2.ensures;
+        tftp_server_name = c.put_text-3.ensures;
+        bootfile = c.put_text-4.ensures;
         tftp_path = c.folder-config.ensures;
         mtu = match_default (given (codes "--mtu")) (mtu ≡ base.if_mtu) (mtu ≡ usual.mtu) (λ text. IsNumber 16 text mtu) (λ d. d ∙ ap (λ (u : Config). u.mtu) is) c.in_ok-config-4.ensures.read;
         mru = match_default (given (codes "--mru")) (mru ≡ base.if_mru) (mru ≡ usual.mru) (λ text. IsNumber 16 text mru) (λ d. d ∙ ap (λ (u : Config). u.mru) is) c.in_ok-config-5.ensures.read;

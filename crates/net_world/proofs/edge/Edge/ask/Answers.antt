@@ -1,6 +1,6 @@
 use Rattle.std.proofs.Common.{[]}
-use Rattle.net_world.specs.Recording.{Passes, passing_untold}
-use Rattle.net_world.proofs.Passing.{passes_on, passes_still}
+use Rattle.guest_link.specs.Passing.{Passes, passing_untold}
+use Rattle.guest_link.proofs.Passing.{passes_on, passes_still}
 use Rattle.net_world.proofs.edge.Edge.ask.Goals as goal
 
 pub returns-clause-passes : goal.returns-clause-passes

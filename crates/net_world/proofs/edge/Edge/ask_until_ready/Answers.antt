@@ -1,5 +1,5 @@
 use Rattle.std.proofs.Common.{◌∙◌, arith}
-use Rattle.net_world.proofs.Passing.{passes_on}
+use Rattle.guest_link.proofs.Passing.{passes_on}
 use Rattle.net_world.proofs.edge.Edge.ask_until_ready.Goals as goal
 
 pub returns-then-not-ask-clause-passes : goal.returns-then-not-ask-clause-passes

@@ -1,5 +1,5 @@
 use Rattle.std.proofs.Common.{◌≡◌, ◌≤◌, []}
-use Rattle.net_world.specs.Recording.{Passes, passing_untold}
+use Rattle.guest_link.specs.Passing.{Passes, passing_untold}
 use Rattle.net_world.proofs.edge.Edge.ask_until_ready.Given as goal
 
 abbrev pub invariant-loop : goal.invariant-loop

@@ -2,10 +2,10 @@ use Rattle.std.proofs.Common.{◌≡◌, ◌⊎◌, [], inl, inr, refl, ap}
 use Rattle.world_face.specs.declared.Io.{Io}
 use Rattle.world_face.specs.declared.Io.TheVariants.{Done, End, NotYet, Failed}
 use Rattle.world_face.specs.Journal.{filled}
-use Rattle.net_world.specs.declared.link.Outlet.{Outlet}
-use Rattle.net_world.specs.Linking.{is_open}
-use Rattle.net_world.specs.Recording.{passing_untold}
-use Rattle.net_world.proofs.Passing.{passes_after}
+use Rattle.guest_link.specs.declared.link.Outlet.{Outlet}
+use Rattle.guest_link.specs.Linking.{is_open}
+use Rattle.guest_link.specs.Passing.{passing_untold}
+use Rattle.guest_link.proofs.Passing.{passes_after}
 use Rattle.net_world.proofs.edge.Edge.link_write.Goals as goal
 
 pub returns-clause-passes : goal.returns-clause-passes

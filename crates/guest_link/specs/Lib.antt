@@ -1,0 +1,4 @@
+pub mod Places
+pub mod Linking
+pub mod Keeping
+pub mod Passing
