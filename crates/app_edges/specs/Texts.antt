@@ -1,17 +1,17 @@
 -- The texts that tell what the program came to.
-use Rattle.std.specs.Prelude.{◌≡◌, ℕ, ◌+◌, ◌&&◌, nat_le, List, [], ◌∷◌, ◌++◌, map, take, slice_get, codes, decimal, Option, Some, None, if◌then◌else◌}
+use Rattle.std.specs.Prelude.{◌≡◌, ℕ, ◌&&◌, nat_le, List, [], ◌∷◌, ◌++◌, map, take, slice_get, codes, decimal, Option, Some, None, if◌then◌else◌}
 use Rattle.std.specs.Option.{option_map_or}
 use Rattle.address_text.specs.Texts.{endpoint_text}
 use Rattle.slirp_settings.specs.declared.Forward.{Forward}
 use Rattle.slirp_settings.specs.declared.Proto.{Proto}
 use Rattle.slirp_settings.specs.declared.Proto.TheVariants.{Tcp, Udp}
 use Rattle.command_words.specs.declared.Stop.{Stop}
-use Rattle.command_words.specs.declared.Stop.TheVariants.{Word as AtWord, End as AtEnd}
 use Rattle.world_face.specs.Puts.{added}
 use Rattle.command_words.specs.Meaning.{setting_name}
 use Rattle.replay.specs.Names.{name_text}
 use Rattle.replay.specs.declared.CallName.{CallName}
 use Rattle.world_face.specs.Tells.{Rose}
+use Rattle.app_outcome.specs.Mistakes.{named_word}
 use Rattle.app_outcome.specs.declared.Outcome.{Outcome}
 use Rattle.app_outcome.specs.declared.Outcome.TheVariants.{Done, Usage, BadConfig, ScheduleRead, ScheduleTooLarge, ScheduleLine, Diverged, FrameTooLong, FrameCut, LinkFault}
 use Rattle.app_outcome.specs.declared.Outcome.TheVariants.{WaitFault, TurnsSpent, ListenRefused, SinkFault, NoMemory, ControlRefused}
@@ -35,10 +35,8 @@ word_text number word = codes "slirpd: word " ++ decimal number ++ codes ": " ++
 abbrev pub missing_text : List ℕ
 missing_text = codes "slirpd: a word is missing"
 
--- the word at which reading stops, counted from 1
 abbrev pub mistake_text : List (List ℕ) → Stop → List ℕ
-mistake_text words (AtWord place) = option_map_or (word_text (place + 1)) (slice_get words place) missing_text
-mistake_text words AtEnd = missing_text
+mistake_text words stop = option_map_or (λ named. word_text named.0 named.1) (named_word words stop) missing_text
 
 abbrev pub usage_text : List ℕ
 usage_text = codes "usage: slirpd serve --link AT [OPTIONS] [RULE]... | replay FILE [OPTIONS] [RULE]... | drive NUMBER OCTETS"

@@ -12,5 +12,5 @@ mod std_sink;
 pub use fetching::{Unread, read_file};
 pub use help::{put_help, put_version};
 pub use record::put_record;
-pub use status::tell;
+pub use status::{out_of_memory, tell};
 pub use std_sink::StdSink;

@@ -8,6 +8,7 @@ ghost use Rattle.app_edges.specs.Texts.{forward_text, mistake_text, shown, shown
 
 use crate::status::tell_number;
 use address_text::endpoint_string;
+use app_outcome::named_word;
 use arrayvec::ArrayVec;
 use command_words::Stop;
 use slirp_settings::{Forward, Proto};
@@ -20,12 +21,9 @@ const SHOWN: usize = 200;
 pub(crate) fn tell_mistake<E: Sink>(err: &mut E, words: &[String], stop: Stop) -> Result<(), Failed>
     ensures { Puts (E.holds err.old) (E.holds err.new) (E.faults err.old) (E.faults err.new) (mistake_text (map string_bytes words.now) stop ++ 10 ∷ []) result }
 {
-    match stop {
-        Stop::Word(place) => match words.get(place) {
-            Some(word) => tell_word(err, place as u64 + 1, word.as_str().as_bytes()),
-            None => err.put(MISSING),
-        },
-        Stop::End => err.put(MISSING),
+    match named_word(words, stop) {
+        Some((number, word)) => tell_word(err, number, word.as_bytes()),
+        None => err.put(MISSING),
     }
 }
 

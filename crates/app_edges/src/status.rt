@@ -5,8 +5,8 @@ ghost use Rattle.std.specs.Prelude.{◌≡◌, ◌++◌, ◌∷◌, [], map, cod
 ghost use Rattle.std.specs.String.{string_bytes};
 ghost use Rattle.replay.specs.Names.{name_text};
 ghost use Rattle.world_face.specs.Puts.{Puts};
-ghost use Rattle.app_edges.specs.Texts.{port_text, text_of, told_text, wanted_text};
-ghost use Rattle.app_outcome.specs.declared.Outcome.TheVariants.{Diverged as IsDiverged, Usage as IsUsage};
+ghost use Rattle.app_edges.specs.Texts.{Got, port_text, text_of, told_text, wanted_text};
+ghost use Rattle.app_outcome.specs.declared.Outcome.TheVariants.{Diverged as IsDiverged, NoMemory as OfMemory, Usage as IsUsage};
 
 use crate::mistake::{put_forward, tell_mistake};
 use app_outcome::Outcome;
@@ -57,6 +57,15 @@ pub fn tell<E: Sink>(
         Outcome::NoMemory => err.put(b"slirpd: out of memory\n"),
         Outcome::ControlRefused => err.put(b"slirpd: control refused\n"),
     }
+}
+
+/// What the program comes to where there is no memory for its words: it tells so, and the status is 13.
+pub fn out_of_memory<E: Sink>(err: &mut E) -> u8
+    ensures status { result ≡ 13 }
+    ensures told { Got [] [] (E.holds err.old) (E.holds err.new) (E.faults err.old) (E.faults err.new) OfMemory }
+{
+    let _told = tell(&Outcome::NoMemory, &[], &[], err);
+    Outcome::NoMemory.code()
 }
 
 /// The line that says how the words of the command line are written.

@@ -1,10 +1,13 @@
-//! What the program came to, and the status with which it ends.
+//! What the program came to, the status with which it ends, and the word that a mistake in the words names.
 #![tactic(auto)]
+
+mod mistake;
 
 ghost use Rattle.std.specs.Prelude.{◌≡◌};
 ghost use Rattle.app_outcome.specs.Statuses.{code_of};
 
 use command_words::{Setting, Stop};
+pub use mistake::named_word;
 use replay::Divergence;
 
 /// What the program came to.

@@ -6,9 +6,9 @@ use Rattle.poll_list.specs.Picks.{as_list}
 use Rattle.poll_list.specs.declared.Want.{Want}
 use Rattle.world_face.specs.Journal.{Entry, Wait}
 use Rattle.world_face.specs.Limits.{most_wants}
-use Rattle.control_rules.specs.Apart.{controls, is_of_control, is_on_control, others, seen as seen_of, without_control}
+use Rattle.control_rules.specs.Apart.{controls, is_of_control, is_on_control, others, seen as seen_of, without_control, takes_item}
 use Rattle.control_aside.specs.Stretches.{AreSeen, IsItem, IsSeen}
-use Rattle.control_aside.specs.Waits.{place_for, takes_item, with_item}
+use Rattle.control_aside.specs.Waits.{place_for, with_item}
 
 abbrev pub is_wait : Entry → Bool
 is_wait (Wait wants timeout answer ready) = true

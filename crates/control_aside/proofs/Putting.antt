@@ -12,9 +12,9 @@ use Rattle.world_face.specs.Journal.{Allowed, MayWait, Wait}
 use Rattle.world_face.specs.Limits.{most_ready, most_wants}
 use Rattle.world_face.specs.declared.Waited.{Waited}
 use Rattle.world_face.specs.declared.Waited.TheVariants.{Ready, Stop, Failed}
-use Rattle.control_rules.specs.Apart.{is_controls, is_of_control, others}
+use Rattle.control_rules.specs.Apart.{is_controls, is_of_control, others, takes_item}
 use Rattle.control_aside.specs.Stretches.{IsItem}
-use Rattle.control_aside.specs.Waits.{place_for, takes_item, with_item}
+use Rattle.control_aside.specs.Waits.{place_for, with_item}
 
 -- ---- a number of the control's is none of the others
 

@@ -7,7 +7,7 @@ use Rattle.poll_list.specs.declared.Want.{Want}
 use Rattle.poll_list.specs.declared.Who.{Who}
 use Rattle.poll_list.specs.declared.Who.TheVariants.{Listener, Tcp}
 use Rattle.control_rules.specs.Apart.{reported_of}
-use Rattle.control_aside.specs.Reports.{is_connection, is_listener, tells_lines, tells_peer, tells_room}
+use Rattle.control_rules.specs.Reports.{is_connection, is_listener, tells_lines, tells_peer, tells_room}
 
 -- a part, where there is one
 abbrev part_if : Bool → Who → (read write : Bool) → List Want

@@ -1,11 +1,9 @@
 -- What a wait is for where the control waits for something, too.
-use Rattle.std.specs.Prelude.{ℕ, ◌&&◌, not, nat_lt, Bool, true, false, List, length, insert, position, unwrap_or, Option, Some, None, if◌then◌else◌}
-use Rattle.std.specs.List.{list_any}
+use Rattle.std.specs.Prelude.{ℕ, not, Bool, true, false, List, length, insert, position, unwrap_or, Option, Some, None, if◌then◌else◌}
 use Rattle.poll_list.specs.declared.Want.{Want}
 use Rattle.poll_list.specs.declared.Who.{Who}
 use Rattle.poll_list.specs.declared.Who.TheVariants.{Link, Listener, Tcp, Udp}
-use Rattle.world_face.specs.Limits.{most_wants}
-use Rattle.control_rules.specs.Apart.{is_of_control}
+use Rattle.control_rules.specs.Apart.{takes_item}
 
 -- The link and the listeners stand in front: how many wants do.
 abbrev pub stands_in_front : Who → Bool
@@ -21,10 +19,6 @@ front_length wants = unwrap_or (position (λ want. not (stands_in_front want.of)
 abbrev pub place_for : Who → List Want → ℕ
 place_for (Listener socket) wants = front_length wants
 place_for _ wants = length wants
-
--- There is room for one more, and none of these wants is the control's: so where no socket stands twice among them none does with the item, either.
-abbrev pub takes_item : List Want → Bool
-takes_item wants = nat_lt (length wants) most_wants && not (list_any (λ want. is_of_control want.of) wants)
 
 -- the wants of the network, with the control's item where it has one and they take it
 abbrev pub with_item : Option Want → List Want → List Want

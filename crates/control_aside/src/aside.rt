@@ -1,9 +1,10 @@
 // A World over another, on which what is the control's is kept from the network.
 ghost use Rattle.std.specs.Prelude.{◌≡◌, ◌≤◌, ◌∷◌, []};
-ghost use Rattle.control_aside.specs.Reports.{tells_lines, tells_peer, tells_room};
+ghost use Rattle.control_rules.specs.Reports.{tells_lines, tells_peer, tells_room};
 
 use crate::waits::{gather, part_reported, put_others};
-use poll_list::{Want, Who};
+use control_rules::{Reported, reports_of};
+use poll_list::Want;
 use replay::LineView;
 use std::marker::Model;
 use std::snapshot::Snapshot;
@@ -12,17 +13,6 @@ use world_face::{
     Accepted, Endpoint, FileSize, Got, Io, Joined, LinkAt, Made, ReadyList, Sent, Waited, Wants,
     World,
 };
-
-/// What the last wait reported of the control's item.
-#[derive(Clone, Copy)]
-pub struct Reported {
-    /// A peer waits at the listener.
-    pub peer: bool,
-    /// Octets of lines came on the connection.
-    pub lines: bool,
-    /// The connection takes octets of a reply.
-    pub room: bool,
-}
 
 /// A World over another, of which it passes every call on. A wait it passes on with the control's item among what is wanted, and what is reported of sockets of the control's
 /// it sets aside.
@@ -126,21 +116,6 @@ impl<W: World> Aside<W> {
             seen: _,
         } = self;
         world
-    }
-}
-
-// What the control learns from this part of its item.
-fn reports_of(item: Want) -> Reported
-    ensures peer { result.peer ≡ tells_peer (item ∷ []) }
-    ensures lines { result.lines ≡ tells_lines (item ∷ []) }
-    ensures room { result.room ≡ tells_room (item ∷ []) }
-{
-    let is_listener = matches!(item.of, Who::Listener(_));
-    let is_connection = matches!(item.of, Who::Tcp(_));
-    Reported {
-        peer: is_listener && item.read,
-        lines: is_connection && item.read,
-        room: is_connection && item.write,
     }
 }
 

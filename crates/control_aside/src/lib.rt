@@ -6,4 +6,4 @@
 mod aside;
 mod waits;
 
-pub use aside::{Aside, Reported};
+pub use aside::Aside;

@@ -1,25 +1,13 @@
 // What a wait is for with the control's item among the wants, and what of its report is the control's.
 ghost use Rattle.std.specs.Prelude.{◌≡◌, ◌≤◌, ◌<◌, [], Some, length, insert, not, position};
-ghost use Rattle.std.specs.List.{list_any};
 ghost use Rattle.poll_list.specs.Listing.{reads, writes};
 ghost use Rattle.poll_list.specs.Picks.{as_list, part_in};
 ghost use Rattle.world_face.specs.Limits.{most_wants};
-ghost use Rattle.control_rules.specs.Apart.{is_of_control, others, reported_of};
-ghost use Rattle.control_aside.specs.Waits.{front_length, place_for, stands_in_front, takes_item, with_item};
+ghost use Rattle.control_rules.specs.Apart.{others, reported_of};
+ghost use Rattle.control_aside.specs.Waits.{front_length, place_for, stands_in_front, with_item};
 
-use control_rules::LISTENER;
+use control_rules::{is_of_control, takes_item};
 use poll_list::{ReadyList, Want, Wants, Who};
-use world_face::MOST_WANTS;
-
-// Whether this is a socket of the control's.
-fn is_of_control(who: Who) -> bool
-    ensures { result ≡ is_of_control who }
-{
-    match who {
-        Who::Link => false,
-        Who::Listener(number) | Who::Udp(number) | Who::Tcp(number) => number >= LISTENER,
-    }
-}
 
 // Whether this is the link or a listener, which stand in front.
 fn stands_in_front(who: Who) -> bool
@@ -40,20 +28,6 @@ fn front_length(wants: &[Want]) -> usize
     ensures { result ≡ front_length wants.now }
 {
     first_behind(wants).unwrap_or(wants.len())
-}
-
-// Whether one of these wants is the control's.
-fn has_controls(wants: &[Want]) -> bool
-    ensures { result ≡ list_any (λ want. is_of_control want.of) wants.now }
-{
-    wants.iter().any(|want| is_of_control(want.of))
-}
-
-// Whether the control's item can be put among these wants: there is room, and none of them is the control's.
-fn takes_item(wants: &[Want]) -> bool
-    ensures { result ≡ takes_item wants.now }
-{
-    wants.len() < MOST_WANTS && !has_controls(wants)
 }
 
 // Fills a list with the wants of the network, and with the control's item where there is one and they take it.

@@ -8,7 +8,7 @@ use Rattle.poll_list.specs.declared.Want.{Want}
 use Rattle.poll_list.specs.declared.Who.TheVariants.{Listener, Tcp}
 use Rattle.control_rules.specs.Apart.{reported_of}
 use Rattle.control_rules.specs.Talk.{Talk, is_out, listener, listener_want, want_by, want_of}
-use Rattle.control_aside.specs.Reports.{tells_lines, tells_peer, tells_room}
+use Rattle.control_rules.specs.Reports.{tells_lines, tells_peer, tells_room}
 use Rattle.control_laws.specs.Laws.{without_read, without_write}
 
 equal : (n : ℕ) → (n == n) ≡ true

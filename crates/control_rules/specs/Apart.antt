@@ -1,11 +1,12 @@
 -- A record without the control's entries: what the network sees of it. The laws of the network speak of that.
-use Rattle.std.specs.Prelude.{ℕ, not, nat_le, Bool, false, List, [], ◌∷◌, filter, if◌then◌else◌}
-use Rattle.std.specs.List.{filter_map}
+use Rattle.std.specs.Prelude.{ℕ, ◌&&◌, not, nat_le, nat_lt, Bool, false, List, [], ◌∷◌, length, filter, if◌then◌else◌}
+use Rattle.std.specs.List.{filter_map, list_any}
 use Rattle.poll_list.specs.Listing.{reads, writes}
 use Rattle.poll_list.specs.Picks.{part_in}
 use Rattle.poll_list.specs.declared.Want.{Want}
 use Rattle.poll_list.specs.declared.Who.{Who}
 use Rattle.poll_list.specs.declared.Who.TheVariants.{Link, Listener, Tcp, Udp}
+use Rattle.world_face.specs.Limits.{most_wants}
 use Rattle.world_face.specs.Journal.{Entry, Wait, Connect, Connected, Listen, Accept, TcpRead, TcpWrite, TcpEnd, Close, UdpOpen, UdpSend, UdpRecv}
 use Rattle.control_rules.specs.Talk.{listener}
 
@@ -25,6 +26,11 @@ others items = filter (λ item. not (is_of_control item.of)) items
 
 abbrev pub controls : List Want → List Want
 controls items = filter (λ item. is_of_control item.of) items
+
+-- The control's item can be put among these wants: there is room for one more, and none of these is the control's. So where no socket stands twice among them none does with the item,
+-- either.
+abbrev pub takes_item : List Want → Bool
+takes_item wants = nat_lt (length wants) most_wants && not (list_any (λ want. is_of_control want.of) wants)
 
 -- what was reported of some wants: the part of each in the directions in which it was reported, where there is one
 abbrev pub reported_of : (wants ready : List Want) → List Want

@@ -1,3 +1,4 @@
 pub mod Talk
 pub mod Apart
+pub mod Reports
 pub mod Commands

@@ -1,11 +1,14 @@
 //! What the lines of a control connection ask for, what is kept of it, and what the network sees of a record: what is said of these is in `specs/`.
 #![tactic(auto)]
 
+mod waits;
+
 ghost use Rattle.std.specs.Prelude.{◌≡◌, ◌&&◌};
 ghost use Rattle.slirp_settings.specs.Classes.{same_endpoint};
 ghost use Rattle.slirp_settings.specs.Ranges.{same_proto};
 ghost use Rattle.slirp_settings.specs.declared.Proto.TheVariants.{Tcp};
 
+pub use crate::waits::{Reported, is_of_control, reports_of, takes_item};
 use net_octets::Endpoint;
 use slirp_settings::{Forward, Proto};
 

@@ -14,6 +14,7 @@ ghost use Rattle.flow_splice.specs.Hosts.{IsRead, gives_octets};
 use crate::Spliced;
 use crate::guest::later_if;
 use crate::scratch::Scratch;
+use flow_rules::{HostWork, host_work};
 use sock_buffers::Down;
 use tcp_connection::{Change, Conn, HostNews};
 use world_face::{Io, Joined, MOST_TO_FLOW, Made, World};
@@ -71,12 +72,11 @@ impl Spliced {
         if !ready || !self.is_open() {
             return;
         }
-        if self.connects() {
-            self.connect(world, now);
-        } else if self.owes_octets() {
-            self.write(world, scratch, now);
-        } else if self.owes_end() {
-            self.end(world, now);
+        match host_work(self.connects(), self.owes_octets(), self.owes_end()) {
+            HostWork::Join => self.connect(world, now),
+            HostWork::Octets => self.write(world, scratch, now),
+            HostWork::End => self.end(world, now),
+            HostWork::Nothing => {}
         }
     }
 

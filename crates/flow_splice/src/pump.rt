@@ -19,8 +19,8 @@ ghost use Rattle.net_octets.specs.Sizes.{most_frame};
 use crate::frames::{Route, write_frame, write_request};
 use crate::guest::later_if;
 use crate::scratch::Scratch;
-use crate::time::REQUESTS;
 use crate::{Place, Spliced};
+use flow_rules::may_ask;
 use net_octets::{Ip4, Mac};
 use sock_buffers::Down;
 use stream_netdev::{LENGTH, Link, Offered, Pumped, outcome, spell};
@@ -285,7 +285,7 @@ impl Spliced {
     fn asks_now(&self) -> bool
         ensures { result ≡ asks_now self.now }
     {
-        self.is_open() && self.asked < REQUESTS && self.asks
+        self.is_open() && may_ask(self.asked) && self.asks
     }
 
     fn offer_request<W: World>(

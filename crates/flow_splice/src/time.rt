@@ -11,11 +11,9 @@ ghost use Rattle.flow_laws.specs.Event.{At, Closes, Story};
 ghost use Rattle.connection_follows.specs.Holding.{is_connects};
 
 use crate::Spliced;
+use flow_rules::REQUESTS;
 use tcp_connection::Change;
 use world_face::World;
-
-/// How often the guest's hardware address is asked for.
-pub(crate) const REQUESTS: u8 = 9;
 
 impl Spliced {
     ghost use Rattle.flow_splice.specs.Ahead.{IsTimely};

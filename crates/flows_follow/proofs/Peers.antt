@@ -11,7 +11,8 @@ use Rattle.flow_laws.specs.Close.{is_in_use}
 use Rattle.flow_laws.specs.Flow.{is_accepted}
 use Rattle.run_laws.specs.Sockets.{is_among}
 use Rattle.record_flows.specs.Book.{book}
-use Rattle.record_flows.specs.Flows.{Flow, Rest, flow_of, has_room_for_peer, most_for_peers, uses}
+use Rattle.flow_rules.specs.Choices.{most_for_peers}
+use Rattle.record_flows.specs.Flows.{Flow, Rest, flow_of, has_room_for_peer, uses}
 use Rattle.record_flows.specs.Said.{Differ}
 use Rattle.slirp_laws.proofs.Bools.{equal, same, turned}
 use Rattle.flow_splice.specs.Splice.{Splice}

@@ -2,7 +2,7 @@
 use Rattle.std.specs.Prelude.{ℕ, ◌+◌, ◌&&◌, nat_lt, Bool, false, List, ◌∷◌, length, Option, Some}
 use Rattle.flow_table.specs.declared.Slot.{Slot}
 use Rattle.flow_table.specs.declared.Slot.TheVariants.{InUse}
-use Rattle.record_flows.specs.Flows.{most_for_peers}
+use Rattle.flow_rules.specs.Choices.{most_for_peers}
 use Rattle.flow_splice.specs.Splice.{Splice}
 use Rattle.flows_follow.specs.FlowsHold.{FlowsState}
 use Rattle.flows_follow.specs.Only.{one_if}

@@ -1,8 +1,9 @@
 -- Open sockets, each for one port of a guest and one identifier, the longest unused first.
-use Rattle.std.specs.Prelude.{ℕ, ◌+◌, ◌==◌, ◌&&◌, nat_le, Bool, List, [], ◌∷◌, ◌++◌, map, find, Option, option_map, if◌then◌else◌}
+use Rattle.std.specs.Prelude.{ℕ, ◌==◌, ◌&&◌, Bool, List, [], ◌∷◌, ◌++◌, map, find, Option, option_map, if◌then◌else◌}
 use Rattle.net_octets.specs.declared.Endpoint.{Endpoint}
 use Rattle.net_octets.specs.declared.Mac.{Mac}
 use Rattle.slirp_settings.specs.Classes.{same_endpoint}
+use Rattle.udp_rules.specs.Lives.{is_life_over}
 use Rattle.idle_sockets.specs.declared.IdleSocket.{IdleSocket}
 
 -- so many are open at once
@@ -48,4 +49,4 @@ heard_at now s = record { number = s.number; guest = s.guest; ident = s.ident; m
 
 -- its idle life, so many milliseconds, is over
 abbrev pub is_over : ℕ → ℕ → IdleSocket → Bool
-is_over life now s = nat_le (s.used + life) now
+is_over life now s = is_life_over life s.used now

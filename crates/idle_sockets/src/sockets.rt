@@ -12,6 +12,7 @@ use crate::{IdleSocket, MOST_SOCKETS};
 use arrayvec::ArrayVec;
 use net_octets::{Endpoint, Mac};
 use std::marker::Model;
+use udp_rules::is_life_over;
 
 /// At most 512 open sockets, each for one port of a guest and one identifier, the longest unused first.
 ///
@@ -161,7 +162,7 @@ impl IdleSockets {
         ensures least { IsLeast number_of (is_over life now) self.old result }
         ensures same { self.new ≡ self.old }
     {
-        if now.saturating_sub(self.since) < life {
+        if !is_life_over(life, self.since, now) {
             return None;
         }
         self.since = first_use(self.rows.as_slice());
@@ -259,12 +260,5 @@ fn first_over(rows: &[IdleSocket], life: u64, now: u64) -> Option<IdleSocket>
 {
     rows.iter()
         .copied()
-        .find(|socket| is_over(socket, life, now))
-}
-
-// Whether the idle life of the socket is over at this moment.
-fn is_over(socket: &IdleSocket, life: u64, now: u64) -> bool
-    ensures { result ≡ is_over life now socket.now }
-{
-    socket.used <= now && now - socket.used >= life
+        .find(|socket| is_life_over(life, socket.used, now))
 }

@@ -1,3 +1,4 @@
 pub mod Cuts
 pub mod Ip
 pub mod Sets
+pub mod Holes

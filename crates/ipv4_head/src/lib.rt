@@ -1,11 +1,14 @@
 //! Headers of IPv4 datagrams (RFC 791, 3.1).
 #![tactic(auto)]
 
+mod holes;
+
 ghost use Rattle.std.specs.Prelude.{◌≡◌, ℕ, List, None, ◌+◌, ◌*◌, ◌≤◌, ◌<◌, ◌^◌, ◌↔◌, ◌++◌, length, take, drop, IsOk, IfOk, OnErr, MatchResult, Some, if◌then◌else◌};
 ghost use Rattle.std.specs.Result.{result_ok, result_err};
 ghost use Rattle.ipv4_head.specs.Ip.{Ip, IsIp, IsPlain, IsDatagram, SameFields, sent, read_ip, ip_fault, ip_with, head_with, summed_head, fragment_of, ip_of, head_length};
 ghost use Rattle.net_octets.specs.Octets.{IsOctets, one_at};
 
+pub use crate::holes::Hole;
 use byteorder::{BigEndian, ByteOrder};
 use net_octets::{Fault, FaultKind, Ip4, NoRoom, checksum, sum_ok, write_packet};
 

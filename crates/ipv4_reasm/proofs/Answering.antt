@@ -15,7 +15,7 @@ use Rattle.ipv4_reasm.specs.declared.reasm.Added.{Added}
 use Rattle.ipv4_reasm.specs.declared.reasm.Added.TheVariants.{Whole, Kept, Overlap}
 use Rattle.ipv4_reasm.specs.Answers.{IsAnswered, IsWholeAt, answer_of, said}
 use Rattle.ipv4_reasm.specs.Areas.{Fits, Gathered, Gathers, StandFor, StandsFor, after_part, begun, does_clash, is_full, place_in, roomy, with_head, with_joined, with_kept, with_octets}
-use Rattle.ipv4_reasm.specs.Holes.{hole, is_in, lies_in}
+use Rattle.ipv4_head.specs.Holes.{hole, is_in, lies_in}
 use Rattle.ipv4_reasm.proofs.Clashing.{clash_same}
 use Rattle.ipv4_reasm.proofs.Holing.{in_if, lies_endless, or_left}
 use Rattle.ipv4_reasm.proofs.Keeping.{kept_gathers}

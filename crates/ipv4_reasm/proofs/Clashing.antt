@@ -8,9 +8,10 @@ use Rattle.std.proofs.lemmas.List.Elements.{Contains-append_left, Contains-push}
 use Rattle.std.proofs.lemmas.List.Folds.{list_any-append}
 use Rattle.std.proofs.lemmas.Option.{cond_some}
 use Rattle.ipv4_head.specs.Sets.{Part, end_of, do_share, do_clash, ends_past}
-use Rattle.ipv4_reasm.specs.declared.holes.Hole.{Hole}
+use Rattle.ipv4_head.specs.declared.holes.Hole.{Hole}
 use Rattle.ipv4_reasm.specs.Areas.{AreHoles, Fits, Gathered, Gathers, IsHole, IsTold, does_clash, has_unit}
-use Rattle.ipv4_reasm.specs.Holes.{Rise, filled, has_hole, hole, is_in, is_open, left_before, left_behind, left_from, lies_in, listed, unit_end}
+use Rattle.ipv4_head.specs.Holes.{hole, is_in, left_before, left_behind, left_from, lies_in, unit_end}
+use Rattle.ipv4_reasm.specs.Holes.{Rise, filled, has_hole, is_open, listed}
 use Rattle.ipv4_reasm.proofs.Gathering.{both, clash_before, clash_one, clash_past, clash_share, in_some, none_in, not_false, not_true, of_all, one_of_four, same_truth, share_by_unit}
 use Rattle.ipv4_reasm.proofs.Gathering.{some_in, unit_by_share}
 use Rattle.ipv4_reasm.proofs.Holing.{Goes, Lies, by_end, filled_open, hole_from, in_if, in_then, lies_before, lies_endless, lies_then, or_is, or_left, or_right, unit_before, unit_behind, unit_there}

@@ -7,7 +7,7 @@ use Rattle.std.proofs.lemmas.List.Folds.{Any-from_list_any, list_any-from_Any}
 use Rattle.std.proofs.lemmas.Option.{same_Some, slice_get-get_or}
 use Rattle.ipv4_head.specs.Sets.{Part, start_of, end_of, do_share, do_clash, ends_past}
 use Rattle.ipv4_reasm.specs.Areas.{Fits, has_unit}
-use Rattle.ipv4_reasm.specs.Holes.{units_of}
+use Rattle.ipv4_head.specs.Holes.{units_of}
 
 -- tests
 pub both : (a b : Bool) → (a && b) ≡ true → (a ≡ true) × (b ≡ true)

@@ -7,9 +7,10 @@ use Rattle.std.specs.List.Sorted.{IsNonDecreasingBy, IsPartitionPoint}
 use Rattle.std.proofs.lemmas.List.Sums.{position_or_len_is}
 use Rattle.std.proofs.lemmas.Bool.{cases_lt, ltb-true, lt-ltb, le-ltb, leb-true, leb-false, le-leb}
 use Rattle.ipv4_head.specs.Sets.{Part, end_of}
-use Rattle.ipv4_reasm.specs.declared.holes.Hole.{Hole}
+use Rattle.ipv4_head.specs.declared.holes.Hole.{Hole}
 use Rattle.ipv4_reasm.specs.Areas.{has_unit}
-use Rattle.ipv4_reasm.specs.Holes.{Rise, filled, has_hole, hole, is_below, is_endless, is_in, is_open, is_up_to, left_before, left_behind, left_from, lies_in, listed, unit_end}
+use Rattle.ipv4_head.specs.Holes.{hole, is_below, is_endless, is_in, is_up_to, left_before, left_behind, left_from, lies_in, unit_end}
+use Rattle.ipv4_reasm.specs.Holes.{Rise, filled, has_hole, is_open, listed}
 use Rattle.ipv4_reasm.proofs.Gathering.{and_is, both, same_truth}
 
 pub or_is : (a b : Bool) → (a || b) ≡ true → (a ≡ true) ⊎ (b ≡ true)

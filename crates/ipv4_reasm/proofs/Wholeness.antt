@@ -5,7 +5,7 @@ use Rattle.std.specs.List.{AllPairs, Contains, list_all, list_any, range_with_le
 use Rattle.std.proofs.lemmas.Bool.{cases_lt, cases_eq, ltb-true, lt-ltb, leb-true, le-leb}
 use Rattle.std.proofs.lemmas.List.{length-take-le}
 use Rattle.ipv4_head.specs.Sets.{IsJoined, Joins, Part, PartSet, start_of, end_of, do_clash, has_octet, is_whole, whole_head}
-use Rattle.ipv4_reasm.specs.declared.holes.Hole.{Hole}
+use Rattle.ipv4_head.specs.declared.holes.Hole.{Hole}
 use Rattle.ipv4_reasm.specs.Areas.{AreHoles, Gathered, Gathers, IsHole, IsTold, StandsFor, has_unit, is_full, joined_in}
 use Rattle.ipv4_reasm.specs.Holes.{Rise, is_open}
 use Rattle.ipv4_reasm.proofs.Clashing.{ends_within}

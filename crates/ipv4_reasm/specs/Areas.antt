@@ -4,8 +4,9 @@ use Rattle.std.specs.List.{AllPairs, Contains, list_any, position_or_len}
 use Rattle.net_octets.specs.Octets.{part}
 use Rattle.ipv4_reasm.specs.declared.area.DatagramKey.{DatagramKey}
 use Rattle.ipv4_head.specs.Ip.{Ip}
-use Rattle.ipv4_reasm.specs.declared.holes.Hole.{Hole}
-use Rattle.ipv4_reasm.specs.Holes.{Rise, all_open, filled, has_hole, is_in, is_open}
+use Rattle.ipv4_head.specs.declared.holes.Hole.{Hole}
+use Rattle.ipv4_head.specs.Holes.{is_in}
+use Rattle.ipv4_reasm.specs.Holes.{Rise, all_open, filled, has_hole, is_open}
 use Rattle.ipv4_head.specs.Sets.{Key, Part, PartSet, start_of, end_of, do_clash, is_same_key, is_whole, whole_head}
 
 -- an area: whose parts are in it, since when, their octets, the holes between them, the greatest end, time to live and header of the part at the start, and the header of the whole once it is made

@@ -1,26 +1,20 @@
 ghost use Rattle.std.specs.Prelude.{◌≡◌, ◌==◌, ◌+◌, ◌<◌, ◌≤◌, ◌++◌, [], true, false, nat_le, take, drop, length, vec_len, IfOk};
 ghost use Rattle.std.specs.List.{position};
 ghost use Rattle.std.specs.List.Sorted.{IsPartitionPoint};
-ghost use Rattle.ipv4_reasm.specs.declared.holes.Hole.{Hole};
+ghost use Rattle.ipv4_head.specs.declared.holes.Hole.{Hole};
 ghost use Rattle.std.specs.Vec.{vec_capacity};
 ghost use Rattle.ipv4_head.specs.Sets.{end_of, part_of};
-ghost use Rattle.ipv4_reasm.specs.Holes.{all_open, filled, has_hole, left_before, left_behind, lies_in, listed, unit_end, Rise};
+ghost use Rattle.ipv4_head.specs.Holes.{lies_in};
+ghost use Rattle.ipv4_reasm.specs.Holes.{all_open, filled, has_hole, listed, Rise};
 ghost use Rattle.net_octets.specs.Sizes.{most_carried};
 
-use ipv4_head::IpView;
+use ipv4_head::{Hole, IpView};
 use net_octets::NoMemory;
 use std::alloc::Global;
 use std::marker::Model;
 
 /// The most holes that a datagram can have, and one more.
 const ROOM: usize = 4_097;
-
-/// A run of units of 8 octets that didn't come: from one on, up to another or without end.
-#[derive(Clone, Copy, Debug, PartialEq, Eq)]
-pub struct Hole {
-    pub from: u16,
-    pub to: Option<u16>,
-}
 
 /// The holes of a datagram of which parts came (RFC 815), in rising order. The last one is endless
 /// until the last part came. A contract sees their list.
@@ -32,7 +26,7 @@ pub struct Holes {
 impl Model for Holes {
     ghost use Rattle.std.specs.Prelude.{List};
     ghost use Rattle.std.specs.Vec.{vec_capacity};
-    ghost use Rattle.ipv4_reasm.specs.declared.holes.Hole.{Hole};
+    ghost use Rattle.ipv4_head.specs.declared.holes.Hole.{Hole};
     ghost use Rattle.ipv4_reasm.specs.Holes.{IsRow};
 
     ghost Value = { List Hole };
@@ -88,56 +82,6 @@ impl Holes {
             replace(&mut self.row, i, hole.before(v), hole.behind(v));
         }
     }
-}
-
-impl Hole {
-    /// Whether a part lies in it: the last part of a datagram only where it is endless.
-    fn takes(&self, v: &IpView<'_>) -> bool
-        requires { end_of (part_of v.now) ≤ most_carried }
-        ensures { result ≡ lies_in (part_of v.now) self.now }
-    {
-        let end = unit_end(v);
-        let ends_here = match self.to {
-            None => true,
-            Some(to) => v.more && end <= to,
-        };
-        self.from <= v.offset && ends_here
-    }
-
-    /// What is left of it before a part.
-    fn before(&self, v: &IpView<'_>) -> Option<Hole>
-        ensures { result ≡ left_before (part_of v.now) self.now }
-    {
-        (self.from < v.offset).then_some(Hole {
-            from: self.from,
-            to: Some(v.offset),
-        })
-    }
-
-    /// What is left of it behind a part, of which nothing follows the last one.
-    fn behind(&self, v: &IpView<'_>) -> Option<Hole>
-        requires { end_of (part_of v.now) ≤ most_carried }
-        ensures { result ≡ left_behind (part_of v.now) self.now }
-    {
-        let end = unit_end(v);
-        let left = match self.to {
-            None => true,
-            Some(to) => end < to,
-        };
-        (v.more && left).then_some(Hole {
-            from: end,
-            to: self.to,
-        })
-    }
-}
-
-/// The first unit behind those of a part.
-fn unit_end(v: &IpView<'_>) -> u16
-    requires { end_of (part_of v.now) ≤ most_carried }
-    ensures { result ≡ unit_end (part_of v.now) }
-{
-    let units = (v.body.len() + 7) / 8;
-    v.offset + units as u16
 }
 
 /// How many of some holes don't begin behind a unit.

@@ -1,4 +1,4 @@
-//! `NetWorld` over the sockets, the files and the clock of the system: tests alone.
+//! `NetWorld` over the sockets, the files and the clock of the system, and calls that a signal interrupts: tests alone.
 #![tactic(auto)]
 
 #[cfg(test)]
@@ -11,6 +11,8 @@ mod file_cases;
 mod files;
 #[cfg(test)]
 mod host;
+#[cfg(test)]
+mod interrupted;
 #[cfg(test)]
 mod link_cases;
 #[cfg(test)]

@@ -1,10 +1,11 @@
 -- The flows of a run: each with its two ends and its story.
-use Rattle.std.specs.Prelude.{ℕ, ◌-◌, ◌/◌, ◌==◌, ◌&&◌, not, nat_lt, Bool, false, List, [], ◌∷◌, length, filter, find, Option, Some, None, is_some, if◌then◌else◌}
+use Rattle.std.specs.Prelude.{ℕ, ◌==◌, ◌&&◌, not, nat_lt, Bool, false, List, [], ◌∷◌, length, filter, find, Option, Some, None, is_some, if◌then◌else◌}
 use Rattle.std.specs.List.{list_any}
 use Rattle.net_octets.specs.declared.Ip4.{Ip4}
 use Rattle.net_octets.specs.declared.Mac.{Mac}
 use Rattle.slirp_settings.specs.Addresses.{address}
 use Rattle.arp_table.specs.Table.{mac_of}
+use Rattle.flow_rules.specs.Choices.{most_for_peers}
 use Rattle.record_flows.specs.declared.Tuple.{Tuple}
 use Rattle.flow_laws.specs.Event.{Segment, Event, Departs, AsksAddress, Closes, At, Story}
 use Rattle.flow_laws.specs.Flow.{is_accepted}
@@ -63,10 +64,6 @@ is_used tuple flows = uses (owner tuple flows)
 -- how many tuples have
 abbrev pub used : List Flow → ℕ
 used flows = length (filter (λ f. is_in_use f.story) flows)
-
--- Of so many flows a quarter, rounded down, is kept for those that guests open: peers have the others at most.
-abbrev pub most_for_peers : ℕ → ℕ
-most_for_peers flows = flows - flows / 4
 
 -- there is room for the flow of a peer: not all are in use, and of the share of peers not all by flows that were accepted
 abbrev pub has_room_for_peer : ℕ → List Flow → Bool

@@ -13,7 +13,7 @@ ghost use Rattle.slirp_app.specs.Doing.{CanBeDone, Course, Does, DrivesRun, Repl
 ghost use Rattle.app_outcome.specs.Statuses.{code_of, is_unrun};
 ghost use Rattle.app_edges.specs.Texts.{Got, help_text, version_text};
 ghost use Rattle.app_outcome.specs.declared.Outcome.{Outcome as AnOutcome};
-ghost use Rattle.app_outcome.specs.declared.Outcome.TheVariants.{BadConfig, Done, NoMemory as OfMemory, SinkFault, Usage};
+ghost use Rattle.app_outcome.specs.declared.Outcome.TheVariants.{BadConfig, Done, SinkFault, Usage};
 ghost use Rattle.world_face.specs.Journal.{Place};
 ghost use Rattle.world_face.specs.Tells.{Makes, Rose};
 
@@ -80,15 +80,6 @@ pub fn slirp_main<W: World, K: Sink, E: Sink>(
     let (outcome, command) = run_words(alloc, words, world, out);
     let _told = tell(&outcome, words.as_slice(), forwards_of(&command), err);
     outcome.code()
-}
-
-/// What the program comes to where there is no memory for its words: it tells so, and the status is 13.
-pub fn out_of_memory<E: Sink>(err: &mut E) -> u8
-    ensures status { result ≡ 13 }
-    ensures told { Got [] [] (E.holds err.old) (E.holds err.new) (E.faults err.old) (E.faults err.new) OfMemory }
-{
-    let _told = tell(&Outcome::NoMemory, &[], &[], err);
-    Outcome::NoMemory.code()
 }
 
 // Does what the words say, and answers their command, where they have one that is followed.

@@ -36,7 +36,7 @@ use Rattle.tcp_flows.specs.Reading.{HaveLearnt, AreTold, IsOpenAt, NoneInSlots, 
 use Rattle.tcp_flows.specs.Rows.{Moves, MovesAt, count, is_seeking, seeks_at, table_at, waits_of}
 use Rattle.tcp_flows.specs.Runs.{Learns}
 use Rattle.tcp_flows.specs.Settled.{IsInTime, OwesNoAck}
-use Rattle.tcp_flows.specs.declared.rows.Waits.{Waits}
+use Rattle.flow_rules.specs.declared.Waits.{Waits}
 use Rattle.tcp_flows.proofs.Asking.{asked_then}
 use Rattle.tcp_flows.proofs.Changing.{waits_seen}
 use Rattle.tcp_flows.proofs.Following.{count_some}

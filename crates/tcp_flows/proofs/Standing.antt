@@ -12,7 +12,8 @@ use Rattle.flows_follow.specs.Core.{number_of}
 use Rattle.flows_follow.proofs.Options.{some_same, true_false}
 use Rattle.tcp_flows.specs.Reading.{is_wanted, want_of}
 use Rattle.tcp_flows.specs.Rows.{AreStanding, count, waits_of}
-use Rattle.tcp_flows.specs.Standing.{listed, number_in, same_way, same_ways, wants_after, with_wants}
+use Rattle.flow_rules.specs.Choices.{same_way, same_ways}
+use Rattle.tcp_flows.specs.Standing.{listed, number_in, wants_after, with_wants}
 use Rattle.tcp_flows.proofs.Following.{count_set}
 use Rattle.tcp_flows.proofs.Placing.{after_other, after_same, first_has, has_only, has_these, has_yet, listed_for, listed_none, listed_some, long_none, long_one, none_has, only_one, order_then}
 

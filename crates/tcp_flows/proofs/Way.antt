@@ -38,11 +38,12 @@ use Rattle.flows_follow.specs.Stands.{lot_without, slot_at}
 use Rattle.flows_follow.proofs.Only.{number_of_found}
 use Rattle.flows_follow.proofs.Parting.{apart, called, core_parted, its_close, may_part, still_works}
 use Rattle.flows_follow.proofs.Pumped.{Called, state_at}
-use Rattle.tcp_flows.specs.Way.{AreFirst, GivesWay, IsCrowded, IsFirstQuiet, gives, is_before, owes, quiet_of}
+use Rattle.flow_rules.specs.Choices.{is_before}
+use Rattle.tcp_flows.specs.Way.{AreFirst, GivesWay, IsCrowded, IsFirstQuiet, gives, owes, quiet_of}
 use Rattle.tcp_flows.specs.Kept.{IsFor, Kept, flows_of, part_of, slot_of}
 use Rattle.tcp_flows.specs.Rows.{Moves, table_at}
 use Rattle.tcp_flows.specs.Runs.{Between, Leaves}
-use Rattle.tcp_flows.specs.declared.giving.Quiet.{Quiet}
+use Rattle.flow_rules.specs.declared.Quiet.{Quiet}
 use Rattle.tcp_flows.proofs.Asking.{asked_by_calls}
 use Rattle.tcp_flows.proofs.Beside.{close_beside, leaves_none, none_strange}
 use Rattle.tcp_flows.proofs.Keeping.{open_moves, open_used, raw_here, read_here}

@@ -3,7 +3,8 @@ use Rattle.std.specs.Prelude.{ℕ, ◌<◌, Bool, true, false, ◌||◌, ◌&&�
 use Rattle.poll_list.specs.declared.Want.{Want}
 use Rattle.poll_list.specs.declared.Who.{Who}
 use Rattle.poll_list.specs.declared.Who.TheVariants.{Link, Listener, Udp, Tcp}
-use Rattle.tcp_flows.specs.declared.rows.Waits.{Waits}
+use Rattle.flow_rules.specs.Choices.{same_ways}
+use Rattle.flow_rules.specs.declared.Waits.{Waits}
 
 -- what each slot's flow waits for, and the wants of the sockets for which something is waited
 pub record Waited : Type 0 where
@@ -47,15 +48,6 @@ placed false false these later w wants = these ++ wants
 abbrev pub with_wants : ℕ → (these : List Want) → List Want → List Want
 with_wants n these [] = these
 with_wants n these (w ∷ wants) = placed (nat_lt (number_in w) n) (nat_lt n (number_in w)) these (with_wants n these wants) w wants
-
--- the same is waited for on a socket
-abbrev pub same_way : Bool → Bool → Bool
-same_way true b = b
-same_way false true = false
-same_way false false = true
-
-abbrev pub same_ways : Waits → Waits → Bool
-same_ways one other = same_way one.read other.read && same_way one.write other.write
 
 -- the wants once this is waited for on the socket of a number, where that was
 abbrev pub wants_after : (was : Waits) → ℕ → (is : Waits) → List Want → List Want

@@ -2,6 +2,8 @@
 use Rattle.std.specs.Prelude.{◌≡◌, ℕ, ◌==◌, ◌&&◌, ◌||◌, ◌⊎◌, ◌++◌, not, nat_le, nat_lt, Bool, true, false, List, [], ◌∷◌, Option, Some, None, slice_get, if◌then◌else◌}
 use Rattle.world_face.specs.Journal.{Entry}
 use Rattle.slirp_settings.specs.Addresses.{Config}
+use Rattle.flow_rules.specs.Choices.{is_before}
+use Rattle.flow_rules.specs.declared.Quiet.{Quiet}
 use Rattle.record_flows.specs.Book.{book}
 use Rattle.record_flows.specs.Lots.{NeedsRoom, due_for_flows, giving_way, lot}
 use Rattle.record_flows.specs.Segments.{OnTuple}
@@ -12,7 +14,6 @@ use Rattle.flow_splice.specs.Wants.{gives_way_at}
 use Rattle.flows_follow.specs.Core.{number_of}
 use Rattle.tcp_flows.specs.Kept.{Kept}
 use Rattle.tcp_flows.specs.Runs.{Between, Leaves}
-use Rattle.tcp_flows.specs.declared.giving.Quiet.{Quiet}
 
 -- a flow that was closed and owes its guest a reset
 abbrev pub owes : Splice → Bool
@@ -27,15 +28,6 @@ quiet_of k p = record { slot = k; last = p.last; number = number_of p }
 
 abbrev pub quiet_at : (now k : ℕ) → Splice → Option Quiet
 quiet_at now k p = if gives now p then Some (quiet_of k p) else None
-
--- the earlier last sign of life goes before, of the same moment the lesser number
-abbrev pub is_before : Quiet → Quiet → Bool
-is_before a b = nat_lt a.last b.last || ((a.last == b.last) && nat_lt a.number b.number)
-
-abbrev pub earlier_quiet : Option Quiet → Option Quiet → Option Quiet
-earlier_quiet (Some a) (Some b) = if is_before b a then Some b else Some a
-earlier_quiet (Some a) None = Some a
-earlier_quiet None o = o
 
 -- of these flows the one in this slot may give way, and none that may goes before it
 pub record IsFirstQuiet (now : ℕ) (parts : List Splice) (q : Quiet) : Type 0 where

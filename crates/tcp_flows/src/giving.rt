@@ -4,20 +4,13 @@ ghost use Rattle.std.specs.List.{list_any};
 ghost use Rattle.world_face.specs.Journal.{Close};
 ghost use Rattle.world_face.specs.Tells.{Makes};
 ghost use Rattle.flow_splice.specs.Splice.{Splice};
-ghost use Rattle.tcp_flows.specs.Way.{AreFirst, IsFirstQuiet, earlier_quiet as earlier_quiet_by, gives as gives_by, is_before as is_before_by, owes as owes_by, quiet_at as quiet_at_by};
+ghost use Rattle.tcp_flows.specs.Way.{AreFirst, IsFirstQuiet, gives as gives_by, owes as owes_by, quiet_at as quiet_at_by};
 
 use crate::flows::TcpFlows;
 use crate::rows::Before;
+use flow_rules::{Quiet, earlier_quiet};
 use flow_splice::{Place, Spliced};
 use world_face::World;
-
-// A flow that may give way: its slot, the moment of its last sign of life, and the number of its socket.
-#[derive(Clone, Copy)]
-pub(crate) struct Quiet {
-    slot: usize,
-    last: u64,
-    number: u64,
-}
 
 impl TcpFlows {
     ghost use Rattle.tcp_flows.specs.Way.{GivesWay};
@@ -88,24 +81,4 @@ fn gives(part: &Spliced, now: u64) -> bool
     ensures { result ≡ gives_by now part.now }
 {
     part.is_open() && part.gives_way_at() <= now
-}
-
-fn earlier_quiet(first: Option<Quiet>, other: Option<Quiet>) -> Option<Quiet>
-    ensures { result ≡ earlier_quiet_by first other }
-{
-    match (first, other) {
-        (Some(first), Some(other)) => Some(if is_before(&other, &first) {
-            other
-        } else {
-            first
-        }),
-        (Some(first), None) => Some(first),
-        (None, other) => other,
-    }
-}
-
-fn is_before(one: &Quiet, other: &Quiet) -> bool
-    ensures { result ≡ is_before_by one.now other.now }
-{
-    one.last < other.last || (one.last == other.last && one.number < other.number)
 }

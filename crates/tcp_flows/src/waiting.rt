@@ -2,12 +2,12 @@
 ghost use Rattle.std.specs.Prelude.{◌≡◌, ◌^◌, ◌<◌, ◌≤◌, length, slice_get, slice_set, replicate, IfOk, Some, []};
 ghost use Rattle.std.specs.Vec.{vec_capacity};
 ghost use Rattle.poll_list.specs.Writes.{count_to_write};
-ghost use Rattle.tcp_flows.specs.declared.rows.Waits.{Waits as WaitsOf};
+ghost use Rattle.flow_rules.specs.declared.Waits.{Waits as WaitsOf};
 ghost use Rattle.tcp_flows.specs.Places.{IsPlaceOf, has_at};
-ghost use Rattle.tcp_flows.specs.Standing.{AreOrdered, is_any as is_any_by, listed, number_in, same_ways as same_ways_by, wants_after, with_wants};
+ghost use Rattle.tcp_flows.specs.Standing.{AreOrdered, is_any as is_any_by, listed, number_in, wants_after, with_wants};
 ghost use Rattle.tcp_flows.specs.Rows.{no_waits};
 
-use crate::rows::Waits;
+use flow_rules::{Waits, same_ways};
 use net_octets::NoMemory;
 use poll_list::{Want, Who};
 use std::alloc::Global;
@@ -93,13 +93,6 @@ impl Waiting {
             list(&mut self.wants, &mut self.writes, number, waits);
         }
     }
-}
-
-// Whether the same is waited for on a socket.
-fn same_ways(one: Waits, other: Waits) -> bool
-    ensures { result ≡ same_ways_by one other }
-{
-    one.read == other.read && one.write == other.write
 }
 
 // What stands for the number is what is waited for on its socket, or nothing. The wants for writing are counted, before and after.

@@ -5,6 +5,7 @@ use Rattle.net_octets.specs.declared.Endpoint.{Endpoint}
 use Rattle.net_octets.specs.declared.Mac.{Mac}
 use Rattle.slirp_settings.specs.Classes.{same_endpoint}
 use Rattle.udp_rules.specs.declared.Association.{Association}
+use Rattle.udp_rules.specs.Lives.{is_life_over}
 
 -- so many are open at once, and each lives so many milliseconds after its last use
 abbrev pub most_associations : ℕ
@@ -50,7 +51,7 @@ heard_at now a = record { number = a.number; guest = a.guest; mac = a.mac; used 
 
 -- its idle life is over
 abbrev pub is_over : ℕ → Association → Bool
-is_over now a = nat_le (a.used + idle_life) now
+is_over now a = is_life_over idle_life a.used now
 
 abbrev pub is_idle : ℕ → ℕ → List Association → Bool
 is_idle number now associations = list_any (λ a. is_numbered number a && is_over now a) associations

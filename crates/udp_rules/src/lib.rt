@@ -1,5 +1,8 @@
-//! What a server answers a datagram, which sockets may be open for datagrams of guests, and how long: what is said of these is in `specs/Associations`.
+//! What a server answers a datagram, which sockets may be open for datagrams of guests, and how long: what is said of these is in `specs/`.
 #![tactic(auto)]
+
+ghost use Rattle.std.specs.Prelude.{◌≡◌};
+ghost use Rattle.udp_rules.specs.Lives.{is_life_over};
 
 use net_octets::{Endpoint, Mac};
 
@@ -29,4 +32,11 @@ pub struct Association {
     pub guest: Endpoint,
     pub mac: Mac,
     pub used: u64,
+}
+
+/// Whether the idle life, so many milliseconds, of what was last used at one moment is over at another.
+pub fn is_life_over(life: u64, used: u64, now: u64) -> bool
+    ensures { result ≡ is_life_over life used now }
+{
+    used <= now && now - used >= life
 }

@@ -1,4 +1,5 @@
 use Rattle.std.proofs.Common.{◌≡◌, Bool, true, refl, subst, sym, ◌∙◌}
+use Rattle.flow_rules.proofs.Works.{when_end, when_join, when_nothing, when_octets}
 use Rattle.flow_splice.specs.Hosts.{serves_write, some_is}
 use Rattle.flow_splice.proofs.Calls.{reads_on_yet}
 use Rattle.flow_splice.proofs.Events.{goes_none}
@@ -23,47 +24,52 @@ returns-then-not-ready-clause-makes g c =
     )
 
 -- what connects isn't read
-pub returns-then-connects-clause-makes : goal.returns-then-connects-clause-makes
-returns-then-connects-clause-makes g c =
+pub returns-in-Join-clause-makes : goal.returns-in-Join-clause-makes
+returns-in-Join-clause-makes g c =
+    let connects = sym c.connects.ensures ∙ when_join _ _ _ c.in-Join.ensures in
     makes_as _ _ _ _ c.connect.ensures.makes
     (λ made goes. (
       goes.0,
       goes.1,
       unless_idle c.args.ready made c.if-not-ready.false,
-      λ ready waits. subst (λ (b : Bool). some_is (serves_write b) made ≡ true) (sym (sym c.connects.ensures ∙ c.if-connects.true)) goes.2,
-      λ reading. absurd (connects_unread c.args.self.now (sym c.connects.ensures ∙ c.if-connects.true) reading),
+      λ ready waits. subst (λ (b : Bool). some_is (serves_write b) made ≡ true) (sym connects) goes.2,
+      λ reading. absurd (connects_unread c.args.self.now connects reading),
     ))
 
-pub returns-then-owes_octets-clause-makes : goal.returns-then-owes_octets-clause-makes
-returns-then-owes_octets-clause-makes g c = makes_as _ _ _ _ c.write.ensures.makes
+pub returns-in-Join-clause-passes_end : goal.returns-in-Join-clause-passes_end
+returns-in-Join-clause-passes_end g c ready connected = absurd (let connects = sym c.connects.ensures ∙ when_join _ _ _ c.in-Join.ensures in let not_so = sym connects ∙ connected in cc)
+
+pub returns-in-Octets-clause-makes : goal.returns-in-Octets-clause-makes
+returns-in-Octets-clause-makes g c = makes_as _ _ _ _ c.write.ensures.makes
     (λ made goes. (
       goes.0,
       goes.1,
       unless_idle c.args.ready made c.if-not-ready.false,
       λ ready waits. subst (λ (b : Bool). some_is (serves_write b) made ≡ true)
-          (sym (sym c.connects.ensures ∙ c.if-connects.false)) goes.2,
+          (sym (sym c.connects.ensures ∙ (when_octets _ _ _ c.in-Octets.ensures).0)) goes.2,
       goes.3,
     ))
 
-pub returns-then-owes_end-clause-makes : goal.returns-then-owes_end-clause-makes
-returns-then-owes_end-clause-makes g c =
+pub returns-in-End-clause-makes : goal.returns-in-End-clause-makes
+returns-in-End-clause-makes g c =
     makes_as _ _ _ _ c.end.ensures.makes (λ made goes. (
       goes.0,
       ending_writes made goes.1,
       unless_idle c.args.ready made c.if-not-ready.false,
       λ ready waits. subst
-          (λ (b : Bool). some_is (serves_write b) made ≡ true) (sym (sym c.connects.ensures ∙ c.if-connects.false)) goes.2,
+          (λ (b : Bool). some_is (serves_write b) made ≡ true) (sym (sym c.connects.ensures ∙ (when_end _ _ _ c.in-End.ensures).0)) goes.2,
       goes.3,
     ))
 
-pub returns-else-owes_end-clause-makes : goal.returns-else-owes_end-clause-makes
-returns-else-owes_end-clause-makes g c =
+pub returns-in-Nothing-clause-makes : goal.returns-in-Nothing-clause-makes
+returns-in-Nothing-clause-makes g c =
+    let none = when_nothing _ _ _ c.in-Nothing.ensures in
     makes_none _ _ (
       goes_none c.args.self.now _ c.args.now,
       refl,
       λ none. refl,
       λ ready waits.
           absurd
-          (idle_unwritten c.args.self.now (sym c.connects.ensures ∙ c.if-connects.false) (sym c.owes_octets.ensures ∙ c.if-owes_octets.false) (sym c.owes_end.ensures ∙ c.if-owes_end.false) waits),
+          (idle_unwritten c.args.self.now (sym c.connects.ensures ∙ none.0) (sym c.owes_octets.ensures ∙ none.1) (sym c.owes_end.ensures ∙ none.2) waits),
       reads_on_yet c.args.self.now,
     )

@@ -1,6 +1,6 @@
 use Rattle.std.proofs.Common.{leb, rules}
 use Rattle.std.proofs.lemmas.List.Sorted.{IsPartitionPoint-from_clause, IsPartitionedBy-leb}
-use Rattle.ipv4_reasm.specs.declared.holes.Hole.{Hole}
+use Rattle.ipv4_head.specs.declared.holes.Hole.{Hole}
 use Rattle.ipv4_reasm.proofs.Holing.{none_falls}
 use Rattle.ipv4_reasm.proofs.holes.begun_by.Goals as goal
 

@@ -2,7 +2,7 @@ use Rattle.std.proofs.Common.{◌≡◌, ◌+◌, ℕ, inl, inr, None, Some, Boo
 use Rattle.std.specs.Bool.{then_some}
 use Rattle.std.proofs.lemmas.Bool.{cases_lt}
 use Rattle.ipv4_head.specs.Sets.{part_of}
-use Rattle.ipv4_reasm.specs.Holes.{hole}
+use Rattle.ipv4_head.specs.Holes.{hole}
 use Rattle.ipv4_reasm.proofs.Holing.{Begun, last_begun, none_begun}
 use Rattle.ipv4_reasm.proofs.holes.place_of.Goals as goal
 

@@ -1,5 +1,5 @@
 use Rattle.std.proofs.Common.{◌≡◌, ◌+◌, ◌<◌, ◌++◌, List, ℕ, zero, suc, [], ◌∷◌, Option, length, take, drop, set, refl, sym, ap, ◌∙◌, arith, add-one}
-use Rattle.ipv4_reasm.specs.declared.holes.Hole.{Hole}
+use Rattle.ipv4_head.specs.declared.holes.Hole.{Hole}
 use Rattle.ipv4_reasm.specs.Holes.{listed}
 use Rattle.ipv4_reasm.proofs.holes.replace.Goals as goal
 

@@ -2,7 +2,8 @@ use Rattle.std.proofs.Common.{◌+◌, List, Option, map, take, ap, sym, subst, 
 use Rattle.std.proofs.lemmas.List.{take_all}
 use Rattle.flow_splice.specs.Splice.{Splice}
 use Rattle.tcp_flows.specs.Kept.{part_of}
-use Rattle.tcp_flows.specs.Reading.{IsNextAfter, earlier, if_after, blocked_time_of}
+use Rattle.flow_rules.specs.Choices.{if_after}
+use Rattle.tcp_flows.specs.Reading.{IsNextAfter, earlier, blocked_time_of}
 use Rattle.tcp_flows.proofs.Later.{next_more, parts_more}
 use Rattle.tcp_flows.proofs.flows.due_after.Goals as goal
 
@@ -11,7 +12,7 @@ loop-part-preserved c =
     let parts = c.args.slots.now in
     let part : Splice = c.part-item.result in
     let seen = map part_of (take c.loop-part.part-index parts) in
-    subst (IsNextAfter c.args.now (map part_of (take (c.loop-part.part-index + 1) parts))) (sym (c.earlier-first.ensures ∙ ap (earlier c.loop-part.first) c.time_after.ensures))
+    subst (IsNextAfter c.args.now (map part_of (take (c.loop-part.part-index + 1) parts))) (sym (c.earlier-first.ensures ∙ ap (earlier c.loop-part.first) (c.if_after.ensures ∙ ap (if_after c.args.now) c.blocked_time_of.ensures)))
     (subst (λ (s : List (Option Splice)). IsNextAfter c.args.now s (earlier c.loop-part.first (if_after c.args.now (blocked_time_of part))))
     (sym (parts_more parts c.loop-part.part-index part c.loop-part-test.true c.part-item.is))
     (next_more c.args.now seen part c.loop-part.first c.loop-part.invariant))

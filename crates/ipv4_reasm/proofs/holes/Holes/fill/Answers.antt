@@ -3,8 +3,9 @@ use Rattle.std.specs.List.{position, position_or_len}
 use Rattle.std.proofs.lemmas.Bool.{lt-ltb, ltb-true}
 use Rattle.std.proofs.lemmas.Option.{cond_some}
 use Rattle.ipv4_head.specs.Sets.{Part, part_of}
-use Rattle.ipv4_reasm.specs.declared.holes.Hole.{Hole}
-use Rattle.ipv4_reasm.specs.Holes.{Rise, filled, has_hole, left_before, left_behind, lies_in, listed, unit_end}
+use Rattle.ipv4_head.specs.declared.holes.Hole.{Hole}
+use Rattle.ipv4_head.specs.Holes.{left_before, left_behind, lies_in, unit_end}
+use Rattle.ipv4_reasm.specs.Holes.{Rise, filled, has_hole, listed}
 use Rattle.ipv4_reasm.proofs.Holing.{few_holes, fill_rise, filled_at, has_place}
 use Rattle.ipv4_reasm.proofs.holes.Holes.fill.Goals as goal
 

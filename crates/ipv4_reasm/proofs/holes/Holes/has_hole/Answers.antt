@@ -2,7 +2,8 @@ use Rattle.std.proofs.Common.{ap, ◌∙◌, Option, ℕ}
 use Rattle.std.specs.Prelude.{is_some}
 use Rattle.std.specs.List.{position}
 use Rattle.ipv4_head.specs.Sets.{part_of}
-use Rattle.ipv4_reasm.specs.Holes.{has_hole, lies_in}
+use Rattle.ipv4_head.specs.Holes.{lies_in}
+use Rattle.ipv4_reasm.specs.Holes.{has_hole}
 use Rattle.ipv4_reasm.proofs.Holing.{found_is}
 use Rattle.ipv4_reasm.proofs.holes.Holes.has_hole.Goals as goal
 

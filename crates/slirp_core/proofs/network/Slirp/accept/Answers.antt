@@ -14,7 +14,7 @@ use Rattle.world_face.proofs.Telling.{brings_none, makes_one, makes_then}
 use Rattle.slirp_settings.specs.Addresses.{Config}
 use Rattle.flows_follow.specs.Peers.{fits_peer, peer_slots}
 use Rattle.flows_follow.specs.Seats.{in_use_slots}
-use Rattle.record_flows.specs.Flows.{most_for_peers}
+use Rattle.flow_rules.specs.Choices.{most_for_peers}
 use Rattle.record_flows.specs.Book.{book, is_refused}
 use Rattle.flows_follow.specs.Core.{CoreHolds}
 use Rattle.run_duties.specs.Serving.{is_left_to_read}

@@ -1,6 +1,6 @@
 use Rattle.std.proofs.Common.{◌≡◌, ◌&&◌, length, map, nat_lt, ap, sym, subst, ◌∙◌}
 use Rattle.std.proofs.lemmas.List.{length-map}
-use Rattle.record_flows.specs.Flows.{most_for_peers}
+use Rattle.flow_rules.specs.Choices.{most_for_peers}
 use Rattle.flows_follow.specs.Peers.{fits_peer, peer_slots}
 use Rattle.flows_follow.specs.Seats.{in_use_slots}
 use Rattle.flows_follow.proofs.Peers.{room_recorded}

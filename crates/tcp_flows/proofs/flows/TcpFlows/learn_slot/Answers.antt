@@ -9,7 +9,7 @@ use Rattle.row_lists.proofs.Places.{set_same}
 use Rattle.tcp_flows.specs.Kept.{Kept, part_of}
 use Rattle.tcp_flows.specs.Reading.{learnt_from}
 use Rattle.tcp_flows.specs.Rows.{table_at}
-use Rattle.tcp_flows.specs.declared.rows.Waits.{Waits}
+use Rattle.flow_rules.specs.declared.Waits.{Waits}
 use Rattle.tcp_flows.proofs.Changing.{in_waits, waits_here, waits_seen}
 use Rattle.tcp_flows.proofs.Following.{has_tuple}
 use Rattle.tcp_flows.proofs.Keeping.{flows_as, ours_then, served_same, settings_as, slot_raw, table_is}
