@@ -8,7 +8,7 @@ use Rattle.std.proofs.lemmas.Bool.{cases_lt}
 use Rattle.std.proofs.lemmas.List.{take_all}
 use Rattle.slirp_settings.specs.declared.Forward.{Forward}
 use Rattle.command_words.specs.declared.Stop.{Stop}
-use Rattle.app_outcome.specs.Mistakes.{named_word}
+use Rattle.app_edges.specs.Mistakes.{named_word}
 use Rattle.app_edges.specs.Texts.{mistake_text, missing_text, usage_text, with_feed, word_text}
 
 two_lines : (first second : List ℕ) → (first ++ 10 ∷ []) ++ (second ++ 10 ∷ []) ≡ (first ++ 10 ∷ second) ++ 10 ∷ []

@@ -11,10 +11,10 @@ use Rattle.command_words.specs.Meaning.{setting_name}
 use Rattle.replay.specs.Names.{name_text}
 use Rattle.replay.specs.declared.CallName.{CallName}
 use Rattle.world_face.specs.Tells.{Rose}
-use Rattle.app_outcome.specs.Mistakes.{named_word}
-use Rattle.app_outcome.specs.declared.Outcome.{Outcome}
-use Rattle.app_outcome.specs.declared.Outcome.TheVariants.{Done, Usage, BadConfig, ScheduleRead, ScheduleTooLarge, ScheduleLine, Diverged, FrameTooLong, FrameCut, LinkFault}
-use Rattle.app_outcome.specs.declared.Outcome.TheVariants.{WaitFault, TurnsSpent, ListenRefused, SinkFault, NoMemory, ControlRefused}
+use Rattle.app_edges.specs.Mistakes.{named_word}
+use Rattle.app_edges.specs.declared.outcome.Outcome.{Outcome}
+use Rattle.app_edges.specs.declared.outcome.Outcome.TheVariants.{Done, Usage, BadConfig, ScheduleRead, ScheduleTooLarge, ScheduleLine, Diverged, FrameTooLong, FrameCut, LinkFault}
+use Rattle.app_edges.specs.declared.outcome.Outcome.TheVariants.{WaitFault, TurnsSpent, ListenRefused, SinkFault, NoMemory, ControlRefused}
 
 -- the call of the line that stands next, where one is left
 abbrev pub wanted_text : Option CallName → List ℕ

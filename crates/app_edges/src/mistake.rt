@@ -6,9 +6,9 @@ ghost use Rattle.std.specs.String.{string_bytes};
 ghost use Rattle.world_face.specs.Puts.{Puts};
 ghost use Rattle.app_edges.specs.Texts.{forward_text, mistake_text, shown, shown_octet, word_text};
 
+use crate::named_word;
 use crate::status::tell_number;
 use address_text::endpoint_string;
-use app_outcome::named_word;
 use arrayvec::ArrayVec;
 use command_words::Stop;
 use slirp_settings::{Forward, Proto};

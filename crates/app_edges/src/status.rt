@@ -6,10 +6,10 @@ ghost use Rattle.std.specs.String.{string_bytes};
 ghost use Rattle.replay.specs.Names.{name_text};
 ghost use Rattle.world_face.specs.Puts.{Puts};
 ghost use Rattle.app_edges.specs.Texts.{Got, port_text, text_of, told_text, wanted_text};
-ghost use Rattle.app_outcome.specs.declared.Outcome.TheVariants.{Diverged as IsDiverged, NoMemory as OfMemory, Usage as IsUsage};
+ghost use Rattle.app_edges.specs.declared.outcome.Outcome.TheVariants.{Diverged as IsDiverged, NoMemory as OfMemory, Usage as IsUsage};
 
+use crate::Outcome;
 use crate::mistake::{put_forward, tell_mistake};
-use app_outcome::Outcome;
 use command_words::Stop;
 use itoa::Buffer;
 use replay::{CallName, Divergence};

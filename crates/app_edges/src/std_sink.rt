@@ -40,7 +40,7 @@ impl<T: Write> Sink for StdSink<T> {
         ensures calm { OnOk result (faults_of self.new ≡ faults_of self.old) }
         ensures written { OnOk result (Appends (T.contents (writer_of self.old)) (T.contents (writer_of self.new)) octets.now) }
     {
-        // A writer of std shows nothing of a flush: that one is made is tested in `word_cases`.
+        // A writer of std shows nothing of a flush: that one is made is tested in `worked_edges`.
         if self.writer.write_all(octets).is_err() || self.writer.flush().is_err() {
             self.faults = self.faults.saturating_add(1);
             return Err(Failed);

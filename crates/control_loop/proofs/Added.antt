@@ -4,8 +4,8 @@ use Rattle.std.proofs.lemmas.Bool.Decides.{nat_tests}
 use Rattle.std.specs.Option.{option_or}
 use Rattle.slirp_settings.specs.Addresses.{Config, forward_on}
 use Rattle.slirp_settings.specs.declared.Forward.{Forward}
-use Rattle.run_laws.specs.Sockets.{is_among}
-use Rattle.slirp_laws.proofs.Bools.{among_last}
+use Rattle.spec_trace.specs.Sockets.{is_among}
+use Rattle.spec_run.proofs.Bools.{among_last}
 use Rattle.slirp_core.specs.Holds.{as_given}
 use Rattle.control_loop.specs.Standing.{HasAll, with_lists}
 

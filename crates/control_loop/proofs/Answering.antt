@@ -10,25 +10,25 @@ use Rattle.slirp_settings.specs.Addresses.{Config, forward_on}
 use Rattle.slirp_settings.specs.declared.Forward.{Forward}
 use Rattle.slirp_settings.specs.declared.Proto.{Proto}
 use Rattle.slirp_settings.specs.declared.Proto.TheVariants.{Tcp, Udp}
-use Rattle.forward_rules.specs.Adding.{AddsBy, opening_of}
-use Rattle.forward_rules.specs.Opened.{without}
-use Rattle.forward_rules.specs.declared.FwdFault.{FwdFault}
-use Rattle.forward_rules.specs.declared.FwdFault.TheVariants.{Refused}
-use Rattle.run_laws.specs.Shape.{opening_of as opening_call}
-use Rattle.run_laws.specs.Sockets.{is_among, next_number, open_sockets}
-use Rattle.slirp_laws.specs.Laws.{Lawful, May}
-use Rattle.slirp_laws.proofs.Bools.{among_last, among_without, same}
-use Rattle.slirp_laws.proofs.OpenSockets.{closes_open, gone_by, open_below}
+use Rattle.rules_forward.specs.Adding.{AddsBy, opening_of}
+use Rattle.rules_forward.specs.Opened.{without}
+use Rattle.rules_forward.specs.declared.FwdFault.{FwdFault}
+use Rattle.rules_forward.specs.declared.FwdFault.TheVariants.{Refused}
+use Rattle.spec_trace.specs.Shape.{opening_of as opening_call}
+use Rattle.spec_trace.specs.Sockets.{is_among, next_number, open_sockets}
+use Rattle.spec_run.specs.Laws.{Lawful, May}
+use Rattle.spec_run.proofs.Bools.{among_last, among_without, same}
+use Rattle.spec_run.proofs.OpenSockets.{closes_open, gone_by, open_below}
 use Rattle.stream_netdev.specs.State.{LinkState}
 use Rattle.slirp_core.specs.Holds.{after, as_given}
 use Rattle.slirp_core.specs.State.{SlirpState}
 use Rattle.serve_loop.specs.Turns.{AttendsNow}
-use Rattle.control_rules.specs.Apart.{is_controls, is_on_control, seen as seen_of, without_control}
-use Rattle.control_rules.specs.Talk.{Talk, after_listen, deaf, hung_up, listener, with_left}
-use Rattle.control_laws.specs.Desk.{Awaited, Desk, Nothing, Opening, Shutting, Reads, after_entry, awaits, desk, is_peer, opened, removes, says, shut, with_changes, with_talk}
-use Rattle.control_laws.specs.Laws.{MayControl, MayWhere, reported}
-use Rattle.control_laws.specs.Replies.{added_text, removed_text, reply_line}
-use Rattle.control_laws.proofs.Staying.{OwnPeer, no_peer, own_peer}
+use Rattle.rules_control.specs.Apart.{is_controls, is_on_control, seen as seen_of, without_control}
+use Rattle.rules_control.specs.Talk.{Talk, after_listen, deaf, hung_up, listener, with_left}
+use Rattle.spec_control.specs.Desk.{Awaited, Desk, Nothing, Opening, Shutting, Reads, after_entry, awaits, desk, is_peer, opened, removes, says, shut, with_changes, with_talk}
+use Rattle.spec_control.specs.Laws.{MayControl, MayWhere, reported}
+use Rattle.spec_control.specs.Replies.{added_text, removed_text, reply_line}
+use Rattle.spec_control.proofs.Staying.{OwnPeer, no_peer, own_peer}
 use Rattle.control_loop.specs.Standing.{Agrees, HasAll, Stands, with_lists}
 use Rattle.control_loop.proofs.Added.{added_new, and_one, has_closed, has_fewer, has_just, has_open, later_none}
 

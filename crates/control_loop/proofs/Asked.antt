@@ -2,20 +2,20 @@
 use Rattle.std.proofs.Common.{◌≡◌, ℕ, ◌&&◌, Bool, true, false, cond, is_some, List, [], Option, Some, None, option_map, refl, sym, ◌∙◌, ap, subst, codes}
 use Rattle.world_face.specs.Journal.{Entry}
 use Rattle.slirp_settings.specs.Addresses.{Config}
-use Rattle.record_flows.specs.Book.{book}
+use Rattle.spec_flows.specs.Book.{book}
 use Rattle.stream_netdev.specs.State.{LinkState}
 use Rattle.slirp_core.specs.Holds.{after, as_given}
 use Rattle.slirp_core.specs.State.{SlirpState}
 use Rattle.serve_loop.specs.Turns.{AttendsNow}
-use Rattle.control_rules.specs.Apart.{without_control}
-use Rattle.control_rules.specs.Talk.{Talk, after_line, first_line, is_out, is_to_answer, line_and_rest, line_end, with_left}
-use Rattle.control_rules.specs.Commands.{Means}
-use Rattle.control_rules.specs.declared.Command.{Command}
-use Rattle.control_rules.specs.declared.Command.TheVariants.{List as Lists, What}
-use Rattle.control_words.proofs.Spelling.{one_command}
-use Rattle.control_laws.specs.Desk.{Desk, Reads, answers, answers_line, flows_in_use, says, serves, with_changes, with_talk}
-use Rattle.control_laws.specs.Laws.{IsReading}
-use Rattle.control_laws.specs.Replies.{list_reply, reply_line}
+use Rattle.rules_control.specs.Apart.{without_control}
+use Rattle.rules_control.specs.Talk.{Talk, after_line, first_line, is_out, is_to_answer, line_and_rest, line_end, with_left}
+use Rattle.rules_control.specs.Commands.{Means}
+use Rattle.rules_control.specs.declared.Command.{Command}
+use Rattle.rules_control.specs.declared.Command.TheVariants.{List as Lists, What}
+use Rattle.control.proofs.Spelling.{one_command}
+use Rattle.spec_control.specs.Desk.{Desk, Reads, answers, answers_line, flows_in_use, says, serves, with_changes, with_talk}
+use Rattle.spec_control.specs.Laws.{IsReading}
+use Rattle.spec_control.specs.Replies.{list_reply, reply_line}
 use Rattle.control_loop.specs.Standing.{Agrees, Asks, Owes, Stands, with_lists}
 use Rattle.control_loop.proofs.Answering.{agrees_with, attends, said, stands_as}
 

@@ -5,9 +5,9 @@ use Rattle.poll_list.specs.declared.Want.{Want}
 use Rattle.world_face.specs.Journal.{AreAllowed, Entry}
 use Rattle.world_face.specs.Tells.{Brings, Makes, Telling}
 use Rattle.world_face.proofs.Telling.{makes_as}
-use Rattle.control_aside.proofs.Apartness.{is_wait, passed_as_they_are}
-use Rattle.control_aside.proofs.Stretching.{brought, made_below, of_stretch}
-use Rattle.control_aside.specs.Stretches.{AreSeen, Asided, Passes, beginning_with, last_reported, tells_seen}
+use Rattle.control.proofs.Apartness.{is_wait, passed_as_they_are}
+use Rattle.control.proofs.Stretching.{brought, made_below, of_stretch}
+use Rattle.control.specs.Stretches.{AreSeen, Asided, Passes, beginning_with, last_reported, tells_seen}
 
 -- a stretch without an item in which nothing was waited for
 pub called : {W : Type 0} (tells : W → Telling) (was old new later : Asided W) (P : List Entry → Type 0) → old ≡ beginning_with None was.world → later ≡ beginning_with None new.world → Makes (tells_seen tells old) (tells_seen tells new) P

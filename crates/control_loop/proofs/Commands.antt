@@ -11,23 +11,23 @@ use Rattle.slirp_settings.specs.Classes.{same_endpoint}
 use Rattle.slirp_settings.specs.declared.Forward.{Forward}
 use Rattle.slirp_settings.specs.declared.Proto.{Proto}
 use Rattle.slirp_settings.specs.declared.Proto.TheVariants.{Tcp}
-use Rattle.forward_rules.specs.Adding.{Adds, AddsBy, fault_of, opening_of}
-use Rattle.forward_rules.specs.Opened.{Opened, is_at, is_taken, most_forwards, socket_at, socket_of, without}
-use Rattle.forward_rules.specs.declared.FwdFault.{FwdFault}
-use Rattle.forward_rules.specs.declared.FwdFault.TheVariants.{Taken, BadGuest, Full, Refused}
+use Rattle.rules_forward.specs.Adding.{Adds, AddsBy, fault_of, opening_of}
+use Rattle.rules_forward.specs.Opened.{Opened, is_at, is_taken, most_forwards, socket_at, socket_of, without}
+use Rattle.rules_forward.specs.declared.FwdFault.{FwdFault}
+use Rattle.rules_forward.specs.declared.FwdFault.TheVariants.{Taken, BadGuest, Full, Refused}
 use Rattle.stream_netdev.specs.State.{LinkState}
 use Rattle.slirp_core.specs.Added.{MayAdd, MayRemove, closed_at, number_after}
-use Rattle.run_laws.specs.Sockets.{is_among, open_sockets}
-use Rattle.slirp_laws.proofs.OpenSockets.{closes_open}
+use Rattle.spec_trace.specs.Sockets.{is_among, open_sockets}
+use Rattle.spec_run.proofs.OpenSockets.{closes_open}
 use Rattle.slirp_core.specs.Holds.{after, as_given}
 use Rattle.slirp_core.specs.State.{SlirpState}
 use Rattle.serve_loop.specs.Served.{ServiceState}
 use Rattle.serve_loop.specs.Turns.{AttendsNow}
-use Rattle.control_rules.specs.Apart.{is_controls, without_control}
-use Rattle.control_rules.specs.Talk.{Talk, with_left}
-use Rattle.control_laws.specs.Desk.{Desk, Reads, adds_unless, desk, is_its_own, removes, with_changes}
-use Rattle.control_laws.specs.Replies.{added_text, removed_text, reply_line}
-use Rattle.control_rules.specs.declared.Command.TheVariants.{Add, Remove}
+use Rattle.rules_control.specs.Apart.{is_controls, without_control}
+use Rattle.rules_control.specs.Talk.{Talk, with_left}
+use Rattle.spec_control.specs.Desk.{Desk, Reads, adds_unless, desk, is_its_own, removes, with_changes}
+use Rattle.spec_control.specs.Replies.{added_text, removed_text, reply_line}
+use Rattle.rules_control.specs.declared.Command.TheVariants.{Add, Remove}
 use Rattle.control_loop.specs.Standing.{Asks, AttendsOn, Stands, cause_against, with_lists}
 use Rattle.control_loop.proofs.Added.{has_closed, has_just, has_open}
 use Rattle.control_loop.proofs.Answering.{added, removed, said}

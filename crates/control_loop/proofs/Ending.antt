@@ -8,8 +8,8 @@ use Rattle.net_octets.specs.declared.Endpoint.{Endpoint}
 use Rattle.world_face.specs.Journal.{AreAllowed, Entry, Wait}
 use Rattle.world_face.proofs.Telling.{allowed_then}
 use Rattle.slirp_settings.specs.Addresses.{Config}
-use Rattle.run_laws.specs.Shape.{Over, Refused, phase}
-use Rattle.run_duties.proofs.Ended.{dutiful_to_the_end, ended_yet}
+use Rattle.spec_trace.specs.Shape.{Over, Refused, phase}
+use Rattle.spec_duties.proofs.Ended.{dutiful_to_the_end, ended_yet}
 use Rattle.stream_netdev.specs.State.{LinkState}
 use Rattle.slirp_core.specs.Forwards.{AreCloses, IsClose}
 use Rattle.slirp_core.specs.Holds.{AfterListening, ClosesAll, as_given, holders_of}
@@ -19,10 +19,10 @@ use Rattle.serve_loop.specs.Ends.{end_of}
 use Rattle.serve_loop.specs.Served.{ServiceState}
 use Rattle.serve_loop.proofs.Serving.{spent}
 use Rattle.serve_loop.specs.declared.service.End.TheVariants.{ListenRefused, TurnsSpent}
-use Rattle.control_rules.specs.Apart.{reported_of, without_control}
-use Rattle.control_rules.specs.Talk.{Talk, listener, want_of}
-use Rattle.control_aside.specs.Stretches.{AreSeen, IsItem, IsSeen, last_reported}
-use Rattle.control_laws.specs.Desk.{Reads, desk}
+use Rattle.rules_control.specs.Apart.{reported_of, without_control}
+use Rattle.rules_control.specs.Talk.{Talk, listener, want_of}
+use Rattle.control.specs.Stretches.{AreSeen, IsItem, IsSeen, last_reported}
+use Rattle.spec_control.specs.Desk.{Reads, desk}
 use Rattle.control_loop.specs.Runs.{RunsWith}
 use Rattle.control_loop.specs.Standing.{Closes, Stands, with_lists}
 use Rattle.control_loop.proofs.Added.{has_just}

@@ -7,7 +7,7 @@ use Rattle.world_face.specs.declared.Accepted.{Accepted}
 use Rattle.world_face.specs.declared.Accepted.TheVariants.{From, NotYet as NoPeer, Failed as AcceptFailed}
 use Rattle.world_face.specs.declared.Io.{Io}
 use Rattle.world_face.specs.declared.Io.TheVariants.{Done, End, NotYet, Failed}
-use Rattle.control_rules.specs.Talk.{Talk, after_accept, after_line, after_read, after_write, first_line, free, has_line, hung_up, is_endless, is_last, is_out, is_to_answer, line_and_rest, line_end, listener, rest_of, with_kept}
+use Rattle.rules_control.specs.Talk.{Talk, after_accept, after_line, after_read, after_write, first_line, free, has_line, hung_up, is_endless, is_last, is_out, is_to_answer, line_and_rest, line_end, listener, rest_of, with_kept}
 use Rattle.control_loop.specs.Standing.{IsHeld, IsReady, Says}
 
 -- a connection that is over leaves no line

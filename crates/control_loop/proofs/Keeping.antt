@@ -5,17 +5,17 @@ use Rattle.std.proofs.lemmas.Bool.{true≢false}
 use Rattle.net_octets.specs.declared.Endpoint.{Endpoint}
 use Rattle.world_face.specs.Journal.{CallUdpOpen, Entry, call_of, Accept, Close, Connect, Listen, Now, UdpOpen}
 use Rattle.slirp_settings.specs.Addresses.{Config, forward_on}
-use Rattle.run_laws.specs.Moments.{waits}
-use Rattle.run_laws.specs.Sockets.{Kind, Association, Flow, Forward, Listener, datagram_kind, is_among, is_forward, is_listener, kind_of, next_number}
-use Rattle.slirp_laws.specs.Datagrams.{Errand}
-use Rattle.slirp_laws.specs.Errands.{errand_left}
-use Rattle.slirp_laws.specs.Laws.{Lawful, May}
-use Rattle.slirp_laws.specs.Names.{datagram_kind_for, kind_for}
-use Rattle.slirp_laws.specs.Said.{is_given}
-use Rattle.slirp_laws.proofs.OpenPorts.{closes_given_after_the_end}
-use Rattle.slirp_laws.proofs.OpenSockets.{IsGone, closes_open, gone_by}
-use Rattle.slirp_laws.proofs.Phases.{AsksAfterWaits, asks_after_waits, at_any_port}
-use Rattle.control_laws.proofs.Early.{listens_at_first, opens_at_first}
+use Rattle.spec_trace.specs.Moments.{waits}
+use Rattle.spec_trace.specs.Sockets.{Kind, Association, Flow, Forward, Listener, datagram_kind, is_among, is_forward, is_listener, kind_of, next_number}
+use Rattle.spec_run.specs.Datagrams.{Errand}
+use Rattle.spec_run.specs.Errands.{errand_left}
+use Rattle.spec_run.specs.Laws.{Lawful, May}
+use Rattle.spec_run.specs.Names.{datagram_kind_for, kind_for}
+use Rattle.spec_run.specs.Said.{is_given}
+use Rattle.spec_run.proofs.OpenPorts.{closes_given_after_the_end}
+use Rattle.spec_run.proofs.OpenSockets.{IsGone, closes_open, gone_by}
+use Rattle.spec_run.proofs.Phases.{AsksAfterWaits, asks_after_waits, at_any_port}
+use Rattle.spec_control.proofs.Early.{listens_at_first, opens_at_first}
 use Rattle.control_loop.proofs.Off.{rises}
 use Rattle.control_loop.proofs.Stretch.{AllKeepTo, KeepsTo}
 

@@ -10,33 +10,33 @@ use Rattle.world_face.specs.declared.Made.TheVariants.{Done, Failed}
 use Rattle.slirp_settings.specs.Addresses.{Config}
 use Rattle.flow_table.specs.declared.Slot.{Slot}
 use Rattle.flow_table.specs.declared.Slot.TheVariants.{Free, InUse, Resting}
-use Rattle.record_flows.specs.declared.Tuple.{Tuple}
-use Rattle.flow_laws.specs.Close.{is_in_use}
-use Rattle.flow_laws.specs.Event.{Accepts, Arrives}
-use Rattle.flow_laws.specs.Flow.{first_number}
-use Rattle.run_laws.specs.Happenings.{Arrival, happens}
-use Rattle.run_laws.specs.Sockets.{next_number}
-use Rattle.record_flows.specs.Book.{book, doom, is_refused, joins_for, opens, port_of, scene, tuple_for, turned, visits_for}
-use Rattle.record_flows.specs.Doings.{Doing, Nothing, Comes, Goes, Seeks, Pauses, Joins, Visits, Calls, Shuts, by_call, comes, doing, doing_by, goes}
-use Rattle.record_flows.specs.Flows.{Book, Flow, Scene, flow_of, is_numbered, is_on, seeks_for, sends, shuts, tell, uses, with_event}
-use Rattle.record_flows.specs.Said.{Each}
-use Rattle.record_flows.specs.Segments.{OnTuple, asked_in, segment_came, segment_in}
-use Rattle.record_flows.proofs.Apart.{seeks_number, sends_number}
-use Rattle.record_flows.proofs.Keeping.{are_kept}
-use Rattle.record_flows.proofs.Lists.{each_found, each_map, each_told, fresh, found_number}
-use Rattle.slirp_laws.specs.Laws.{Lawful, May}
-use Rattle.slirp_laws.proofs.KeepingFlows.{keeps_flows}
-use Rattle.slirp_laws.proofs.OpenSockets.{peer_next}
-use Rattle.flows_follow.specs.Seats.{in_use_slots}
+use Rattle.spec_flows.specs.declared.Tuple.{Tuple}
+use Rattle.spec_flow.specs.Close.{is_in_use}
+use Rattle.spec_flow.specs.Event.{Accepts, Arrives}
+use Rattle.spec_flow.specs.Flow.{first_number}
+use Rattle.spec_trace.specs.Happenings.{Arrival, happens}
+use Rattle.spec_trace.specs.Sockets.{next_number}
+use Rattle.spec_flows.specs.Book.{book, doom, is_refused, joins_for, opens, port_of, scene, tuple_for, turned, visits_for}
+use Rattle.spec_flows.specs.Doings.{Doing, Nothing, Comes, Goes, Seeks, Pauses, Joins, Visits, Calls, Shuts, by_call, comes, doing, doing_by, goes}
+use Rattle.spec_flows.specs.Flows.{Book, Flow, Scene, flow_of, is_numbered, is_on, seeks_for, sends, shuts, tell, uses, with_event}
+use Rattle.spec_flows.specs.Said.{Each}
+use Rattle.spec_flows.specs.Segments.{OnTuple, asked_in, segment_came, segment_in}
+use Rattle.spec_flows.proofs.Apart.{seeks_number, sends_number}
+use Rattle.spec_flows.proofs.Keeping.{are_kept}
+use Rattle.spec_flows.proofs.Lists.{each_found, each_map, each_told, fresh, found_number}
+use Rattle.spec_run.specs.Laws.{Lawful, May}
+use Rattle.spec_run.proofs.KeepingFlows.{keeps_flows}
+use Rattle.spec_run.proofs.OpenSockets.{peer_next}
+use Rattle.sim_flows.specs.Seats.{in_use_slots}
 use Rattle.tcp_flows.specs.Reading.{IsAbove}
 use Rattle.slirp_core.specs.Holds.{after}
 use Rattle.slirp_core.specs.NextFlow.{IsNextFlow, IsNextInUse}
 use Rattle.slirp_core.specs.State.{SlirpState}
 use Rattle.stream_netdev.specs.State.{LinkState}
 use Rattle.serve_loop.specs.Turns.{AttendsNow}
-use Rattle.control_laws.specs.Desk.{flow_entry, flows_in_use}
-use Rattle.control_laws.specs.Replies.{flow_lines, flow_text, forward_lines, forward_text, reply_line}
-use Rattle.forward_rules.specs.Opened.{Opened}
+use Rattle.spec_control.specs.Desk.{flow_entry, flows_in_use}
+use Rattle.spec_control.specs.Replies.{flow_lines, flow_text, forward_lines, forward_text, reply_line}
+use Rattle.rules_forward.specs.Opened.{Opened}
 
 -- ---- the flows of a record stand by falling number
 

@@ -8,18 +8,18 @@ use Rattle.poll_list.specs.declared.Who.TheVariants.{Link, Listener, Tcp, Udp}
 use Rattle.world_face.specs.Journal.{Allowed, AreAllowed, Entry, call_of, Accept, Close, Connect, Connected, Listen, TcpEnd, TcpRead, TcpWrite, UdpOpen, UdpRecv, UdpSend, Wait}
 use Rattle.world_face.specs.declared.Accepted.TheVariants.{From, NotYet as NoPeer, Failed as AcceptFailed}
 use Rattle.slirp_settings.specs.Addresses.{Config}
-use Rattle.run_laws.specs.Sockets.{is_among, is_listener, kind_of, next_number, open_sockets}
-use Rattle.record_flows.specs.Book.{book}
-use Rattle.record_flows.specs.Flows.{Flow, flow_of, has_room_for_peer}
-use Rattle.slirp_laws.specs.Laws.{Lawful, May}
-use Rattle.slirp_laws.proofs.Bools.{first_of, second_of}
-use Rattle.slirp_laws.proofs.OpenSockets.{closes_open, hears_on_open, joins_open, open_below, peers_open, sends_on_open}
-use Rattle.flows_follow.proofs.Sockets.{open_is_young}
-use Rattle.run_duties.specs.Duties.{Dutiful, Must}
-use Rattle.run_duties.specs.Waiting.{MayBeWritten, MayWriteFlow, WaitsFor, is_for_datagrams, is_read, reads_flow, takes_datagrams, takes_in}
-use Rattle.control_rules.specs.Apart.{controls, is_controls, is_of_control}
-use Rattle.control_rules.specs.Talk.{listener}
-use Rattle.control_aside.proofs.Apartness.{AreFew, AreOff, IsFew, IsOff}
+use Rattle.spec_trace.specs.Sockets.{is_among, is_listener, kind_of, next_number, open_sockets}
+use Rattle.spec_flows.specs.Book.{book}
+use Rattle.spec_flows.specs.Flows.{Flow, flow_of, has_room_for_peer}
+use Rattle.spec_run.specs.Laws.{Lawful, May}
+use Rattle.spec_run.proofs.Bools.{first_of, second_of}
+use Rattle.spec_run.proofs.OpenSockets.{closes_open, hears_on_open, joins_open, open_below, peers_open, sends_on_open}
+use Rattle.sim_flows.proofs.Sockets.{open_is_young}
+use Rattle.spec_duties.specs.Duties.{Dutiful, Must}
+use Rattle.spec_duties.specs.Waiting.{MayBeWritten, MayWriteFlow, WaitsFor, is_for_datagrams, is_read, reads_flow, takes_datagrams, takes_in}
+use Rattle.rules_control.specs.Apart.{controls, is_controls, is_of_control}
+use Rattle.rules_control.specs.Talk.{listener}
+use Rattle.control.proofs.Apartness.{AreFew, AreOff, IsFew, IsOff}
 
 pub below_off : (l n : ℕ) → n < l → nat_le l n ≡ false
 below_off l n less = grind (arith, nat_tests, less)

@@ -8,16 +8,16 @@ use Rattle.world_face.specs.Journal.{Call, CallClose, CallListen, CallNow, CallU
 use Rattle.world_face.specs.declared.Made.{Made}
 use Rattle.world_face.specs.declared.Made.TheVariants.{Done, Failed}
 use Rattle.slirp_settings.specs.Addresses.{Config}
-use Rattle.record_flows.specs.Book.{port_of}
-use Rattle.run_laws.specs.Moments.{waits}
-use Rattle.run_laws.specs.Shape.{By, Opening, Over, Phase, Refused, Started, Woken, Working, clocked, due_in, is_ended, is_opening, is_over, is_working, opened, phase, phase_after, phase_by}
-use Rattle.run_laws.specs.Sockets.{first, next_number, open_sockets}
-use Rattle.slirp_laws.specs.Asking.{step}
-use Rattle.slirp_laws.specs.Datagrams.{NeedsNothing, NeedsRoom, NeedsSending, NeedsSocket, Step, due_for}
-use Rattle.slirp_laws.specs.Laws.{Lawful, May, due}
-use Rattle.slirp_laws.specs.Ports.{given_port}
-use Rattle.slirp_laws.proofs.Phases.{IsForOther, for_others, given_turn, opening_call, others_due}
-use Rattle.control_laws.proofs.Early.{at_first, closed_first, no_listener, no_port}
+use Rattle.spec_flows.specs.Book.{port_of}
+use Rattle.spec_trace.specs.Moments.{waits}
+use Rattle.spec_trace.specs.Shape.{By, Opening, Over, Phase, Refused, Started, Woken, Working, clocked, due_in, is_ended, is_opening, is_over, is_working, opened, phase, phase_after, phase_by}
+use Rattle.spec_trace.specs.Sockets.{first, next_number, open_sockets}
+use Rattle.spec_run.specs.Asking.{step}
+use Rattle.spec_run.specs.Datagrams.{NeedsNothing, NeedsRoom, NeedsSending, NeedsSocket, Step, due_for}
+use Rattle.spec_run.specs.Laws.{Lawful, May, due}
+use Rattle.spec_run.specs.Ports.{given_port}
+use Rattle.spec_run.proofs.Phases.{IsForOther, for_others, given_turn, opening_call, others_due}
+use Rattle.spec_control.proofs.Early.{at_first, closed_first, no_listener, no_port}
 use Rattle.control_loop.proofs.Stretch.{AllKeepTo, KeepsTo}
 
 -- ports are still opened, or the host refused one

@@ -3,15 +3,15 @@ use Rattle.std.proofs.Common.{◌≡◌, ℕ, ◌<◌, ◌==◌, true, false, co
 use Rattle.std.proofs.lemmas.Bool.Decides.{nat_tests}
 use Rattle.world_face.specs.Journal.{CallClose, Close, Entry}
 use Rattle.slirp_settings.specs.Addresses.{Config}
-use Rattle.run_laws.specs.Shape.{phase}
-use Rattle.slirp_laws.specs.Laws.{Finished, Lawful}
-use Rattle.run_duties.specs.Duties.{Dutiful}
+use Rattle.spec_trace.specs.Shape.{phase}
+use Rattle.spec_run.specs.Laws.{Finished, Lawful}
+use Rattle.spec_duties.specs.Duties.{Dutiful}
 use Rattle.serve_loop.specs.Ends.{end_of}
 use Rattle.serve_loop.specs.declared.service.End.{End}
-use Rattle.control_rules.specs.Apart.{is_controls, without_control}
-use Rattle.control_rules.specs.Talk.{Talk, all_closed, closed_if, deaf, hung_up, listener, peer_closed}
-use Rattle.control_laws.specs.Desk.{Desk, Nothing, Reads, awaits, by_control, desk, is_peer, shut, with_changes, with_talk}
-use Rattle.control_laws.specs.Laws.{Either, MayClose, MayControl, MayGiveUp, first_open}
+use Rattle.rules_control.specs.Apart.{is_controls, without_control}
+use Rattle.rules_control.specs.Talk.{Talk, all_closed, closed_if, deaf, hung_up, listener, peer_closed}
+use Rattle.spec_control.specs.Desk.{Desk, Nothing, Reads, awaits, by_control, desk, is_peer, shut, with_changes, with_talk}
+use Rattle.spec_control.specs.Laws.{Either, MayClose, MayControl, MayGiveUp, first_open}
 use Rattle.control_loop.specs.Runs.{RunsWith, Serves}
 use Rattle.control_loop.specs.Standing.{Closes}
 use Rattle.control_loop.proofs.Answering.{awaited_may}

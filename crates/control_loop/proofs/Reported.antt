@@ -6,10 +6,10 @@ use Rattle.poll_list.specs.Listing.{reads, writes}
 use Rattle.poll_list.specs.Picks.{as_list}
 use Rattle.poll_list.specs.declared.Want.{Want}
 use Rattle.poll_list.specs.declared.Who.TheVariants.{Listener, Tcp}
-use Rattle.control_rules.specs.Apart.{reported_of}
-use Rattle.control_rules.specs.Talk.{Talk, is_out, listener, listener_want, want_by, want_of}
-use Rattle.control_rules.specs.Reports.{tells_lines, tells_peer, tells_room}
-use Rattle.control_laws.specs.Laws.{without_read, without_write}
+use Rattle.rules_control.specs.Apart.{reported_of}
+use Rattle.rules_control.specs.Talk.{Talk, is_out, listener, listener_want, want_by, want_of}
+use Rattle.rules_control.specs.Reports.{tells_lines, tells_peer, tells_room}
+use Rattle.spec_control.specs.Laws.{without_read, without_write}
 
 equal : (n : ℕ) → (n == n) ≡ true
 equal n = grind (arith, nat_tests)

@@ -9,29 +9,29 @@ use Rattle.world_face.specs.declared.Made.{Made}
 use Rattle.world_face.specs.declared.Made.TheVariants.{Done, Failed}
 use Rattle.slirp_settings.specs.Addresses.{Config, forward_on}
 use Rattle.slirp_settings.specs.declared.Forward.{Forward}
-use Rattle.run_laws.specs.Moments.{waits}
-use Rattle.run_laws.specs.Shape.{Opening as OpeningPorts, Over, Refused, phase}
-use Rattle.run_laws.specs.Sockets.{next_number, open_sockets}
+use Rattle.spec_trace.specs.Moments.{waits}
+use Rattle.spec_trace.specs.Shape.{Opening as OpeningPorts, Over, Refused, phase}
+use Rattle.spec_trace.specs.Sockets.{next_number, open_sockets}
 use Rattle.std.specs.Option.{option_or}
 use Rattle.poll_list.specs.Picks.{as_list}
 use Rattle.poll_list.specs.declared.Want.{Want}
-use Rattle.slirp_laws.specs.Laws.{Finished, Lawful}
-use Rattle.run_duties.specs.Duties.{Dutiful}
-use Rattle.run_duties.proofs.Ended.{dutiful_unwaited, refused_unwaited}
+use Rattle.spec_run.specs.Laws.{Finished, Lawful}
+use Rattle.spec_duties.specs.Duties.{Dutiful}
+use Rattle.spec_duties.proofs.Ended.{dutiful_unwaited, refused_unwaited}
 use Rattle.stream_netdev.specs.State.{LinkState}
 use Rattle.slirp_core.specs.Forwards.{with_numbers}
-use Rattle.forward_rules.specs.Opened.{forward_sockets}
+use Rattle.rules_forward.specs.Opened.{forward_sockets}
 use Rattle.slirp_core.specs.Holds.{Opens, Ran, after, as_given}
 use Rattle.slirp_core.specs.State.{SlirpState}
 use Rattle.serve_loop.specs.Ends.{end_of}
 use Rattle.serve_loop.specs.Turns.{AttendsNow}
 use Rattle.serve_loop.specs.declared.service.End.TheVariants.{ControlRefused, ListenRefused}
-use Rattle.control_rules.specs.Apart.{without_control}
-use Rattle.control_rules.specs.Talk.{after_listen, listener, silent}
-use Rattle.control_aside.specs.Stretches.{AreSeen, IsItem, last_reported}
-use Rattle.control_aside.proofs.Apartness.{is_wait, passed_as_they_are}
-use Rattle.control_laws.specs.Desk.{AreOffControl, Desk, Nothing, Reads, at_first, by_control, desk, numbered_from, with_changes, with_talk}
-use Rattle.control_laws.specs.Laws.{MayControl, is_its_listen, reported, wants_of}
+use Rattle.rules_control.specs.Apart.{without_control}
+use Rattle.rules_control.specs.Talk.{after_listen, listener, silent}
+use Rattle.control.specs.Stretches.{AreSeen, IsItem, last_reported}
+use Rattle.control.proofs.Apartness.{is_wait, passed_as_they_are}
+use Rattle.spec_control.specs.Desk.{AreOffControl, Desk, Nothing, Reads, at_first, by_control, desk, numbered_from, with_changes, with_talk}
+use Rattle.spec_control.specs.Laws.{MayControl, is_its_listen, reported, wants_of}
 use Rattle.control_loop.specs.Runs.{IsRefused, RunsWith, Serves}
 use Rattle.control_loop.specs.Standing.{Agrees, Stands, with_lists}
 use Rattle.control_loop.proofs.Answering.{awaited_may, stands_as}

@@ -9,17 +9,17 @@ use Rattle.poll_list.specs.declared.Want.{Want}
 use Rattle.poll_list.specs.declared.Who.{Who}
 use Rattle.poll_list.specs.declared.Who.TheVariants.{Listener as AListener, Tcp}
 use Rattle.world_face.specs.Journal.{Call, Entry, Follows, call_of, Accept, Close, Connect, Connected, Listen, Now, TcpEnd, TcpRead, TcpWrite, UdpOpen, UdpRecv, UdpSend, Wait}
-use Rattle.run_duties.proofs.Checks.{same_is}
+use Rattle.spec_duties.proofs.Checks.{same_is}
 use Rattle.slirp_settings.specs.Addresses.{Config}
-use Rattle.run_laws.specs.Moments.{waits}
-use Rattle.run_laws.specs.Shape.{is_ended, is_opening, phase}
-use Rattle.run_laws.specs.Sockets.{is_forward, is_listener, kind_of}
-use Rattle.control_rules.specs.Apart.{is_controls, is_of_control, is_on_control, reported_of, seen as seen_of, without_control}
-use Rattle.control_laws.specs.Desk.{AreOffControl, Desk, Nothing, Reads, desk, with_changes}
-use Rattle.control_laws.specs.Laws.{Either, MayByItself, MayControl, MayGiveUp, MayOpen, MayWhere, reported, wants_of, without_read, without_write}
-use Rattle.control_laws.proofs.Staying.{desk_stays}
-use Rattle.control_aside.proofs.Apartness.{AreFew, AreForItem, AreOff, IsFew, IsForItem, IsOff, all_for_item, apart_as_seen, seen_off}
-use Rattle.control_aside.specs.Stretches.{AreSeen, IsItem, IsSeen, last_reported}
+use Rattle.spec_trace.specs.Moments.{waits}
+use Rattle.spec_trace.specs.Shape.{is_ended, is_opening, phase}
+use Rattle.spec_trace.specs.Sockets.{is_forward, is_listener, kind_of}
+use Rattle.rules_control.specs.Apart.{is_controls, is_of_control, is_on_control, reported_of, seen as seen_of, without_control}
+use Rattle.spec_control.specs.Desk.{AreOffControl, Desk, Nothing, Reads, desk, with_changes}
+use Rattle.spec_control.specs.Laws.{Either, MayByItself, MayControl, MayGiveUp, MayOpen, MayWhere, reported, wants_of, without_read, without_write}
+use Rattle.spec_control.proofs.Staying.{desk_stays}
+use Rattle.control.proofs.Apartness.{AreFew, AreForItem, AreOff, IsFew, IsForItem, IsOff, all_for_item, apart_as_seen, seen_off}
+use Rattle.control.specs.Stretches.{AreSeen, IsItem, IsSeen, last_reported}
 
 -- ---- what the network's own calls have to keep
 

@@ -11,10 +11,10 @@ use Rattle.world_face.specs.declared.Io.TheVariants.{Done, End, NotYet, Failed}
 use Rattle.slirp_settings.specs.Addresses.{Config}
 use Rattle.stream_netdev.specs.State.{LinkState}
 use Rattle.slirp_core.specs.State.{SlirpState}
-use Rattle.control_rules.specs.Apart.{is_controls, seen as seen_of, without_control}
-use Rattle.control_rules.specs.Talk.{Talk, after_accept, after_read, after_write, closed_if, deaf, fails, first_line, free, hung_up, is_last, is_out, listener, most_at_once, next_peer, with_kept}
-use Rattle.control_laws.specs.Desk.{Desk, Nothing, Shutting, Reads, after_call, answers_line, awaits, desk, is_peer, serves, shut, with_changes, with_talk}
-use Rattle.control_laws.specs.Laws.{Either, MayControl, MayRead, MayWhere, MayWrite, reported, without_read, without_write}
+use Rattle.rules_control.specs.Apart.{is_controls, seen as seen_of, without_control}
+use Rattle.rules_control.specs.Talk.{Talk, after_accept, after_read, after_write, closed_if, deaf, fails, first_line, free, hung_up, is_last, is_out, listener, most_at_once, next_peer, with_kept}
+use Rattle.spec_control.specs.Desk.{Desk, Nothing, Shutting, Reads, after_call, answers_line, awaits, desk, is_peer, serves, shut, with_changes, with_talk}
+use Rattle.spec_control.specs.Laws.{Either, MayControl, MayRead, MayWhere, MayWrite, reported, without_read, without_write}
 use Rattle.control_loop.specs.Standing.{Agrees, Owes, Stands}
 use Rattle.control_loop.proofs.Answering.{agrees_with, awaited_may, stands_as}
 

@@ -8,22 +8,22 @@ use Rattle.world_face.specs.Journal.{AreAllowed, Entry, Follows}
 use Rattle.net_octets.specs.declared.Endpoint.{Endpoint}
 use Rattle.slirp_settings.specs.Addresses.{Config}
 use Rattle.slirp_settings.specs.declared.Forward.{Forward}
-use Rattle.run_laws.specs.Moments.{waits}
-use Rattle.run_laws.specs.Shape.{phase, phase_after}
-use Rattle.run_laws.specs.Sockets.{next_number}
-use Rattle.slirp_laws.specs.Laws.{Finished, Lawful}
-use Rattle.run_duties.specs.Duties.{Dutiful}
+use Rattle.spec_trace.specs.Moments.{waits}
+use Rattle.spec_trace.specs.Shape.{phase, phase_after}
+use Rattle.spec_trace.specs.Sockets.{next_number}
+use Rattle.spec_run.specs.Laws.{Finished, Lawful}
+use Rattle.spec_duties.specs.Duties.{Dutiful}
 use Rattle.stream_netdev.specs.State.{LinkState}
 use Rattle.slirp_core.specs.Holds.{after, as_given}
 use Rattle.slirp_core.specs.State.{SlirpState}
 use Rattle.serve_loop.specs.Ends.{end_of}
 use Rattle.serve_loop.specs.Turns.{AttendsNow}
 use Rattle.serve_loop.specs.declared.service.End.{End}
-use Rattle.control_rules.specs.Apart.{without_control}
-use Rattle.control_rules.specs.Talk.{Talk, listener, want_of}
-use Rattle.control_aside.specs.Stretches.{AreSeen, IsItem, last_reported}
-use Rattle.control_laws.specs.Desk.{Desk, Nothing, Reads, by_control, desk, with_changes}
-use Rattle.control_laws.specs.Laws.{MayControl, reported, wants_of}
+use Rattle.rules_control.specs.Apart.{without_control}
+use Rattle.rules_control.specs.Talk.{Talk, listener, want_of}
+use Rattle.control.specs.Stretches.{AreSeen, IsItem, last_reported}
+use Rattle.spec_control.specs.Desk.{Desk, Nothing, Reads, by_control, desk, with_changes}
+use Rattle.spec_control.specs.Laws.{MayControl, reported, wants_of}
 use Rattle.control_loop.specs.Standing.{Agrees, Closes, HasAll, Stands, with_lists}
 use Rattle.control_loop.proofs.Added.{has_just}
 use Rattle.control_loop.proofs.Answering.{stands_as}

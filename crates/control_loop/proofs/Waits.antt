@@ -1,8 +1,8 @@
 -- What a control waits for is on sockets of its own.
 use Rattle.std.proofs.Common.{◌≡◌, ℕ, not, ◌||◌, Bool, true, false, Option, None, Some, refl, sym, subst}
 use Rattle.poll_list.specs.declared.Want.{Want}
-use Rattle.control_rules.specs.Talk.{Talk, is_out, listener, listener_want, want_by, want_of}
-use Rattle.control_aside.specs.Stretches.{IsItem}
+use Rattle.rules_control.specs.Talk.{Talk, is_out, listener, listener_want, want_by, want_of}
+use Rattle.control.specs.Stretches.{IsItem}
 use Rattle.control_loop.specs.Standing.{IsHeld}
 use Rattle.control_loop.proofs.Talking.{above_own}
 

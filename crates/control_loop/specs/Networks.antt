@@ -2,7 +2,7 @@
 use Rattle.std.specs.Prelude.{◌≡◌, ◌≤◌, Option, None, Some}
 use Rattle.world_face.specs.Limits.{most_ready, most_wants}
 use Rattle.slirp_settings.specs.Addresses.{Config}
-use Rattle.control_rules.specs.Talk.{silent}
+use Rattle.rules_control.specs.Talk.{silent}
 use Rattle.control_loop.specs.declared.network.Control.{Control}
 
 -- There is one exactly where the settings have it: nobody listens yet, and the lists have room.

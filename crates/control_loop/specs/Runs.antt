@@ -3,12 +3,12 @@ use Rattle.std.specs.Prelude.{◌≡◌, List, ◌∷◌, ◌++◌, Option, None
 use Rattle.net_octets.specs.declared.Endpoint.{Endpoint}
 use Rattle.world_face.specs.Journal.{Call, Entry, call_of}
 use Rattle.slirp_settings.specs.Addresses.{Config}
-use Rattle.run_laws.specs.Shape.{phase}
-use Rattle.slirp_laws.specs.Laws.{Finished, Lawful}
-use Rattle.run_duties.specs.Duties.{Dutiful}
-use Rattle.control_rules.specs.Apart.{without_control}
-use Rattle.control_laws.specs.Desk.{Reads}
-use Rattle.control_laws.specs.Laws.{IsReading, Refuses, RunsBy}
+use Rattle.spec_trace.specs.Shape.{phase}
+use Rattle.spec_run.specs.Laws.{Finished, Lawful}
+use Rattle.spec_duties.specs.Duties.{Dutiful}
+use Rattle.rules_control.specs.Apart.{without_control}
+use Rattle.spec_control.specs.Desk.{Reads}
+use Rattle.spec_control.specs.Laws.{IsReading, Refuses, RunsBy}
 use Rattle.serve_loop.specs.Ends.{end_of}
 use Rattle.serve_loop.specs.declared.service.End.{End}
 use Rattle.serve_loop.specs.declared.service.End.TheVariants.{ControlRefused}

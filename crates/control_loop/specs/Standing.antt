@@ -9,14 +9,14 @@ use Rattle.slirp_settings.specs.declared.Forward.{Forward}
 use Rattle.slirp_settings.specs.declared.Proto.TheVariants.{Tcp}
 use Rattle.net_octets.specs.declared.Endpoint.{Endpoint}
 use Rattle.net_octets.specs.declared.Ip4.{Ip4}
-use Rattle.forward_rules.specs.Adding.{fault_of}
-use Rattle.forward_rules.specs.Opened.{Opened}
-use Rattle.forward_rules.specs.declared.FwdFault.{FwdFault}
-use Rattle.forward_rules.specs.declared.FwdFault.TheVariants.{Taken}
-use Rattle.run_laws.specs.Shape.{phase}
-use Rattle.run_laws.specs.Sockets.{is_among, next_number, open_sockets}
-use Rattle.slirp_laws.specs.Laws.{Finished, Lawful}
-use Rattle.run_duties.specs.Duties.{Dutiful}
+use Rattle.rules_forward.specs.Adding.{fault_of}
+use Rattle.rules_forward.specs.Opened.{Opened}
+use Rattle.rules_forward.specs.declared.FwdFault.{FwdFault}
+use Rattle.rules_forward.specs.declared.FwdFault.TheVariants.{Taken}
+use Rattle.spec_trace.specs.Shape.{phase}
+use Rattle.spec_trace.specs.Sockets.{is_among, next_number, open_sockets}
+use Rattle.spec_run.specs.Laws.{Finished, Lawful}
+use Rattle.spec_duties.specs.Duties.{Dutiful}
 use Rattle.stream_netdev.specs.Keeps.{ReadsOn}
 use Rattle.stream_netdev.specs.State.{LinkState, under_way}
 use Rattle.slirp_core.specs.Holds.{after, as_given}
@@ -27,12 +27,12 @@ use Rattle.serve_loop.specs.Turns.{AttendsNow, IsCalm}
 use Rattle.serve_loop.specs.declared.service.End.{End}
 use Rattle.serve_loop.specs.declared.service.Turn.{Turn}
 use Rattle.serve_loop.specs.declared.service.Turn.TheVariants.{Again, Ended}
-use Rattle.control_rules.specs.Apart.{without_control}
-use Rattle.control_rules.specs.Talk.{Talk, has_line, is_out, listener}
-use Rattle.control_rules.specs.declared.Command.{Command}
-use Rattle.control_rules.specs.declared.Command.TheVariants.{Add}
-use Rattle.control_laws.specs.Desk.{Desk, Nothing, Reads, answers, by_control, desk, serves, with_changes}
-use Rattle.control_laws.specs.Laws.{IsReading, MayControl, reported}
+use Rattle.rules_control.specs.Apart.{without_control}
+use Rattle.rules_control.specs.Talk.{Talk, has_line, is_out, listener}
+use Rattle.rules_control.specs.declared.Command.{Command}
+use Rattle.rules_control.specs.declared.Command.TheVariants.{Add}
+use Rattle.spec_control.specs.Desk.{Desk, Nothing, Reads, answers, by_control, desk, serves, with_changes}
+use Rattle.spec_control.specs.Laws.{IsReading, MayControl, reported}
 
 -- the settings with what was added, and taken back
 abbrev pub with_lists : Config → (added : List (ℕ × Forward)) → (removed : List ℕ) → Config

@@ -4,22 +4,21 @@ ghost use Rattle.world_face.specs.Journal.{AreAllowed, Close, Entry as AnEntry, 
 ghost use Rattle.world_face.specs.Tells.{Makes, Rose};
 ghost use Rattle.world_face.specs.declared.Made.TheVariants.{Failed as IsRefused};
 ghost use Rattle.slirp_settings.specs.Addresses.{Config};
-ghost use Rattle.control_aside.specs.Stretches.{AreSeen, last_reported};
-ghost use Rattle.control_laws.specs.Desk.{Reads};
-ghost use Rattle.control_laws.specs.Laws.{IsReading};
+ghost use Rattle.control.specs.Stretches.{AreSeen, last_reported};
+ghost use Rattle.spec_control.specs.Desk.{Reads};
+ghost use Rattle.spec_control.specs.Laws.{IsReading};
 ghost use Rattle.control_loop.specs.Runs.{RunsWith};
 ghost use Rattle.control_loop.specs.Standing.{AfterTurnBy, Closes, IsFit, IsReady, IsSet, Stands};
-ghost use Rattle.control_rules.specs.Talk.{after_listen, all_closed, listener, over, silent, want_of};
+ghost use Rattle.rules_control.specs.Talk.{after_listen, all_closed, listener, over, silent, want_of};
 ghost use Rattle.serve_loop.specs.Ends.{IsCounted};
 ghost use Rattle.serve_loop.specs.Served.{IsNew};
 ghost use Rattle.serve_loop.specs.Turns.{AttendsAfterWholeTurn, AttendsNow, IsStep};
 ghost use Rattle.slirp_core.specs.Counts.{AreGrown};
 ghost use Rattle.slirp_core.specs.Forwards.{AreCloses};
-ghost use Rattle.forward_rules.specs.Opened.{forward_sockets};
+ghost use Rattle.rules_forward.specs.Opened.{forward_sockets};
 ghost use Rattle.slirp_core.specs.Holds.{AfterListening, ClosesAll, HoldsNothingElse, Opens, after, as_given, holders_of};
 
-use control_aside::Aside;
-use control_session::Session;
+use control::{Aside, Session};
 use net_octets::{Endpoint, Ip4};
 use serve_loop::{End, Service, Turn};
 use world_face::{Made, World};

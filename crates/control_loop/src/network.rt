@@ -6,14 +6,13 @@ ghost use Rattle.slirp_settings.specs.Ranges.{IsSound};
 ghost use Rattle.slirp_settings.specs.Settings.{settings};
 ghost use Rattle.serve_loop.specs.Ends.{IsCounted};
 ghost use Rattle.serve_loop.specs.Served.{IsNew};
-ghost use Rattle.control_laws.specs.Desk.{Reads};
-ghost use Rattle.control_laws.specs.Laws.{IsReading};
+ghost use Rattle.spec_control.specs.Desk.{Reads};
+ghost use Rattle.spec_control.specs.Laws.{IsReading};
 ghost use Rattle.control_loop.specs.Networks.{IsControl};
 ghost use Rattle.control_loop.specs.Runs.{IsRun, RunsAlone, RunsWith};
 
 use crate::desk::Desk;
-use control_aside::Aside;
-use control_session::Session;
+use control::{Aside, Session};
 use core::mem::replace_with;
 use net_octets::{Endpoint, Ip4, NoMemory};
 use poll_list::{ReadyList, Wants};

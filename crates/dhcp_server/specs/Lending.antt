@@ -1,7 +1,7 @@
 -- What contracts see of the leases: the settings, and the entry of each address that is lent.
 use Rattle.std.specs.Prelude.{List}
 use Rattle.slirp_settings.specs.Addresses.{Config}
-use Rattle.dhcp_rules.specs.declared.Lease.{Lease}
+use Rattle.rules_dhcp.specs.declared.Lease.{Lease}
 
 pub record Lending : Type 0 where
   pub config : Config

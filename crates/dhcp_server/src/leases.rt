@@ -1,17 +1,17 @@
 //! The addresses that are lent, and who has each.
 ghost use Rattle.std.specs.Prelude.{◌≡◌, ℕ, ◌+◌, ◌^◌, ◌<◌, ◌≤◌, ◌++◌, length, drop, map};
 ghost use Rattle.slirp_settings.specs.Ranges.{IsSound};
-ghost use Rattle.dhcp_rules.specs.Leases.{at_moment, can_have, freed, is_free, is_of, is_reserved_for, lease_time, not_reserved, reserved};
-ghost use Rattle.dhcp_rules.specs.declared.Lease.TheVariants.{Bound};
+ghost use Rattle.rules_dhcp.specs.Leases.{at_moment, can_have, freed, is_free, is_of, is_reserved_for, lease_time, not_reserved, reserved};
+ghost use Rattle.rules_dhcp.specs.declared.Lease.TheVariants.{Bound};
 
 use crate::message::read_message;
 use crate::reply::write_reply;
 use crate::serving::outcome_of;
-use dhcp_rules::{Lease, POOL};
 use net_octets::Mac;
+use rules_dhcp::{Lease, POOL};
+use rules_udp::Reply;
 use slirp_settings::SlirpConfig;
 use std::marker::Model;
-use udp_rules::Reply;
 
 /// How many milliseconds an address is kept for whom it was offered to.
 const OFFER_TIME: u64 = 60_000;
@@ -139,7 +139,7 @@ pub struct Leases {
 impl Model for Leases {
     ghost use Rattle.std.specs.Prelude.{◌≡◌, ◌+◌, ◌<◌, ◌^◌};
     ghost use Rattle.slirp_settings.specs.Settings.{settings};
-    ghost use Rattle.dhcp_rules.specs.Leases.{IsOneToOne};
+    ghost use Rattle.rules_dhcp.specs.Leases.{IsOneToOne};
     ghost use Rattle.dhcp_server.specs.Lending.{Lending};
 
     ghost Value = { Lending };
@@ -152,11 +152,11 @@ impl Model for Leases {
 impl Leases {
     ghost use Rattle.std.specs.Prelude.{replicate};
     ghost use Rattle.slirp_settings.specs.Settings.{settings};
-    ghost use Rattle.dhcp_rules.specs.Leases.{IsOneToOne};
-    ghost use Rattle.dhcp_rules.specs.Messages.{read_message};
-    ghost use Rattle.dhcp_rules.specs.Serving.{leases_after};
-    ghost use Rattle.dhcp_rules.specs.Replies.{reply_to, replied_octets};
-    ghost use Rattle.dhcp_rules.specs.declared.Lease.TheVariants.{Free};
+    ghost use Rattle.rules_dhcp.specs.Leases.{IsOneToOne};
+    ghost use Rattle.rules_dhcp.specs.Messages.{read_message};
+    ghost use Rattle.rules_dhcp.specs.Serving.{leases_after};
+    ghost use Rattle.rules_dhcp.specs.Replies.{reply_to, replied_octets};
+    ghost use Rattle.rules_dhcp.specs.declared.Lease.TheVariants.{Free};
 
     /// No address is lent yet. The settings are some of which `check` answers Ok.
     pub fn new(c: &SlirpConfig) -> Leases

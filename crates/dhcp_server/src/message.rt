@@ -3,12 +3,12 @@ ghost use Rattle.std.specs.Prelude.{◌≡◌, ◌+◌, ◌≤◌, length, Ok};
 ghost use Rattle.std.specs.Option.{option_and_then};
 ghost use Rattle.net_octets.specs.Octets.{part};
 ghost use Rattle.tlv_table.specs.Reading.{first_body};
-ghost use Rattle.dhcp_rules.specs.Messages.{is_request, one_in, address_in, options_in, message_of, read_message};
+ghost use Rattle.rules_dhcp.specs.Messages.{is_request, one_in, address_in, options_in, message_of, read_message};
 
 use crate::options::{ASKED_ADDRESS, MESSAGE_KIND, SERVER, options_read};
 use byteorder::{BigEndian, ByteOrder};
-use dhcp_rules::Message;
 use net_octets::{Ip4, Mac};
+use rules_dhcp::Message;
 use tlv_table::Fields;
 
 /// The octets before the options.

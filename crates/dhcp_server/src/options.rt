@@ -1,7 +1,7 @@
 //! The options of DHCP that are read and written (RFC 2132).
 ghost use Rattle.std.specs.Prelude.{◌≡◌};
-ghost use Rattle.dhcp_rules.specs.Messages.{form, rows_read};
-ghost use Rattle.dhcp_rules.specs.Replies.{rows_written};
+ghost use Rattle.rules_dhcp.specs.Messages.{form, rows_read};
+ghost use Rattle.rules_dhcp.specs.Replies.{rows_written};
 
 use tlv_table::{Form, Table, rows};
 

@@ -3,9 +3,9 @@ ghost use Rattle.std.specs.Prelude.{ℕ, List, if◌then◌else◌, ◌≡◌, �
 ghost use Rattle.net_octets.specs.Octets.{four};
 ghost use Rattle.slirp_settings.specs.Settings.{settings};
 ghost use Rattle.tlv_table.specs.Putting.{CanPut, put_octets};
-ghost use Rattle.dhcp_rules.specs.Messages.{form};
-ghost use Rattle.dhcp_rules.specs.Replies.{rows_written, kind_of, is_ack, is_silence, is_refusal, IsPlaced, given, zeros, filled, front, addresses, back, text_option, router};
-ghost use Rattle.dhcp_rules.specs.Replies.{name_server, lease_option, network_options, further_options, options, goes_to_all, datagram_of, reply_octets, reply_of, octets_of_reply};
+ghost use Rattle.rules_dhcp.specs.Messages.{form};
+ghost use Rattle.rules_dhcp.specs.Replies.{rows_written, kind_of, is_ack, is_silence, is_refusal, IsPlaced, given, zeros, filled, front, addresses, back, text_option, router};
+ghost use Rattle.rules_dhcp.specs.Replies.{name_server, lease_option, network_options, further_options, options, goes_to_all, datagram_of, reply_octets, reply_of, octets_of_reply};
 ghost use Rattle.dhcp_server.specs.Writing.{Adds};
 
 use crate::options::{
@@ -13,11 +13,11 @@ use crate::options::{
     SUBNET_MASK, TFTP_SERVER_NAME, options_written,
 };
 use arrayvec::ArrayVec;
-use dhcp_rules::{ACK, Answer, Message, NAK, OFFER};
 use net_octets::{Endpoint, Ip4, Mac};
+use rules_dhcp::{ACK, Answer, Message, NAK, OFFER};
+use rules_udp::Reply;
 use slirp_settings::{CLIENT_PORT, LEASES_PORT, SlirpConfig};
 use tlv_table::Table;
-use udp_rules::Reply;
 
 /// The least length of a reply (RFC 1542, 2.1).
 const LEAST: usize = 300;

@@ -1,14 +1,14 @@
 //! What becomes of the leases by a message, and what is answered (RFC 2131, 4.3).
 ghost use Rattle.std.specs.Prelude.{◌≡◌, ◌≤◌, ◌<◌, ◌+◌, ◌^◌, length, map, position, Some, IfSome};
 ghost use Rattle.slirp_settings.specs.Settings.{settings};
-ghost use Rattle.dhcp_rules.specs.Leases.{at_moment, is_free, is_of, place_of, offered, reserve, not_reserved, freed, lend, replaced};
-ghost use Rattle.dhcp_rules.specs.Serving.{asked_place, discovered, is_for_another, wanted, lends, requested, given_up, outcome_of};
+ghost use Rattle.rules_dhcp.specs.Leases.{at_moment, is_free, is_of, place_of, offered, reserve, not_reserved, freed, lend, replaced};
+ghost use Rattle.rules_dhcp.specs.Serving.{asked_place, discovered, is_for_another, wanted, lends, requested, given_up, outcome_of};
 
 use crate::leases::{at_moment, bound, can_have, freed, is_free, is_of, not_reserved, reserved};
-use dhcp_rules::{
+use net_octets::{Ip4, Mac};
+use rules_dhcp::{
     Answer, DECLINE, DISCOVER, INFORM, Lease, Message, Outcome, POOL, RELEASE, REQUEST,
 };
-use net_octets::{Ip4, Mac};
 use slirp_settings::SlirpConfig;
 
 /// How many milliseconds an address that a client declined is kept from use.

@@ -2,14 +2,14 @@
 use Rattle.std.proofs.Common.{◌≡◌, ℕ, ◌+◌, ◌<◌, not, nat_le, Bool, true, false, cond, All, List, [], ◌∷◌, ◌++◌, length, if◌then◌else◌, refl, sym, subst, arith}
 use Rattle.std.proofs.lemmas.List.Elements.{All-cons, All-nil, All-head, All-tail}
 use Rattle.std.proofs.lemmas.List.Sorted.{All-permutation}
-use Rattle.udp_rules.specs.declared.Reply.{Reply}
+use Rattle.rules_udp.specs.declared.Reply.{Reply}
 use Rattle.world_face.specs.Journal.{Entry, Close, filled_got}
 use Rattle.world_face.specs.declared.Got.{Got}
 use Rattle.world_face.specs.declared.Got.TheVariants.{From, NotYet, Failed}
-use Rattle.dns_rules.specs.Questions.{asked_from, heard_at, is_answered, is_numbered, moved_last, most_questions, numbers, without}
+use Rattle.rules_dns.specs.Questions.{asked_from, heard_at, is_answered, is_numbered, moved_last, most_questions, numbers, without}
 use Rattle.dns_relay.specs.Relaying.{Asked, BySocket, ByNewSocket, ClosesLeast, Hears, OnNone, OnQuestion, Opens, OpensFor, OpensNone, Relays, Ticks, list_after, question_of, with_room}
 use Rattle.dns_relay.specs.State.{RelayState}
-use Rattle.dns_rules.specs.declared.Question.{Question}
+use Rattle.rules_dns.specs.declared.Question.{Question}
 use Rattle.dns_relay.proofs.Numbering.{moved_numbers}
 
 abbrev pub AreBelow : ℕ → List Question → Type 0

@@ -7,10 +7,10 @@ use Rattle.idle_sockets.specs.declared.IdleSocket.{IdleSocket}
 use Rattle.idle_sockets.specs.Closing.{calls_for_room as calls_for_room_of, with_room as with_room_of}
 use Rattle.idle_sockets.proofs.Mapping.{calls_mapped, find_mapped, room_mapped}
 use Rattle.dns_relay.specs.Kept.{as_question, questions}
-use Rattle.dns_rules.specs.Questions.{is_numbered as is_question, is_of as is_asked, moved_last as question_moved, numbered as question_numbered, numbers as question_numbers}
-use Rattle.dns_rules.specs.Questions.{socket_of as question_socket}
+use Rattle.rules_dns.specs.Questions.{is_numbered as is_question, is_of as is_asked, moved_last as question_moved, numbered as question_numbered, numbers as question_numbers}
+use Rattle.rules_dns.specs.Questions.{socket_of as question_socket}
 use Rattle.dns_relay.specs.Relaying.{calls_for_room, with_room}
-use Rattle.dns_rules.specs.declared.Question.{Question}
+use Rattle.rules_dns.specs.declared.Question.{Question}
 
 pub moved : (change : IdleSocket → IdleSocket) (changes : Question → Question) → ((s : IdleSocket) → as_question (change s) ≡ changes (as_question s)) → (n : ℕ) (sockets : List IdleSocket)
     → questions (moved_last change n sockets) ≡ question_moved changes n (questions sockets)

@@ -3,8 +3,8 @@ use Rattle.std.proofs.Common.{◌≡◌, ℕ, Bool, true, false, cond, List, [],
 use Rattle.std.specs.List.Sorted.{IsPermutation}
 use Rattle.std.proofs.lemmas.List.{map-append}
 use Rattle.std.proofs.lemmas.List.Sorted.{IsPermutation-append_comm, IsPermutation-append_right, IsPermutation-refl}
-use Rattle.dns_rules.specs.Questions.{is_numbered, moved_last, numbers}
-use Rattle.dns_rules.specs.declared.Question.{Question}
+use Rattle.rules_dns.specs.Questions.{is_numbered, moved_last, numbers}
+use Rattle.rules_dns.specs.declared.Question.{Question}
 
 -- they are the same, in another order
 pub moved_numbers : (change : Question → Question) → ((q : Question) → (change q).number ≡ q.number) → (number : ℕ) (list : List Question)

@@ -1,8 +1,8 @@
 -- A port without a question of an identifier has none where another was closed.
 use Rattle.std.proofs.Common.{◌≡◌, ℕ, not, Bool, true, false, List, [], ◌∷◌, find, Some, None, option_map, if◌then◌else◌, refl, ◌∙◌, ap}
 use Rattle.net_octets.specs.declared.Endpoint.{Endpoint}
-use Rattle.dns_rules.specs.Questions.{is_numbered, is_of, socket_of, without}
-use Rattle.dns_rules.specs.declared.Question.{Question}
+use Rattle.rules_dns.specs.Questions.{is_numbered, is_of, socket_of, without}
+use Rattle.rules_dns.specs.declared.Question.{Question}
 
 pub still_none : (guest : Endpoint) (ident socket : ℕ) (list : List Question) → socket_of guest ident list ≡ None → socket_of guest ident (without socket list) ≡ None
 still_none guest ident socket [] none = none

@@ -3,7 +3,7 @@ use Rattle.std.specs.Prelude.{◌≡◌, ℕ, false, List, [], ◌∷◌, unwrap
 use Rattle.std.specs.Option.{option_map_or}
 use Rattle.slirp_settings.specs.Addresses.{Config, address}
 use Rattle.slirp_settings.specs.Classes.{is_loopback}
-use Rattle.udp_rules.specs.declared.Reply.{Reply}
+use Rattle.rules_udp.specs.declared.Reply.{Reply}
 use Rattle.world_face.specs.Journal.{Entry, UdpSend}
 use Rattle.world_face.specs.declared.Sent.{Sent}
 use Rattle.dns_relay.specs.Relaying.{Asked, told}

@@ -1,10 +1,10 @@
 // What is read of a message: the header's identifier, and whether it asks or answers (RFC 1035, 4.1.1).
 ghost use Rattle.std.specs.Prelude.{◌≡◌, ◌≤◌, length};
-ghost use Rattle.dns_rules.specs.Questions.{ident_in, is_answer, is_answered, is_question};
+ghost use Rattle.rules_dns.specs.Questions.{ident_in, is_answer, is_answered, is_question};
 
 use byteorder::{BigEndian, ByteOrder};
-use dns_rules::Question;
 use net_octets::Endpoint;
+use rules_dns::Question;
 
 /// The octets of a header.
 const HEAD: usize = 12;

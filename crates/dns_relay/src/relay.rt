@@ -7,15 +7,15 @@ ghost use Rattle.world_face.specs.Limits.{most_to_udp};
 ghost use Rattle.world_face.specs.Tells.{Makes};
 ghost use Rattle.dns_relay.specs.Asking.{asked_of, bind_for, SendsOn};
 ghost use Rattle.dns_relay.specs.Kept.{as_question};
-ghost use Rattle.dns_rules.specs.Questions.{is_over, is_question, most_questions, numbers, question_life, socket_of};
+ghost use Rattle.rules_dns.specs.Questions.{is_over, is_question, most_questions, numbers, question_life, socket_of};
 
 use crate::messages::{ident_in, is_answered};
-use dns_rules::{QUESTION_LIFE, Question};
 use idle_sockets::{IdleSocket, IdleSockets};
 use net_octets::{Endpoint, Ip4, Mac};
+use rules_dns::{QUESTION_LIFE, Question};
+use rules_udp::Reply;
 use slirp_settings::{NAMES_PORT, SlirpConfig};
 use std::marker::Model;
-use udp_rules::Reply;
 use world_face::{Got, Made, Sent, World};
 
 /// Why a destination can't be reached: the network can't (RFC 792).
@@ -56,9 +56,9 @@ impl Relay {
     ghost use Rattle.std.specs.Prelude.{ℕ, None, Option};
     ghost use Rattle.net_octets.specs.declared.Endpoint.{Endpoint as AnEndpoint};
     ghost use Rattle.net_octets.specs.declared.Mac.{Mac as AMac};
-    ghost use Rattle.udp_rules.specs.declared.Reply.TheVariants.{Datagram};
+    ghost use Rattle.rules_udp.specs.declared.Reply.TheVariants.{Datagram};
     ghost use Rattle.world_face.specs.declared.Got.TheVariants.{From};
-    ghost use Rattle.dns_rules.specs.Questions.{asked_from, ident_in, moved_last, numbered};
+    ghost use Rattle.rules_dns.specs.Questions.{asked_from, ident_in, moved_last, numbered};
     ghost use Rattle.dns_relay.specs.Relaying.{calls_after, list_after, passed, ClosesLeast, Hears, OpensFor, Relays, Ticks};
 
     /// No socket is open. Sockets will be opened at port 0, where the system chooses the port: at `outbound` where the settings have it, else at 0.0.0.0, every

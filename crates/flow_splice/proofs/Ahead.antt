@@ -25,11 +25,11 @@ use Rattle.tcp_connection.specs.declared.Stage.TheVariants as stage
 use Rattle.world_face.specs.Journal.{Entry}
 use Rattle.stream_netdev.specs.declared.Offered.{Offered}
 use Rattle.stream_netdev.specs.declared.Offered.TheVariants.{Taken, Blocked, Failed}
-use Rattle.flow_laws.specs.Settings.{Settings}
-use Rattle.halves_follow.proofs.Timers.{wait_low}
-use Rattle.flow_laws.specs.Event.{Story}
-use Rattle.connection_follows.specs.Holding.{is_calls, is_connects, is_live}
-use Rattle.connection_follows.specs.Sending.{is_rst}
+use Rattle.spec_flow.specs.Settings.{Settings}
+use Rattle.sim_halves.proofs.Timers.{wait_low}
+use Rattle.spec_flow.specs.Event.{Story}
+use Rattle.sim_connection.specs.Holding.{is_calls, is_connects, is_live}
+use Rattle.sim_connection.specs.Sending.{is_rst}
 use Rattle.flow_splice.specs.Ahead.{IsAhead, IsEarly, Waits}
 use Rattle.flow_splice.specs.Follows.{Follows, FollowsAt, IsOpen}
 use Rattle.flow_splice.specs.Hosts.{Sees, ends}

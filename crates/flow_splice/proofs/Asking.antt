@@ -11,12 +11,12 @@ use Rattle.stream_netdev.specs.Offers.{offered}
 use Rattle.stream_netdev.specs.State.{LinkState}
 use Rattle.stream_netdev.specs.declared.Offered.{Offered}
 use Rattle.stream_netdev.specs.declared.Offered.TheVariants.{Taken}
-use Rattle.flow_laws.specs.Settings.{Settings}
-use Rattle.flow_laws.specs.Event.{Accepts, AsksAddress, At, Connects, IsStory, Story, newest_moment}
-use Rattle.flow_laws.specs.Flow.{opened_at}
-use Rattle.halves_follow.specs.Resends.{Seeks, least_wait}
-use Rattle.halves_follow.proofs.InTime.{asks_again, asks_first}
-use Rattle.connection_follows.proofs.Asking.{asks_address}
+use Rattle.spec_flow.specs.Settings.{Settings}
+use Rattle.spec_flow.specs.Event.{Accepts, AsksAddress, At, Connects, IsStory, Story, newest_moment}
+use Rattle.spec_flow.specs.Flow.{opened_at}
+use Rattle.sim_halves.specs.Resends.{Seeks, least_wait}
+use Rattle.sim_halves.proofs.InTime.{asks_again, asks_first}
+use Rattle.sim_connection.proofs.Asking.{asks_address}
 use Rattle.flow_splice.specs.Asks.{AsksOnce}
 use Rattle.flow_splice.specs.Entries.{AreEvents, ident_after}
 use Rattle.flow_splice.specs.Follows.{Follows, FollowsAt, IsAsking, IsOpen}

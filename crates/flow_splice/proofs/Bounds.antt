@@ -10,19 +10,19 @@ use Rattle.tcp_connection.specs.Timing.{due_by as conn_due_by, due_of as conn_du
 use Rattle.tcp_connection.specs.declared.Owed.TheVariants.{Syn, SynAck}
 use Rattle.tcp_connection.specs.declared.Stage.{Stage}
 use Rattle.tcp_connection.specs.declared.Stage.TheVariants as stage
-use Rattle.flow_laws.specs.Settings.{Settings}
-use Rattle.flow_laws.specs.Event.{Story, newest_moment}
-use Rattle.flow_laws.specs.Flow.{has_connected, is_accepted, is_closed, is_connecting, is_under_way, opened_at, syn_is_out}
-use Rattle.flow_laws.specs.Close.{asked_at, is_deserted as is_deserted_by, last_at, patience_end as patience_by, times_asked}
-use Rattle.flow_laws.specs.Dutiful.{close_deadline, closing_moments, moment_if, resend_deadline, seeks_guest, waits_for_window, waits_since, wakes}
-use Rattle.flow_laws.specs.Lawful.{is_prompted}
-use Rattle.flow_laws.specs.Bounds.{IsBy, IsFrom}
-use Rattle.halves_follow.proofs.InTime.{not_before, seeks_none}
-use Rattle.halves_follow.proofs.Moments.{by_both}
-use Rattle.connection_follows.specs.Holding.{is_calls, is_connects, is_live}
-use Rattle.connection_follows.proofs.Bounds.{by_window, from_first, from_if, from_second, opening_by, opening_from, synchronized_by, synchronized_from}
-use Rattle.connection_follows.proofs.Settling.{no_window, not_expired, watched_by}
-use Rattle.connection_follows.proofs.Watching.{opening_is, syn_under_way}
+use Rattle.spec_flow.specs.Settings.{Settings}
+use Rattle.spec_flow.specs.Event.{Story, newest_moment}
+use Rattle.spec_flow.specs.Flow.{has_connected, is_accepted, is_closed, is_connecting, is_under_way, opened_at, syn_is_out}
+use Rattle.spec_flow.specs.Close.{asked_at, is_deserted as is_deserted_by, last_at, patience_end as patience_by, times_asked}
+use Rattle.spec_flow.specs.Dutiful.{close_deadline, closing_moments, moment_if, resend_deadline, seeks_guest, waits_for_window, waits_since, wakes}
+use Rattle.spec_flow.specs.Lawful.{is_prompted}
+use Rattle.spec_flow.specs.Bounds.{IsBy, IsFrom}
+use Rattle.sim_halves.proofs.InTime.{not_before, seeks_none}
+use Rattle.sim_halves.proofs.Moments.{by_both}
+use Rattle.sim_connection.specs.Holding.{is_calls, is_connects, is_live}
+use Rattle.sim_connection.proofs.Bounds.{by_window, from_first, from_if, from_second, opening_by, opening_from, synchronized_by, synchronized_from}
+use Rattle.sim_connection.proofs.Settling.{no_window, not_expired, watched_by}
+use Rattle.sim_connection.proofs.Watching.{opening_is, syn_under_way}
 use Rattle.flow_splice.specs.Follows.{Follows, FollowsAt, IsAsking, IsOpen}
 use Rattle.flow_splice.specs.Sends.{IsClear, IsClearBy, asks_now}
 use Rattle.flow_splice.specs.Splice.{Splice, is_in_use, is_open}

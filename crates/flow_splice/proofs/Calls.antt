@@ -3,7 +3,7 @@ use Rattle.std.proofs.Common.{refl, ◌≡◌, List, [], ◌∷◌, ◌++◌, Bo
 use Rattle.world_face.specs.Journal.{Allowed, Close, Connected, Entry, TcpEnd, TcpRead, TcpWrite}
 use Rattle.world_face.specs.Tells.{Answers, Makes, Telling}
 use Rattle.world_face.proofs.Telling.{makes_next, makes_one, makes_then}
-use Rattle.connection_follows.specs.Holding.{is_connects}
+use Rattle.sim_connection.specs.Holding.{is_connects}
 use Rattle.flow_splice.specs.Hosts.{ReadsOn, ServesReport, is_for_reading, is_for_writing, reads_or_shuts, serves_write, some_is}
 use Rattle.flow_splice.specs.Splice.{Splice}
 use Rattle.flow_splice.specs.Wants.{reads, writes}

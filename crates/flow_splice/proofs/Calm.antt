@@ -14,15 +14,15 @@ use Rattle.tcp_connection.specs.declared.Stage.{Stage}
 use Rattle.tcp_connection.specs.declared.Stage.TheVariants as stage
 use Rattle.tcp_connection.specs.declared.Verdict.{Verdict}
 use Rattle.tcp_connection.specs.declared.Verdict.TheVariants.{Resets}
-use Rattle.flow_laws.specs.Settings.{Settings}
-use Rattle.flow_laws.specs.Event.{Arrives, At, Segment, Story}
-use Rattle.flow_laws.specs.Guest.{ack_is_due, ackd}
-use Rattle.flow_laws.specs.Flow.{guest, next_number as number_after, our_number, their_number}
-use Rattle.flow_laws.specs.Close.{follows_reset, is_fatal}
-use Rattle.flow_laws.proofs.Sides.{their_first}
-use Rattle.halves_follow.proofs.Due.{none_due}
-use Rattle.halves_follow.proofs.Owing.{not_fatal}
-use Rattle.connection_follows.specs.Holding.{Holds, is_calls}
+use Rattle.spec_flow.specs.Settings.{Settings}
+use Rattle.spec_flow.specs.Event.{Arrives, At, Segment, Story}
+use Rattle.spec_flow.specs.Guest.{ack_is_due, ackd}
+use Rattle.spec_flow.specs.Flow.{guest, next_number as number_after, our_number, their_number}
+use Rattle.spec_flow.specs.Close.{follows_reset, is_fatal}
+use Rattle.spec_flow.proofs.Sides.{their_first}
+use Rattle.sim_halves.proofs.Due.{none_due}
+use Rattle.sim_halves.proofs.Owing.{not_fatal}
+use Rattle.sim_connection.specs.Holding.{Holds, is_calls}
 
 -- a close that comes next doesn't follow a fatal reset, whether it comes directly or not
 pub calm_either : (past : Story) (directly : Bool) → follows_reset true past ≡ false → follows_reset directly past ≡ false

@@ -12,8 +12,8 @@ use Rattle.tcp_connection.specs.Segments.{seen_of, settled, settling, up_after_s
 use Rattle.tcp_connection.specs.declared.Change.TheVariants.{Nothing}
 use Rattle.tcp_connection.specs.declared.Verdict.{Verdict}
 use Rattle.tcp_connection.specs.declared.Verdict.TheVariants.{Ignored, Resets, Unacceptable, Repeats, Challenged, Greets, Heeded}
-use Rattle.connection_follows.specs.Holding.{is_live}
-use Rattle.connection_follows.proofs.Coming.{sized}
+use Rattle.sim_connection.specs.Holding.{is_live}
+use Rattle.sim_connection.proofs.Coming.{sized}
 use Rattle.flow_splice.specs.Guests.{heard}
 use Rattle.flow_splice.specs.Hosts.{IsAsOld, Sees, ends}
 use Rattle.flow_splice.specs.Splice.{Splice}

@@ -5,17 +5,17 @@ use Rattle.sock_buffers.specs.Downward.{Downward}
 use Rattle.tcp_transmit.specs.Transmission.{octets_read}
 use Rattle.tcp_connection.specs.Connection.{is_opening}
 use Rattle.tcp_connection.specs.Hosts.{is_open as host_is_open}
-use Rattle.connection_follows.specs.Holding.{is_connects}
-use Rattle.flow_laws.specs.Settings.{Settings}
-use Rattle.flow_laws.specs.Event.{Story}
-use Rattle.flow_laws.specs.Flow.{has_connected, host, is_accepted, is_closed, opened_at}
-use Rattle.flow_laws.specs.Guest.{is_empty}
-use Rattle.flow_laws.specs.Host.{answered, got, got_end}
-use Rattle.flow_laws.specs.Close.{is_deserted as is_deserted_by, last_at, patience_end as patience_by, syn_is_due}
-use Rattle.flow_laws.specs.Lawful.{is_prompted}
-use Rattle.flow_laws.specs.Dutiful.{close_deadline, moment_if, wakes}
-use Rattle.flow_laws.specs.Bounds.{IsBy, IsFrom}
-use Rattle.connection_follows.proofs.Deserting.{deserted_is, deserted_only, patience_from}
+use Rattle.sim_connection.specs.Holding.{is_connects}
+use Rattle.spec_flow.specs.Settings.{Settings}
+use Rattle.spec_flow.specs.Event.{Story}
+use Rattle.spec_flow.specs.Flow.{has_connected, host, is_accepted, is_closed, opened_at}
+use Rattle.spec_flow.specs.Guest.{is_empty}
+use Rattle.spec_flow.specs.Host.{answered, got, got_end}
+use Rattle.spec_flow.specs.Close.{is_deserted as is_deserted_by, last_at, patience_end as patience_by, syn_is_due}
+use Rattle.spec_flow.specs.Lawful.{is_prompted}
+use Rattle.spec_flow.specs.Dutiful.{close_deadline, moment_if, wakes}
+use Rattle.spec_flow.specs.Bounds.{IsBy, IsFrom}
+use Rattle.sim_connection.proofs.Deserting.{deserted_is, deserted_only, patience_from}
 use Rattle.flow_splice.specs.Follows.{Follows, IsOpen}
 use Rattle.flow_splice.specs.Splice.{Splice, is_open}
 use Rattle.flow_splice.specs.Wants.{HasTime, connect_end, is_deserted, left_at, patience_end, reads_none, sooner}

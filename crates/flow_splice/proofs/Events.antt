@@ -3,10 +3,10 @@ use Rattle.std.proofs.Common.{refl, ◌≡◌, ℕ, ◌+◌, List, [], ◌∷◌
 use Rattle.net_octets.specs.declared.Mac.{Mac}
 use Rattle.world_face.specs.Journal.{Entry, LinkWrite, Connected, TcpRead, TcpWrite, TcpEnd, Close, count_of}
 use Rattle.world_face.specs.declared.Io.{Io}
-use Rattle.flow_laws.specs.Settings.{Settings}
-use Rattle.flow_laws.specs.Event.{Segment, Event, Departs, AsksAddress, At, Story}
-use Rattle.flow_laws.specs.Dutiful.{read_size}
-use Rattle.flow_laws.specs.Lawful.{HasOwnCause}
+use Rattle.spec_flow.specs.Settings.{Settings}
+use Rattle.spec_flow.specs.Event.{Segment, Event, Departs, AsksAddress, At, Story}
+use Rattle.spec_flow.specs.Dutiful.{read_size}
+use Rattle.spec_flow.specs.Lawful.{HasOwnCause}
 use Rattle.flow_splice.specs.Entries.{Adds, AreEvents, OffersRequest, OffersSegment, datagrams, ident_after, went}
 use Rattle.flow_splice.specs.Follows.{Follows}
 use Rattle.flow_splice.specs.Serves.{GoesOn, GoesOnYet, TicksOn}

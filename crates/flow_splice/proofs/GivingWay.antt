@@ -3,17 +3,17 @@ use Rattle.std.proofs.Common.{refl, ◌≡◌, ℕ, ◌+◌, ◌-◌, ◌^◌, �
 use Rattle.std.proofs.lemmas.Bool.Decides.{nat_tests}
 use Rattle.tcp_transmit.specs.Transmission.{octets_read}
 use Rattle.tcp_connection.specs.Hosts.{is_open as host_is_open, reset}
-use Rattle.flow_laws.specs.Settings.{Settings}
-use Rattle.flow_laws.specs.Event.{At, Closes, Story}
-use Rattle.flow_laws.specs.Flow.{guest, host, is_closed, is_connecting}
-use Rattle.flow_laws.specs.Guest.{is_empty, written}
-use Rattle.flow_laws.specs.Host.{got, got_end}
-use Rattle.flow_laws.specs.Close.{follows_reset, host_was_ended, is_short as is_short_by, last_at, may_give_way, our_fin_is_acked, quiet_time as quiet_time_by}
-use Rattle.halves_follow.proofs.Rests.{our_fin}
-use Rattle.connection_follows.specs.Holding.{is_connects}
-use Rattle.connection_follows.specs.Seen.{outward_of}
-use Rattle.connection_follows.proofs.Causes.{way_closes}
-use Rattle.connection_follows.proofs.Deserting.{empty_is, end_is_got, got_is, written_is}
+use Rattle.spec_flow.specs.Settings.{Settings}
+use Rattle.spec_flow.specs.Event.{At, Closes, Story}
+use Rattle.spec_flow.specs.Flow.{guest, host, is_closed, is_connecting}
+use Rattle.spec_flow.specs.Guest.{is_empty, written}
+use Rattle.spec_flow.specs.Host.{got, got_end}
+use Rattle.spec_flow.specs.Close.{follows_reset, host_was_ended, is_short as is_short_by, last_at, may_give_way, our_fin_is_acked, quiet_time as quiet_time_by}
+use Rattle.sim_halves.proofs.Rests.{our_fin}
+use Rattle.sim_connection.specs.Holding.{is_connects}
+use Rattle.sim_connection.specs.Seen.{outward_of}
+use Rattle.sim_connection.proofs.Causes.{way_closes}
+use Rattle.sim_connection.proofs.Deserting.{empty_is, end_is_got, got_is, written_is}
 use Rattle.flow_splice.specs.Follows.{Follows, IsOpen}
 use Rattle.flow_splice.specs.Splice.{Splice, closed, is_in_use, is_open}
 use Rattle.flow_splice.specs.Wants.{gives_way_at, is_short, quiet_time, reads_none}

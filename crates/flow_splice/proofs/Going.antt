@@ -24,16 +24,16 @@ use Rattle.tcp_connection.specs.declared.Owed.{Owed}
 use Rattle.tcp_connection.specs.declared.Owed.TheVariants.{Syn, SynAck, Data, Ack, Reset}
 use Rattle.tcp_connection.specs.declared.Stage.{Stage}
 use Rattle.tcp_connection.specs.declared.Stage.TheVariants as stage
-use Rattle.flow_laws.specs.Settings.{Settings}
-use Rattle.flow_laws.specs.Event.{At, Closes, Departs, Segment, Story}
-use Rattle.flow_laws.specs.Lawful.{HasOwnCause, IsLawful}
-use Rattle.flow_laws.specs.Dutiful.{IsDutiful}
-use Rattle.connection_follows.specs.Holding.{Holds, is_live}
-use Rattle.connection_follows.specs.Over.{IsOver, IsResting, is_resets}
-use Rattle.connection_follows.specs.Sending.{is_rst, is_syn, segment_out}
-use Rattle.connection_follows.proofs.Departing.{departs}
-use Rattle.connection_follows.proofs.Owing.{reset_goes}
-use Rattle.connection_follows.proofs.Resting.{ack_goes}
+use Rattle.spec_flow.specs.Settings.{Settings}
+use Rattle.spec_flow.specs.Event.{At, Closes, Departs, Segment, Story}
+use Rattle.spec_flow.specs.Lawful.{HasOwnCause, IsLawful}
+use Rattle.spec_flow.specs.Dutiful.{IsDutiful}
+use Rattle.sim_connection.specs.Holding.{Holds, is_live}
+use Rattle.sim_connection.specs.Over.{IsOver, IsResting, is_resets}
+use Rattle.sim_connection.specs.Sending.{is_rst, is_syn, segment_out}
+use Rattle.sim_connection.proofs.Departing.{departs}
+use Rattle.sim_connection.proofs.Owing.{reset_goes}
+use Rattle.sim_connection.proofs.Resting.{ack_goes}
 use Rattle.flow_splice.specs.Entries.{AreEvents, ident_after, went}
 use Rattle.flow_splice.specs.Follows.{Follows, FollowsAt, IsAtRest, IsOpen, IsOwing}
 use Rattle.flow_splice.specs.Frames.{IsSized, segment_frame}

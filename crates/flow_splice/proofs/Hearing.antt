@@ -22,24 +22,24 @@ use Rattle.tcp_connection.specs.declared.Stage.TheVariants as stage
 use Rattle.tcp_connection.specs.declared.Verdict.{Verdict}
 use Rattle.tcp_connection.specs.declared.Verdict.TheVariants.{Resets, Greets, Heeded}
 use Rattle.world_face.specs.Journal.{Close, Entry}
-use Rattle.flow_laws.specs.Settings.{Settings}
-use Rattle.flow_laws.specs.Lawful.{HasOwnCause}
-use Rattle.flow_laws.specs.Event.{Arrives, At, Closes, Segment, Story}
-use Rattle.flow_laws.specs.Close.{follows_reset}
-use Rattle.flow_laws.specs.Flow.{greets, host}
-use Rattle.flow_laws.specs.Host.{our_place}
-use Rattle.halves_follow.specs.Sends.{Keeps}
-use Rattle.halves_follow.proofs.SendSteps.{place_of_number}
-use Rattle.connection_follows.specs.Holding.{Holds, is_calls}
-use Rattle.connection_follows.specs.Seen.{outward_of, segment_of}
-use Rattle.connection_follows.proofs.Arriving.{Means, is_greeted, is_heard, is_opened, means, resets, rests, rests_holds, turns_away, waits}
-use Rattle.connection_follows.proofs.Causes.{called_reset_cause, called_reset_closes, next_reset_cause, next_reset_closes}
-use Rattle.connection_follows.proofs.Confirming.{place_same}
-use Rattle.connection_follows.proofs.Departing.{unsettled}
-use Rattle.connection_follows.proofs.Greeting.{waits_on}
-use Rattle.connection_follows.proofs.Hearing.{seen_as}
-use Rattle.connection_follows.proofs.Heeding.{congested_feeds, congested_same, heeds_none, heeds_now, opens_now}
-use Rattle.connection_follows.proofs.Welcoming.{greets_alone, greets_and_opens}
+use Rattle.spec_flow.specs.Settings.{Settings}
+use Rattle.spec_flow.specs.Lawful.{HasOwnCause}
+use Rattle.spec_flow.specs.Event.{Arrives, At, Closes, Segment, Story}
+use Rattle.spec_flow.specs.Close.{follows_reset}
+use Rattle.spec_flow.specs.Flow.{greets, host}
+use Rattle.spec_flow.specs.Host.{our_place}
+use Rattle.sim_halves.specs.Sends.{Keeps}
+use Rattle.sim_halves.proofs.SendSteps.{place_of_number}
+use Rattle.sim_connection.specs.Holding.{Holds, is_calls}
+use Rattle.sim_connection.specs.Seen.{outward_of, segment_of}
+use Rattle.sim_connection.proofs.Arriving.{Means, is_greeted, is_heard, is_opened, means, resets, rests, rests_holds, turns_away, waits}
+use Rattle.sim_connection.proofs.Causes.{called_reset_cause, called_reset_closes, next_reset_cause, next_reset_closes}
+use Rattle.sim_connection.proofs.Confirming.{place_same}
+use Rattle.sim_connection.proofs.Departing.{unsettled}
+use Rattle.sim_connection.proofs.Greeting.{waits_on}
+use Rattle.sim_connection.proofs.Hearing.{seen_as}
+use Rattle.sim_connection.proofs.Heeding.{congested_feeds, congested_same, heeds_none, heeds_now, opens_now}
+use Rattle.sim_connection.proofs.Welcoming.{greets_alone, greets_and_opens}
 use Rattle.flow_splice.specs.Entries.{AreEvents}
 use Rattle.flow_splice.specs.Follows.{Follows, IsOpen}
 use Rattle.flow_splice.specs.Guests.{Hears, heard}

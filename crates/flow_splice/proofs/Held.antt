@@ -1,9 +1,9 @@
 -- What is held of a guest's octets goes on with what the host took.
 use Rattle.std.proofs.Common.{refl, ◌≡◌, ℕ, zero, suc, ◌+◌, ◌≤◌, List, [], ◌∷◌, ◌++◌, length, take, drop, min, true, arith, ap, sym, ◌∙◌, append_assoc, length-append}
-use Rattle.flow_laws.specs.Settings.{Settings}
-use Rattle.flow_laws.specs.Event.{Story}
-use Rattle.flow_laws.specs.Flow.{guest}
-use Rattle.flow_laws.specs.Guest.{Honest, front, written}
+use Rattle.spec_flow.specs.Settings.{Settings}
+use Rattle.spec_flow.specs.Event.{Story}
+use Rattle.spec_flow.specs.Flow.{guest}
+use Rattle.spec_flow.specs.Guest.{Honest, front, written}
 use Rattle.flow_splice.specs.Follows.{Follows, IsOpen}
 use Rattle.flow_splice.specs.Held.{IsFront}
 use Rattle.flow_splice.specs.Splice.{Splice, is_open}

@@ -14,17 +14,17 @@ use Rattle.tcp_connection.specs.declared.Change.TheVariants.{Nothing, Finished}
 use Rattle.tcp_connection.specs.declared.Stage.{Stage}
 use Rattle.tcp_connection.specs.declared.Stage.TheVariants as stage
 use Rattle.tcp_transmit.specs.Timing.{watched}
-use Rattle.flow_laws.specs.Settings.{Settings}
-use Rattle.flow_laws.specs.Event.{At, Closes, Connected as HostConnected, ConnectsYet, ConnectFails, Writes, WriteFails, Reads, ReadsEnd, ReadFails, EndsHost, EndFails, Story}
-use Rattle.flow_laws.specs.Dutiful.{read_size}
-use Rattle.flow_laws.specs.Guest.{is_empty}
-use Rattle.connection_follows.specs.Holding.{Holds, is_calls, is_connects, without}
-use Rattle.connection_follows.proofs.Asking.{connects_now, connects_yet}
-use Rattle.connection_follows.proofs.Causes.{end_fails_closes, failed_cause, read_fails_closes, refused_closes, write_fails_closes}
-use Rattle.connection_follows.proofs.Departing.{unsettled}
-use Rattle.connection_follows.proofs.Reading.{reads, reads_end, unsent_end}
-use Rattle.connection_follows.proofs.Wanting.{asks_for_all_room}
-use Rattle.connection_follows.proofs.Writing.{ends_host, writes}
+use Rattle.spec_flow.specs.Settings.{Settings}
+use Rattle.spec_flow.specs.Event.{At, Closes, Connected as HostConnected, ConnectsYet, ConnectFails, Writes, WriteFails, Reads, ReadsEnd, ReadFails, EndsHost, EndFails, Story}
+use Rattle.spec_flow.specs.Dutiful.{read_size}
+use Rattle.spec_flow.specs.Guest.{is_empty}
+use Rattle.sim_connection.specs.Holding.{Holds, is_calls, is_connects, without}
+use Rattle.sim_connection.proofs.Asking.{connects_now, connects_yet}
+use Rattle.sim_connection.proofs.Causes.{end_fails_closes, failed_cause, read_fails_closes, refused_closes, write_fails_closes}
+use Rattle.sim_connection.proofs.Departing.{unsettled}
+use Rattle.sim_connection.proofs.Reading.{reads, reads_end, unsent_end}
+use Rattle.sim_connection.proofs.Wanting.{asks_for_all_room}
+use Rattle.sim_connection.proofs.Writing.{ends_host, writes}
 use Rattle.flow_splice.specs.Follows.{Follows, IsOpen}
 use Rattle.flow_splice.specs.Hosts.{Sees, ends as ends_by, given, gives_octets, reads_or_shuts, some_is}
 use Rattle.flow_splice.specs.Serves.{GoesOn}

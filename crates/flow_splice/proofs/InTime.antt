@@ -18,9 +18,9 @@ use Rattle.tcp_connection.specs.declared.Owed.TheVariants.{Syn, SynAck, Data, Ac
 use Rattle.tcp_connection.specs.declared.Stage.{Stage}
 use Rattle.tcp_connection.specs.declared.Stage.TheVariants as stage
 use Rattle.world_face.specs.Journal.{Entry}
-use Rattle.flow_laws.specs.Guest.{is_empty}
-use Rattle.connection_follows.specs.Holding.{is_connects, is_live}
-use Rattle.connection_follows.specs.Sending.{is_rst}
+use Rattle.spec_flow.specs.Guest.{is_empty}
+use Rattle.sim_connection.specs.Holding.{is_connects, is_live}
+use Rattle.sim_connection.specs.Sending.{is_rst}
 use Rattle.flow_splice.specs.Hosts.{IsRead, Sees, conn_given, down_given, ends, read_by}
 use Rattle.flow_splice.specs.Sends.{GoesOut, Marks, asked, learnt, went_out}
 use Rattle.flow_splice.specs.Splice.{Splice, closed, is_open}

@@ -19,7 +19,7 @@ use Rattle.tcp_connection.specs.declared.Owed.{Owed}
 use Rattle.tcp_connection.specs.declared.Owed.TheVariants.{Syn, SynAck, Data, Ack, Reset}
 use Rattle.tcp_connection.specs.declared.Stage.{Stage}
 use Rattle.tcp_connection.specs.declared.Stage.TheVariants as stage
-use Rattle.connection_follows.proofs.Pieces.{some_numbers}
+use Rattle.sim_connection.proofs.Pieces.{some_numbers}
 use Rattle.flow_splice.specs.Left.{count_if, left_by}
 
 -- where both ends passed no more is left

@@ -12,8 +12,8 @@ use Rattle.stream_netdev.specs.declared.Offered.TheVariants.{Taken, Blocked, Fai
 use Rattle.tcp_connection.specs.Connection.{Connection, HasBuffers}
 use Rattle.tcp_connection.specs.Owing.{after_gone, change_gone, owed_of}
 use Rattle.tcp_connection.specs.declared.Owed.{Owed}
-use Rattle.flow_laws.specs.Event.{Story}
-use Rattle.connection_follows.specs.Sending.{is_rst}
+use Rattle.spec_flow.specs.Event.{Story}
+use Rattle.sim_connection.specs.Sending.{is_rst}
 use Rattle.flow_splice.specs.Entries.{AreEvents, ident_after}
 use Rattle.flow_splice.specs.Follows.{Follows}
 use Rattle.flow_splice.specs.Hosts.{IsAsOld, Sees, ends}

@@ -4,14 +4,14 @@ use Rattle.sock_buffers.specs.Downward.{Downward}
 use Rattle.sock_buffers.specs.Upward.{Upward}
 use Rattle.tcp_connection.specs.Connection.{Connection, has_gone}
 use Rattle.tcp_connection.specs.Segments.{is_done}
-use Rattle.flow_laws.specs.Settings.{Settings}
-use Rattle.flow_laws.specs.Event.{Accepts, At, Connects, Departs, Event, Opens, Story}
-use Rattle.flow_laws.specs.Flow.{add_if, is_accepted, newest_of, opened_at, syn_sendings}
-use Rattle.flow_laws.specs.Close.{follows_reset, host_was_ended, is_alive}
-use Rattle.connection_follows.specs.Holding.{Holds, is_calls}
-use Rattle.connection_follows.specs.Over.{IsOver, IsResting, Runs}
-use Rattle.connection_follows.proofs.Quiet.{holds_later}
-use Rattle.connection_follows.proofs.Seeking.{asked_before, seeks_on}
+use Rattle.spec_flow.specs.Settings.{Settings}
+use Rattle.spec_flow.specs.Event.{Accepts, At, Connects, Departs, Event, Opens, Story}
+use Rattle.spec_flow.specs.Flow.{add_if, is_accepted, newest_of, opened_at, syn_sendings}
+use Rattle.spec_flow.specs.Close.{follows_reset, host_was_ended, is_alive}
+use Rattle.sim_connection.specs.Holding.{Holds, is_calls}
+use Rattle.sim_connection.specs.Over.{IsOver, IsResting, Runs}
+use Rattle.sim_connection.proofs.Quiet.{holds_later}
+use Rattle.sim_connection.proofs.Seeking.{asked_before, seeks_on}
 use Rattle.flow_splice.specs.Follows.{Follows, FollowsAt, IsAsking, IsOpen}
 use Rattle.flow_splice.specs.Splice.{Splice, is_in_use, is_open}
 use Rattle.flow_splice.specs.declared.Place.{Place}

@@ -6,10 +6,10 @@ use Rattle.stream_netdev.specs.declared.Offered.{Offered}
 use Rattle.stream_netdev.specs.declared.Offered.TheVariants.{Taken, Blocked, Failed}
 use Rattle.tcp_connection.specs.declared.Stage.{Stage}
 use Rattle.tcp_connection.specs.declared.Stage.TheVariants as stage
-use Rattle.flow_laws.specs.Settings.{Settings}
-use Rattle.flow_laws.specs.Event.{Story}
-use Rattle.halves_follow.proofs.Timers.{wait_low}
-use Rattle.connection_follows.specs.Holding.{is_calls, is_connects}
+use Rattle.spec_flow.specs.Settings.{Settings}
+use Rattle.spec_flow.specs.Event.{Story}
+use Rattle.sim_halves.proofs.Timers.{wait_low}
+use Rattle.sim_connection.specs.Holding.{is_calls, is_connects}
 use Rattle.flow_splice.specs.Ahead.{HasPatience}
 use Rattle.flow_splice.specs.Follows.{IsOpen}
 use Rattle.flow_splice.specs.Hosts.{IsAsOld}

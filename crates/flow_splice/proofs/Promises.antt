@@ -13,24 +13,24 @@ use Rattle.tcp_connection.specs.Timing.{due_by}
 use Rattle.tcp_connection.specs.declared.Owed.TheVariants.{Syn, SynAck}
 use Rattle.tcp_connection.specs.declared.Stage.{Stage}
 use Rattle.tcp_connection.specs.declared.Stage.TheVariants as stage
-use Rattle.flow_laws.specs.Settings.{Settings}
-use Rattle.flow_laws.specs.Event.{Story}
-use Rattle.flow_laws.specs.Guest.{Honest, IsAcknowledged, Up, ackd, front, has_ended, written}
-use Rattle.flow_laws.specs.Host.{answered, got, got_end, acked}
-use Rattle.flow_laws.specs.Flow.{guest, has_connected, host, is_accepted, is_closed, is_connecting, opened_at}
-use Rattle.flow_laws.specs.Close.{host_was_ended, is_deserted as is_deserted_by, last_at, patience_end as patience_by, is_in_use as is_in_use_by_law, our_fin_is_acked, fin_was_acknowledged, owes_reset, rests_since}
-use Rattle.flow_laws.specs.Lawful.{IsLawful, IsPrefixOf, is_prompted}
-use Rattle.flow_laws.specs.Dutiful.{AreAhead, IsDutiful, MayWait, MayWaitToWrite, fin_is_answered, moment_if, must_wait_to_write, oldest_unheard, waits_to_read}
-use Rattle.halves_follow.specs.Settled.{IsSettledIf}
-use Rattle.halves_follow.proofs.Waiting.{settled_if}
-use Rattle.halves_follow.proofs.Moments.{both_ahead}
-use Rattle.halves_follow.proofs.Wanting.{acknowledged_few, begins_front}
-use Rattle.connection_follows.specs.Holding.{Holds, is_calls, is_connects, is_live}
-use Rattle.connection_follows.specs.Over.{is_resets}
-use Rattle.connection_follows.specs.Seen.{part_of}
-use Rattle.connection_follows.proofs.Seeking.{seeking_settled}
-use Rattle.connection_follows.proofs.Settling.{opening_settled, synchronized_settled}
-use Rattle.connection_follows.proofs.Wanting.{may_wait, may_write as may_write_by, must_write, patient_ahead, reads_where_room}
+use Rattle.spec_flow.specs.Settings.{Settings}
+use Rattle.spec_flow.specs.Event.{Story}
+use Rattle.spec_flow.specs.Guest.{Honest, IsAcknowledged, Up, ackd, front, has_ended, written}
+use Rattle.spec_flow.specs.Host.{answered, got, got_end, acked}
+use Rattle.spec_flow.specs.Flow.{guest, has_connected, host, is_accepted, is_closed, is_connecting, opened_at}
+use Rattle.spec_flow.specs.Close.{host_was_ended, is_deserted as is_deserted_by, last_at, patience_end as patience_by, is_in_use as is_in_use_by_law, our_fin_is_acked, fin_was_acknowledged, owes_reset, rests_since}
+use Rattle.spec_flow.specs.Lawful.{IsLawful, IsPrefixOf, is_prompted}
+use Rattle.spec_flow.specs.Dutiful.{AreAhead, IsDutiful, MayWait, MayWaitToWrite, fin_is_answered, moment_if, must_wait_to_write, oldest_unheard, waits_to_read}
+use Rattle.sim_halves.specs.Settled.{IsSettledIf}
+use Rattle.sim_halves.proofs.Waiting.{settled_if}
+use Rattle.sim_halves.proofs.Moments.{both_ahead}
+use Rattle.sim_halves.proofs.Wanting.{acknowledged_few, begins_front}
+use Rattle.sim_connection.specs.Holding.{Holds, is_calls, is_connects, is_live}
+use Rattle.sim_connection.specs.Over.{is_resets}
+use Rattle.sim_connection.specs.Seen.{part_of}
+use Rattle.sim_connection.proofs.Seeking.{seeking_settled}
+use Rattle.sim_connection.proofs.Settling.{opening_settled, synchronized_settled}
+use Rattle.sim_connection.proofs.Wanting.{may_wait, may_write as may_write_by, must_write, patient_ahead, reads_where_room}
 use Rattle.flow_splice.specs.Ahead.{IsAhead, IsTimely}
 use Rattle.flow_splice.specs.Follows.{Follows, FollowsAt, IsOpen}
 use Rattle.flow_splice.specs.Sends.{IsClear, IsClearBy, takes_part_at}
@@ -42,7 +42,7 @@ use Rattle.flow_splice.proofs.Deserted.{closed_deserts, has_time}
 use Rattle.flow_splice.proofs.Stages.{calls_opens, if_none, in_use, no_connecting, resends_none, takes}
 use Rattle.flow_splice.specs.declared.Place.{Place}
 use Rattle.flow_splice.specs.declared.Place.TheVariants.{Empty, InUse, Resting}
-use Rattle.connection_follows.proofs.Unanswered.{few_calls}
+use Rattle.sim_connection.proofs.Unanswered.{few_calls}
 
 -- ---- what was done
 

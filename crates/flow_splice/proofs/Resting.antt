@@ -9,21 +9,21 @@ use Rattle.tcp_segment.specs.Tcp.{Tcp}
 use Rattle.tcp_receive.specs.Received.{next_number}
 use Rattle.tcp_connection.specs.Connection.{Connection}
 use Rattle.tcp_connection.specs.Segments.{after_segment, down_after_segment, up_after_segment}
-use Rattle.flow_laws.specs.Settings.{Settings}
-use Rattle.flow_laws.specs.Lawful.{HasNumberThatCame}
-use Rattle.flow_laws.specs.Event.{Arrives, At, Segment, Story}
-use Rattle.flow_laws.specs.Flow.{confirms, greets, host, is_accepted, is_closed, our_number, push, syn_is_out, their_number, their_syn, guest, is_heeded, is_plain}
-use Rattle.flow_laws.specs.Guest.{ackd, Up, Acked, Came, HasCome, Honest, Known}
-use Rattle.flow_laws.specs.Host.{Confirmed, sent}
-use Rattle.flow_laws.specs.Flow.{guest}
-use Rattle.flow_laws.specs.Close.{ends_rest as ends_rest_of, is_owed_reset}
-use Rattle.flow_laws.specs.Flow.{next_number as number_after}
-use Rattle.flow_laws.specs.Dutiful.{MustClose}
-use Rattle.halves_follow.proofs.Rests.{rest_next}
-use Rattle.connection_follows.specs.Over.{IsOver, IsResting, is_resets}
-use Rattle.connection_follows.specs.Seen.{part_of, segment_of}
-use Rattle.connection_follows.proofs.Going.{longer}
-use Rattle.connection_follows.proofs.Resting.{rest_arrives}
+use Rattle.spec_flow.specs.Settings.{Settings}
+use Rattle.spec_flow.specs.Lawful.{HasNumberThatCame}
+use Rattle.spec_flow.specs.Event.{Arrives, At, Segment, Story}
+use Rattle.spec_flow.specs.Flow.{confirms, greets, host, is_accepted, is_closed, our_number, push, syn_is_out, their_number, their_syn, guest, is_heeded, is_plain}
+use Rattle.spec_flow.specs.Guest.{ackd, Up, Acked, Came, HasCome, Honest, Known}
+use Rattle.spec_flow.specs.Host.{Confirmed, sent}
+use Rattle.spec_flow.specs.Flow.{guest}
+use Rattle.spec_flow.specs.Close.{ends_rest as ends_rest_of, is_owed_reset}
+use Rattle.spec_flow.specs.Flow.{next_number as number_after}
+use Rattle.spec_flow.specs.Dutiful.{MustClose}
+use Rattle.sim_halves.proofs.Rests.{rest_next}
+use Rattle.sim_connection.specs.Over.{IsOver, IsResting, is_resets}
+use Rattle.sim_connection.specs.Seen.{part_of, segment_of}
+use Rattle.sim_connection.proofs.Going.{longer}
+use Rattle.sim_connection.proofs.Resting.{rest_arrives}
 use Rattle.flow_splice.specs.Follows.{Follows, FollowsAt, IsAtRest}
 use Rattle.flow_splice.specs.Guests.{Hears, ends_rest, heard, heard_at_rest, renews}
 use Rattle.flow_splice.specs.Hosts.{IsAsOld}

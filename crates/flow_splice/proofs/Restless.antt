@@ -5,14 +5,14 @@ use Rattle.sock_buffers.specs.Downward.{Downward}
 use Rattle.sock_buffers.specs.Upward.{Upward}
 use Rattle.tcp_receive.specs.Received.{next_number}
 use Rattle.tcp_connection.specs.Connection.{Connection}
-use Rattle.flow_laws.specs.Settings.{Settings}
-use Rattle.flow_laws.specs.Event.{Arrives, At, Closes, Departs, Segment, Story}
-use Rattle.flow_laws.specs.Flow.{is_accepted, is_closed, next_number as number_after, our_number, syn_is_out}
-use Rattle.flow_laws.specs.Close.{ends_rest, follows_reset, gives_up, must_part, waits_too_long, is_done, is_owed_reset, owes_reset, renewed, renews, rests_since}
-use Rattle.halves_follow.proofs.Resets.{reset_is_fatal, turning_away_is_fatal}
-use Rattle.halves_follow.proofs.Rests.{closes_for_good}
-use Rattle.connection_follows.specs.Holding.{Holds, is_calls}
-use Rattle.connection_follows.specs.Seen.{part_of}
+use Rattle.spec_flow.specs.Settings.{Settings}
+use Rattle.spec_flow.specs.Event.{Arrives, At, Closes, Departs, Segment, Story}
+use Rattle.spec_flow.specs.Flow.{is_accepted, is_closed, next_number as number_after, our_number, syn_is_out}
+use Rattle.spec_flow.specs.Close.{ends_rest, follows_reset, gives_up, must_part, waits_too_long, is_done, is_owed_reset, owes_reset, renewed, renews, rests_since}
+use Rattle.sim_halves.proofs.Resets.{reset_is_fatal, turning_away_is_fatal}
+use Rattle.sim_halves.proofs.Rests.{closes_for_good}
+use Rattle.sim_connection.specs.Holding.{Holds, is_calls}
+use Rattle.sim_connection.specs.Seen.{part_of}
 
 -- ---- a segment arrives
 

@@ -13,7 +13,7 @@ use Rattle.tcp_connection.specs.Owing.{after_gone, gone, head_of, owed_of}
 use Rattle.tcp_connection.specs.declared.Owed.{Owed}
 use Rattle.tcp_connection.specs.declared.Owed.TheVariants.{Syn, SynAck, Data, Ack, Reset}
 use Rattle.tcp_connection.proofs.Keeping.{data_owed, gone_has, settled_has}
-use Rattle.connection_follows.proofs.Pieces.{some_numbers}
+use Rattle.sim_connection.proofs.Pieces.{some_numbers}
 use Rattle.flow_splice.specs.Frames.{IsHeld, frame_length}
 
 -- ---- a piece fits a frame

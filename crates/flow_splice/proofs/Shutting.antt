@@ -9,18 +9,18 @@ use Rattle.tcp_connection.specs.Segments.{is_done, settled, settling}
 use Rattle.tcp_connection.specs.declared.Change.TheVariants.{Nothing, Finished}
 use Rattle.tcp_connection.specs.declared.Stage.{Stage}
 use Rattle.tcp_connection.specs.declared.Stage.TheVariants as stage
-use Rattle.flow_laws.specs.Settings.{Settings}
-use Rattle.flow_laws.specs.Event.{At, Closes, Story}
-use Rattle.flow_laws.specs.Host.{answered}
-use Rattle.flow_laws.specs.Flow.{host}
-use Rattle.flow_laws.specs.Lawful.{HasOwnCause}
-use Rattle.flow_laws.specs.Close.{is_done as is_done_by, newest_rst, rests_since}
-use Rattle.halves_follow.proofs.Owing.{no_reset, unanswered_not_done}
-use Rattle.halves_follow.proofs.Rests.{closes_to_rest}
-use Rattle.connection_follows.specs.Holding.{Holds, is_calls, is_live}
-use Rattle.connection_follows.specs.Over.{IsOver, IsResting, is_resets}
-use Rattle.connection_follows.specs.Seen.{part_of}
-use Rattle.connection_follows.proofs.Causes.{done_cause, done_goes, done_rests, settled_is}
+use Rattle.spec_flow.specs.Settings.{Settings}
+use Rattle.spec_flow.specs.Event.{At, Closes, Story}
+use Rattle.spec_flow.specs.Host.{answered}
+use Rattle.spec_flow.specs.Flow.{host}
+use Rattle.spec_flow.specs.Lawful.{HasOwnCause}
+use Rattle.spec_flow.specs.Close.{is_done as is_done_by, newest_rst, rests_since}
+use Rattle.sim_halves.proofs.Owing.{no_reset, unanswered_not_done}
+use Rattle.sim_halves.proofs.Rests.{closes_to_rest}
+use Rattle.sim_connection.specs.Holding.{Holds, is_calls, is_live}
+use Rattle.sim_connection.specs.Over.{IsOver, IsResting, is_resets}
+use Rattle.sim_connection.specs.Seen.{part_of}
+use Rattle.sim_connection.proofs.Causes.{done_cause, done_goes, done_rests, settled_is}
 use Rattle.flow_splice.specs.Hosts.{ends}
 use Rattle.flow_splice.specs.Follows.{Follows, FollowsAt, IsOpen}
 use Rattle.flow_splice.specs.Splice.{Splice, closed, is_in_use, is_open, place_after}

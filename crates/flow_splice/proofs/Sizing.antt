@@ -3,7 +3,7 @@ use Rattle.std.proofs.Common.{ℕ, ◌-◌, ◌<◌, ◌≤◌, ◌^◌, length,
 use Rattle.sock_buffers.specs.Downward.{Downward}
 use Rattle.tcp_connection.specs.declared.Owed.{Owed}
 use Rattle.tcp_connection.specs.declared.Owed.TheVariants.{Syn, SynAck, Data, Ack, Reset}
-use Rattle.connection_follows.specs.Sending.{carried, mss_in}
+use Rattle.sim_connection.specs.Sending.{carried, mss_in}
 use Rattle.flow_splice.specs.Frames.{IsHeld}
 
 pub mss_fits : (mru : ℕ) (what : Owed) → mru < 2 ^ 16 → IfSome (mss_in mru what) (λ (m : ℕ). m < 2 ^ 16)

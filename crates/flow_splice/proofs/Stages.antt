@@ -4,16 +4,16 @@ use Rattle.tcp_connection.specs.Connection.{is_opening}
 use Rattle.tcp_connection.specs.declared.Owed.{Owed}
 use Rattle.tcp_connection.specs.declared.Stage.{Stage}
 use Rattle.tcp_connection.specs.declared.Stage.TheVariants as stage
-use Rattle.flow_laws.specs.Event.{Story, newest_moment}
-use Rattle.flow_laws.specs.Close.{asked_at, times_asked}
-use Rattle.flow_laws.specs.Flow.{is_accepted, is_closed, is_under_way, syn_is_out, host}
-use Rattle.flow_laws.specs.Dutiful.{moment_if, resend_deadline, seeks_guest, waits_for_window, waits_since}
-use Rattle.connection_follows.specs.Holding.{is_calls, is_connects}
+use Rattle.spec_flow.specs.Event.{Story, newest_moment}
+use Rattle.spec_flow.specs.Close.{asked_at, times_asked}
+use Rattle.spec_flow.specs.Flow.{is_accepted, is_closed, is_under_way, syn_is_out, host}
+use Rattle.spec_flow.specs.Dutiful.{moment_if, resend_deadline, seeks_guest, waits_for_window, waits_since}
+use Rattle.sim_connection.specs.Holding.{is_calls, is_connects}
 use Rattle.flow_splice.specs.Sends.{takes_part_at}
 use Rattle.flow_splice.specs.Splice.{is_in_use}
 use Rattle.flow_splice.specs.declared.Place.{Place}
 use Rattle.flow_splice.specs.declared.Place.TheVariants.{Empty, InUse, Resting}
-use Rattle.flow_laws.specs.Host.{answered, owned, sent}
+use Rattle.spec_flow.specs.Host.{answered, owned, sent}
 
 -- of one that was closed nothing is under way, it doesn't connect, and no guest is called
 pub no_way : (a b : Bool) → b ≡ true → (a && not b) ≡ false

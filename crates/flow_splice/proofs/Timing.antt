@@ -5,7 +5,7 @@ use Rattle.std.proofs.lemmas.Bool.Decides.{nat_tests}
 use Rattle.retransmit.specs.Resending.{after_expired as resend_expired, due_of as resend_due, is_given_up}
 use Rattle.net_octets.specs.declared.Mac.{Mac}
 use Rattle.tcp_transmit.specs.Timing.{after_expired as transmission_expired}
-use Rattle.halves_follow.specs.Resends.{Seeks}
+use Rattle.sim_halves.specs.Resends.{Seeks}
 use Rattle.tcp_connection.specs.Connection.{Connection, HasBuffers, has_gone, is_opening}
 use Rattle.tcp_connection.specs.Hosts.{reset}
 use Rattle.tcp_connection.specs.Segments.{is_done}
@@ -14,22 +14,22 @@ use Rattle.tcp_connection.specs.declared.Change.TheVariants.{Nothing, Finished}
 use Rattle.tcp_connection.specs.declared.Stage.{Stage}
 use Rattle.tcp_connection.specs.declared.Stage.TheVariants as stage
 use Rattle.world_face.specs.Journal.{Close, Entry}
-use Rattle.flow_laws.specs.Settings.{Settings}
-use Rattle.flow_laws.specs.Lawful.{HasOwnCause}
-use Rattle.flow_laws.specs.Event.{At, Closes, Story}
-use Rattle.flow_laws.specs.Flow.{is_accepted, is_connecting, opened_at, syn_is_out}
-use Rattle.flow_laws.specs.Close.{connects_too_long, finds_no_guest, follows_reset, gives_up, is_deserted as is_deserted_by, patience_end as patience_by, waits_too_long}
-use Rattle.halves_follow.proofs.InTime.{not_found}
-use Rattle.connection_follows.specs.Holding.{Holds, is_calls, is_connects, is_live}
-use Rattle.connection_follows.proofs.Causes.{gives_up_closes, late_cause, late_closes, unfound_cause, unfound_closes}
-use Rattle.connection_follows.proofs.Ticking.{piece_expires, piece_spent, syn_expires, syn_spent}
+use Rattle.spec_flow.specs.Settings.{Settings}
+use Rattle.spec_flow.specs.Lawful.{HasOwnCause}
+use Rattle.spec_flow.specs.Event.{At, Closes, Story}
+use Rattle.spec_flow.specs.Flow.{is_accepted, is_connecting, opened_at, syn_is_out}
+use Rattle.spec_flow.specs.Close.{connects_too_long, finds_no_guest, follows_reset, gives_up, is_deserted as is_deserted_by, patience_end as patience_by, waits_too_long}
+use Rattle.sim_halves.proofs.InTime.{not_found}
+use Rattle.sim_connection.specs.Holding.{Holds, is_calls, is_connects, is_live}
+use Rattle.sim_connection.proofs.Causes.{gives_up_closes, late_cause, late_closes, unfound_cause, unfound_closes}
+use Rattle.sim_connection.proofs.Ticking.{piece_expires, piece_spent, syn_expires, syn_spent}
 use Rattle.flow_splice.specs.Entries.{AreEvents}
 use Rattle.flow_splice.specs.Follows.{Follows, IsAsking, IsOpen}
 use Rattle.flow_splice.specs.Hosts.{Sees, ends}
 use Rattle.flow_splice.specs.Serves.{GoesOnYet, Serves, TicksOn}
 use Rattle.flow_splice.specs.Splice.{Splice, closed, is_open}
 use Rattle.flow_splice.specs.Wants.{asks_after, connect_end, is_deserted, patience_end, seeks}
-use Rattle.connection_follows.proofs.Deserting.{deserted_is}
+use Rattle.sim_connection.proofs.Deserting.{deserted_is}
 use Rattle.flow_splice.proofs.Calm.{calm_either}
 use Rattle.flow_splice.proofs.Deserted.{deserted_parts}
 use Rattle.flow_splice.proofs.Opened.{open_follows, open_is, open_later}

@@ -9,12 +9,12 @@ use Rattle.world_face.specs.declared.Joined.{Joined}
 use Rattle.world_face.specs.declared.Joined.TheVariants.{Yes, NotYet as NotJoined, Failed as JoinFailed}
 use Rattle.world_face.specs.declared.Made.{Made}
 use Rattle.world_face.specs.declared.Made.TheVariants.{Done as MadeDone, Failed as MadeFailed}
-use Rattle.flow_laws.specs.Settings.{Settings}
-use Rattle.flow_laws.specs.Event.{Segment, Event, Departs, Connected as HostConnected, ConnectsYet, ConnectFails, Writes, WriteFails, Reads, ReadsEnd, ReadFails, EndsHost, EndFails}
-use Rattle.flow_laws.specs.Event.{AsksAddress, Closes, At, Story}
-use Rattle.flow_laws.specs.Flow.{is_accepted, is_closed, syn_is_out}
-use Rattle.flow_laws.specs.Lawful.{HasOwnCause, May, Send}
-use Rattle.flow_laws.specs.Dutiful.{Must, read_size}
+use Rattle.spec_flow.specs.Settings.{Settings}
+use Rattle.spec_flow.specs.Event.{Segment, Event, Departs, Connected as HostConnected, ConnectsYet, ConnectFails, Writes, WriteFails, Reads, ReadsEnd, ReadFails, EndsHost, EndFails}
+use Rattle.spec_flow.specs.Event.{AsksAddress, Closes, At, Story}
+use Rattle.spec_flow.specs.Flow.{is_accepted, is_closed, syn_is_out}
+use Rattle.spec_flow.specs.Lawful.{HasOwnCause, May, Send}
+use Rattle.spec_flow.specs.Dutiful.{Must, read_size}
 use Rattle.flow_splice.specs.Frames.{IsSized, request_frame, segment_frame}
 use Rattle.flow_splice.specs.Splice.{Face}
 

@@ -2,13 +2,13 @@
 use Rattle.std.specs.Prelude.{◌≡◌, ℕ, ◌<◌, ◌≤◌, Bool, true, false, None}
 use Rattle.tcp_connection.specs.Connection.{has_gone}
 use Rattle.tcp_connection.specs.Segments.{is_done}
-use Rattle.flow_laws.specs.Settings.{Settings}
-use Rattle.flow_laws.specs.Event.{Story}
-use Rattle.flow_laws.specs.Flow.{is_accepted, newest_of, opened_at, syn_sendings}
-use Rattle.flow_laws.specs.Close.{follows_reset, host_was_ended, last_at, rests_since}
-use Rattle.halves_follow.specs.Resends.{Seeks}
-use Rattle.connection_follows.specs.Holding.{Holds, is_calls}
-use Rattle.connection_follows.specs.Over.{IsOver, IsResting, is_resets}
+use Rattle.spec_flow.specs.Settings.{Settings}
+use Rattle.spec_flow.specs.Event.{Story}
+use Rattle.spec_flow.specs.Flow.{is_accepted, newest_of, opened_at, syn_sendings}
+use Rattle.spec_flow.specs.Close.{follows_reset, host_was_ended, last_at, rests_since}
+use Rattle.sim_halves.specs.Resends.{Seeks}
+use Rattle.sim_connection.specs.Holding.{Holds, is_calls}
+use Rattle.sim_connection.specs.Over.{IsOver, IsResting, is_resets}
 use Rattle.flow_splice.specs.Splice.{Splice}
 use Rattle.flow_splice.specs.declared.Place.{Place}
 use Rattle.flow_splice.specs.declared.Place.TheVariants.{Empty, InUse, Resting}

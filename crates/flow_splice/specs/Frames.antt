@@ -11,9 +11,9 @@ use Rattle.sock_buffers.specs.Downward.{Downward}
 use Rattle.tcp_connection.specs.declared.Head.{Head}
 use Rattle.tcp_connection.specs.declared.Owed.{Owed}
 use Rattle.tcp_connection.specs.declared.Owed.TheVariants.{Syn, SynAck, Data, Ack, Reset}
-use Rattle.flow_laws.specs.Event.{Segment}
-use Rattle.flow_laws.specs.Guest.{is_empty}
-use Rattle.connection_follows.specs.Sending.{carried, mss_in}
+use Rattle.spec_flow.specs.Event.{Segment}
+use Rattle.spec_flow.specs.Guest.{is_empty}
+use Rattle.sim_connection.specs.Sending.{carried, mss_in}
 use Rattle.flow_splice.specs.Splice.{Face}
 
 abbrev pub bit_if : Bool → ℕ → ℕ

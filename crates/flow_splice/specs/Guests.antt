@@ -8,10 +8,10 @@ use Rattle.tcp_connection.specs.Segments.{after_segment, change_at, down_after_s
 use Rattle.tcp_connection.specs.declared.Change.{Change}
 use Rattle.tcp_connection.specs.declared.Change.TheVariants.{Nothing, GuestReset, Finished, Unfit}
 use Rattle.world_face.specs.Journal.{Entry}
-use Rattle.flow_laws.specs.Settings.{Settings}
-use Rattle.flow_laws.specs.Event.{Arrives, At, Story}
+use Rattle.spec_flow.specs.Settings.{Settings}
+use Rattle.spec_flow.specs.Event.{Arrives, At, Story}
 use Rattle.seq_space.specs.Places.{is_ahead}
-use Rattle.connection_follows.specs.Seen.{segment_of}
+use Rattle.sim_connection.specs.Seen.{segment_of}
 use Rattle.flow_splice.specs.Follows.{Follows}
 use Rattle.flow_splice.specs.Serves.{Serves}
 use Rattle.flow_splice.specs.Splice.{Splice, is_open}

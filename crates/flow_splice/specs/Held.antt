@@ -1,8 +1,8 @@
 -- What is held of a guest's octets, against the story of its flow.
 use Rattle.std.specs.Prelude.{◌≡◌, ℕ, ◌-◌, ◌≤◌, List, length, take, drop, min}
-use Rattle.flow_laws.specs.Event.{Story}
-use Rattle.flow_laws.specs.Flow.{guest}
-use Rattle.flow_laws.specs.Guest.{IsAcknowledged, front, written}
+use Rattle.spec_flow.specs.Event.{Story}
+use Rattle.spec_flow.specs.Flow.{guest}
+use Rattle.spec_flow.specs.Guest.{IsAcknowledged, front, written}
 
 -- These octets, so many, are the guest's from the place on that the host took its octets to, up to those that were taken of it, or as many as there is room for.
 -- Taken is what was acknowledged at least, and no more than what came.

@@ -8,8 +8,8 @@ use Rattle.tcp_transmit.specs.Timing.{watched_over}
 use Rattle.world_face.specs.Journal.{Entry, Close, Connected, TcpRead, TcpWrite, TcpEnd}
 use Rattle.world_face.specs.declared.Io.{Io}
 use Rattle.world_face.specs.declared.Io.TheVariants.{Done, End, NotYet, Failed}
-use Rattle.flow_laws.specs.Guest.{is_empty}
-use Rattle.connection_follows.specs.Holding.{is_connects}
+use Rattle.spec_flow.specs.Guest.{is_empty}
+use Rattle.sim_connection.specs.Holding.{is_connects}
 use Rattle.flow_splice.specs.Splice.{Splice, closed, is_open}
 use Rattle.flow_splice.specs.Wants.{reads, writes}
 

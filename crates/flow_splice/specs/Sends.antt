@@ -9,13 +9,13 @@ use Rattle.stream_netdev.specs.declared.Offered.TheVariants.{Taken, Blocked, Fai
 use Rattle.tcp_connection.specs.Owing.{after_gone, change_gone, owed_of}
 use Rattle.tcp_connection.specs.declared.Owed.{Owed}
 use Rattle.tcp_connection.specs.declared.Owed.TheVariants.{Ack}
-use Rattle.flow_laws.specs.Settings.{Settings}
-use Rattle.flow_laws.specs.Event.{Story}
-use Rattle.connection_follows.specs.Sending.{is_rst, is_syn}
+use Rattle.spec_flow.specs.Settings.{Settings}
+use Rattle.spec_flow.specs.Event.{Story}
+use Rattle.sim_connection.specs.Sending.{is_rst, is_syn}
 use Rattle.flow_splice.specs.Hosts.{Sees, ends}
 use Rattle.flow_splice.specs.declared.Place.{Place}
 use Rattle.flow_splice.specs.declared.Place.TheVariants.{Empty, InUse, Resting}
-use Rattle.halves_follow.specs.Resends.{least_wait}
+use Rattle.sim_halves.specs.Resends.{least_wait}
 use Rattle.flow_splice.specs.Entries.{ident_after}
 use Rattle.flow_splice.specs.Follows.{Follows}
 use Rattle.flow_splice.specs.Serves.{Serves}

@@ -1,8 +1,8 @@
 -- What a call makes, and what follows then.
 use Rattle.std.specs.Prelude.{◌≡◌, ℕ, ◌≤◌, List, Bool, false, None, ◌++◌}
 use Rattle.world_face.specs.Journal.{Entry}
-use Rattle.flow_laws.specs.Settings.{Settings}
-use Rattle.flow_laws.specs.Event.{Story}
+use Rattle.spec_flow.specs.Settings.{Settings}
+use Rattle.spec_flow.specs.Event.{Story}
 use Rattle.flow_splice.specs.Entries.{AreEvents}
 use Rattle.flow_splice.specs.Follows.{Follows}
 use Rattle.flow_splice.specs.Splice.{Splice}

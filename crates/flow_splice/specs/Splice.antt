@@ -8,7 +8,7 @@ use Rattle.sock_buffers.specs.Upward.{Upward, empty}
 use Rattle.tcp_connection.specs.Connection.{Connection, HasBuffers}
 use Rattle.tcp_connection.specs.declared.Stage.{Stage}
 use Rattle.tcp_connection.specs.declared.Stage.TheVariants as stage
-use Rattle.connection_follows.specs.Holding.{is_connects}
+use Rattle.sim_connection.specs.Holding.{is_connects}
 use Rattle.flow_splice.specs.declared.Place.{Place}
 use Rattle.flow_splice.specs.declared.Place.TheVariants.{Empty, InUse, Resting}
 

@@ -4,7 +4,7 @@ use Rattle.sock_buffers.specs.Downward.{Downward}
 use Rattle.tcp_connection.specs.Connection.{is_opening}
 use Rattle.tcp_connection.specs.Hosts.{is_open as host_is_open}
 use Rattle.tcp_connection.specs.Timing.{due_of as conn_due}
-use Rattle.connection_follows.specs.Holding.{is_connects}
+use Rattle.sim_connection.specs.Holding.{is_connects}
 use Rattle.flow_splice.specs.Splice.{Splice, is_open}
 
 -- a socket may connect for 75,000 milliseconds

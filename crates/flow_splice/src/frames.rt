@@ -9,7 +9,7 @@ ghost use Rattle.ipv4_head.specs.Ip.{summed_head};
 ghost use Rattle.sock_buffers.specs.Downward.{Downward};
 ghost use Rattle.tcp_connection.specs.declared.Head.{Head as Header};
 ghost use Rattle.tcp_segment.specs.Tcp.{head_octets, mss_octets, scale_octets, tcp_length, tcp_octets, tcp_of};
-ghost use Rattle.connection_follows.specs.Sending.{carried, mss_in, with_head};
+ghost use Rattle.sim_connection.specs.Sending.{carried, mss_in, with_head};
 ghost use Rattle.flow_splice.specs.Frames.{IsHeld, IsSized, bit_if, flags_of, frame_length, request_frame, segment_frame, tcp_out};
 ghost use Rattle.net_octets.specs.declared.Endpoint.{Endpoint as AnEndpoint};
 ghost use Rattle.net_octets.specs.Sizes.{most_frame};

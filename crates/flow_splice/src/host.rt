@@ -8,13 +8,13 @@ ghost use Rattle.tcp_connection.specs.declared.Change.{Change as Changes};
 ghost use Rattle.tcp_transmit.specs.Transmission.{octets_read};
 ghost use Rattle.world_face.specs.Journal.{TcpRead, TcpWrite, Close, count_of};
 ghost use Rattle.world_face.specs.Tells.{Answers, Makes};
-ghost use Rattle.connection_follows.specs.Holding.{is_connects, without};
+ghost use Rattle.sim_connection.specs.Holding.{is_connects, without};
 ghost use Rattle.flow_splice.specs.Hosts.{IsRead, gives_octets};
 
 use crate::Spliced;
 use crate::guest::later_if;
 use crate::scratch::Scratch;
-use flow_rules::{HostWork, host_work};
+use rules_flow::{HostWork, host_work};
 use sock_buffers::Down;
 use tcp_connection::{Change, Conn, HostNews};
 use world_face::{Io, Joined, MOST_TO_FLOW, Made, World};

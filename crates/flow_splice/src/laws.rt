@@ -1,13 +1,13 @@
 //! What follows where a flow follows its story. There is no code to run: each function is a law, and its contract is proved though its body is empty.
 ghost use Rattle.std.specs.Prelude.{◌≡◌, ℕ, ◌+◌, ◌<◌, ◌≤◌, ◌++◌, length, Bool, true, false, None, Some};
-ghost use Rattle.flow_laws.specs.Settings.{Settings};
-ghost use Rattle.flow_laws.specs.Event.{Story};
-ghost use Rattle.flow_laws.specs.Guest.{Honest, IsAcknowledged, front, written};
-ghost use Rattle.flow_laws.specs.Flow.{guest};
-ghost use Rattle.flow_laws.specs.Close.{is_in_use as is_in_use_by_law, rests_since};
-ghost use Rattle.flow_laws.specs.Lawful.{IsLawful, IsPrefixOf};
-ghost use Rattle.flow_laws.specs.Dutiful.{IsDutiful, MayWait};
-ghost use Rattle.halves_follow.specs.Settled.{IsSettledIf};
+ghost use Rattle.spec_flow.specs.Settings.{Settings};
+ghost use Rattle.spec_flow.specs.Event.{Story};
+ghost use Rattle.spec_flow.specs.Guest.{Honest, IsAcknowledged, front, written};
+ghost use Rattle.spec_flow.specs.Flow.{guest};
+ghost use Rattle.spec_flow.specs.Close.{is_in_use as is_in_use_by_law, rests_since};
+ghost use Rattle.spec_flow.specs.Lawful.{IsLawful, IsPrefixOf};
+ghost use Rattle.spec_flow.specs.Dutiful.{IsDutiful, MayWait};
+ghost use Rattle.sim_halves.specs.Settled.{IsSettledIf};
 ghost use Rattle.flow_splice.specs.Ahead.{IsTimely};
 ghost use Rattle.flow_splice.specs.Follows.{Follows};
 ghost use Rattle.flow_splice.specs.Sends.{IsClear};

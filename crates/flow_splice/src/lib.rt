@@ -23,11 +23,11 @@ ghost use Rattle.sock_buffers.specs.Downward.{downward};
 ghost use Rattle.sock_buffers.specs.Upward.{empty};
 ghost use Rattle.tcp_connection.specs.Connection.{HasBuffers, from_guest, to_guest};
 ghost use Rattle.tcp_segment.specs.Tcp.{Tcp};
-ghost use Rattle.flow_laws.specs.Settings.{Settings};
-ghost use Rattle.flow_laws.specs.Event.{Story, Connects, Accepts, At};
-ghost use Rattle.flow_laws.specs.Windows.{mss};
-ghost use Rattle.connection_follows.specs.Holding.{is_connects, is_live};
-ghost use Rattle.connection_follows.specs.Seen.{segment_of};
+ghost use Rattle.spec_flow.specs.Settings.{Settings};
+ghost use Rattle.spec_flow.specs.Event.{Story, Connects, Accepts, At};
+ghost use Rattle.spec_flow.specs.Windows.{mss};
+ghost use Rattle.sim_connection.specs.Holding.{is_connects, is_live};
+ghost use Rattle.sim_connection.specs.Seen.{segment_of};
 ghost use Rattle.flow_splice.specs.Wants.{sooner};
 
 pub use guest::renews;
@@ -133,15 +133,15 @@ impl Spliced {
     ghost use Rattle.flow_splice.specs.Follows.{Follows};
     ghost use Rattle.flow_splice.specs.Splice.{begun, is_open as is_open_by};
     ghost use Rattle.flow_splice.specs.Wants.{due_of, gives_way_at as gives_way_at_by, is_deserted as is_deserted_by, left_at as left_at_by, reads, writes};
-    ghost use Rattle.flow_laws.specs.Close.{last_at, may_give_way};
+    ghost use Rattle.spec_flow.specs.Close.{last_at, may_give_way};
     ghost use Rattle.flow_splice.specs.declared.Place.TheVariants.{Empty};
     ghost use Rattle.poll_list.specs.declared.Who.TheVariants.{Tcp as OnTcp};
-    ghost use Rattle.flow_laws.specs.Dutiful.{MayWaitToWrite, close_deadline, must_wait_to_write, resend_deadline, waits_to_read, wakes};
-    ghost use Rattle.flow_laws.specs.Bounds.{IsBy, IsFrom};
+    ghost use Rattle.spec_flow.specs.Dutiful.{MayWaitToWrite, close_deadline, must_wait_to_write, resend_deadline, waits_to_read, wakes};
+    ghost use Rattle.spec_flow.specs.Bounds.{IsBy, IsFrom};
     ghost use Rattle.flow_splice.specs.Sends.{IsClear};
     ghost use Rattle.flow_splice.specs.Held.{IsFront};
-    ghost use Rattle.flow_laws.specs.Flow.{guest};
-    ghost use Rattle.flow_laws.specs.Guest.{Honest};
+    ghost use Rattle.spec_flow.specs.Flow.{guest};
+    ghost use Rattle.spec_flow.specs.Guest.{Honest};
 
     /// The place for a flow, with all the memory that one will ever need of its own: `ring` octets for each direction, from 1 to 1,048,576. `mru` is the longest
     /// datagram that comes from the guest, from 576 to 9,216 octets.

@@ -5,13 +5,13 @@ ghost use Rattle.tcp_connection.specs.Hosts.{reset};
 ghost use Rattle.tcp_connection.specs.Timing.{after_tick, change_at_tick};
 ghost use Rattle.world_face.specs.Journal.{Close};
 ghost use Rattle.world_face.specs.Tells.{Makes};
-ghost use Rattle.flow_laws.specs.Settings.{Settings};
-ghost use Rattle.flow_laws.specs.Close.{follows_reset, may_give_way};
-ghost use Rattle.flow_laws.specs.Event.{At, Closes, Story};
-ghost use Rattle.connection_follows.specs.Holding.{is_connects};
+ghost use Rattle.spec_flow.specs.Settings.{Settings};
+ghost use Rattle.spec_flow.specs.Close.{follows_reset, may_give_way};
+ghost use Rattle.spec_flow.specs.Event.{At, Closes, Story};
+ghost use Rattle.sim_connection.specs.Holding.{is_connects};
 
 use crate::Spliced;
-use flow_rules::REQUESTS;
+use rules_flow::REQUESTS;
 use tcp_connection::Change;
 use world_face::World;
 

@@ -6,10 +6,10 @@ use Rattle.std.proofs.lemmas.List.{length-replicate}
 use Rattle.std.proofs.lemmas.List.FromFn.{length-range_with_len, get_or-range_with_len}
 use Rattle.std.proofs.lemmas.Option.{same_Some, slice_get_within, slice_get-get_or}
 use Rattle.std.proofs.Common.{zero-add}
-use Rattle.row_lists.proofs.Places.{set_from, set_to, set_at}
+use Rattle.ordered_rows.proofs.Places.{set_from, set_to, set_at}
 use Rattle.flow_table.specs.declared.Slot.{Slot}
 use Rattle.flow_table.specs.declared.Slot.TheVariants.{Free}
-use Rattle.record_flows.specs.declared.Tuple.{Tuple}
+use Rattle.spec_flows.specs.declared.Tuple.{Tuple}
 use Rattle.flow_table.specs.Slots.{HasTuple, IsFree, NoneIsFree, Once, Stands}
 use Rattle.flow_table.specs.Rows.{AreFree}
 use Rattle.flow_table.proofs.Keeping.{at_end, before_end, of_end, once_at_end, once_in_range, in_range, has_within}

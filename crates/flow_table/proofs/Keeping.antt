@@ -10,7 +10,7 @@ use Rattle.std.proofs.lemmas.List.FromFn.{length-range_with_len, get_or-range_wi
 use Rattle.std.proofs.lemmas.Option.{same_Some, slice_get_read, slice_get_within, slice_get-get_or, get_or_from_slice_get}
 use Rattle.flow_table.specs.declared.Slot.{Slot}
 use Rattle.flow_table.specs.declared.Slot.TheVariants.{Free, Resting}
-use Rattle.record_flows.specs.declared.Tuple.{Tuple}
+use Rattle.spec_flows.specs.declared.Tuple.{Tuple}
 use Rattle.flow_table.specs.Slots.{AreKept, Flows, HasTuple, Once, Stands, flows, tuple_of, moved_last}
 
 -- all slots are free

@@ -4,11 +4,11 @@ use Rattle.std.specs.Prelude.{slice_get, slice_set}
 use Rattle.std.specs.List.{insert, remove, position_or_len}
 use Rattle.std.proofs.lemmas.Bool.{cases_eq}
 use Rattle.std.proofs.lemmas.Option.{same_Some, slice_get_within, slice_get-get_or, get_or_from_slice_get}
-use Rattle.row_lists.proofs.Places.{set_from, set_to, set_at, removed_from, removed_to, inserted_from, inserted_at, inserted_to}
+use Rattle.ordered_rows.proofs.Places.{set_from, set_to, set_at, removed_from, removed_to, inserted_from, inserted_at, inserted_to}
 use Rattle.flow_table.specs.declared.Rest.{Rest}
 use Rattle.flow_table.specs.declared.Slot.{Slot}
 use Rattle.flow_table.specs.declared.Slot.TheVariants.{Free, Resting}
-use Rattle.record_flows.specs.declared.Tuple.{Tuple}
+use Rattle.spec_flows.specs.declared.Tuple.{Tuple}
 use Rattle.flow_table.specs.Slots.{AreKept, HasRestedLongest, NoneRests, RestsSince, Stands, StandsBefore, flows, moved_last}
 use Rattle.flow_table.specs.Rows.{AreRests, DoNotFall, IsFirstAfter, IsLonger, rest_of}
 use Rattle.flow_table.proofs.Keeping.{first_place, gone}

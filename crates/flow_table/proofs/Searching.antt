@@ -6,7 +6,7 @@ use Rattle.std.proofs.Math.Nat.{pow-succ'}
 use Rattle.std.proofs.lemmas.Bool.{cases_eq, cases_lt}
 use Rattle.std.proofs.lemmas.Option.{same_Some, slice_get-get_or, get_or_from_slice_get, slice_get_within}
 use Rattle.flow_table.specs.declared.Entry.{Entry}
-use Rattle.record_flows.specs.declared.Tuple.{Tuple}
+use Rattle.spec_flows.specs.declared.Tuple.{Tuple}
 use Rattle.flow_table.specs.Rows.{AreAbove, AreBelow, BelongsAt, IsPlaceOf, IsSlotIn, Rise, StandsAt, entry_of, tuple_cmp}
 use Rattle.flow_table.proofs.Tuples.{tuple_total, same_tuple, flipped, not_below_itself}
 

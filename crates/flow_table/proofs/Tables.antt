@@ -8,13 +8,13 @@ use Rattle.std.proofs.lemmas.List.{length-replicate}
 use Rattle.std.proofs.lemmas.List.Edits.{length-insert}
 use Rattle.std.proofs.lemmas.List.FromFn.{length-range_with_len}
 use Rattle.std.proofs.lemmas.Option.{slice_get_within}
-use Rattle.row_lists.proofs.Counts.{fewer_than}
-use Rattle.row_lists.proofs.Places.{set_at, set_twice}
+use Rattle.ordered_rows.proofs.Counts.{fewer_than}
+use Rattle.ordered_rows.proofs.Places.{set_at, set_twice}
 use Rattle.flow_table.specs.declared.Entry.{Entry}
 use Rattle.flow_table.specs.declared.Rest.{Rest}
 use Rattle.flow_table.specs.declared.Slot.{Slot}
 use Rattle.flow_table.specs.declared.Slot.TheVariants.{Free, InUse, Resting}
-use Rattle.record_flows.specs.declared.Tuple.{Tuple}
+use Rattle.spec_flows.specs.declared.Tuple.{Tuple}
 use Rattle.flow_table.specs.Slots.{AreKept, HasTuple, NoneHas, RestsSince, moved_last}
 use Rattle.flow_table.specs.Rows.{AreEntries, AreFree, AreRests, BelongsAt, IsFirstAfter, IsSlotIn, IsTable, IsVacated, entry_of, rest_of}
 use Rattle.flow_table.proofs.Freeing.{all_are_free, freed, last_taken, still_free}

@@ -12,11 +12,11 @@ use Rattle.std.proofs.lemmas.Option.{same_Some, option_and_then_some, slice_get_
 use Rattle.std.proofs.lemmas.List.Edits.{length-remove}
 use Rattle.net_octets.specs.declared.Endpoint.{Endpoint}
 use Rattle.net_octets.specs.declared.Ip4.{Ip4}
-use Rattle.row_lists.proofs.Places.{set_from, set_to, set_at, removed_from, removed_to, inserted_from, inserted_at, inserted_to}
+use Rattle.ordered_rows.proofs.Places.{set_from, set_to, set_at, removed_from, removed_to, inserted_from, inserted_at, inserted_to}
 use Rattle.flow_table.specs.declared.Entry.{Entry}
 use Rattle.flow_table.specs.declared.Slot.{Slot}
 use Rattle.flow_table.specs.declared.Slot.TheVariants.{Free, InUse}
-use Rattle.record_flows.specs.declared.Tuple.{Tuple}
+use Rattle.spec_flows.specs.declared.Tuple.{Tuple}
 use Rattle.flow_table.specs.Slots.{HasTuple, IsFree, NoneHas, tuple_of}
 use Rattle.flow_table.specs.Rows.{AreEntries, BelongsAt, Rise, StandsAt, entry_of, tuple_cmp}
 use Rattle.flow_table.proofs.Keeping.{free_has_none}

@@ -7,7 +7,7 @@ use Rattle.std.specs.Ordering.{nat_cmp, ordering_then}
 use Rattle.flow_table.specs.declared.Entry.{Entry}
 use Rattle.flow_table.specs.declared.Rest.{Rest}
 use Rattle.flow_table.specs.declared.Slot.{Slot}
-use Rattle.record_flows.specs.declared.Tuple.{Tuple}
+use Rattle.spec_flows.specs.declared.Tuple.{Tuple}
 use Rattle.flow_table.specs.declared.Slot.TheVariants.{Free}
 use Rattle.flow_table.specs.Slots.{AreKept, HasTuple, IsFree, MayBeTaken, RestsSince, Stands, StandsBefore, Once, flows}
 

@@ -2,11 +2,11 @@
 ghost use Rattle.std.specs.Prelude.{◌≡◌, ℕ, ◌+◌, ◌^◌, ◌<◌, ◌≤◌, Some, length, slice_get, vec_len};
 ghost use Rattle.std.specs.List.{insert, remove};
 ghost use Rattle.std.specs.Vec.{vec_capacity};
-ghost use Rattle.record_flows.specs.declared.Tuple.{Tuple};
+ghost use Rattle.spec_flows.specs.declared.Tuple.{Tuple};
 ghost use Rattle.flow_table.specs.Rows.{BelongsAt, IsPlaceOf, IsSlotIn, Rise, StandsAt, entry_of};
 
 use crate::{Entry, Steps};
-use record_flows::Tuple;
+use spec_flows::Tuple;
 use std::cmp::Ordering;
 use std::marker::Brand;
 use std::sync::ledger::{Blank, Ledger};

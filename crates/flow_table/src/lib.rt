@@ -2,7 +2,7 @@
 #![tactic(auto)]
 
 ghost use Rattle.std.specs.Prelude.{◌≡◌, ℕ, ◌+◌, ◌^◌, ◌<◌, ◌≤◌, List, [], ◌∷◌, ◌++◌, length, slice_set, vec_len, IfOk, IfSome, IfNone, Some};
-ghost use Rattle.record_flows.specs.declared.Tuple.{Tuple};
+ghost use Rattle.spec_flows.specs.declared.Tuple.{Tuple};
 ghost use Rattle.flow_table.specs.declared.Slot.TheVariants.{Free, InUse, Resting};
 ghost use Rattle.flow_table.specs.Slots.{AreKept, HasTuple, HasSome, NoneHas, NoneIsFree, NoneRests, MayBeTaken, all_free, flows, moved_last, tuple_of, with_slot};
 ghost use Rattle.flow_table.specs.Rows.{AreEntries, AreFree, AreRests, IsVacated, tuple_cmp};
@@ -15,8 +15,8 @@ mod rests;
 
 use entries::{insert_entry, place_of, remove_entry, search, slot_found};
 use net_octets::{Endpoint, NoMemory};
-use record_flows::Tuple;
 use rests::{end_rest, insert_rest, move_last};
+use spec_flows::Tuple;
 use std::alloc::{AllocError, Global};
 use std::cmp::Ordering;
 use std::marker::Model;

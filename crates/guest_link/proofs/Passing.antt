@@ -4,7 +4,7 @@ use Rattle.std.proofs.lemmas.List.{append-nil}
 use Rattle.std.specs.Io.KnownBytes.{Keeps}
 use Rattle.guest_link.specs.Linking.{Linked, is_open}
 use Rattle.guest_link.specs.declared.link.Outlet.{Outlet}
-use Rattle.octet_buffer.specs.Buffered.{Buffered}
+use Rattle.host_io.specs.Buffered.{Buffered}
 use Rattle.guest_link.specs.Places.{of_guest}
 use Rattle.guest_link.specs.declared.place.Place.{Place}
 use Rattle.guest_link.specs.declared.place.Place.TheVariants.{Closed, ListensUnix, ListensTcp, Guest}

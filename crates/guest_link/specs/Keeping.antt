@@ -1,7 +1,7 @@
 -- Every octet is kept: of what came to the link, and of what goes out.
 use Rattle.std.specs.Prelude.{◌≡◌, ℕ, List, [], ◌++◌, Option, Ok, cond}
 use Rattle.std.specs.Io.KnownBytes.{Consumes, Appends, IsAtEnd}
-use Rattle.octet_buffer.specs.Streams.{Answer, Calls}
+use Rattle.host_io.specs.Streams.{Answer, Calls}
 use Rattle.guest_link.specs.Linking.{is_open}
 use Rattle.guest_link.specs.declared.link.Outlet.{Outlet}
 use Rattle.world_face.specs.declared.Io.{Io}

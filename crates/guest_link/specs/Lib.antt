@@ -1,3 +1,4 @@
+pub mod Paces
 pub mod Places
 pub mod Linking
 pub mod Keeping

@@ -4,10 +4,10 @@ use Rattle.std.specs.declared.io.ErrorKind.{ErrorKind}
 use Rattle.std.specs.declared.io.ErrorKind.TheVariants.{WouldBlock, ConnectionReset, BrokenPipe}
 use Rattle.mio.specs.declared.event.event.Event.{Event}
 use Rattle.mio.specs.Event.{is_readable, is_writable, is_error, is_read_closed, is_write_closed}
-use Rattle.ack_pace.specs.Paces.{Paced}
+use Rattle.guest_link.specs.Paces.{Paced}
 use Rattle.arrayvec.specs.ArrayString.{ArrayString as Text}
-use Rattle.octet_buffer.specs.Buffered.{Buffered}
-use Rattle.octet_buffer.specs.Streams.{Answer}
+use Rattle.host_io.specs.Buffered.{Buffered}
+use Rattle.host_io.specs.Streams.{Answer}
 use Rattle.guest_link.specs.Places.{listens, has_guest}
 use Rattle.world_face.specs.Limits.{most_to_link}
 use Rattle.guest_link.specs.declared.place.Place.{Place}

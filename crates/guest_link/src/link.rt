@@ -1,12 +1,12 @@
 // The stream to the guest.
 ghost use Rattle.std.specs.Prelude.{◌≡◌, ◌≢◌, ◌↔◌, ◌⊎◌, ℕ, ◌+◌, ◌<◌, ◌≤◌, ◌==◌, ◌/◌, ◌++◌};
 ghost use Rattle.std.specs.Prelude.{cond, not, [], true, false, length, take, drop, min, IfOk, OnErr};
-ghost use Rattle.octet_buffer.specs.Buffered.{nothing_in};
+ghost use Rattle.host_io.specs.Buffered.{nothing_in};
 ghost use Rattle.std.specs.Io.KnownBytes.{Keeps};
-ghost use Rattle.octet_buffer.specs.Streams.{Calls};
+ghost use Rattle.host_io.specs.Streams.{Calls};
 ghost use Rattle.world_face.specs.Journal.{MayRead, MayWrite, filled};
 ghost use Rattle.world_face.specs.Limits.{most_to_link};
-ghost use Rattle.ack_pace.specs.Paces.{let_out, turned};
+ghost use Rattle.guest_link.specs.Paces.{let_out, turned};
 ghost use Rattle.guest_link.specs.Places.{IsNoted, listens, has_guest, of_guest};
 ghost use Rattle.guest_link.specs.Linking.{bears, is_open, is_told_readable, is_told_writable, after_read, after_write, after_event, at_end};
 ghost use Rattle.guest_link.specs.Linking.{read_answer, fault_by, ahead_by, read_by, outlet_by, moved, MayRest, IsWaitWatched};
@@ -14,13 +14,12 @@ ghost use Rattle.guest_link.specs.Keeping.{HandsOn, SendsOn, TellsBy, put_of};
 ghost use Rattle.guest_link.specs.Passing.{Passes, passing, passing_untold};
 
 use crate::place::{Peer, Place, Watched, bind, first_guest, register};
-use crate::socket_file;
-use ack_pace::Pace;
+use crate::{Pace, socket_file};
 use arrayvec::ArrayString;
+use host_io::Buffer;
 use mio::Registry;
 use mio::event::Event;
 use net_octets::NoMemory;
-use octet_buffer::Buffer;
 use std::alloc::Global;
 use std::fs::Files;
 use std::io::ErrorKind;

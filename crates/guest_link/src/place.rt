@@ -4,10 +4,9 @@ ghost use Rattle.guest_link.specs.Places.{listens, has_guest};
 ghost use Rattle.mio.specs.Interest.{is_readable, is_writable};
 
 use crate::socket_file;
+use host_io::{Stream, address, send_at_once};
 use mio::net::{TcpListener, TcpStream, UnixListener, UnixStream};
 use mio::{Interest, Registry, Token};
-use octet_buffer::Stream;
-use socket_calls::{address, send_at_once};
 use std::fs::Files;
 use std::io;
 use std::io::ErrorKind;

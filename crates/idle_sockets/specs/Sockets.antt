@@ -3,7 +3,7 @@ use Rattle.std.specs.Prelude.{ℕ, ◌==◌, ◌&&◌, Bool, List, [], ◌∷◌
 use Rattle.net_octets.specs.declared.Endpoint.{Endpoint}
 use Rattle.net_octets.specs.declared.Mac.{Mac}
 use Rattle.slirp_settings.specs.Classes.{same_endpoint}
-use Rattle.udp_rules.specs.Lives.{is_life_over}
+use Rattle.rules_udp.specs.Lives.{is_life_over}
 use Rattle.idle_sockets.specs.declared.IdleSocket.{IdleSocket}
 
 -- so many are open at once

@@ -11,8 +11,8 @@ use crate::order::Order;
 use crate::{IdleSocket, MOST_SOCKETS};
 use arrayvec::ArrayVec;
 use net_octets::{Endpoint, Mac};
+use rules_udp::is_life_over;
 use std::marker::Model;
-use udp_rules::is_life_over;
 
 /// At most 512 open sockets, each for one port of a guest and one identifier, the longest unused first.
 ///

@@ -3,7 +3,7 @@ use Rattle.std.proofs.Common.{◌≡◌, ℕ, List, [], ◌∷◌, ◌++◌, Opt
 use Rattle.std.proofs.lemmas.List.{append-nil}
 use Rattle.std.specs.Io.KnownBytes.{Appends, Consumes}
 use Rattle.world_face.specs.Journal.{Entry}
-use Rattle.socket_calls.specs.Carrying.{Carrying}
+use Rattle.host_io.specs.Carrying.{Carrying}
 use Rattle.net_world.specs.Recording.{written_to, written_to_by, read_from, read_from_by, AllCarry}
 use Rattle.guest_link.proofs.Joining.{appends_both, consumes_both}
 

@@ -2,10 +2,10 @@
 use Rattle.std.specs.Prelude.{◌≡◌, Bool, true, false, Ok, Err}
 use Rattle.std.specs.declared.io.ErrorKind.{ErrorKind}
 use Rattle.std.specs.declared.io.ErrorKind.TheVariants.{WouldBlock, ConnectionAborted}
-use Rattle.octet_buffer.specs.Streams.{Answer}
+use Rattle.host_io.specs.Streams.{Answer}
 use Rattle.net_world.specs.declared.slot.Came.{Came}
 use Rattle.net_world.specs.declared.slot.Came.TheVariants.{NotYet, Failed}
-use Rattle.socket_calls.specs.declared.stream_calls.Ready.{Ready}
+use Rattle.host_io.specs.declared.stream_calls.Ready.{Ready}
 
 -- Of a call that failed so: it would have waited; the connection was given up before it was taken; or the system had no descriptor for it, and it stays there.
 abbrev pub none_by : ErrorKind → Came

@@ -2,7 +2,7 @@
 use Rattle.std.specs.Prelude.{◌≡◌, ℕ, cond, List, [], ◌∷◌, ◌++◌, ◌==◌}
 use Rattle.world_face.specs.Journal.{Entry, LinkRead, LinkWrite, TcpRead, TcpWrite, filled}
 use Rattle.guest_link.specs.Passing.{Passing, Passes}
-use Rattle.socket_calls.specs.Carrying.{Carrying, Carries}
+use Rattle.host_io.specs.Carrying.{Carrying, Carries}
 
 -- what a call put that went out, by its answer, and what it handed out
 abbrev pub written_by : Entry → List ℕ

@@ -19,11 +19,11 @@ use Rattle.world_face.specs.declared.Accepted.{Accepted}
 use Rattle.world_face.specs.declared.Accepted.TheVariants.{From, NotYet as NoneToAccept, Failed as AcceptFailed}
 use Rattle.world_face.specs.declared.Joined.{Joined}
 use Rattle.world_face.specs.declared.Joined.TheVariants.{NotYet as NotJoined}
-use Rattle.socket_calls.specs.declared.stream_calls.Ready.{Ready}
+use Rattle.host_io.specs.declared.stream_calls.Ready.{Ready}
 use Rattle.world_face.specs.declared.Got.TheVariants.{NotYet as NoneCame}
-use Rattle.octet_buffer.specs.Streams.{Answer, Calls}
+use Rattle.host_io.specs.Streams.{Answer, Calls}
 use Rattle.net_world.specs.Slots.{of_stream}
-use Rattle.socket_calls.specs.Streaming.{read_tells, write_tells, after_read, after_write}
+use Rattle.host_io.specs.Streaming.{read_tells, write_tells, after_read, after_write}
 
 -- where something stands in the order of wants: its kind, then its number
 abbrev pub rank_of : Who → ℕ × ℕ

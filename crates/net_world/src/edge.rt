@@ -19,7 +19,7 @@ use crate::gathering::{gather, gather_link};
 use crate::sockets::{Known, MOST, Sockets};
 use guest_link::link::Link;
 use guest_link::place::{LINK, Peer};
-use host_clock::Moments;
+use host_io::Moments;
 use mio::net::TcpStream;
 use mio::{Events, Poll};
 use net_octets::NoMemory;

@@ -3,7 +3,7 @@ ghost use Rattle.std.specs.Prelude.{◌<◌, length};
 ghost use Rattle.world_face.specs.Journal.{MayReadFile};
 
 use arrayvec::ArrayString;
-use octet_buffer::again;
+use host_io::again;
 use std::fs::{File, Files, OpenFile};
 use std::io::{ErrorKind, Seek, SeekFrom};
 use std::{fs, io};

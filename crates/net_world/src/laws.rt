@@ -5,7 +5,7 @@ ghost use Rattle.world_face.specs.Journal.{Entry};
 ghost use Rattle.net_world.specs.Orders.{joined, SendAll, HandAll};
 ghost use Rattle.guest_link.specs.Passing.{Passing};
 ghost use Rattle.net_world.specs.Recording.{AllCarry, AllPass, handed, read_from, written, written_to};
-ghost use Rattle.socket_calls.specs.Carrying.{Carrying};
+ghost use Rattle.host_io.specs.Carrying.{Carrying};
 
 /// What a stream got, and behind it what waits to go out, is what the calls put, in their order: of each the octets that it told as taken, as
 /// the clause `sends` of the link's calls says.

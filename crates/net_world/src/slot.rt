@@ -1,18 +1,17 @@
 // A socket of the host, with what it was found ready for, and its calls.
 ghost use Rattle.std.specs.Prelude.{◌≡◌, ℕ, ◌<◌, true, false, Some, None, Ok, Err, length};
 ghost use Rattle.std.specs.Io.KnownBytes.{Appends, Consumes, IsAtEnd, Keeps};
-ghost use Rattle.octet_buffer.specs.Streams.{Calls};
+ghost use Rattle.host_io.specs.Streams.{Calls};
 ghost use Rattle.world_face.specs.Journal.{MayRead, MayWrite, MayGet, filled};
 ghost use Rattle.net_world.specs.Slots.{of_stream, is_connection, are_datagrams};
-ghost use Rattle.socket_calls.specs.Streaming.{read_tells, write_tells, after_read, after_write};
+ghost use Rattle.host_io.specs.Streaming.{read_tells, write_tells, after_read, after_write};
 ghost use Rattle.net_world.specs.Accepting.{IsCameBy, after_accept, none_by, ready_by, starved_by, starves_by};
 
+use host_io::stream_calls::Ready;
+use host_io::{Accepts, Stream, address, datagram_calls, endpoint, send_at_once, stream_calls};
 use mio::net::{TcpListener, TcpStream, UdpSocket};
 use mio::{Interest, Registry, Token};
-use octet_buffer::{Accepts, Stream};
 use poll_list::Who;
-use socket_calls::stream_calls::Ready;
-use socket_calls::{address, datagram_calls, endpoint, send_at_once, stream_calls};
 use std::io::ErrorKind;
 use std::net::{Net, SocketAddr};
 use world_face::{Endpoint, Got, Io, Joined, Sent};

@@ -8,7 +8,7 @@ ghost use Rattle.std.specs.declared.cmp.Ordering.TheVariants.{Greater};
 ghost use Rattle.mio.specs.Event.{event_token};
 ghost use Rattle.world_face.specs.Journal.{MayRead, MayWrite, MayGet, filled};
 ghost use Rattle.net_world.specs.Slots.{is_connection, are_datagrams};
-ghost use Rattle.socket_calls.specs.Streaming.{after_event};
+ghost use Rattle.host_io.specs.Streaming.{after_event};
 ghost use Rattle.net_world.specs.Tables.{rank_of, number_of, by_rank, InOrder, listed_at, slot_at, AreListed, ArePlaced, IsKnownStarved, Finds, OthersStay, Becomes, known_of, nothing_known, last_read};
 ghost use Rattle.net_world.specs.Telling.{IsKnown};
 ghost use Rattle.net_world.specs.Tables.{IsRead, IsWritten, IsReceived, IsTaken, IsAsked, Joins, Opens, Table, fed, fed_at};
@@ -18,15 +18,14 @@ use crate::ready_list::{Listed, find_listed, last_read, rank, relist};
 use crate::slot::{
     Came, Slot, Socket, end, joined, new_socket, read, receive, register, send, take_from, write,
 };
+use host_io::stream_calls::{self, Ready};
+use host_io::{Stream, send_at_once};
 use mio::event::Event;
 use mio::net::TcpStream;
 use mio::{Registry, Token};
 use net_octets::NoMemory;
-use octet_buffer::Stream;
 use poll_list::{Want, Who};
 use slab::Slab;
-use socket_calls::send_at_once;
-use socket_calls::stream_calls::{self, Ready};
 use std::alloc::Global;
 use std::marker::Model;
 use std::net::Net;

@@ -3,7 +3,7 @@ use Rattle.std.proofs.Common.{◌≡◌, ℕ, zero, suc, ◌+◌, ◌-◌, ◌<�
 use Rattle.std.proofs.lemmas.Bool.Decides.{nat_tests}
 use Rattle.ipv4_head.specs.Cuts.{cut_at, cuts_from}
 use Rattle.ipv4_head.specs.Sets.{Part}
-use Rattle.slirp_laws.specs.Answers.{part_frame, uncut}
+use Rattle.spec_run.specs.Answers.{part_frame, uncut}
 use Rattle.owed_frames.specs.Outgoing.{frames_in, frames_left}
 use Rattle.owed_frames.specs.declared.cutting.Plan.{Plan}
 

@@ -5,7 +5,7 @@ use Rattle.net_octets.specs.Kinds.{icmp_proto, tcp_proto, udp_proto}
 use Rattle.icmp_echo.specs.Icmp.{Icmp, icmp_octets}
 use Rattle.ipv4_head.specs.Cuts.{cuts_from}
 use Rattle.udp_datagram.specs.Udp.{Udp, udp_octets}
-use Rattle.slirp_laws.specs.Answers.{datagram_frames, part_frame, uncut}
+use Rattle.spec_run.specs.Answers.{datagram_frames, part_frame, uncut}
 use Rattle.owed_frames.specs.declared.cutting.Plan.{Plan}
 use Rattle.owed_frames.specs.declared.outgoing.Course.{Course}
 use Rattle.tcp_segment.specs.Tcp.{Tcp, tcp_octets}

@@ -8,7 +8,7 @@ ghost use Rattle.icmp_echo.specs.Icmp.{CanWrite, icmp_of, icmp_with, icmp_octets
 ghost use Rattle.udp_datagram.specs.Udp.{udp_of, udp_octets};
 ghost use Rattle.tcp_segment.specs.Tcp.{tcp_length, tcp_of};
 ghost use Rattle.owed_frames.specs.Outgoing.{MayBeCut, message_frames, segment_frames, segment_octets, udp_frames};
-ghost use Rattle.slirp_laws.specs.Answers.{part_frame, uncut};
+ghost use Rattle.spec_run.specs.Answers.{part_frame, uncut};
 ghost use Rattle.net_octets.specs.Sizes.{most_carried, most_frame};
 ghost use Rattle.world_face.specs.Limits.{most_to_link, most_to_udp};
 

@@ -5,10 +5,10 @@ use Rattle.world_face.specs.declared.Made.{Made}
 use Rattle.world_face.proofs.Telling.{makes_none, makes_one}
 use Rattle.slirp_settings.specs.declared.Forward.{Forward}
 use Rattle.slirp_settings.specs.Addresses.{Config, address, is_guest}
-use Rattle.forward_rules.specs.Adding.{Adds, AddsBy, fault_of, opening_of}
-use Rattle.forward_rules.specs.Opened.{Opened, is_taken}
-use Rattle.forward_rules.specs.declared.FwdFault.{FwdFault}
-use Rattle.forward_rules.specs.declared.FwdFault.TheVariants.{Taken, BadGuest, Full}
+use Rattle.rules_forward.specs.Adding.{Adds, AddsBy, fault_of, opening_of}
+use Rattle.rules_forward.specs.Opened.{Opened, is_taken}
+use Rattle.rules_forward.specs.declared.FwdFault.{FwdFault}
+use Rattle.rules_forward.specs.declared.FwdFault.TheVariants.{Taken, BadGuest, Full}
 
 -- the causes by the three tests
 abbrev asked : (taken guest full : Bool) → Option FwdFault

@@ -6,8 +6,8 @@ use Rattle.slirp_settings.specs.declared.Forward.{Forward}
 use Rattle.slirp_settings.specs.declared.Proto.{Proto}
 use Rattle.slirp_settings.specs.declared.Proto.TheVariants.{Tcp, Udp}
 use Rattle.slirp_settings.specs.Ranges.{same_proto}
-use Rattle.forward_rules.specs.Opened.{Opened}
-use Rattle.forward_rules.specs.Opened.{forward_sockets, is_over, sockets_over}
+use Rattle.rules_forward.specs.Opened.{Opened}
+use Rattle.rules_forward.specs.Opened.{forward_sockets, is_over, sockets_over}
 
 -- ---- the list as far as it was read
 

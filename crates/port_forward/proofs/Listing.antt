@@ -11,7 +11,7 @@ use Rattle.slirp_settings.specs.Addresses.{endpoint}
 use Rattle.slirp_settings.specs.Ranges.{same_proto}
 use Rattle.slirp_settings.specs.Classes.{same_endpoint}
 use Rattle.port_forward.specs.Entries.{is_for_datagrams, opened_of, port_of, proto_of, same_port}
-use Rattle.forward_rules.specs.Opened.{Opened, forward_with, is_at, is_on, is_taken, leads_to, socket_at, socket_for, socket_of, without}
+use Rattle.rules_forward.specs.Opened.{Opened, forward_with, is_at, is_on, is_taken, leads_to, socket_at, socket_for, socket_of, without}
 use Rattle.port_forward.specs.declared.ports.Lead.{Lead}
 use Rattle.port_forward.specs.declared.ports.Port.{Port}
 

@@ -8,7 +8,7 @@ use Rattle.std.specs.Map.{keys_of, lookup}
 use Rattle.net_octets.specs.declared.Endpoint.{Endpoint}
 use Rattle.slirp_settings.specs.declared.Proto.{Proto}
 use Rattle.port_forward.specs.Entries.{opened_of, port_of, same_port}
-use Rattle.forward_rules.specs.Opened.{Opened, socket_at, without}
+use Rattle.rules_forward.specs.Opened.{Opened, socket_at, without}
 use Rattle.port_forward.specs.declared.ports.Lead.{Lead}
 use Rattle.port_forward.specs.declared.ports.Port.{Port}
 use Rattle.port_forward.proofs.Listing.{left_of, socket_there}

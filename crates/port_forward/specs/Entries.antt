@@ -5,7 +5,7 @@ use Rattle.net_octets.specs.declared.Endpoint.{Endpoint}
 use Rattle.slirp_settings.specs.Addresses.{address, endpoint}
 use Rattle.slirp_settings.specs.declared.Proto.{Proto}
 use Rattle.slirp_settings.specs.declared.Proto.TheVariants.{Tcp, Udp}
-use Rattle.forward_rules.specs.Opened.{Opened}
+use Rattle.rules_forward.specs.Opened.{Opened}
 use Rattle.port_forward.specs.declared.ports.Lead.{Lead}
 use Rattle.port_forward.specs.declared.ports.Port.{Port}
 

@@ -4,15 +4,15 @@ ghost use Rattle.std.specs.Result.{result_err};
 ghost use Rattle.world_face.specs.Journal.{Close};
 ghost use Rattle.world_face.specs.Tells.{Makes, Rose};
 ghost use Rattle.slirp_settings.specs.Ranges.{same_proto};
-ghost use Rattle.forward_rules.specs.declared.FwdFault.TheVariants.{Refused};
-ghost use Rattle.forward_rules.specs.Adding.{Adds, fault_of};
-ghost use Rattle.forward_rules.specs.Opened.{forward_with, socket_at, socket_for, sockets_over, without};
+ghost use Rattle.rules_forward.specs.declared.FwdFault.TheVariants.{Refused};
+ghost use Rattle.rules_forward.specs.Adding.{Adds, fault_of};
+ghost use Rattle.rules_forward.specs.Opened.{forward_with, socket_at, socket_for, sockets_over, without};
 
 use crate::{Forwards, NotThere};
 use arrayvec::ArrayVec;
-use forward_rules::FwdFault;
 use host_policy::Policy;
 use net_octets::{Endpoint, NoMemory};
+use rules_forward::FwdFault;
 use slirp_settings::{Forward, Proto};
 use std::alloc::Global;
 use std::marker::Model;
@@ -30,7 +30,7 @@ pub struct Ports {
 impl Model for Ports {
     ghost use Rattle.std.specs.Prelude.{◌≡◌, ◌≤◌, List, length};
     ghost use Rattle.slirp_settings.specs.declared.Proto.TheVariants.{Tcp, Udp};
-    ghost use Rattle.forward_rules.specs.Opened.{Opened, sockets_over};
+    ghost use Rattle.rules_forward.specs.Opened.{Opened, sockets_over};
 
     ghost Value = { List Opened };
 

@@ -11,16 +11,16 @@ ghost use Rattle.std.specs.Prelude.{◌≡◌, ◌≢◌, ◌≤◌, ℕ, ◌+�
 ghost use Rattle.std.specs.Result.{result_err};
 ghost use Rattle.world_face.specs.Journal.{Close};
 ghost use Rattle.world_face.specs.Tells.{Answers, Makes, Rose};
-ghost use Rattle.forward_rules.specs.declared.FwdFault.TheVariants.{Refused};
-ghost use Rattle.forward_rules.specs.Adding.{Adds, fault_of, opening_of};
-ghost use Rattle.forward_rules.specs.Opened.{forward_with, socket_at, socket_for, without};
+ghost use Rattle.rules_forward.specs.declared.FwdFault.TheVariants.{Refused};
+ghost use Rattle.rules_forward.specs.Adding.{Adds, fault_of, opening_of};
+ghost use Rattle.rules_forward.specs.Opened.{forward_with, socket_at, socket_for, without};
 
 pub use crate::by_proto::{Ports, closes_before};
 use crate::ports::{Lead, Port, forward_of, is_for, port_of, put, remove};
-use forward_rules::FwdFault;
 use host_policy::Policy;
 use indexmap::IndexMap;
 use net_octets::{Endpoint, NoMemory};
+use rules_forward::FwdFault;
 pub use slirp_settings::Forward;
 use slirp_settings::Proto;
 use std::alloc::Global;
@@ -44,7 +44,7 @@ impl Model for Forwards {
     ghost use Rattle.std.specs.Prelude.{◌≤◌, ◌+◌, List, map};
     ghost use Rattle.indexmap.specs.IndexMap.{index_map_len, spare};
     ghost use Rattle.port_forward.specs.Entries.{opened_of};
-    ghost use Rattle.forward_rules.specs.Opened.{Opened, most_forwards};
+    ghost use Rattle.rules_forward.specs.Opened.{Opened, most_forwards};
 
     ghost Value = { List Opened };
 

@@ -4,7 +4,7 @@ ghost use Rattle.std.specs.List.{IsDistinct};
 ghost use Rattle.std.specs.Map.{keys_of};
 ghost use Rattle.indexmap.specs.IndexMap.{get, index_map_len, spare};
 ghost use Rattle.port_forward.specs.Entries.{opened_of, port_of, same_port};
-ghost use Rattle.forward_rules.specs.Opened.{leads_to, most_forwards};
+ghost use Rattle.rules_forward.specs.Opened.{leads_to, most_forwards};
 
 use crate::{Forward, MOST_FORWARDS};
 use arrayvec::ArrayVec;

@@ -9,14 +9,14 @@ use Rattle.world_face.specs.Journal.{Entry, LinkRead}
 use Rattle.world_face.specs.Tells.{Brings, Telling}
 use Rattle.world_face.specs.declared.Io.TheVariants.{Done as IoDone, End as IoEnd, NotYet as IoNotYet, Failed as IoFailed}
 use Rattle.slirp_settings.specs.Addresses.{Config}
-use Rattle.run_laws.specs.Moments.{waits}
-use Rattle.slirp_laws.specs.Agenda.{wanted_of}
-use Rattle.run_duties.specs.Said.{some_reads}
-use Rattle.run_duties.specs.Serving.{IsServed, is_left_to_read, is_left_to_write}
-use Rattle.run_duties.specs.Waiting.{is_written}
-use Rattle.run_duties.proofs.Serving.{read_since, reading_on, served_on, unwritten, writing_on}
+use Rattle.spec_trace.specs.Moments.{waits}
+use Rattle.spec_run.specs.Agenda.{wanted_of}
+use Rattle.spec_duties.specs.Said.{some_reads}
+use Rattle.spec_duties.specs.Serving.{IsServed, is_left_to_read, is_left_to_write}
+use Rattle.spec_duties.specs.Waiting.{is_written}
+use Rattle.spec_duties.proofs.Serving.{read_since, reading_on, served_on, unwritten, writing_on}
 use Rattle.flow_splice.specs.Splice.{Splice}
-use Rattle.flows_follow.specs.Core.{number_of}
+use Rattle.sim_flows.specs.Core.{number_of}
 use Rattle.tcp_flows.specs.Kept.{Kept}
 use Rattle.tcp_flows.specs.Reading.{IsOpenAt, NoneOpen, Stays}
 use Rattle.tcp_flows.specs.Told.{ServesOnce, WasTold}

@@ -10,15 +10,15 @@ use Rattle.world_face.specs.Journal.{Entry, Now, Wait}
 use Rattle.world_face.specs.Frames.{is_blocked}
 use Rattle.world_face.specs.declared.Waited.TheVariants.{Ready}
 use Rattle.slirp_settings.specs.Addresses.{Config}
-use Rattle.run_laws.specs.Moments.{waits}
-use Rattle.slirp_laws.specs.Agenda.{all_wanted}
-use Rattle.slirp_laws.proofs.Bools.{first_of, same, second_of}
-use Rattle.run_duties.specs.Serving.{AllServed, IsServed, is_left_to_read, is_left_to_write}
-use Rattle.run_duties.specs.Waiting.{WaitsFor, is_all_sent, is_read, is_written, takes_datagrams}
-use Rattle.run_duties.proofs.Checks.{same_is}
-use Rattle.run_duties.proofs.Serving.{read_left, reading_on, served_on, unread, write_left, writing_on}
+use Rattle.spec_trace.specs.Moments.{waits}
+use Rattle.spec_run.specs.Agenda.{all_wanted}
+use Rattle.spec_run.proofs.Bools.{first_of, same, second_of}
+use Rattle.spec_duties.specs.Serving.{AllServed, IsServed, is_left_to_read, is_left_to_write}
+use Rattle.spec_duties.specs.Waiting.{WaitsFor, is_all_sent, is_read, is_written, takes_datagrams}
+use Rattle.spec_duties.proofs.Checks.{same_is}
+use Rattle.spec_duties.proofs.Serving.{read_left, reading_on, served_on, unread, write_left, writing_on}
 use Rattle.flow_splice.specs.Splice.{Splice}
-use Rattle.flows_follow.specs.Core.{number_of}
+use Rattle.sim_flows.specs.Core.{number_of}
 use Rattle.stream_netdev.specs.State.{LinkState}
 use Rattle.slirp_core.specs.Holds.{Standing, flowing}
 use Rattle.slirp_core.specs.Marks.{KeepsMarks}

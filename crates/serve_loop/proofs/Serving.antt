@@ -6,27 +6,27 @@ use Rattle.world_face.specs.Tells.{Telling, Makes}
 use Rattle.world_face.proofs.Telling.{makes_as, makes_then}
 use Rattle.world_face.proofs.Following.{heard}
 use Rattle.slirp_settings.specs.Addresses.{Config}
-use Rattle.run_laws.specs.Moments.{waits}
-use Rattle.run_laws.specs.Shape.{phase}
-use Rattle.run_laws.specs.Sockets.{next_number}
-use Rattle.slirp_laws.specs.Datagrams.{NeedsNothing}
-use Rattle.slirp_laws.specs.Laws.{Finished, Lawful}
-use Rattle.slirp_laws.specs.Served.{Served}
-use Rattle.slirp_laws.proofs.Sentences.{served}
+use Rattle.spec_trace.specs.Moments.{waits}
+use Rattle.spec_trace.specs.Shape.{phase}
+use Rattle.spec_trace.specs.Sockets.{next_number}
+use Rattle.spec_run.specs.Datagrams.{NeedsNothing}
+use Rattle.spec_run.specs.Laws.{Finished, Lawful}
+use Rattle.spec_run.specs.Served.{Served}
+use Rattle.spec_run.proofs.Sentences.{served}
 use Rattle.stream_netdev.specs.Keeps.{ReadsOn}
 use Rattle.stream_netdev.specs.State.{LinkState, under_way}
 use Rattle.stream_netdev.proofs.Reading.{reads_first}
 use Rattle.tcp_flows.specs.Kept.{IsFor, Kept}
-use Rattle.forward_rules.specs.Opened.{Opened}
+use Rattle.rules_forward.specs.Opened.{Opened}
 use Rattle.slirp_core.specs.Forwards.{AreCloses}
-use Rattle.forward_rules.specs.Opened.{forward_sockets}
+use Rattle.rules_forward.specs.Opened.{forward_sockets}
 use Rattle.slirp_core.specs.Holds.{AfterListening, after, flowing, Begins, ClosesAll, Closing, Opens, Stands, Turns, Holders, as_given, holders_of}
 use Rattle.slirp_core.specs.Numbers.{flows_for}
 use Rattle.slirp_core.specs.State.{SlirpState}
-use Rattle.run_duties.specs.Duties.{Attended, Dutiful, Must}
-use Rattle.run_duties.specs.Serving.{AllServed}
-use Rattle.run_duties.proofs.Serving.{all_served_on}
-use Rattle.run_duties.proofs.Ended.{dutiful_to_the_end, dutiful_unwaited, ended_yet, refused_unwaited}
+use Rattle.spec_duties.specs.Duties.{Attended, Dutiful, Must}
+use Rattle.spec_duties.specs.Serving.{AllServed}
+use Rattle.spec_duties.proofs.Serving.{all_served_on}
+use Rattle.spec_duties.proofs.Ended.{dutiful_to_the_end, dutiful_unwaited, ended_yet, refused_unwaited}
 use Rattle.slirp_core.proofs.Closes.{draw_none}
 use Rattle.slirp_core.proofs.Starting.{IsUnbegun, begun, ran as ran_by, spent as spent_by}
 use Rattle.serve_loop.specs.Ends.{end_of}

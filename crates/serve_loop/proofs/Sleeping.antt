@@ -4,10 +4,10 @@ use Rattle.poll_list.specs.declared.Want.{Want}
 use Rattle.world_face.specs.Journal.{Entry}
 use Rattle.slirp_settings.specs.Addresses.{Config}
 use Rattle.ipv4_head.specs.Sets.{PartSet}
-use Rattle.run_duties.specs.Duties.{MustWait}
-use Rattle.run_duties.specs.Serving.{AllServed}
+use Rattle.spec_duties.specs.Duties.{MustWait}
+use Rattle.spec_duties.specs.Serving.{AllServed}
 use Rattle.stream_netdev.specs.State.{LinkState}
-use Rattle.flows_follow.specs.Core.{CoreHolds}
+use Rattle.sim_flows.specs.Core.{CoreHolds}
 use Rattle.tcp_flows.specs.Reading.{AreWantsOf}
 use Rattle.tcp_flows.specs.Waits.{AreWaitedFor}
 use Rattle.slirp_core.specs.Fragments.{IsHeld}

@@ -5,12 +5,12 @@ use Rattle.poll_list.specs.declared.Who.TheVariants.{Link as TheLink}
 use Rattle.world_face.specs.Journal.{Entry, AreAllowed}
 use Rattle.world_face.specs.Frames.{Ending}
 use Rattle.slirp_settings.specs.Addresses.{Config}
-use Rattle.record_flows.specs.Segments.{segment_by}
-use Rattle.run_laws.specs.Fragments.{waiting}
-use Rattle.run_laws.specs.Packets.{Unheard}
-use Rattle.run_laws.specs.Sockets.{next_number}
-use Rattle.slirp_laws.specs.Agenda.{is_to_read, wanted_of}
-use Rattle.slirp_laws.specs.Datagrams.{Step, errand_by_packet}
+use Rattle.spec_flows.specs.Segments.{segment_by}
+use Rattle.spec_trace.specs.Fragments.{waiting}
+use Rattle.spec_trace.specs.Packets.{Unheard}
+use Rattle.spec_trace.specs.Sockets.{next_number}
+use Rattle.spec_run.specs.Agenda.{is_to_read, wanted_of}
+use Rattle.spec_run.specs.Datagrams.{Step, errand_by_packet}
 use Rattle.stream_netdev.specs.Keeps.{Keeps, ReadsFrame, hands, ending_of}
 use Rattle.stream_netdev.specs.State.{LinkState}
 use Rattle.stream_netdev.specs.declared.Arrived.{Arrived}

@@ -10,24 +10,24 @@ use Rattle.world_face.specs.Journal.{Entry}
 use Rattle.world_face.specs.Frames.{Ending, LinkFailed}
 use Rattle.world_face.specs.Tells.{Brings, Telling}
 use Rattle.slirp_settings.specs.Addresses.{Config}
-use Rattle.run_laws.specs.Moments.{waits}
-use Rattle.run_laws.specs.Sockets.{next_number}
-use Rattle.run_duties.specs.Duties.{Dutiful}
-use Rattle.run_duties.proofs.Going.{goes_on}
-use Rattle.run_duties.proofs.Serving.{all_served_on}
-use Rattle.slirp_laws.specs.Agenda.{agenda, is_to_read, is_to_write, wanted_of}
+use Rattle.spec_trace.specs.Moments.{waits}
+use Rattle.spec_trace.specs.Sockets.{next_number}
+use Rattle.spec_duties.specs.Duties.{Dutiful}
+use Rattle.spec_duties.proofs.Going.{goes_on}
+use Rattle.spec_duties.proofs.Serving.{all_served_on}
+use Rattle.spec_run.specs.Agenda.{agenda, is_to_read, is_to_write, wanted_of}
 use Rattle.stream_netdev.specs.State.{LinkState, under_way}
 use Rattle.slirp_core.specs.Holds.{Standing, after, standing, flowing, Ended, AfterPump, Leaves, holders_of}
 use Rattle.slirp_core.specs.Calm.{AreClear}
 use Rattle.slirp_core.specs.Pumps.{WantsOf, is_settled, listeners_of}
-use Rattle.waiting_flows.specs.Wants.{link_want, listener_want, socket_wants}
+use Rattle.sim_flows.specs.Wants.{link_want, listener_want, socket_wants}
 use Rattle.tcp_flows.specs.Reading.{NoneInSlots}
 use Rattle.slirp_core.specs.State.{SlirpState}
 use Rattle.stream_netdev.specs.declared.Pumped.{Pumped}
 use Rattle.stream_netdev.specs.declared.Pumped.TheVariants.{Clear, Blocked, Failed as PumpFailed}
 use Rattle.slirp_core.proofs.Associating.{with_agenda}
 use Rattle.slirp_core.proofs.Parts.{or_second}
-use Rattle.slirp_laws.proofs.Bools.{same}
+use Rattle.spec_run.proofs.Bools.{same}
 use Rattle.serve_loop.specs.Ends.{end_by, turn_of}
 use Rattle.serve_loop.specs.Turns.{all_passed_over, is_passed_over, is_read_now, still, AfterTurn, AllSent, AttendsAfterTaking, AttendsAfterTurn, AttendsNow, EndedAs, HoldsNow, IsAttended}
 use Rattle.serve_loop.specs.Turns.{IsAttendedAfter, IsCalm, IsCalmAfter, IsInTime, MayRest, ServedAfter, ServesNow, is_frame_due}

@@ -4,7 +4,7 @@ use Rattle.poll_list.specs.Listing.{reads, same_who, writes}
 use Rattle.poll_list.specs.declared.Want.{Want}
 use Rattle.poll_list.specs.declared.Who.{Who}
 use Rattle.poll_list.specs.declared.Who.TheVariants.{Tcp}
-use Rattle.slirp_laws.specs.Agenda.{wanted_of}
+use Rattle.spec_run.specs.Agenda.{wanted_of}
 use Rattle.slirp_core.specs.Pumps.{TcpOnce}
 use Rattle.slirp_core.proofs.Filling.{reads_once, writes_once}
 

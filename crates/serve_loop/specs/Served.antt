@@ -1,7 +1,7 @@
 -- A service, and one that has served nothing.
 use Rattle.std.specs.Prelude.{◌≡◌, ◌^◌, ◌≤◌, List, [], replicate, false}
 use Rattle.slirp_settings.specs.Addresses.{Config}
-use Rattle.dhcp_rules.specs.declared.Lease.TheVariants.{Free}
+use Rattle.rules_dhcp.specs.declared.Lease.TheVariants.{Free}
 use Rattle.poll_list.specs.declared.Want.{Want}
 use Rattle.stream_netdev.specs.State.{LinkState, under_way}
 use Rattle.slirp_settings.specs.Ranges.{IsSound}

@@ -8,19 +8,19 @@ use Rattle.world_face.specs.Journal.{Entry}
 use Rattle.world_face.specs.Frames.{Ending, Stopped, WaitFailed}
 use Rattle.world_face.specs.Tells.{Counts}
 use Rattle.slirp_settings.specs.Addresses.{Config}
-use Rattle.run_laws.specs.Moments.{waits}
-use Rattle.run_laws.specs.Shape.{phase}
-use Rattle.run_laws.specs.Sockets.{next_number}
+use Rattle.spec_trace.specs.Moments.{waits}
+use Rattle.spec_trace.specs.Shape.{phase}
+use Rattle.spec_trace.specs.Sockets.{next_number}
 use Rattle.flow_splice.specs.Splice.{Splice}
-use Rattle.slirp_laws.specs.Agenda.{all_wanted, wanted_of}
-use Rattle.slirp_laws.specs.Laws.{Finished, Lawful}
-use Rattle.udp_rules.specs.Associations.{is_over as is_idle_association}
-use Rattle.dns_rules.specs.Questions.{is_over as is_idle_question}
-use Rattle.tftp_rules.specs.Transfers.{next_again}
+use Rattle.spec_run.specs.Agenda.{all_wanted, wanted_of}
+use Rattle.spec_run.specs.Laws.{Finished, Lawful}
+use Rattle.rules_udp.specs.Associations.{is_over as is_idle_association}
+use Rattle.rules_dns.specs.Questions.{is_over as is_idle_question}
+use Rattle.rules_tftp.specs.Transfers.{next_again}
 use Rattle.stream_netdev.specs.Keeps.{ReadsOn}
 use Rattle.stream_netdev.specs.State.{LinkState, under_way}
-use Rattle.forward_rules.specs.Opened.{Opened}
-use Rattle.forward_rules.specs.Opened.{forward_sockets}
+use Rattle.rules_forward.specs.Opened.{Opened}
+use Rattle.rules_forward.specs.Opened.{forward_sockets}
 use Rattle.slirp_core.specs.Holds.{Standing, after, standing, flowing, Holders, holders_of, Holds, Ended, Closing}
 use Rattle.slirp_core.specs.Calm.{AreClear}
 use Rattle.tcp_flows.specs.Settled.{HaveTime}
@@ -28,9 +28,9 @@ use Rattle.tcp_flows.specs.Settled.{IsInTime as HasNoneDue}
 use Rattle.slirp_core.specs.Pumps.{is_settled}
 use Rattle.slirp_core.specs.State.{SlirpState}
 use Rattle.slirp_core.specs.Waiting.{AreFresh}
-use Rattle.run_duties.specs.Duties.{Dutiful}
-use Rattle.run_duties.specs.Serving.{AllServed, IsServed, is_left_to_read, is_left_to_write}
-use Rattle.flows_follow.specs.Core.{number_of}
+use Rattle.spec_duties.specs.Duties.{Dutiful}
+use Rattle.spec_duties.specs.Serving.{AllServed, IsServed, is_left_to_read, is_left_to_write}
+use Rattle.sim_flows.specs.Core.{number_of}
 use Rattle.serve_loop.specs.Ends.{IsCounted, end_by, end_of}
 use Rattle.serve_loop.specs.declared.service.End.{End}
 use Rattle.serve_loop.specs.declared.service.Turn.{Turn}

@@ -4,20 +4,20 @@ ghost use Rattle.std.specs.Result.{is_ok, result_err};
 ghost use Rattle.world_face.specs.Journal.{Entry};
 ghost use Rattle.world_face.specs.Tells.{Brings, Makes, Rose};
 ghost use Rattle.slirp_settings.specs.Addresses.{Config};
-ghost use Rattle.forward_rules.specs.Adding.{Adds, fault_of};
-ghost use Rattle.forward_rules.specs.Opened.{socket_at, without};
-ghost use Rattle.forward_rules.specs.declared.FwdFault.TheVariants.{Refused};
+ghost use Rattle.rules_forward.specs.Adding.{Adds, fault_of};
+ghost use Rattle.rules_forward.specs.Opened.{socket_at, without};
+ghost use Rattle.rules_forward.specs.declared.FwdFault.TheVariants.{Refused};
 ghost use Rattle.slirp_core.specs.Added.{MayAdd, MayRemove, closed_at, number_after};
-ghost use Rattle.record_flows.specs.Book.{book};
+ghost use Rattle.spec_flows.specs.Book.{book};
 ghost use Rattle.slirp_core.specs.Holds.{after};
 ghost use Rattle.slirp_core.specs.NextFlow.{IsNextFlow};
 ghost use Rattle.serve_loop.specs.Turns.{AttendsNow};
 
 use crate::service::Service;
 use net_octets::Endpoint;
-use record_flows::Tuple;
 use slirp_core::{FwdFault, NotThere};
 use slirp_settings::{Forward, Proto};
+use spec_flows::Tuple;
 use world_face::World;
 
 impl Service {

@@ -3,7 +3,7 @@
 // A frame is read and taken in, a peer of a forward is taken, a peer's datagram is received, or a flow's socket is served, writing before reading, and after
 // each what is owed for it is sent. A frame or a datagram is read only while nothing is left to be sent.
 ghost use Rattle.std.specs.Prelude.{◌≡◌, ◌&&◌, ◌||◌, List, true, false, IfSome, None, if◌then◌else◌};
-ghost use Rattle.slirp_laws.specs.Agenda.{is_to_read, wanted_of};
+ghost use Rattle.spec_run.specs.Agenda.{is_to_read, wanted_of};
 ghost use Rattle.serve_loop.specs.Turns.{StaysCalm, is_read_now, still};
 ghost use Rattle.poll_list.specs.Listing.{reads};
 ghost use Rattle.poll_list.specs.declared.Who.TheVariants.{Link as TheLink, Listener, Udp, Tcp};
@@ -23,7 +23,7 @@ impl Service {
     ghost use Rattle.slirp_core.specs.Counts.{AreGrown};
     ghost use Rattle.slirp_core.specs.Holds.{after, standing};
     ghost use Rattle.serve_loop.specs.Turns.{AfterItem, AfterTurn, CanTake, HoldsNow, IsStep, ServesNow, is_passed_over};
-    ghost use Rattle.run_duties.specs.Serving.{is_left_to_read};
+    ghost use Rattle.spec_duties.specs.Serving.{is_left_to_read};
     ghost use Rattle.slirp_core.specs.Marks.{KeepsMarks};
     ghost use Rattle.slirp_core.specs.Pumps.{is_settled};
     ghost use Rattle.serve_loop.specs.Served.{Stays};

@@ -2,7 +2,7 @@
 use Rattle.std.proofs.Common.{◌≡◌, List, [], ◌∷◌, ◌++◌, Option, None, append_assoc, sym, subst}
 use Rattle.net_octets.specs.declared.Endpoint.{Endpoint}
 use Rattle.slirp_settings.specs.Addresses.{Config}
-use Rattle.slirp_laws.specs.Laws.{Lawful, May}
+use Rattle.spec_run.specs.Laws.{Lawful, May}
 use Rattle.serve_loop.specs.declared.service.End.{End}
 use Rattle.control_loop.specs.Runs.{BeginsRun, GoesOnWith, IsRun, RunsAlone, RunsTo}
 use Rattle.world_face.specs.Journal.{Call, Entry}

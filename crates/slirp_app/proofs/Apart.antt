@@ -1,11 +1,11 @@
 -- What the network sees of a record has the waits, the octets of the link and the failures of the link and of waits that the record has.
 use Rattle.std.proofs.Common.{◌≡◌, ℕ, ◌+◌, ◌≤◌, ◌==◌, Bool, true, false, cond, List, [], ◌∷◌, ◌++◌, refl, ◌∙◌, ap, arith}
 use Rattle.std.proofs.lemmas.Bool.Decides.{nat_tests}
-use Rattle.run_laws.specs.Moments.{waits}
+use Rattle.spec_trace.specs.Moments.{waits}
 use Rattle.world_face.specs.Faults.{failures, link_failed, socket_failed, wait_failed}
 use Rattle.world_face.specs.Frames.{partial, partial_after}
 use Rattle.world_face.specs.Journal.{Entry, LinkRead, Wait}
-use Rattle.control_rules.specs.Apart.{is_on_control, seen, without_control}
+use Rattle.rules_control.specs.Apart.{is_on_control, seen, without_control}
 use Rattle.slirp_app.specs.Untroubled.{before_waits, link_ended, link_octets, tells_end}
 
 -- a call that is passed over changes nothing, and one that isn't changes nothing either

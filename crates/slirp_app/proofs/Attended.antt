@@ -7,9 +7,9 @@ use Rattle.world_face.specs.declared.Made.TheVariants.{Done as MadeDone, Failed 
 use Rattle.slirp_settings.specs.Addresses.{Config}
 use Rattle.command_words.specs.declared.Tap.{Tap}
 use Rattle.command_words.specs.declared.Tap.TheVariants.{Off, Record, Capture}
-use Rattle.app_outcome.specs.Statuses.{code_of}
-use Rattle.app_outcome.specs.declared.Outcome.{Outcome}
-use Rattle.app_outcome.specs.declared.Outcome.TheVariants.{Done, SinkFault}
+use Rattle.app_edges.specs.Statuses.{code_of}
+use Rattle.app_edges.specs.declared.outcome.Outcome.{Outcome}
+use Rattle.app_edges.specs.declared.outcome.Outcome.TheVariants.{Done, SinkFault}
 use Rattle.slirp_app.specs.Doing.{ServesLink}
 use Rattle.slirp_app.specs.Serving.{CapturesAt, ComesTo, HasNoMemory, IsGiven, IsRefused, IsUnopened, OpensAt, Records, RecordsAt, Runs, Serves, ServesAt, TapsAt, Took, TookNot}
 use Rattle.slirp_app.specs.Untroubled.{IsUntroubledBehind, Untroubled}

@@ -9,22 +9,22 @@ use Rattle.slirp_app.specs.Doing.{ReplaysFile}
 use Rattle.app_edges.specs.Fetching.{IsUnreadable, MayFetch, is_read, octets_read}
 use Rattle.slirp_app.specs.Ran.{Ceased, EndsBy, Replayed}
 use Rattle.slirp_app.specs.Serving.{ComesTo}
-use Rattle.app_outcome.specs.Statuses.{code_of, is_run}
+use Rattle.app_edges.specs.Statuses.{code_of, is_run}
 use Rattle.slirp_app.specs.Statuses.{outcome_of}
 use Rattle.app_edges.specs.Texts.{text_of}
-use Rattle.app_outcome.specs.declared.Outcome.{Outcome}
-use Rattle.app_outcome.specs.declared.Outcome.TheVariants.{Done, Usage, BadConfig, ScheduleRead, ScheduleTooLarge, ScheduleLine, Diverged, FrameTooLong, FrameCut, LinkFault}
-use Rattle.app_outcome.specs.declared.Outcome.TheVariants.{WaitFault, TurnsSpent, ListenRefused, SinkFault, NoMemory, ControlRefused}
+use Rattle.app_edges.specs.declared.outcome.Outcome.{Outcome}
+use Rattle.app_edges.specs.declared.outcome.Outcome.TheVariants.{Done, Usage, BadConfig, ScheduleRead, ScheduleTooLarge, ScheduleLine, Diverged, FrameTooLong, FrameCut, LinkFault}
+use Rattle.app_edges.specs.declared.outcome.Outcome.TheVariants.{WaitFault, TurnsSpent, ListenRefused, SinkFault, NoMemory, ControlRefused}
 use Rattle.slirp_app.proofs.Courses.{other}
 use Rattle.slirp_app.proofs.Ending.{Meant, ends_by, long_frame, meant_by, waited}
 use Rattle.slirp_app.proofs.Seen.{refused, sees}
 use Rattle.serve_loop.specs.Ends.{end_of}
 use Rattle.serve_loop.specs.declared.service.End.{End as AnEnd}
 use Rattle.serve_loop.specs.declared.service.End.TheVariants.{Done as EndDone, TooLong, Cut, LinkFault as EndLink, WaitFault as EndWait, TurnsSpent as EndTurns, ListenRefused as EndRefused, ControlRefused as EndControl}
-use Rattle.control_laws.specs.Laws.{Refuses}
+use Rattle.spec_control.specs.Laws.{Refuses}
 use Rattle.control_loop.specs.Runs.{IsRun, seen_by_network}
-use Rattle.run_laws.specs.Shape.{By, Over, Refused, phase}
-use Rattle.run_laws.specs.Moments.{waits}
+use Rattle.spec_trace.specs.Shape.{By, Over, Refused, phase}
+use Rattle.spec_trace.specs.Moments.{waits}
 use Rattle.world_face.specs.Frames.{LinkCut, LinkEnded, LinkFailed, LongFrame, Stopped, WaitFailed, partial}
 use Rattle.world_face.specs.Journal.{Entry, AreAllowed, FileLen, FileRead, Follows}
 use Rattle.world_face.specs.Puts.{Puts, added}

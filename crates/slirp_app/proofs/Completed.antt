@@ -3,11 +3,11 @@ use Rattle.std.proofs.Common.{◌≡◌, ◌⊎◌, inl, inr, ℕ, ◌+◌, ◌<
 use Rattle.std.proofs.lemmas.Bool.Decides.{nat_tests}
 use Rattle.std.proofs.lemmas.List.{append-nil}
 use Rattle.slirp_settings.specs.Addresses.{Config}
-use Rattle.run_duties.proofs.Ended.{refused_unwaited}
-use Rattle.run_laws.specs.Moments.{waits}
-use Rattle.run_laws.specs.Shape.{By, Cause, Refused, Phase, Opening, Started, Woken, Working, Over, clocked, is_over, is_working, may_turn, opened, phase, phase_by, phase_after, unless_over}
-use Rattle.slirp_laws.specs.Laws.{Finished, Lawful, May}
-use Rattle.slirp_laws.proofs.Bools.{first_of}
+use Rattle.spec_duties.proofs.Ended.{refused_unwaited}
+use Rattle.spec_trace.specs.Moments.{waits}
+use Rattle.spec_trace.specs.Shape.{By, Cause, Refused, Phase, Opening, Started, Woken, Working, Over, clocked, is_over, is_working, may_turn, opened, phase, phase_by, phase_after, unless_over}
+use Rattle.spec_run.specs.Laws.{Finished, Lawful, May}
+use Rattle.spec_run.proofs.Bools.{first_of}
 use Rattle.world_face.specs.Faults.{failures, link_failed, socket_failed, wait_failed}
 use Rattle.world_face.specs.Frames.{Ending, LinkEnded, LinkCut, LongFrame, LinkFailed, Stopped, WaitFailed, MayFrame, ending, is_too_long, partial, read_ending, spelt_length}
 use Rattle.world_face.specs.Journal.{Entry, Follows, call_of, Now, Wait, LinkRead, LinkWrite, Listen, UdpOpen}

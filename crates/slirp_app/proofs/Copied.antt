@@ -16,8 +16,8 @@ use Rattle.replay.specs.Range.{InRange, IsSayable}
 use Rattle.replay.specs.Rows.{AreReadable, FitsBefore, IsReadable, Row, TakesAll, entries_of, row_text, said_answer, said_call, schedule_text, turned_text}
 use Rattle.replay.specs.Spelling.{is_write}
 use Rattle.replay.specs.Text.{answer_text, call_text, hexadecimal, line_text, text, timeout_text, wants_text, written_text}
-use Rattle.replay_laws.proofs.Calls.{same_call}
-use Rattle.replay_laws.proofs.Lines.{one_text}
+use Rattle.spec_replay.proofs.Calls.{same_call}
+use Rattle.spec_replay.proofs.Lines.{one_text}
 use Rattle.world_face.proofs.Following.{all_before}
 use Rattle.world_face.specs.Journal.{Allowed, AreAllowed, Call, CallNow, CallWait, CallLinkOpen, CallLinkRead, CallLinkWrite, CallConnect, CallConnected, CallListen, CallAccept}
 use Rattle.world_face.specs.Journal.{CallTcpRead, CallTcpWrite, CallTcpEnd, CallClose, CallUdpOpen, CallUdpSend, CallUdpRecv, CallFileLen, CallFileRead, Entry, Now, Wait, LinkOpen}

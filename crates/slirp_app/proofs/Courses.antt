@@ -22,10 +22,10 @@ use Rattle.serve_loop.specs.declared.service.End.{End}
 use Rattle.serve_loop.specs.declared.service.End.TheVariants.{Done as EndDone, TooLong, Cut, LinkFault as EndLink, WaitFault as EndWait, TurnsSpent as EndTurns, ListenRefused as EndRefused, ControlRefused as EndControl}
 use Rattle.slirp_app.specs.Doing.{CanBeDone, Course, Meant, Misset, Misused, Does, TellsText, refusal_of}
 use Rattle.slirp_app.specs.Serving.{HasNoMemory, IsGiven, IsRefused, IsUnopened, OpensAt, Records, Runs, Serves as Served, ServesAt, Took, TookNot}
-use Rattle.app_outcome.specs.Statuses.{code_of, is_unrun}
+use Rattle.app_edges.specs.Statuses.{code_of, is_unrun}
 use Rattle.slirp_app.specs.Statuses.{outcome_of}
-use Rattle.app_outcome.specs.declared.Outcome.{Outcome}
-use Rattle.app_outcome.specs.declared.Outcome.TheVariants.{BadConfig, Done, NoMemory, SinkFault, Usage}
+use Rattle.app_edges.specs.declared.outcome.Outcome.{Outcome}
+use Rattle.app_edges.specs.declared.outcome.Outcome.TheVariants.{BadConfig, Done, NoMemory, SinkFault, Usage}
 
 -- two numbers that a test tells apart
 pub other : (n m : ℕ) → m ≡ n → (m == n) ≡ false → (n == n) ≡ true → ⊥

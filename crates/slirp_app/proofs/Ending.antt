@@ -4,9 +4,9 @@ use Rattle.std.proofs.lemmas.Bool.Decides.{nat_tests}
 use Rattle.std.specs.Prelude.{nat_lt, nat_le, ◌&&◌, ◌||◌}
 use Rattle.slirp_settings.specs.Addresses.{Config}
 use Rattle.serve_loop.specs.Ends.{end_of}
-use Rattle.slirp_laws.specs.Laws.{Finished, Lawful}
-use Rattle.run_laws.specs.Shape.{By, Refused, Phase, Opening, Started, Woken, Working, Over, is_over, may_turn, phase, phase_by, phase_after}
-use Rattle.run_laws.specs.Moments.{waits}
+use Rattle.spec_run.specs.Laws.{Finished, Lawful}
+use Rattle.spec_trace.specs.Shape.{By, Refused, Phase, Opening, Started, Woken, Working, Over, is_over, may_turn, phase, phase_by, phase_after}
+use Rattle.spec_trace.specs.Moments.{waits}
 use Rattle.world_face.specs.Frames.{Ending, LinkEnded, LinkCut, LongFrame, LinkFailed, Stopped, WaitFailed, ending, partial, read_ending, spelt_length, is_too_long}
 use Rattle.world_face.specs.Journal.{Entry, Now, Wait, LinkOpen, LinkRead, LinkWrite, Connect, Connected, Listen, Accept, TcpRead, TcpWrite, TcpEnd, Close, UdpOpen, UdpSend, UdpRecv}
 use Rattle.world_face.specs.Journal.{FileLen, FileRead}
@@ -16,8 +16,8 @@ use Rattle.world_face.specs.declared.Made.TheVariants.{Done as MadeDone, Failed 
 use Rattle.world_face.specs.declared.Waited.TheVariants.{Ready, Stop, Failed as WaitFails}
 use Rattle.slirp_app.specs.Ran.{EndsBy}
 use Rattle.slirp_app.specs.Statuses.{outcome_of}
-use Rattle.app_outcome.specs.declared.Outcome.{Outcome}
-use Rattle.app_outcome.specs.declared.Outcome.TheVariants.{Done, FrameTooLong, FrameCut, LinkFault, WaitFault, TurnsSpent, ListenRefused}
+use Rattle.app_edges.specs.declared.outcome.Outcome.{Outcome}
+use Rattle.app_edges.specs.declared.outcome.Outcome.TheVariants.{Done, FrameTooLong, FrameCut, LinkFault, WaitFault, TurnsSpent, ListenRefused}
 
 -- an entry that ends nothing leaves a run over that was over
 

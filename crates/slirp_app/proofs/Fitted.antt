@@ -9,19 +9,19 @@ use Rattle.world_face.specs.declared.Io.TheVariants.{Done, End, NotYet, Failed}
 use Rattle.world_face.specs.declared.Made.{Made}
 use Rattle.world_face.specs.declared.Made.TheVariants.{Done as MadeDone, Failed as MadeFailed}
 use Rattle.slirp_settings.specs.Addresses.{Config}
-use Rattle.run_laws.specs.Shape.{Phase, Opening, Started, Woken, Working, Over, clocked, is_over, is_working, may_turn, opened, phase, phase_after, unless_over}
-use Rattle.slirp_laws.specs.Laws.{Lawful}
+use Rattle.spec_trace.specs.Shape.{Phase, Opening, Started, Woken, Working, Over, clocked, is_over, is_working, may_turn, opened, phase, phase_after, unless_over}
+use Rattle.spec_run.specs.Laws.{Lawful}
 use Rattle.net_octets.specs.declared.Endpoint.{Endpoint}
-use Rattle.run_laws.specs.Sockets.{open_sockets}
-use Rattle.control_rules.specs.Apart.{is_on_control, seen, without_control}
-use Rattle.control_rules.specs.Talk.{listener}
+use Rattle.spec_trace.specs.Sockets.{open_sockets}
+use Rattle.rules_control.specs.Apart.{is_on_control, seen, without_control}
+use Rattle.rules_control.specs.Talk.{listener}
 use Rattle.control_loop.specs.Runs.{IsRun}
 use Rattle.serve_loop.specs.declared.service.End.{End as AnEnd}
 use Rattle.slirp_app.specs.Serving.{IsRefused, OpensAt, Runs}
 use Rattle.slirp_app.proofs.Apart.{partial_apart}
 use Rattle.slirp_app.proofs.Rightly.{AreRightReads, right_apart, right_before, right_reads}
 use Rattle.slirp_app.proofs.Seen.{BySight, RanTo, Unserved, ran_to}
-use Rattle.app_outcome.specs.declared.Outcome.{Outcome}
+use Rattle.app_edges.specs.declared.outcome.Outcome.{Outcome}
 use Rattle.taps.specs.Capturing.{Fits}
 
 -- what is under way was brought by one read, and what is left by one write

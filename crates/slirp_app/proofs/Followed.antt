@@ -21,10 +21,10 @@ use Rattle.slirp_app.specs.Causes.{Came}
 use Rattle.slirp_app.specs.Ran.{Replayed, Ceased}
 use Rattle.app_edges.specs.Texts.{end_line}
 use Rattle.slirp_app.specs.Serving.{ComesTo}
-use Rattle.app_outcome.specs.Statuses.{code_of}
+use Rattle.app_edges.specs.Statuses.{code_of}
 use Rattle.slirp_app.specs.Statuses.{outcome_of}
-use Rattle.app_outcome.specs.declared.Outcome.{Outcome}
-use Rattle.app_outcome.specs.declared.Outcome.TheVariants.{Diverged}
+use Rattle.app_edges.specs.declared.outcome.Outcome.{Outcome}
+use Rattle.app_edges.specs.declared.outcome.Outcome.TheVariants.{Diverged}
 use Rattle.slirp_app.proofs.Alone.{begun_before}
 
 their_entries : (n : ℕ) (rows older : List Row) → entries_of (newest_onto n rows older) ≡ newest_onto n (entries_of rows) (entries_of older)

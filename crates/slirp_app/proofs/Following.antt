@@ -3,25 +3,25 @@ use Rattle.std.proofs.Common.{◌≡◌, ◌≢◌, ◌⊎◌, inl, inr, ℕ, �
 use Rattle.std.proofs.lemmas.Bool.Decides.{nat_tests}
 use Rattle.net_octets.specs.declared.Endpoint.{Endpoint}
 use Rattle.slirp_settings.specs.Addresses.{Config}
-use Rattle.run_laws.specs.Moments.{waits, waits_after}
-use Rattle.run_laws.specs.Shape.{By, Opening, Started, Woken, Working, Over, Phase, clocked, is_opening, opened, phase, phase_after, phase_by, unless_over}
-use Rattle.run_laws.specs.Sockets.{open_sockets}
-use Rattle.control_rules.specs.Talk.{listener}
-use Rattle.control_laws.specs.Laws.{Refuses}
+use Rattle.spec_trace.specs.Moments.{waits, waits_after}
+use Rattle.spec_trace.specs.Shape.{By, Opening, Started, Woken, Working, Over, Phase, clocked, is_opening, opened, phase, phase_after, phase_by, unless_over}
+use Rattle.spec_trace.specs.Sockets.{open_sockets}
+use Rattle.rules_control.specs.Talk.{listener}
+use Rattle.spec_control.specs.Laws.{Refuses}
 use Rattle.control_loop.specs.Runs.{BeginsRun, IsRun, seen_by_network}
 use Rattle.serve_loop.specs.Ends.{end_of}
 use Rattle.serve_loop.specs.declared.service.End.{End}
 use Rattle.serve_loop.specs.declared.service.End.TheVariants.{Done as AtEnd}
-use Rattle.slirp_laws.specs.Laws.{Finished, Lawful}
+use Rattle.spec_run.specs.Laws.{Finished, Lawful}
 use Rattle.slirp_app.specs.Causes.{RanOn}
 use Rattle.slirp_app.specs.Doing.{ReplaysFile}
 use Rattle.app_edges.specs.Fetching.{IsWhole, octets_read}
 use Rattle.slirp_app.specs.Serving.{ComesTo}
-use Rattle.app_outcome.specs.Statuses.{code_of, is_run}
+use Rattle.app_edges.specs.Statuses.{code_of, is_run}
 use Rattle.slirp_app.specs.Statuses.{outcome_of}
 use Rattle.slirp_app.specs.Untroubled.{CanBeFollowed, IsBegun, Untroubled}
-use Rattle.app_outcome.specs.declared.Outcome.{Outcome}
-use Rattle.app_outcome.specs.declared.Outcome.TheVariants.{Done}
+use Rattle.app_edges.specs.declared.outcome.Outcome.{Outcome}
+use Rattle.app_edges.specs.declared.outcome.Outcome.TheVariants.{Done}
 use Rattle.slirp_app.proofs.Alone.{begun_lawfully}
 use Rattle.slirp_app.proofs.Apart.{before_first, ended_apart, fewer_before, fewer_on_link, fewer_waits_fail, octets_apart, waits_apart}
 use Rattle.slirp_app.proofs.Completed.{ends_well, none_failed}

@@ -2,17 +2,17 @@
 use Rattle.std.proofs.Common.{◌≡◌, ℕ, ◌&&◌, ◌||◌, Bool, true, false, cond, is_some, List, [], ◌∷◌, Option, refl, ◌∙◌, ap, subst}
 use Rattle.net_octets.specs.declared.Endpoint.{Endpoint}
 use Rattle.slirp_settings.specs.Addresses.{Config}
-use Rattle.run_duties.proofs.Ended.{ended_yet}
-use Rattle.run_laws.specs.Moments.{waits}
-use Rattle.run_laws.specs.Shape.{Phase, Opening, Started, Woken, Working, Over, is_ended, is_over, is_working, may_turn, phase}
-use Rattle.run_laws.specs.Sockets.{is_among, open_sockets, first}
-use Rattle.record_flows.specs.Book.{port_of}
-use Rattle.record_flows.specs.Flows.{is_it}
-use Rattle.slirp_laws.specs.Laws.{Finished, Lawful, May}
-use Rattle.slirp_laws.specs.Laws.{due, has_place, has_socket, is_added, is_closing, parts}
-use Rattle.slirp_laws.specs.Ports.{given_port}
-use Rattle.slirp_laws.proofs.Bools.{first_of}
-use Rattle.slirp_laws.proofs.Phases.{given_turn}
+use Rattle.spec_duties.proofs.Ended.{ended_yet}
+use Rattle.spec_trace.specs.Moments.{waits}
+use Rattle.spec_trace.specs.Shape.{Phase, Opening, Started, Woken, Working, Over, is_ended, is_over, is_working, may_turn, phase}
+use Rattle.spec_trace.specs.Sockets.{is_among, open_sockets, first}
+use Rattle.spec_flows.specs.Book.{port_of}
+use Rattle.spec_flows.specs.Flows.{is_it}
+use Rattle.spec_run.specs.Laws.{Finished, Lawful, May}
+use Rattle.spec_run.specs.Laws.{due, has_place, has_socket, is_added, is_closing, parts}
+use Rattle.spec_run.specs.Ports.{given_port}
+use Rattle.spec_run.proofs.Bools.{first_of}
+use Rattle.spec_run.proofs.Phases.{given_turn}
 use Rattle.slirp_app.proofs.Copied.{later_than, onto}
 use Rattle.std.specs.Prelude.{nat_lt}
 use Rattle.world_face.proofs.Following.{follows_before}

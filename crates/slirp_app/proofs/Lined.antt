@@ -17,7 +17,7 @@ use Rattle.replay.specs.declared.CallName.{CallName}
 use Rattle.replay.specs.declared.CallName.TheVariants.{Wait as NameWait, LinkOpen as NameLinkOpen, LinkRead as NameLinkRead, LinkWrite as NameLinkWrite, Connect as NameConnect}
 use Rattle.replay.specs.declared.CallName.TheVariants.{Connected as NameConnected, Listen as NameListen, Accept as NameAccept, TcpRead as NameTcpRead, TcpWrite as NameTcpWrite}
 use Rattle.replay.specs.declared.CallName.TheVariants.{TcpEnd as NameTcpEnd, UdpOpen as NameUdpOpen, UdpSend as NameUdpSend, UdpRecv as NameUdpRecv}
-use Rattle.run_laws.specs.Moments.{waits}
+use Rattle.spec_trace.specs.Moments.{waits}
 use Rattle.slirp_app.specs.Untroubled.{CanBeFollowed, NoneComesLater, SaysUntroubled, Untroubled, before_waits, link_ended, link_octets, record_of, tells_end}
 use Rattle.world_face.specs.Faults.{failures, link_failed, socket_failed, wait_failed}
 use Rattle.world_face.specs.Journal.{Entry, Leaves, call_of, Wait, LinkOpen, LinkRead, LinkWrite, Connect, Connected, Listen, Accept, TcpRead, TcpWrite, TcpEnd, UdpOpen, UdpSend, UdpRecv}

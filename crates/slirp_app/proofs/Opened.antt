@@ -7,8 +7,8 @@ use Rattle.world_face.proofs.Telling.{makes_as, makes_one, makes_then}
 use Rattle.slirp_settings.specs.Addresses.{Config}
 use Rattle.slirp_app.specs.Serving.{ComesTo, IsRecorded, IsRefused, IsUnopened, OpensAt, Records, RecordsAt, Runs}
 use Rattle.slirp_app.specs.Statuses.{outcome_of}
-use Rattle.app_outcome.specs.declared.Outcome.{Outcome}
-use Rattle.app_outcome.specs.declared.Outcome.TheVariants.{LinkFault}
+use Rattle.app_edges.specs.declared.outcome.Outcome.{Outcome}
+use Rattle.app_edges.specs.declared.outcome.Outcome.TheVariants.{LinkFault}
 use Rattle.control_loop.specs.Runs.{IsRun}
 use Rattle.serve_loop.specs.declared.service.End.{End}
 

@@ -5,8 +5,8 @@ use Rattle.replay.specs.Fitting.{FitsNone}
 use Rattle.replay.specs.Pieces.{lines_text}
 use Rattle.replay.specs.Rows.{AreReadable, FitsBefore, Row, schedule_text}
 use Rattle.replay.specs.Text.{text}
-use Rattle.run_laws.specs.Moments.{waits}
-use Rattle.run_laws.specs.Shape.{By, Refused, Phase, Opening, Started, Woken, Working, Over, is_over, phase}
+use Rattle.spec_trace.specs.Moments.{waits}
+use Rattle.spec_trace.specs.Shape.{By, Refused, Phase, Opening, Started, Woken, Working, Over, is_over, phase}
 use Rattle.serve_loop.specs.Ends.{end_of}
 use Rattle.serve_loop.specs.declared.service.End.{End}
 use Rattle.control_loop.specs.Runs.{IsRun}
@@ -20,11 +20,11 @@ use Rattle.slirp_app.specs.Doing.{ReplaysFile, ServesLink}
 use Rattle.app_edges.specs.Fetching.{octets_read}
 use Rattle.app_edges.specs.Texts.{end_line}
 use Rattle.slirp_app.specs.Serving.{ComesTo, IsGiven, IsUnopened, HasNoMemory, Records, RecordsAt, Serves, ServesAt, Took, TookNot}
-use Rattle.app_outcome.specs.Statuses.{code_of, is_run}
+use Rattle.app_edges.specs.Statuses.{code_of, is_run}
 use Rattle.slirp_app.specs.Statuses.{outcome_of}
-use Rattle.app_outcome.specs.declared.Outcome.{Outcome}
-use Rattle.app_outcome.specs.declared.Outcome.TheVariants.{TurnsSpent}
-use Rattle.slirp_laws.specs.Laws.{Finished, Lawful, May}
+use Rattle.app_edges.specs.declared.outcome.Outcome.{Outcome}
+use Rattle.app_edges.specs.declared.outcome.Outcome.TheVariants.{TurnsSpent}
+use Rattle.spec_run.specs.Laws.{Finished, Lawful, May}
 use Rattle.command_words.specs.declared.Tap.TheVariants.{Record}
 use Rattle.world_face.proofs.Telling.{makes_as}
 use Rattle.world_face.specs.Frames.{LinkCut, LinkEnded, LinkFailed, LongFrame, Stopped, WaitFailed}

@@ -1,7 +1,7 @@
 -- What a World may answer to reads on the link, in a record and in what the network sees of it.
 use Rattle.std.proofs.Common.{Bool, true, false, cond, List, [], ◌∷◌, ◌++◌}
 use Rattle.world_face.specs.Journal.{Allowed, AreAllowed, Entry, LinkRead}
-use Rattle.control_rules.specs.Apart.{is_on_control, seen, without_control}
+use Rattle.rules_control.specs.Apart.{is_on_control, seen, without_control}
 
 abbrev pub IsRightRead : Entry → Type 0
 IsRightRead (LinkRead asked answer octets) = Allowed (LinkRead asked answer octets)

@@ -9,9 +9,9 @@ use Rattle.world_face.proofs.Counting.{link_rose, rose_after, some_failed}
 use Rattle.serve_loop.specs.Ends.{IsCountedEnd}
 use Rattle.serve_loop.specs.declared.service.End.{End}
 use Rattle.serve_loop.specs.declared.service.End.TheVariants.{Done as EndDone, TooLong, Cut, LinkFault as EndLink, WaitFault as EndWait, TurnsSpent as EndTurns, ListenRefused as EndRefused, ControlRefused as EndControl}
-use Rattle.app_outcome.specs.declared.Outcome.{Outcome}
-use Rattle.app_outcome.specs.declared.Outcome.TheVariants.{BadConfig, ControlRefused, Diverged, Done, FrameCut, FrameTooLong, LinkFault, ListenRefused, NoMemory, ScheduleLine, ScheduleRead}
-use Rattle.app_outcome.specs.declared.Outcome.TheVariants.{ScheduleTooLarge, SinkFault, TurnsSpent, Usage, WaitFault}
+use Rattle.app_edges.specs.declared.outcome.Outcome.{Outcome}
+use Rattle.app_edges.specs.declared.outcome.Outcome.TheVariants.{BadConfig, ControlRefused, Diverged, Done, FrameCut, FrameTooLong, LinkFault, ListenRefused, NoMemory, ScheduleLine, ScheduleRead}
+use Rattle.app_edges.specs.declared.outcome.Outcome.TheVariants.{ScheduleTooLarge, SinkFault, TurnsSpent, Usage, WaitFault}
 use Rattle.slirp_app.specs.Serving.{IsCounted}
 use Rattle.slirp_app.specs.Statuses.{outcome_of}
 use Rattle.taps.specs.Recording.{Tapped}

@@ -3,15 +3,15 @@ use Rattle.std.proofs.Common.{◌≡◌, ◌≢◌, ◌≤◌, ◌||◌, true, L
 use Rattle.std.specs.Prelude.{nat_le}
 use Rattle.net_octets.specs.declared.Endpoint.{Endpoint}
 use Rattle.slirp_settings.specs.Addresses.{Config}
-use Rattle.run_laws.specs.Moments.{waits}
-use Rattle.run_laws.specs.Shape.{By, Refused, Phase, Opening, Started, Woken, Working, Over, is_ended, is_over, phase, phase_after}
-use Rattle.slirp_laws.specs.Laws.{Finished, Lawful}
+use Rattle.spec_trace.specs.Moments.{waits}
+use Rattle.spec_trace.specs.Shape.{By, Refused, Phase, Opening, Started, Woken, Working, Over, is_ended, is_over, phase, phase_after}
+use Rattle.spec_run.specs.Laws.{Finished, Lawful}
 use Rattle.world_face.specs.Frames.{LinkEnded, LinkCut, LongFrame, LinkFailed, Stopped, WaitFailed, ending, partial}
 use Rattle.world_face.specs.Journal.{Entry}
-use Rattle.control_rules.specs.Apart.{without_control}
-use Rattle.control_words.proofs.Reading.{reading}
-use Rattle.control_laws.specs.Desk.{Desk, Reads, by_control, desk, with_changes}
-use Rattle.control_laws.specs.Laws.{Refuses}
+use Rattle.rules_control.specs.Apart.{without_control}
+use Rattle.control.proofs.Reading.{reading}
+use Rattle.spec_control.specs.Desk.{Desk, Reads, by_control, desk, with_changes}
+use Rattle.spec_control.specs.Laws.{Refuses}
 use Rattle.control_loop.specs.Runs.{IsRefused, IsRun, RunsTo, RunsWith, Serves, seen_by_network}
 use Rattle.serve_loop.specs.Ends.{end_of}
 use Rattle.serve_loop.specs.declared.service.End.{End}

@@ -7,7 +7,7 @@ use Rattle.slirp_settings.specs.Addresses.{Config}
 use Rattle.command_words.specs.declared.Tap.{Tap}
 use Rattle.command_words.specs.declared.Tap.TheVariants.{Off}
 use Rattle.slirp_app.specs.Serving.{OpensAt, Serves, ServesAt, TapsAt}
-use Rattle.app_outcome.specs.declared.Outcome.{Outcome}
+use Rattle.app_edges.specs.declared.outcome.Outcome.{Outcome}
 
 -- the settings are those with which the network was opened
 pub served : (world world_new : Telling) (config its : Config) (at : Place) (tap : Tap) (outcome : Outcome) (old new : Option (List ℕ)) → its ≡ config

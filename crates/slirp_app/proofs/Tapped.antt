@@ -7,9 +7,9 @@ use Rattle.world_face.proofs.Telling.{makes_as}
 use Rattle.slirp_settings.specs.Addresses.{Config}
 use Rattle.replay.specs.Text.{text}
 use Rattle.slirp_app.specs.Serving.{CapturesAt, ComesTo, IsGiven, IsRecorded, OpensAt, Took, TookNot}
-use Rattle.app_outcome.specs.Statuses.{code_of}
-use Rattle.app_outcome.specs.declared.Outcome.{Outcome}
-use Rattle.app_outcome.specs.declared.Outcome.TheVariants.{SinkFault}
+use Rattle.app_edges.specs.Statuses.{code_of}
+use Rattle.app_edges.specs.declared.outcome.Outcome.{Outcome}
+use Rattle.app_edges.specs.declared.outcome.Outcome.TheVariants.{SinkFault}
 use Rattle.slirp_app.proofs.Courses.{end_of_run, opens_code}
 use Rattle.slirp_app.proofs.Fitted.{opened_fits}
 use Rattle.taps.specs.Capturing.{IsCaptured, capture}

@@ -12,10 +12,10 @@ use Rattle.world_face.specs.Tells.{Telling, Makes, Rose}
 use Rattle.app_edges.specs.Fetching.{IsWhole, IsUnreadable, is_read, octets_read}
 use Rattle.slirp_app.specs.Ran.{Replayed, Ceased}
 use Rattle.slirp_app.specs.Serving.{ComesTo}
-use Rattle.app_outcome.specs.Statuses.{code_of}
-use Rattle.app_outcome.specs.declared.Outcome.{Outcome}
-use Rattle.app_outcome.specs.declared.Outcome.TheVariants.{Done, Usage, BadConfig, ScheduleRead, ScheduleTooLarge, ScheduleLine, Diverged, FrameTooLong, FrameCut, LinkFault}
-use Rattle.app_outcome.specs.declared.Outcome.TheVariants.{WaitFault, TurnsSpent, ListenRefused, SinkFault, NoMemory, ControlRefused}
+use Rattle.app_edges.specs.Statuses.{code_of}
+use Rattle.app_edges.specs.declared.outcome.Outcome.{Outcome}
+use Rattle.app_edges.specs.declared.outcome.Outcome.TheVariants.{Done, Usage, BadConfig, ScheduleRead, ScheduleTooLarge, ScheduleLine, Diverged, FrameTooLong, FrameCut, LinkFault}
+use Rattle.app_edges.specs.declared.outcome.Outcome.TheVariants.{WaitFault, TurnsSpent, ListenRefused, SinkFault, NoMemory, ControlRefused}
 
 -- Where a run was made, a record of it was put. It diverged, or came to its end.
 abbrev pub Came : Config → Outcome → (schedule : List ℕ) → (old new : Option (List ℕ)) → Type 0

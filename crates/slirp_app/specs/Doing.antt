@@ -10,8 +10,8 @@ use Rattle.command_words.specs.declared.Setting.{Setting}
 use Rattle.drive_world.specs.Runs.{Run, summary_text}
 use Rattle.replay.specs.Unread.{IsFirstUnread}
 use Rattle.replay.specs.declared.Divergence.{Divergence}
-use Rattle.run_laws.specs.Moments.{waits}
-use Rattle.run_laws.specs.Shape.{Over, Refused, phase}
+use Rattle.spec_trace.specs.Moments.{waits}
+use Rattle.spec_trace.specs.Shape.{Over, Refused, phase}
 use Rattle.command_words.specs.Meaning.{Meaning, Means, Replays, Serves, Drives, Helps, TellsVersion, broken_in, config_of, said}
 use Rattle.command_words.specs.Stops.{StopsAt}
 use Rattle.command_words.specs.declared.Command.{Command}
@@ -21,17 +21,17 @@ use Rattle.command_words.specs.declared.Tap.{Tap}
 use Rattle.command_words.specs.declared.WordFault.{WordFault}
 use Rattle.command_words.specs.declared.WordFault.TheVariants.{Usage as Misread, BadConfig as BadField}
 use Rattle.serve_loop.specs.declared.service.End.{End}
-use Rattle.control_laws.specs.Laws.{Refuses}
+use Rattle.spec_control.specs.Laws.{Refuses}
 use Rattle.control_loop.specs.Runs.{IsRun, seen_by_network}
 use Rattle.slirp_app.specs.Causes.{CannotRead, Caused, IsTooLarge, RanOn}
 use Rattle.app_edges.specs.Fetching.{IsUnreadable, IsWhole, MayFetch, is_read, octets_read}
 use Rattle.slirp_app.specs.Ran.{Ceased, EndsBy}
 use Rattle.slirp_app.specs.Serving.{IsCounted, ServesAt}
-use Rattle.app_outcome.specs.Statuses.{code_of, is_run}
+use Rattle.app_edges.specs.Statuses.{code_of, is_run}
 use Rattle.app_edges.specs.Texts.{help_text, version_text}
 use Rattle.slirp_app.specs.Statuses.{outcome_of}
-use Rattle.app_outcome.specs.declared.Outcome.{Outcome}
-use Rattle.app_outcome.specs.declared.Outcome.TheVariants.{BadConfig, Diverged, FrameCut, FrameTooLong, ListenRefused, ScheduleLine, TurnsSpent, Usage}
+use Rattle.app_edges.specs.declared.outcome.Outcome.{Outcome}
+use Rattle.app_edges.specs.declared.outcome.Outcome.TheVariants.{BadConfig, Diverged, FrameCut, FrameTooLong, ListenRefused, ScheduleLine, TurnsSpent, Usage}
 
 -- What `replay FILE` does: the calls on the outer World, and by each status what came of the schedule and of the run. Told says that `err` got the text of an outcome.
 pub record ReplaysFile (file : Word) (config : Config) (status : ℕ) (world world_new : Telling) (old new : Option (List ℕ)) (Told : Outcome → Type 0) : Type 0 where

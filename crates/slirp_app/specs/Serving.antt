@@ -11,8 +11,8 @@ use Rattle.control_loop.specs.Runs.{IsRun}
 use Rattle.command_words.specs.declared.Tap.{Tap}
 use Rattle.command_words.specs.declared.Tap.TheVariants.{Off, Record, Capture}
 use Rattle.slirp_app.specs.Statuses.{outcome_of}
-use Rattle.app_outcome.specs.declared.Outcome.{Outcome}
-use Rattle.app_outcome.specs.declared.Outcome.TheVariants.{ControlRefused, LinkFault, ListenRefused, NoMemory, SinkFault, WaitFault}
+use Rattle.app_edges.specs.declared.outcome.Outcome.{Outcome}
+use Rattle.app_edges.specs.declared.outcome.Outcome.TheVariants.{ControlRefused, LinkFault, ListenRefused, NoMemory, SinkFault, WaitFault}
 use Rattle.taps.specs.Capturing.{capture}
 
 -- The calls of a whole run with these settings; the outcome is that of the end to which it came.

@@ -2,8 +2,8 @@
 use Rattle.std.specs.Prelude.{◌≡◌, ◌<◌, ◌≤◌, ◌==◌, if◌then◌else◌, Bool, true, false, ℕ, List, [], ◌∷◌, ◌++◌, length, Option, Some, None}
 use Rattle.slirp_settings.specs.Addresses.{Config}
 use Rattle.replay.specs.Rows.{AreReadable, Fits, Row, schedule_text}
-use Rattle.run_laws.specs.Moments.{waits}
-use Rattle.slirp_laws.specs.Laws.{Lawful}
+use Rattle.spec_trace.specs.Moments.{waits}
+use Rattle.spec_run.specs.Laws.{Lawful}
 use Rattle.net_octets.specs.declared.Endpoint.{Endpoint}
 use Rattle.control_loop.specs.Runs.{BeginsRun}
 use Rattle.world_face.specs.Faults.{failures, link_failed, socket_failed, wait_failed}

@@ -1,12 +1,12 @@
 // A drill: the network on a World that is made from a number.
 ghost use Rattle.std.specs.Prelude.{◌≡◌, ◌⊎◌, ◌≤◌, IsTrue};
 ghost use Rattle.drive_world.specs.Runs.{Run, summary_text};
-ghost use Rattle.app_outcome.specs.Statuses.{code_of, is_unrun};
+ghost use Rattle.app_edges.specs.Statuses.{code_of, is_unrun};
 ghost use Rattle.world_face.specs.Puts.{Puts, added};
 ghost use Rattle.world_face.specs.Tells.{Rose};
 
 use crate::serving::run_network;
-use app_outcome::Outcome;
+use app_edges::Outcome;
 use control_loop::Network;
 use drive_world::DriveWorld;
 use slirp_settings::SlirpConfig;

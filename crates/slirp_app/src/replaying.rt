@@ -9,14 +9,13 @@ ghost use Rattle.replay.specs.Unread.{IsFirstUnread};
 ghost use Rattle.replay.specs.declared.Divergence.{Divergence};
 ghost use Rattle.slirp_app.specs.Causes.{Came, Caused};
 ghost use Rattle.app_edges.specs.Fetching.{MayFetch};
-ghost use Rattle.app_outcome.specs.Statuses.{code_of, is_run, is_unrun};
-ghost use Rattle.app_outcome.specs.declared.Outcome.TheVariants.{Diverged, NoMemory as OfMemory, ScheduleLine, ScheduleRead, ScheduleTooLarge};
+ghost use Rattle.app_edges.specs.Statuses.{code_of, is_run, is_unrun};
+ghost use Rattle.app_edges.specs.declared.outcome.Outcome.TheVariants.{Diverged, NoMemory as OfMemory, ScheduleLine, ScheduleRead, ScheduleTooLarge};
 ghost use Rattle.world_face.specs.Journal.{Follows};
 ghost use Rattle.world_face.specs.Tells.{Makes, Rose};
 
 use crate::serving::run_network;
-use app_edges::{Unread, put_record, read_file};
-use app_outcome::Outcome;
+use app_edges::{Outcome, Unread, put_record, read_file};
 use control_loop::Network;
 use replay::{ScriptFault, ScriptWorld};
 use slirp_settings::SlirpConfig;

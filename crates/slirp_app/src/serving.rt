@@ -4,12 +4,12 @@ ghost use Rattle.slirp_settings.specs.Ranges.{IsSound};
 ghost use Rattle.slirp_settings.specs.Settings.{settings};
 ghost use Rattle.slirp_app.specs.Serving.{ComesTo, IsCounted, OpensAt, ServesAt};
 ghost use Rattle.slirp_app.specs.Statuses.{outcome_of};
-ghost use Rattle.app_outcome.specs.Statuses.{code_of, is_run};
+ghost use Rattle.app_edges.specs.Statuses.{code_of, is_run};
 ghost use Rattle.world_face.specs.Journal.{IsPlace, place_of};
 ghost use Rattle.world_face.specs.Tells.{Makes, Rose};
 
 use crate::tapping::{capture_link, record_link};
-use app_outcome::Outcome;
+use app_edges::Outcome;
 use command_words::Tap;
 use control_loop::{End, Network};
 use slirp_settings::SlirpConfig;

@@ -1,14 +1,14 @@
 // A run on the outside of which is put what it calls. While it runs, what stands behind `world` and `out` lies in a World that passes each call on and notes it.
 ghost use Rattle.std.specs.Prelude.{◌≡◌, [], if◌then◌else◌};
 ghost use Rattle.slirp_app.specs.Serving.{CapturesAt, IsCounted, IsRecorded, RecordsAt};
-ghost use Rattle.app_outcome.specs.Statuses.{code_of};
-ghost use Rattle.app_outcome.specs.declared.Outcome.TheVariants.{SinkFault};
+ghost use Rattle.app_edges.specs.Statuses.{code_of};
+ghost use Rattle.app_edges.specs.declared.outcome.Outcome.TheVariants.{SinkFault};
 ghost use Rattle.taps.specs.Capturing.{Tracks};
 ghost use Rattle.world_face.specs.Journal.{IsPlace, place_of};
 ghost use Rattle.world_face.specs.Tells.{Makes, Rose};
 
 use crate::serving::{run_network, serve_link};
-use app_outcome::Outcome;
+use app_edges::Outcome;
 use control_loop::Network;
 use core::mem::replace_with;
 use taps::{Capture, Framing, Lines, Record, Tap};

@@ -14,35 +14,35 @@ use Rattle.slirp_settings.specs.Addresses.{Config, address, forward_on, is_guest
 use Rattle.slirp_settings.specs.declared.Forward.{Forward}
 use Rattle.slirp_settings.specs.declared.Proto.{Proto}
 use Rattle.slirp_settings.specs.declared.Proto.TheVariants.{Tcp, Udp}
-use Rattle.forward_rules.specs.Adding.{Adds, AddsBy, fault_of, opening_of as port_opening}
-use Rattle.forward_rules.specs.Opened.{Opened, is_at, is_taken, most_forwards, socket_at, socket_of, without as without_port}
-use Rattle.forward_rules.specs.declared.FwdFault.{FwdFault}
-use Rattle.forward_rules.specs.declared.FwdFault.TheVariants.{Taken, BadGuest, Full, Refused}
-use Rattle.udp_rules.specs.Associations.{numbers, without}
-use Rattle.dns_rules.specs.Questions.{numbers as question_numbers, without as without_question}
-use Rattle.run_laws.specs.Moments.{waits}
-use Rattle.run_laws.specs.Shape.{Working, is_ended, is_over, is_working, opened, phase}
-use Rattle.run_laws.specs.Sockets.{Association as OfAssociation, DnsSocket, Flow as OfFlow, Forward as OfForward, Kind, Listener as OfListener, datagram_kind, first, is_among, is_association, is_flow, kind_of, next_number}
-use Rattle.run_laws.specs.Sockets.{open_sockets}
-use Rattle.record_flows.specs.Book.{book, port_by, port_of}
-use Rattle.record_flows.specs.Flows.{flow_of, is_it}
-use Rattle.record_flows.specs.Laws.{NoneMustClose}
-use Rattle.slirp_laws.specs.Asking.{step}
-use Rattle.slirp_laws.specs.Datagrams.{NeedsNothing}
-use Rattle.slirp_laws.specs.Errands.{errand_left}
-use Rattle.slirp_laws.specs.Laws.{May, carries, due, is_added, is_closing, may_close, may_part, parts}
-use Rattle.slirp_laws.specs.Names.{kind_for, questions}
-use Rattle.slirp_laws.specs.Ports.{given_by, given_port, is_port}
-use Rattle.slirp_laws.specs.Questions.{is_for_question}
-use Rattle.slirp_laws.specs.Relayed.{associations}
-use Rattle.slirp_laws.proofs.Bools.{among_without, and_both, equal, or_first, or_second, same, turned}
-use Rattle.slirp_laws.proofs.Deeds.{any_one, ask_nothing, closes, gathered, untouched}
-use Rattle.slirp_laws.proofs.Longest.{same_port}
+use Rattle.rules_forward.specs.Adding.{Adds, AddsBy, fault_of, opening_of as port_opening}
+use Rattle.rules_forward.specs.Opened.{Opened, is_at, is_taken, most_forwards, socket_at, socket_of, without as without_port}
+use Rattle.rules_forward.specs.declared.FwdFault.{FwdFault}
+use Rattle.rules_forward.specs.declared.FwdFault.TheVariants.{Taken, BadGuest, Full, Refused}
+use Rattle.rules_udp.specs.Associations.{numbers, without}
+use Rattle.rules_dns.specs.Questions.{numbers as question_numbers, without as without_question}
+use Rattle.spec_trace.specs.Moments.{waits}
+use Rattle.spec_trace.specs.Shape.{Working, is_ended, is_over, is_working, opened, phase}
+use Rattle.spec_trace.specs.Sockets.{Association as OfAssociation, DnsSocket, Flow as OfFlow, Forward as OfForward, Kind, Listener as OfListener, datagram_kind, first, is_among, is_association, is_flow, kind_of, next_number}
+use Rattle.spec_trace.specs.Sockets.{open_sockets}
+use Rattle.spec_flows.specs.Book.{book, port_by, port_of}
+use Rattle.spec_flows.specs.Flows.{flow_of, is_it}
+use Rattle.spec_flows.specs.Laws.{NoneMustClose}
+use Rattle.spec_run.specs.Asking.{step}
+use Rattle.spec_run.specs.Datagrams.{NeedsNothing}
+use Rattle.spec_run.specs.Errands.{errand_left}
+use Rattle.spec_run.specs.Laws.{May, carries, due, is_added, is_closing, may_close, may_part, parts}
+use Rattle.spec_run.specs.Names.{kind_for, questions}
+use Rattle.spec_run.specs.Ports.{given_by, given_port, is_port}
+use Rattle.spec_run.specs.Questions.{is_for_question}
+use Rattle.spec_run.specs.Relayed.{associations}
+use Rattle.spec_run.proofs.Bools.{among_without, and_both, equal, or_first, or_second, same, turned}
+use Rattle.spec_run.proofs.Deeds.{any_one, ask_nothing, closes, gathered, untouched}
+use Rattle.spec_run.proofs.Longest.{same_port}
 use Rattle.stream_netdev.specs.State.{LinkState}
-use Rattle.flows_follow.proofs.Options.{true_false}
+use Rattle.sim_flows.proofs.Options.{true_false}
 use Rattle.slirp_core.specs.Added.{MayAdd, MayRemove, closed_at, number_after, was_asked}
 use Rattle.slirp_core.specs.Forwards.{AreInForce, IsInForce, given_kind, is_given}
-use Rattle.forward_rules.specs.Opened.{forward_sockets}
+use Rattle.rules_forward.specs.Opened.{forward_sockets}
 use Rattle.slirp_core.specs.Holds.{Flowing, Holds, InTurn, Turns, Unbegun, after, asked_by, carriers, flowing, holders_of}
 use Rattle.slirp_core.specs.Sockets.{AllAbove, IsRising}
 use Rattle.slirp_core.specs.State.{SlirpState}

@@ -9,25 +9,25 @@ use Rattle.world_face.specs.declared.Io.{Io}
 use Rattle.world_face.specs.declared.Io.TheVariants.{Done, End, NotYet, Failed}
 use Rattle.net_octets.specs.Octets.{our_mac}
 use Rattle.slirp_settings.specs.Addresses.{Config, address, endpoint}
-use Rattle.udp_rules.specs.declared.Reply.{Reply}
-use Rattle.udp_rules.specs.declared.Reply.TheVariants.{Nothing as ReplyNothing, Datagram as ReplyDatagram, Unreachable as ReplyUnreachable}
+use Rattle.rules_udp.specs.declared.Reply.{Reply}
+use Rattle.rules_udp.specs.declared.Reply.TheVariants.{Nothing as ReplyNothing, Datagram as ReplyDatagram, Unreachable as ReplyUnreachable}
 use Rattle.udp_datagram.specs.Udp.{udp_octets}
 use Rattle.ipv4_head.specs.Cuts.{cuts}
 use Rattle.ipv4_head.specs.Sets.{Part}
-use Rattle.tftp_rules.specs.Saying.{IsFromServer, said_by}
-use Rattle.tftp_rules.proofs.Turning.{begun_left, ticked_left, ticked_none}
-use Rattle.record_flows.specs.Book.{book}
-use Rattle.record_flows.specs.Doings.{Nothing, doing, doing_by, goes}
-use Rattle.record_flows.specs.Laws.{MaySend, SendsOn, WritesBy, MustSend, flow_settings}
-use Rattle.record_flows.specs.Segments.{asked_in, segment_in}
-use Rattle.run_laws.specs.Moments.{moment}
-use Rattle.tftp_rules.specs.Transfers.{Files, Said, Transfer, are_left, begun, next_again, said_again, ticked}
-use Rattle.slirp_laws.specs.Answers.{files_begun, frames_of, is_first, left, part_frame, serving, told_of_files, uncut}
-use Rattle.slirp_laws.specs.Laws.{Lawful}
-use Rattle.slirp_laws.proofs.Deeds.{FlowsLetWrite}
-use Rattle.slirp_laws.specs.Sending.{asked_beside, requests, requests_by}
-use Rattle.slirp_laws.proofs.FileTurns.{MayGoAgain, aged_again, files_again, gone_again, left_again, no_flows}
-use Rattle.slirp_laws.proofs.KeptFiles.{now_is}
+use Rattle.rules_tftp.specs.Saying.{IsFromServer, said_by}
+use Rattle.rules_tftp.proofs.Turning.{begun_left, ticked_left, ticked_none}
+use Rattle.spec_flows.specs.Book.{book}
+use Rattle.spec_flows.specs.Doings.{Nothing, doing, doing_by, goes}
+use Rattle.spec_flows.specs.Laws.{MaySend, SendsOn, WritesBy, MustSend, flow_settings}
+use Rattle.spec_flows.specs.Segments.{asked_in, segment_in}
+use Rattle.spec_trace.specs.Moments.{moment}
+use Rattle.rules_tftp.specs.Transfers.{Files, Said, Transfer, are_left, begun, next_again, said_again, ticked}
+use Rattle.spec_run.specs.Answers.{files_begun, frames_of, is_first, left, part_frame, serving, told_of_files, uncut}
+use Rattle.spec_run.specs.Laws.{Lawful}
+use Rattle.spec_run.proofs.Deeds.{FlowsLetWrite}
+use Rattle.spec_run.specs.Sending.{asked_beside, requests, requests_by}
+use Rattle.spec_run.proofs.FileTurns.{MayGoAgain, aged_again, files_again, gone_again, left_again, no_flows}
+use Rattle.spec_run.proofs.KeptFiles.{now_is}
 use Rattle.stream_netdev.specs.State.{LinkState}
 use Rattle.tcp_flows.specs.Kept.{Kept}
 use Rattle.slirp_core.specs.Holds.{Holds, Standing, flowing}

@@ -3,18 +3,18 @@ use Rattle.std.proofs.Common.{◌≡◌, ℕ, Bool, true, false, List, [], ◌�
 use Rattle.std.proofs.lemmas.List.{append-nil, map-append, reverse-append}
 use Rattle.world_face.specs.Journal.{Close, Entry}
 use Rattle.slirp_settings.specs.declared.Forward.{Forward}
-use Rattle.run_laws.specs.Sockets.{is_among}
-use Rattle.udp_rules.specs.Associations.{IsLeast, numbers}
+use Rattle.spec_trace.specs.Sockets.{is_among}
+use Rattle.rules_udp.specs.Associations.{IsLeast, numbers}
 use Rattle.udp_assoc.specs.Relays.{ClosesLeast}
-use Rattle.udp_rules.specs.declared.Association.{Association}
-use Rattle.dns_rules.specs.Questions.{numbers as question_numbers}
+use Rattle.rules_udp.specs.declared.Association.{Association}
+use Rattle.rules_dns.specs.Questions.{numbers as question_numbers}
 use Rattle.dns_relay.specs.Relaying.{IsLeast as IsLeastAsked}
-use Rattle.dns_rules.specs.declared.Question.{Question}
-use Rattle.flows_follow.proofs.Options.{true_false}
-use Rattle.forward_rules.specs.Opened.{Opened}
+use Rattle.rules_dns.specs.declared.Question.{Question}
+use Rattle.sim_flows.proofs.Options.{true_false}
+use Rattle.rules_forward.specs.Opened.{Opened}
 use Rattle.slirp_core.specs.Firsts.{IsQuestionFirst}
 use Rattle.slirp_core.specs.Forwards.{ClosesForward}
-use Rattle.forward_rules.specs.Opened.{forward_sockets}
+use Rattle.rules_forward.specs.Opened.{forward_sockets}
 use Rattle.slirp_core.specs.Holds.{HoldsNothingElse, IsOf, NoForwardFirst, carriers, holders_of}
 use Rattle.slirp_core.specs.State.{SlirpState}
 

@@ -8,14 +8,14 @@ use Rattle.slirp_settings.specs.Addresses.{Config, is_guest}
 use Rattle.ipv4_head.specs.Ip.{Ip, read_ip, is_unbroken}
 use Rattle.ipv4_head.specs.Sets.{Part, PartSet, young}
 use Rattle.ipv4_reasm.specs.Areas.{Gathered}
-use Rattle.run_laws.specs.Fragments.{Fragment, arrived, fragment_by, joined_by, key_by, part_by, with_fragment}
+use Rattle.spec_trace.specs.Fragments.{Fragment, arrived, fragment_by, joined_by, key_by, part_by, with_fragment}
 use Rattle.stream_netdev.specs.State.{LinkState}
 use Rattle.slirp_core.specs.Came.{DatagramCame, OctetsCame}
 use Rattle.slirp_core.specs.Holds.{WorkLeft, Holds, Standing, flowing}
 use Rattle.slirp_core.specs.Segments.{segment_of_arrived, segment_of_ip}
 use Rattle.slirp_core.specs.Fragments.{Gathers, GathersIf, HoldWith, IsHeld, after_octets, assembled_ip}
 use Rattle.slirp_core.specs.Packets.{request_for_udp, leases_with, owed_for, owed_for_ip, udp_of, udp_of_arrived, with_address}
-use Rattle.slirp_laws.specs.Answers.{frames_of}
+use Rattle.spec_run.specs.Answers.{frames_of}
 use Rattle.slirp_core.specs.State.{SlirpState, serving_of}
 use Rattle.slirp_core.specs.declared.fragments.Assembled.{Assembled}
 

@@ -16,19 +16,19 @@ use Rattle.ipv4_head.specs.Ip.{Ip, read_ip}
 use Rattle.ipv4_head.specs.Sets.{PartSet}
 use Rattle.ipv4_reasm.specs.Areas.{Gathered}
 use Rattle.icmp_echo.specs.Icmp.{read_icmp}
-use Rattle.run_laws.specs.Fragments.{arrived}
-use Rattle.run_laws.specs.Packets.{Datagram}
-use Rattle.dhcp_rules.specs.Messages.{read_message}
-use Rattle.dhcp_rules.specs.Replies.{octets_of_reply, reply_of, replied_octets, reply_to}
-use Rattle.dhcp_rules.specs.Serving.{served}
-use Rattle.dhcp_rules.specs.declared.Lease.{Lease}
-use Rattle.dhcp_rules.specs.declared.Message.{Message}
-use Rattle.dhcp_rules.specs.declared.Answer.{Answer as Served}
-use Rattle.dhcp_rules.specs.declared.Answer.TheVariants.{Silence, Offers, Lends, Informs, Refuses}
-use Rattle.tftp_rules.specs.Transfers.{Said}
-use Rattle.slirp_laws.specs.Answers.{Answer, ArpAnswer, IpAnswer, Serving, answers_of, frames_for, frames_of, owed_for_arp, owed_for_icmp, reply_for, told_of_files}
-use Rattle.slirp_laws.specs.Datagrams.{Fate, Ignored, Refused, ForLeases, ForFiles, GoesTo, fate, fate_by}
-use Rattle.slirp_laws.specs.Leasing.{lease_reply, leases_by_fate, sending_of}
+use Rattle.spec_trace.specs.Fragments.{arrived}
+use Rattle.spec_trace.specs.Packets.{Datagram}
+use Rattle.rules_dhcp.specs.Messages.{read_message}
+use Rattle.rules_dhcp.specs.Replies.{octets_of_reply, reply_of, replied_octets, reply_to}
+use Rattle.rules_dhcp.specs.Serving.{served}
+use Rattle.rules_dhcp.specs.declared.Lease.{Lease}
+use Rattle.rules_dhcp.specs.declared.Message.{Message}
+use Rattle.rules_dhcp.specs.declared.Answer.{Answer as Served}
+use Rattle.rules_dhcp.specs.declared.Answer.TheVariants.{Silence, Offers, Lends, Informs, Refuses}
+use Rattle.rules_tftp.specs.Transfers.{Said}
+use Rattle.spec_run.specs.Answers.{Answer, ArpAnswer, IpAnswer, Serving, answers_of, frames_for, frames_of, owed_for_arp, owed_for_icmp, reply_for, told_of_files}
+use Rattle.spec_run.specs.Datagrams.{Fate, Ignored, Refused, ForLeases, ForFiles, GoesTo, fate, fate_by}
+use Rattle.spec_run.specs.Leasing.{lease_reply, leases_by_fate, sending_of}
 use Rattle.slirp_core.specs.Fragments.{after_frame}
 use Rattle.slirp_core.specs.Holds.{as_given}
 use Rattle.slirp_core.specs.Packets.{is_message_to_us, is_segment, leases_with, owed_at_once, owed_at_once_by, owed_for, owed_for_arrived, owed_for_ether, owed_for_frame, owed_for_ip, request_by, request_for_udp}

@@ -2,11 +2,11 @@
 use Rattle.std.proofs.Common.{◌≡◌, ℕ, ◌≤◌, ◌==◌, ◌&&◌, ◌||◌, Bool, true, false, All, List, [], ◌∷◌, ◌++◌, Some, None, refl, ◌∙◌, ap, arith}
 use Rattle.std.proofs.lemmas.List.Elements.{All-cons, All-head, All-nil, All-tail}
 use Rattle.std.specs.List.{list_any}
-use Rattle.dns_rules.specs.Questions.{is_numbered, numbers}
+use Rattle.rules_dns.specs.Questions.{is_numbered, numbers}
 use Rattle.dns_relay.specs.Relaying.{IsLeast}
-use Rattle.dns_rules.specs.declared.Question.{Question}
-use Rattle.run_laws.specs.Sockets.{is_among}
-use Rattle.slirp_laws.proofs.Bools.{equal, or_second, same, turned}
+use Rattle.rules_dns.specs.declared.Question.{Question}
+use Rattle.spec_trace.specs.Sockets.{is_among}
+use Rattle.spec_run.proofs.Bools.{equal, or_second, same, turned}
 use Rattle.slirp_core.proofs.Names.{among_both}
 
 -- ---- numbers of two kinds

@@ -7,25 +7,25 @@ use Rattle.std.proofs.lemmas.List.Elements.{All-head, All-tail}
 use Rattle.poll_list.specs.declared.Want.{Want}
 use Rattle.poll_list.specs.declared.Who.TheVariants.{Udp}
 use Rattle.slirp_settings.specs.Addresses.{Config, endpoint}
-use Rattle.udp_rules.specs.declared.Reply.{Reply}
+use Rattle.rules_udp.specs.declared.Reply.{Reply}
 use Rattle.world_face.specs.Journal.{Entry, Allowed, AreAllowed, Close, UdpRecv, UdpSend, filled_got}
 use Rattle.world_face.specs.declared.Sent.{Sent}
 use Rattle.world_face.specs.declared.Sent.TheVariants.{Done, NotYet, Failed}
 use Rattle.world_face.specs.declared.Got.{Got}
 use Rattle.world_face.specs.declared.Got.TheVariants.{From, NotYet as GotNotYet, Failed as GotFailed}
-use Rattle.udp_rules.specs.Associations.{moved_last as association_moved, sent_from}
+use Rattle.rules_udp.specs.Associations.{moved_last as association_moved, sent_from}
 use Rattle.dns_relay.specs.Asking.{bind_for}
-use Rattle.dns_rules.specs.Questions.{asked_from, heard_at, ident_in, is_answered, is_numbered, is_over, most_questions, moved_last, numbered, numbers, without}
+use Rattle.rules_dns.specs.Questions.{asked_from, heard_at, ident_in, is_answered, is_numbered, is_over, most_questions, moved_last, numbered, numbers, without}
 use Rattle.dns_relay.specs.Relaying.{Asked, BySocket, ByNewSocket, Hears, OnNone, OnQuestion, Opens, OpensFor, OpensNone, Relays, Ticks, calls_after, calls_for_room, list_after, passed}
 use Rattle.dns_relay.specs.Relaying.{question_of, told, with_room}
 use Rattle.dns_relay.specs.State.{RelayState}
-use Rattle.dns_rules.specs.declared.Question.{Question}
-use Rattle.run_laws.specs.Sockets.{is_among}
-use Rattle.slirp_laws.specs.Agenda.{is_to_read, wanted_of}
-use Rattle.slirp_laws.specs.Answers.{frames_of, name_answer}
-use Rattle.slirp_laws.specs.Datagrams.{Errand, Step, NeedsRoom, NeedsSocket, NeedsSending, asks_a_name}
-use Rattle.slirp_laws.specs.Laws.{relays}
-use Rattle.slirp_laws.specs.Names.{with_socket, without_socket}
+use Rattle.rules_dns.specs.declared.Question.{Question}
+use Rattle.spec_trace.specs.Sockets.{is_among}
+use Rattle.spec_run.specs.Agenda.{is_to_read, wanted_of}
+use Rattle.spec_run.specs.Answers.{frames_of, name_answer}
+use Rattle.spec_run.specs.Datagrams.{Errand, Step, NeedsRoom, NeedsSocket, NeedsSending, asks_a_name}
+use Rattle.spec_run.specs.Laws.{relays}
+use Rattle.spec_run.specs.Names.{with_socket, without_socket}
 use Rattle.stream_netdev.specs.State.{LinkState}
 use Rattle.tcp_flows.specs.Runs.{ClosesBelow, ClosesRising}
 use Rattle.slirp_core.specs.Hearing.{Receives as ReceivesOn}
@@ -34,8 +34,8 @@ use Rattle.slirp_core.specs.Replies.{answered_by, asked_of, told_by}
 use Rattle.slirp_core.specs.State.{SlirpState}
 use Rattle.slirp_core.proofs.Associating.{parted, passes_over, sent_on}
 use Rattle.slirp_core.proofs.Names.{association_unmoved, one_numbered, socket_among}
-use Rattle.slirp_laws.proofs.Listed.{numbers_last}
-use Rattle.slirp_laws.proofs.Bools.{or_second, same, turned}
+use Rattle.spec_run.proofs.Listed.{numbers_last}
+use Rattle.spec_run.proofs.Bools.{or_second, same, turned}
 use Rattle.slirp_core.proofs.Relaying.{after_answer, after_asking, after_dropping, after_no_hearing, after_not_yet, after_refusal, after_stranger, after_waiting, asks_by_name, named}
 use Rattle.slirp_core.proofs.Relaying.{no_port, port_of_name, relays_own, relays_question}
 use Rattle.slirp_core.proofs.Ticking.{below_more}

@@ -7,25 +7,25 @@ use Rattle.net_octets.specs.declared.Endpoint.{Endpoint}
 use Rattle.slirp_settings.specs.Addresses.{Config, endpoint}
 use Rattle.slirp_settings.specs.declared.Forward.{Forward as AForward}
 use Rattle.slirp_settings.specs.declared.Proto.TheVariants.{Udp as ByUdp}
-use Rattle.udp_rules.specs.declared.Reply.{Reply}
+use Rattle.rules_udp.specs.declared.Reply.{Reply}
 use Rattle.world_face.specs.Journal.{Entry, Allowed, AreAllowed, Close, UdpSend, UdpRecv, filled_got}
 use Rattle.world_face.specs.declared.Sent.{Sent}
 use Rattle.world_face.specs.declared.Sent.TheVariants.{Done, NotYet, Failed}
 use Rattle.world_face.specs.declared.Got.{Got}
 use Rattle.world_face.specs.declared.Got.TheVariants.{From, NotYet as GotNotYet, Failed as GotFailed}
-use Rattle.udp_rules.specs.Associations.{most_associations, numbers, numbered, without, moved_last, sent_from, heard_at}
+use Rattle.rules_udp.specs.Associations.{most_associations, numbers, numbered, without, moved_last, sent_from, heard_at}
 use Rattle.udp_assoc.specs.Relays.{Relays, ByForward, BySocket, ByNewSocket, OpensFor, Opens, OpensNone, Hears, OnForward, OnAssociation, OnNone, Ticks, calls_for_room, with_room}
 use Rattle.udp_assoc.specs.Relays.{with_reply, opened, told, passed, ClosesLeast}
-use Rattle.udp_rules.specs.declared.Association.{Association}
-use Rattle.dns_rules.specs.Questions.{asked_from, moved_last as question_moved, numbered as question_numbered, numbers as question_numbers}
-use Rattle.dns_rules.specs.declared.Question.{Question}
-use Rattle.run_laws.specs.Sockets.{is_among}
-use Rattle.slirp_laws.specs.Agenda.{agenda, all_wanted, is_to_read, wanted_of}
-use Rattle.slirp_laws.specs.Datagrams.{Errand, Step, NeedsRoom, NeedsSocket, NeedsSending, asks_a_name}
-use Rattle.slirp_laws.specs.Laws.{relays}
-use Rattle.slirp_laws.specs.Relayed.{with_forward, with_socket, without_socket}
-use Rattle.slirp_laws.proofs.Finding.{socket_among}
-use Rattle.forward_rules.specs.Opened.{socket_for as port_for}
+use Rattle.rules_udp.specs.declared.Association.{Association}
+use Rattle.rules_dns.specs.Questions.{asked_from, moved_last as question_moved, numbered as question_numbered, numbers as question_numbers}
+use Rattle.rules_dns.specs.declared.Question.{Question}
+use Rattle.spec_trace.specs.Sockets.{is_among}
+use Rattle.spec_run.specs.Agenda.{agenda, all_wanted, is_to_read, wanted_of}
+use Rattle.spec_run.specs.Datagrams.{Errand, Step, NeedsRoom, NeedsSocket, NeedsSending, asks_a_name}
+use Rattle.spec_run.specs.Laws.{relays}
+use Rattle.spec_run.specs.Relayed.{with_forward, with_socket, without_socket}
+use Rattle.spec_run.proofs.Finding.{socket_among}
+use Rattle.rules_forward.specs.Opened.{socket_for as port_for}
 use Rattle.stream_netdev.specs.State.{LinkState}
 use Rattle.slirp_core.specs.Forwards.{IsInForce, guest_on}
 use Rattle.slirp_core.specs.Holds.{asked_by, Standing, standing, IsLast, Flowing, HoldsAt, Holds}

@@ -1,6 +1,6 @@
 -- What the core waits for is all that can be taken, and where the link isn't blocked all that is owed is out.
 use Rattle.std.proofs.Common.{◌≡◌, ℕ, ◌==◌, ◌&&◌, ◌||◌, not, nat_lt, Bool, true, false, is_some, List, [], ◌∷◌, ◌++◌, All, filter, length, slice_get, nat_le, IsTrue}
-use Rattle.flow_laws.specs.Guest.{is_empty}
+use Rattle.spec_flow.specs.Guest.{is_empty}
 use Rattle.std.specs.Option.{option_or}
 use Rattle.std.proofs.Common.{IsPermutation, Option, None, Some, option_map, inl, inr, refl, sym, ap, ◌∙◌, subst, arith, if◌then◌else◌}
 use Rattle.std.proofs.lemmas.Bool.Decides.{nat_tests}
@@ -15,59 +15,59 @@ use Rattle.ipv4_head.specs.Sets.{PartSet}
 use Rattle.slirp_settings.specs.Ranges.{same_proto}
 use Rattle.slirp_settings.specs.declared.Proto.{Proto}
 use Rattle.slirp_settings.specs.declared.Proto.TheVariants.{Tcp, Udp}
-use Rattle.forward_rules.specs.Opened.{Opened}
-use Rattle.udp_rules.specs.Associations.{is_over as is_idle_association, numbers}
-use Rattle.dns_rules.specs.Questions.{is_over as is_idle_question, numbers as question_numbers}
-use Rattle.tftp_rules.specs.Transfers.{Said, next_again, said_again}
-use Rattle.tftp_rules.proofs.Turning.{next_left}
-use Rattle.record_flows.specs.Book.{book, is_young, scene}
-use Rattle.record_flows.specs.Flows.{guest_is_known, has_room_for_peer, rests_among}
-use Rattle.flows_follow.specs.Peers.{fits_peer}
-use Rattle.flows_follow.proofs.Peers.{room_recorded}
-use Rattle.run_laws.specs.Sockets.{Kind, Association, DnsSocket, Forward as OfForward, Listener, Flow, is_among, is_association, is_forward, is_listener, kind_of, next_number, open_sockets}
-use Rattle.slirp_laws.specs.Answers.{is_out, left, may_go_again, serving}
-use Rattle.slirp_laws.specs.Datagrams.{NeedsNothing}
-use Rattle.slirp_laws.specs.Laws.{takes_peers}
-use Rattle.slirp_laws.specs.Names.{questions}
-use Rattle.slirp_laws.specs.Ports.{last_use}
-use Rattle.slirp_laws.specs.Questions.{is_for_question}
-use Rattle.slirp_laws.specs.Relayed.{associations}
-use Rattle.slirp_laws.specs.Said.{AllUsedAfter, AreByLastUse}
-use Rattle.slirp_laws.proofs.Bools.{equal, same}
-use Rattle.slirp_laws.proofs.Finding.{rising as rising_use}
-use Rattle.slirp_laws.proofs.Joining.{joined}
-use Rattle.slirp_laws.proofs.KeptFiles.{now_is}
-use Rattle.slirp_laws.proofs.Waiting.{are_waiting}
+use Rattle.rules_forward.specs.Opened.{Opened}
+use Rattle.rules_udp.specs.Associations.{is_over as is_idle_association, numbers}
+use Rattle.rules_dns.specs.Questions.{is_over as is_idle_question, numbers as question_numbers}
+use Rattle.rules_tftp.specs.Transfers.{Said, next_again, said_again}
+use Rattle.rules_tftp.proofs.Turning.{next_left}
+use Rattle.spec_flows.specs.Book.{book, is_young, scene}
+use Rattle.spec_flows.specs.Flows.{guest_is_known, has_room_for_peer, rests_among}
+use Rattle.sim_flows.specs.Peers.{fits_peer}
+use Rattle.sim_flows.proofs.Peers.{room_recorded}
+use Rattle.spec_trace.specs.Sockets.{Kind, Association, DnsSocket, Forward as OfForward, Listener, Flow, is_among, is_association, is_forward, is_listener, kind_of, next_number, open_sockets}
+use Rattle.spec_run.specs.Answers.{is_out, left, may_go_again, serving}
+use Rattle.spec_run.specs.Datagrams.{NeedsNothing}
+use Rattle.spec_run.specs.Laws.{takes_peers}
+use Rattle.spec_run.specs.Names.{questions}
+use Rattle.spec_run.specs.Ports.{last_use}
+use Rattle.spec_run.specs.Questions.{is_for_question}
+use Rattle.spec_run.specs.Relayed.{associations}
+use Rattle.spec_run.specs.Said.{AllUsedAfter, AreByLastUse}
+use Rattle.spec_run.proofs.Bools.{equal, same}
+use Rattle.spec_run.proofs.Finding.{rising as rising_use}
+use Rattle.spec_run.proofs.Joining.{joined}
+use Rattle.spec_run.proofs.KeptFiles.{now_is}
+use Rattle.spec_run.proofs.Waiting.{are_waiting}
 use Rattle.stream_netdev.specs.State.{LinkState}
-use Rattle.flows_follow.specs.Core.{Following, number_of}
-use Rattle.flows_follow.proofs.Options.{true_false}
+use Rattle.sim_flows.specs.Core.{Following, number_of}
+use Rattle.sim_flows.proofs.Options.{true_false}
 use Rattle.tcp_flows.specs.Kept.{Kept}
 use Rattle.tcp_flows.specs.Reading.{AreAbove, AreRising, AreTold, AreWantsOf}
 use Rattle.tcp_flows.specs.Settled.{IsInTime}
 use Rattle.tcp_flows.proofs.Settling.{are_settled}
 use Rattle.tcp_flows.specs.Waits.{AreWaitedFor}
 use Rattle.flow_splice.specs.Splice.{Splice, is_open}
-use Rattle.flow_laws.specs.Close.{is_in_use}
-use Rattle.flow_laws.specs.Dutiful.{AreAhead, IsSettled, MayWait, oldest_unheard}
-use Rattle.flow_laws.specs.Event.{Story}
-use Rattle.flow_laws.specs.Flow.{is_closed}
-use Rattle.record_flows.specs.Laws.{flow_settings}
+use Rattle.spec_flow.specs.Close.{is_in_use}
+use Rattle.spec_flow.specs.Dutiful.{AreAhead, IsSettled, MayWait, oldest_unheard}
+use Rattle.spec_flow.specs.Event.{Story}
+use Rattle.spec_flow.specs.Flow.{is_closed}
+use Rattle.spec_flows.specs.Laws.{flow_settings}
 use Rattle.flow_splice.proofs.Promises.{waited_is}
-use Rattle.flows_follow.specs.FlowsHold.{rests_at}
-use Rattle.run_laws.specs.Moments.{moment}
-use Rattle.halves_follow.proofs.Waiting.{settled_in_time}
-use Rattle.waiting_flows.proofs.Placing.{each, not_in_use}
-use Rattle.run_duties.proofs.Lives.{lives_ahead}
-use Rattle.run_duties.proofs.Waited.{all_ahead}
-use Rattle.run_duties.specs.Duties.{EachFlow, IsSettledNow, MustWait}
-use Rattle.run_duties.specs.Serving.{AllServed}
-use Rattle.run_duties.specs.Times.{lives}
-use Rattle.run_duties.specs.Waiting.{WaitsFor, is_all_sent, is_for_datagrams, takes_datagrams}
-use Rattle.waiting_flows.proofs.Listing.{AreOfFlows, AreOver, AreOverBy, DoRise, DoRiseBy, all_waited_for, of_flows}
+use Rattle.sim_flows.specs.FlowsHold.{rests_at}
+use Rattle.spec_trace.specs.Moments.{moment}
+use Rattle.sim_halves.proofs.Waiting.{settled_in_time}
+use Rattle.sim_flows.proofs.Placing.{each, not_in_use}
+use Rattle.spec_duties.proofs.Lives.{lives_ahead}
+use Rattle.spec_duties.proofs.Waited.{all_ahead}
+use Rattle.spec_duties.specs.Duties.{EachFlow, IsSettledNow, MustWait}
+use Rattle.spec_duties.specs.Serving.{AllServed}
+use Rattle.spec_duties.specs.Times.{lives}
+use Rattle.spec_duties.specs.Waiting.{WaitsFor, is_all_sent, is_for_datagrams, takes_datagrams}
+use Rattle.sim_flows.proofs.Listing.{AreOfFlows, AreOver, AreOverBy, DoRise, DoRiseBy, all_waited_for, of_flows}
 use Rattle.slirp_core.specs.Calm.{AreClear}
 use Rattle.tcp_flows.specs.Settled.{HaveTime}
 use Rattle.slirp_core.specs.Forwards.{given_kind}
-use Rattle.forward_rules.specs.Opened.{forward_sockets, is_over, sockets_over}
+use Rattle.rules_forward.specs.Opened.{forward_sockets, is_over, sockets_over}
 use Rattle.slirp_core.specs.Sockets.{AllAbove, IsRising}
 use Rattle.slirp_core.specs.Holds.{Flowing, Holds, Standing, carriers, flowing, holders_of}
 use Rattle.slirp_core.specs.Owed.{IsOwed, OfFile, OfLeft}

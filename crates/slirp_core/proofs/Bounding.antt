@@ -7,49 +7,49 @@ use Rattle.world_face.specs.Journal.{Entry}
 use Rattle.world_face.specs.Frames.{is_blocked}
 use Rattle.slirp_settings.specs.Addresses.{Config}
 use Rattle.ipv4_head.specs.Sets.{PartSet, is_young, young}
-use Rattle.udp_rules.specs.Associations.{idle_life, is_over as is_idle_association, numbered, numbers}
-use Rattle.udp_rules.specs.declared.Association.{Association}
-use Rattle.dns_rules.specs.Questions.{is_over as is_idle_question, numbers as question_numbers, question_life}
-use Rattle.dns_rules.specs.declared.Question.{Question}
-use Rattle.tftp_rules.specs.Transfers.{Transfer, next_again, ticked}
-use Rattle.tftp_rules.proofs.Turning.{next_left, ticked_none}
-use Rattle.flow_laws.specs.Close.{is_in_use}
-use Rattle.flow_laws.specs.Dutiful.{AreAhead, close_deadline, resend_deadline, wakes}
-use Rattle.flow_laws.specs.Event.{Story}
-use Rattle.flow_laws.specs.Bounds.{IsBy, IsFrom}
-use Rattle.record_flows.specs.Book.{book, is_young as is_young_rest, longest_rest}
-use Rattle.record_flows.specs.Flows.{Flow, Rest}
-use Rattle.record_flows.specs.Laws.{flow_settings}
-use Rattle.run_laws.specs.Fragments.{waiting}
-use Rattle.run_laws.specs.Moments.{moment}
-use Rattle.run_laws.specs.Sockets.{is_among, next_number}
-use Rattle.slirp_laws.specs.Answers.{is_free, is_out, ledger, left, serving}
-use Rattle.slirp_laws.specs.Names.{questions}
-use Rattle.slirp_laws.specs.Ports.{associations_open, used_at}
-use Rattle.slirp_laws.specs.Questions.{questions_open}
-use Rattle.slirp_laws.specs.Relayed.{associations}
-use Rattle.slirp_laws.proofs.Bools.{same}
-use Rattle.slirp_laws.proofs.Finding.{same_sockets, says_of}
-use Rattle.slirp_laws.proofs.Joining.{joined}
-use Rattle.slirp_laws.proofs.KeptFiles.{now_is}
-use Rattle.slirp_laws.proofs.Listed.{AllQuestions}
-use Rattle.slirp_laws.proofs.Waiting.{IsUsed, are_waiting, same_waiting}
+use Rattle.rules_udp.specs.Associations.{idle_life, is_over as is_idle_association, numbered, numbers}
+use Rattle.rules_udp.specs.declared.Association.{Association}
+use Rattle.rules_dns.specs.Questions.{is_over as is_idle_question, numbers as question_numbers, question_life}
+use Rattle.rules_dns.specs.declared.Question.{Question}
+use Rattle.rules_tftp.specs.Transfers.{Transfer, next_again, ticked}
+use Rattle.rules_tftp.proofs.Turning.{next_left, ticked_none}
+use Rattle.spec_flow.specs.Close.{is_in_use}
+use Rattle.spec_flow.specs.Dutiful.{AreAhead, close_deadline, resend_deadline, wakes}
+use Rattle.spec_flow.specs.Event.{Story}
+use Rattle.spec_flow.specs.Bounds.{IsBy, IsFrom}
+use Rattle.spec_flows.specs.Book.{book, is_young as is_young_rest, longest_rest}
+use Rattle.spec_flows.specs.Flows.{Flow, Rest}
+use Rattle.spec_flows.specs.Laws.{flow_settings}
+use Rattle.spec_trace.specs.Fragments.{waiting}
+use Rattle.spec_trace.specs.Moments.{moment}
+use Rattle.spec_trace.specs.Sockets.{is_among, next_number}
+use Rattle.spec_run.specs.Answers.{is_free, is_out, ledger, left, serving}
+use Rattle.spec_run.specs.Names.{questions}
+use Rattle.spec_run.specs.Ports.{associations_open, used_at}
+use Rattle.spec_run.specs.Questions.{questions_open}
+use Rattle.spec_run.specs.Relayed.{associations}
+use Rattle.spec_run.proofs.Bools.{same}
+use Rattle.spec_run.proofs.Finding.{same_sockets, says_of}
+use Rattle.spec_run.proofs.Joining.{joined}
+use Rattle.spec_run.proofs.KeptFiles.{now_is}
+use Rattle.spec_run.proofs.Listed.{AllQuestions}
+use Rattle.spec_run.proofs.Waiting.{IsUsed, are_waiting, same_waiting}
 use Rattle.stream_netdev.specs.State.{LinkState}
-use Rattle.flows_follow.specs.FlowsHold.{rests_at}
+use Rattle.sim_flows.specs.FlowsHold.{rests_at}
 use Rattle.flow_splice.proofs.Stages.{resends_none}
 use Rattle.flow_splice.specs.Splice.{Splice, is_open}
 use Rattle.flow_splice.specs.Wants.{due_of, HasTime}
 use Rattle.flow_splice.specs.declared.Place.{Place}
 use Rattle.flow_splice.specs.declared.Place.TheVariants.{Empty, InUse, Resting}
 use Rattle.flow_splice.proofs.Promises.{settled_is, waited_is}
-use Rattle.flows_follow.specs.Core.{Following, number_of}
-use Rattle.flows_follow.proofs.Options.{true_false}
-use Rattle.run_duties.specs.Times.{alarms, association_lives, deadlines, drops, file_alarms, lives, of_flows, question_lives, rest_ends, unless_blocked, wait_end}
-use Rattle.run_duties.proofs.Lives.{at_front, drops_from, lives_by, lives_from, used_by_now}
-use Rattle.run_duties.proofs.Waited.{questions_by, questions_from}
-use Rattle.halves_follow.proofs.Moments.{by_both}
-use Rattle.waiting_flows.proofs.Bounding.{by_any, by_earlier, flows_by, from_first, from_later, from_second}
-use Rattle.waiting_flows.proofs.Placing.{each, not_in_use}
+use Rattle.sim_flows.specs.Core.{Following, number_of}
+use Rattle.sim_flows.proofs.Options.{true_false}
+use Rattle.spec_duties.specs.Times.{alarms, association_lives, deadlines, drops, file_alarms, lives, of_flows, question_lives, rest_ends, unless_blocked, wait_end}
+use Rattle.spec_duties.proofs.Lives.{at_front, drops_from, lives_by, lives_from, used_by_now}
+use Rattle.spec_duties.proofs.Waited.{questions_by, questions_from}
+use Rattle.sim_halves.proofs.Moments.{by_both}
+use Rattle.sim_flows.proofs.Bounding.{by_any, by_earlier, flows_by, from_first, from_later, from_second}
+use Rattle.sim_flows.proofs.Placing.{each, not_in_use}
 use Rattle.tcp_flows.specs.Reading.{AllClear, IsDue, IsNextAfter, rest_end, time_at}
 use Rattle.tcp_flows.specs.Settled.{IsInTime}
 use Rattle.tcp_flows.specs.Waits.{IsForSome, IsInTimeAfter, IsInTimeFor, RestLater, RestOnce}

@@ -15,14 +15,14 @@ use Rattle.ipv4_head.specs.Sets.{PartSet}
 use Rattle.icmp_echo.specs.Icmp.{Icmp, read_icmp}
 use Rattle.udp_datagram.specs.Udp.{Udp, read_udp}
 use Rattle.tcp_segment.specs.Tcp.{Tcp, read_tcp}
-use Rattle.run_laws.specs.Guests.{with_pair}
-use Rattle.run_laws.specs.Fragments.{arrived}
-use Rattle.run_laws.specs.Packets.{Packet, Unheard, packet_of_ip, ArpPacket, Message, DatagramPacket, Segment, Datagram, datagram_in, datagram_of, may_come, packet_of, pair_by}
-use Rattle.run_laws.specs.Packets.{pair_in, pair_of, packet_in, whole_packet}
-use Rattle.slirp_laws.specs.Answers.{Answer, Serving, owed_for_arp, owed_for_icmp}
-use Rattle.dhcp_rules.specs.declared.Lease.{Lease}
-use Rattle.run_laws.specs.Happenings.{datagram_by}
-use Rattle.slirp_laws.specs.Leasing.{leases_by_packet}
+use Rattle.spec_trace.specs.Guests.{with_pair}
+use Rattle.spec_trace.specs.Fragments.{arrived}
+use Rattle.spec_trace.specs.Packets.{Packet, Unheard, packet_of_ip, ArpPacket, Message, DatagramPacket, Segment, Datagram, datagram_in, datagram_of, may_come, packet_of, pair_by}
+use Rattle.spec_trace.specs.Packets.{pair_in, pair_of, packet_in, whole_packet}
+use Rattle.spec_run.specs.Answers.{Answer, Serving, owed_for_arp, owed_for_icmp}
+use Rattle.rules_dhcp.specs.declared.Lease.{Lease}
+use Rattle.spec_trace.specs.Happenings.{datagram_by}
+use Rattle.spec_run.specs.Leasing.{leases_by_packet}
 use Rattle.slirp_core.specs.Segments.{Coming, coming, coming_by, segment_in, segment_of_arrived, segment_of_ether, segment_of_ip}
 use Rattle.slirp_core.specs.Packets.{owed_at_once, owed_with, request_by_packet, request_for_udp, leases_with, udp_in, udp_of, udp_of_arrived, udp_of_ether, owed_for, owed_for_arrived}
 use Rattle.slirp_core.specs.Packets.{owed_for_ether, owed_for_frame, owed_for_ip, with_address, with_arp, with_ether, with_frame, with_ip}

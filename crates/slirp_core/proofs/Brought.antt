@@ -13,13 +13,13 @@ use Rattle.ipv4_head.specs.Ip.{Ip, read_ip}
 use Rattle.ipv4_head.specs.Sets.{PartSet, young}
 use Rattle.ipv4_reasm.specs.Areas.{Gathered}
 use Rattle.tcp_segment.specs.Tcp.{Tcp}
-use Rattle.record_flows.specs.Segments.{segment_by}
-use Rattle.run_laws.specs.Fragments.{fragment_by, fragment_in, fragment_of, waiting}
-use Rattle.run_laws.specs.Moments.{waits}
-use Rattle.run_laws.specs.Packets.{Packet, Unheard, ArpPacket, Message, DatagramPacket, Segment, Datagram, packet_in}
-use Rattle.slirp_laws.specs.Agenda.{is_to_read, wanted_of}
-use Rattle.slirp_laws.specs.Answers.{frames_of, owed_for_arp}
-use Rattle.slirp_laws.specs.Datagrams.{errand_by_packet}
+use Rattle.spec_flows.specs.Segments.{segment_by}
+use Rattle.spec_trace.specs.Fragments.{fragment_by, fragment_in, fragment_of, waiting}
+use Rattle.spec_trace.specs.Moments.{waits}
+use Rattle.spec_trace.specs.Packets.{Packet, Unheard, ArpPacket, Message, DatagramPacket, Segment, Datagram, packet_in}
+use Rattle.spec_run.specs.Agenda.{is_to_read, wanted_of}
+use Rattle.spec_run.specs.Answers.{frames_of, owed_for_arp}
+use Rattle.spec_run.specs.Datagrams.{errand_by_packet}
 use Rattle.stream_netdev.specs.Frames.{Pieces, Reads}
 use Rattle.stream_netdev.specs.Keeps.{Keeps, ReadsFrame, hands, ending_of}
 use Rattle.stream_netdev.specs.State.{LinkState}

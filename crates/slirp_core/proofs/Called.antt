@@ -8,13 +8,13 @@ use Rattle.world_face.specs.Frames.{LinkFailed, MayFrame}
 use Rattle.world_face.proofs.Telling.{allowed_then}
 use Rattle.slirp_settings.specs.Addresses.{Config}
 use Rattle.ipv4_head.specs.Sets.{young}
-use Rattle.run_laws.specs.Moments.{moment, waits}
-use Rattle.run_laws.specs.Shape.{is_ended, is_over}
-use Rattle.run_laws.specs.Sockets.{is_among, kind_of, next_number, open_sockets}
-use Rattle.slirp_laws.specs.Agenda.{agenda, all_wanted, wanted_of}
-use Rattle.slirp_laws.specs.Errands.{errand_left}
-use Rattle.slirp_laws.specs.Datagrams.{NeedsNothing}
-use Rattle.slirp_laws.specs.Laws.{Lawful}
+use Rattle.spec_trace.specs.Moments.{moment, waits}
+use Rattle.spec_trace.specs.Shape.{is_ended, is_over}
+use Rattle.spec_trace.specs.Sockets.{is_among, kind_of, next_number, open_sockets}
+use Rattle.spec_run.specs.Agenda.{agenda, all_wanted, wanted_of}
+use Rattle.spec_run.specs.Errands.{errand_left}
+use Rattle.spec_run.specs.Datagrams.{NeedsNothing}
+use Rattle.spec_run.specs.Laws.{Lawful}
 use Rattle.stream_netdev.specs.State.{LinkState}
 use Rattle.slirp_core.specs.Holds.{holders_with, Stands, Begins, Standing, InTurn, IsLast, OfGuests, after, standing, AfterPump, Ended, Flowing, Holds, Turns, flowing, is_ours}
 use Rattle.slirp_core.specs.State.{SlirpState}
@@ -24,18 +24,18 @@ use Rattle.slirp_core.proofs.Parts.{asks_nothing, errand_for, in_turn, two_in}
 use Rattle.slirp_core.specs.Owed.{IsOwed, kept_by}
 use Rattle.slirp_core.proofs.Owing.{SameLedger, nothing_left, of_left, owed_aged, owed_as, owed_on, same_beside}
 use Rattle.slirp_core.proofs.Services.{none_due_for_services, unheard}
-use Rattle.slirp_laws.proofs.KeptFiles.{now_is}
-use Rattle.tftp_rules.specs.Transfers.{Files, Transfer, are_left}
+use Rattle.spec_run.proofs.KeptFiles.{now_is}
+use Rattle.rules_tftp.specs.Transfers.{Files, Transfer, are_left}
 use Rattle.stream_netdev.specs.declared.Pumped.{Pumped}
 use Rattle.stream_netdev.specs.declared.Pumped.TheVariants.{Clear, Blocked, Failed}
-use Rattle.run_laws.specs.Guests.{known}
+use Rattle.spec_trace.specs.Guests.{known}
 use Rattle.tcp_flows.specs.Kept.{Kept}
 use Rattle.tcp_flows.specs.Reading.{AreTold, NoneInSlots}
-use Rattle.flows_follow.specs.Core.{Following, number_of}
-use Rattle.flows_follow.proofs.Staying.{core_stays}
-use Rattle.flows_follow.specs.Seats.{Seats}
-use Rattle.record_flows.specs.Book.{book, is_young}
-use Rattle.record_flows.specs.Flows.{Rest}
+use Rattle.sim_flows.specs.Core.{Following, number_of}
+use Rattle.sim_flows.proofs.Staying.{core_stays}
+use Rattle.sim_flows.specs.Seats.{Seats}
+use Rattle.spec_flows.specs.Book.{book, is_young}
+use Rattle.spec_flows.specs.Flows.{Rest}
 use Rattle.tcp_flows.specs.Runs.{Between, Broken, ClosesRising, IsIdle, IsIdlePump, Leaves, Learns, LeavesOthers, Pumps, Reports, Sendable, Ticks, Tells}
 use Rattle.tcp_flows.specs.Told.{ServesOnce}
 use Rattle.slirp_core.proofs.Given.{left_in_force}

@@ -2,13 +2,13 @@
 use Rattle.std.proofs.Common.{◌≡◌, ℕ, Bool, true, false, List, [], ◌∷◌, ◌++◌, Option, refl, sym, ◌∙◌, ap, subst}
 use Rattle.std.proofs.lemmas.List.Elements.{All-append, All-cons, All-head, All-nil, All-tail}
 use Rattle.world_face.specs.Journal.{Close, Entry}
-use Rattle.run_laws.specs.Sockets.{next_number, number_after}
+use Rattle.spec_trace.specs.Sockets.{next_number, number_after}
 use Rattle.udp_assoc.specs.Relays.{ClosesLeast}
-use Rattle.udp_rules.specs.declared.Association.{Association}
+use Rattle.rules_udp.specs.declared.Association.{Association}
 use Rattle.dns_relay.specs.Relaying.{ClosesLeast as ClosesLeastAsked}
-use Rattle.dns_rules.specs.declared.Question.{Question}
+use Rattle.rules_dns.specs.declared.Question.{Question}
 use Rattle.flow_splice.specs.Splice.{Splice}
-use Rattle.forward_rules.specs.Opened.{Opened}
+use Rattle.rules_forward.specs.Opened.{Opened}
 use Rattle.tcp_flows.specs.Runs.{ClosesFirst}
 use Rattle.slirp_core.specs.Forwards.{AreCloses, ClosesForward, IsClose}
 

@@ -5,39 +5,39 @@ use Rattle.std.proofs.Common.{slice_get, Option, Some, None, option_map, inl, in
 use Rattle.std.proofs.lemmas.List.Elements.{All-head, All-tail}
 use Rattle.world_face.specs.Journal.{Entry, Call, Close, CallClose}
 use Rattle.slirp_settings.specs.Addresses.{Config}
-use Rattle.udp_rules.specs.Associations.{numbers, without}
-use Rattle.udp_rules.specs.declared.Association.{Association}
-use Rattle.dns_rules.specs.Questions.{numbers as question_numbers, without as without_question}
-use Rattle.dns_rules.specs.declared.Question.{Question}
+use Rattle.rules_udp.specs.Associations.{numbers, without}
+use Rattle.rules_udp.specs.declared.Association.{Association}
+use Rattle.rules_dns.specs.Questions.{numbers as question_numbers, without as without_question}
+use Rattle.rules_dns.specs.declared.Question.{Question}
 use Rattle.flow_splice.specs.Splice.{Splice}
-use Rattle.run_laws.specs.Shape.{Phase, Over, Working, is_over, is_working, phase}
-use Rattle.run_laws.specs.Sockets.{first, is_among, next_number, open_sockets}
-use Rattle.slirp_laws.specs.Asking.{step, step_of}
-use Rattle.slirp_laws.specs.Datagrams.{NeedsNothing, due_for}
-use Rattle.slirp_laws.specs.Laws.{May, MayDue, due}
-use Rattle.slirp_laws.proofs.Listed.{asked_without}
-use Rattle.slirp_laws.proofs.Bools.{among_without, and_both, equal, or_second, same}
-use Rattle.slirp_laws.proofs.Deeds.{any_one, quest_none, this_one}
-use Rattle.flows_follow.proofs.Tables.{get_set_at, get_set_other}
-use Rattle.flows_follow.proofs.Seats.{differ, same_or_not}
+use Rattle.spec_trace.specs.Shape.{Phase, Over, Working, is_over, is_working, phase}
+use Rattle.spec_trace.specs.Sockets.{first, is_among, next_number, open_sockets}
+use Rattle.spec_run.specs.Asking.{step, step_of}
+use Rattle.spec_run.specs.Datagrams.{NeedsNothing, due_for}
+use Rattle.spec_run.specs.Laws.{May, MayDue, due}
+use Rattle.spec_run.proofs.Listed.{asked_without}
+use Rattle.spec_run.proofs.Bools.{among_without, and_both, equal, or_second, same}
+use Rattle.spec_run.proofs.Deeds.{any_one, quest_none, this_one}
+use Rattle.sim_flows.proofs.Tables.{get_set_at, get_set_other}
+use Rattle.sim_flows.proofs.Seats.{differ, same_or_not}
 use Rattle.slirp_core.specs.Sockets.{AllAbove, IsRising}
 use Rattle.slirp_core.proofs.Names.{among_both}
-use Rattle.flows_follow.specs.Core.{number_of}
-use Rattle.flows_follow.proofs.Ending.{may_close_least}
-use Rattle.flows_follow.proofs.Pumping.{differ_in}
-use Rattle.flows_follow.proofs.Staying.{stays_closed}
-use Rattle.flows_follow.proofs.Options.{none_some, some_same, true_false}
+use Rattle.sim_flows.specs.Core.{number_of}
+use Rattle.sim_flows.proofs.Ending.{may_close_least}
+use Rattle.sim_flows.proofs.Pumping.{differ_in}
+use Rattle.sim_flows.proofs.Staying.{stays_closed}
+use Rattle.sim_flows.proofs.Options.{none_some, some_same, true_false}
 use Rattle.tcp_flows.specs.Reading.{IsNextOpen, IsOpenAt, NoneIsAbove}
-use Rattle.forward_rules.specs.Opened.{Opened, is_at, socket_at, socket_of, without as without_port}
+use Rattle.rules_forward.specs.Opened.{Opened, is_at, socket_at, socket_of, without as without_port}
 use Rattle.slirp_settings.specs.declared.Forward.{Forward}
 use Rattle.slirp_settings.specs.declared.Proto.{Proto}
 use Rattle.slirp_settings.specs.declared.Proto.TheVariants.{Tcp, Udp}
 use Rattle.slirp_settings.specs.Ranges.{same_proto}
 use Rattle.slirp_settings.specs.Classes.{same_endpoint}
-use Rattle.slirp_laws.proofs.Longest.{same_port}
-use Rattle.slirp_laws.proofs.Joining.{numbers_without}
+use Rattle.spec_run.proofs.Longest.{same_port}
+use Rattle.spec_run.proofs.Joining.{numbers_without}
 use Rattle.slirp_core.specs.Forwards.{ClosesForward}
-use Rattle.forward_rules.specs.Opened.{forward_sockets}
+use Rattle.rules_forward.specs.Opened.{forward_sockets}
 use Rattle.slirp_core.specs.Firsts.{IsLeastOf}
 use Rattle.slirp_core.specs.Holds.{AfterClosing, AreOpen, AreTwo, Closing, ClosesAll, ClosesNext, ClosesOther, Holders, IsForwardFirst, IsOf, NoForwardFirst, Ran, carriers, Rests}
 use Rattle.slirp_core.specs.Holds.{OverFor, AllWaited}

@@ -10,7 +10,7 @@ use Rattle.slirp_settings.specs.Addresses.{Config}
 use Rattle.ipv4_head.specs.Ip.{Ip, IsIp, read_ip}
 use Rattle.ipv4_head.proofs.Spelling.{spelled}
 use Rattle.udp_datagram.specs.Udp.{Udp, IsUdp, udp_with, read_udp}
-use Rattle.run_laws.specs.Packets.{quoted, datagram_of, may_come}
+use Rattle.spec_trace.specs.Packets.{quoted, datagram_of, may_come}
 use Rattle.slirp_core.specs.Datagrams.{Lies}
 use Rattle.slirp_core.specs.Packets.{udp_of}
 

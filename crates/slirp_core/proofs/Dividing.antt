@@ -11,7 +11,7 @@ use Rattle.poll_list.specs.declared.Who.TheVariants.{Link, Listener, Udp, Tcp}
 use Rattle.flow_splice.specs.Splice.{Splice}
 use Rattle.tcp_flows.specs.Reading.{AreWantsOf}
 use Rattle.slirp_core.specs.Kinds.{AreAll, InThreeParts, is_of_datagrams, is_of_flow, is_of_link_or_listener, names_datagrams, names_flow, names_link_or_listener}
-use Rattle.waiting_flows.specs.Wants.{link_want, listener_want, socket_wants, udp_want}
+use Rattle.sim_flows.specs.Wants.{link_want, listener_want, socket_wants, udp_want}
 
 -- ---- one kind
 

@@ -3,11 +3,11 @@ use Rattle.std.proofs.Common.{◌≡◌, ℕ, zero, suc, ◌<◌, ◌≤◌, ◌
 use Rattle.std.proofs.lemmas.List.{length-replicate}
 use Rattle.std.proofs.lemmas.List.Elements.{All-cons, All-head, All-nil, All-tail}
 use Rattle.dns_relay.specs.Asking.{bind_for}
-use Rattle.dns_rules.specs.Questions.{numbers}
+use Rattle.rules_dns.specs.Questions.{numbers}
 use Rattle.dns_relay.specs.State.{RelayState}
 use Rattle.slirp_settings.specs.Addresses.{Config}
 use Rattle.flow_splice.specs.Splice.{Splice}
-use Rattle.flows_follow.specs.Core.{number_of}
+use Rattle.sim_flows.specs.Core.{number_of}
 use Rattle.tcp_flows.specs.Kept.{Kept}
 use Rattle.tcp_flows.specs.Reading.{Stays}
 use Rattle.slirp_core.specs.Numbers.{AreDrawn, flows_for}

@@ -13,14 +13,14 @@ use Rattle.poll_list.specs.declared.Who.TheVariants.{Link, Listener, Udp, Tcp}
 use Rattle.std.specs.List.Sorted.{IsPermutation, IsNonDecreasing}
 use Rattle.stream_netdev.specs.State.{LinkState}
 use Rattle.flow_splice.specs.Splice.{Splice}
-use Rattle.flows_follow.specs.Core.{number_of}
+use Rattle.sim_flows.specs.Core.{number_of}
 use Rattle.tcp_flows.specs.Reading.{AreAbove, AreRising, AreWantsOf, want_of}
 use Rattle.slirp_settings.specs.declared.Proto.TheVariants.{Udp as OverUdp}
-use Rattle.flows_follow.proofs.Options.{true_false}
-use Rattle.forward_rules.specs.Opened.{sockets_over}
+use Rattle.sim_flows.proofs.Options.{true_false}
+use Rattle.rules_forward.specs.Opened.{sockets_over}
 use Rattle.slirp_core.specs.Holds.{carriers, holders_of}
 use Rattle.slirp_core.specs.Pumps.{TcpOnce, WantsOf, is_settled, listeners_of, merged}
-use Rattle.waiting_flows.specs.Wants.{link_want, listener_want, udp_want, socket_wants}
+use Rattle.sim_flows.specs.Wants.{link_want, listener_want, udp_want, socket_wants}
 use Rattle.slirp_core.specs.State.{SlirpState}
 use Rattle.slirp_core.proofs.Merging.{length_merged}
 

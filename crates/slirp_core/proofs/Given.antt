@@ -9,27 +9,27 @@ use Rattle.world_face.specs.declared.Accepted.TheVariants.{From, NotYet as NotYe
 use Rattle.world_face.specs.declared.Made.{Made}
 use Rattle.world_face.specs.declared.Made.TheVariants.{Done, Failed}
 use Rattle.slirp_settings.specs.declared.Forward.{Forward}
-use Rattle.forward_rules.specs.Adding.{opening_of as port_opening}
+use Rattle.rules_forward.specs.Adding.{opening_of as port_opening}
 use Rattle.slirp_settings.specs.declared.Proto.{Proto}
 use Rattle.slirp_settings.specs.declared.Proto.TheVariants.{Tcp, Udp}
 use Rattle.slirp_settings.specs.Ranges.{same_proto}
 use Rattle.slirp_settings.specs.Classes.{same_endpoint}
-use Rattle.forward_rules.specs.Opened.{Opened, forward_with, is_on, leads_to, socket_for, socket_of}
+use Rattle.rules_forward.specs.Opened.{Opened, forward_with, is_on, leads_to, socket_for, socket_of}
 use Rattle.slirp_settings.specs.Addresses.{Config, forward_on}
-use Rattle.run_laws.specs.Moments.{waits}
-use Rattle.run_laws.specs.Sockets.{Kind, Association as OfAssociation, DnsSocket, Forward as OfForward, Listener, Flow as OfFlow, datagram_kind, is_among, is_flow, is_forward, kind_of, next_number}
-use Rattle.run_laws.specs.Sockets.{open_sockets, with_made}
-use Rattle.slirp_laws.specs.Laws.{Lawful, May, is_closing}
-use Rattle.slirp_laws.proofs.Bools.{among_last, among_without, and_both, equal, or_second, same, second_of, turned}
-use Rattle.slirp_laws.proofs.OpenSockets.{open_below, peer_next}
-use Rattle.slirp_laws.proofs.Giving.{leads}
-use Rattle.slirp_laws.specs.Ports.{forward_for, given_by, is_port, opened_for}
+use Rattle.spec_trace.specs.Moments.{waits}
+use Rattle.spec_trace.specs.Sockets.{Kind, Association as OfAssociation, DnsSocket, Forward as OfForward, Listener, Flow as OfFlow, datagram_kind, is_among, is_flow, is_forward, kind_of, next_number}
+use Rattle.spec_trace.specs.Sockets.{open_sockets, with_made}
+use Rattle.spec_run.specs.Laws.{Lawful, May, is_closing}
+use Rattle.spec_run.proofs.Bools.{among_last, among_without, and_both, equal, or_second, same, second_of, turned}
+use Rattle.spec_run.proofs.OpenSockets.{open_below, peer_next}
+use Rattle.spec_run.proofs.Giving.{leads}
+use Rattle.spec_run.specs.Ports.{forward_for, given_by, is_port, opened_for}
 use Rattle.tcp_flows.specs.Runs.{LeavesOthers}
 use Rattle.slirp_core.specs.Forwards.{AreInForce, IsInForce, given_kind, guest_on, is_given}
-use Rattle.forward_rules.specs.Opened.{forward_sockets, is_over, sockets_over}
+use Rattle.rules_forward.specs.Opened.{forward_sockets, is_over, sockets_over}
 use Rattle.slirp_core.specs.Sockets.{AllAbove, IsRising}
-use Rattle.flows_follow.proofs.Seats.{same_or_not}
-use Rattle.flows_follow.proofs.Options.{true_false}
+use Rattle.sim_flows.proofs.Seats.{same_or_not}
+use Rattle.sim_flows.proofs.Options.{true_false}
 use Rattle.slirp_core.proofs.Rising.{open_rise}
 
 -- ---- numbers that rise

@@ -5,8 +5,8 @@ use Rattle.net_octets.specs.declared.Mac.{Mac}
 use Rattle.world_face.specs.Journal.{Entry}
 use Rattle.slirp_settings.specs.Addresses.{Config}
 use Rattle.ipv4_reasm.specs.Areas.{Gathered}
-use Rattle.run_laws.specs.Guests.{known, with_arrival}
-use Rattle.run_laws.specs.Happenings.{happens}
+use Rattle.spec_trace.specs.Guests.{known, with_arrival}
+use Rattle.spec_trace.specs.Happenings.{happens}
 use Rattle.slirp_core.specs.Holds.{OfGuests, as_given}
 use Rattle.slirp_core.specs.Packets.{with_frame}
 use Rattle.slirp_core.specs.State.{SlirpState}

@@ -15,41 +15,41 @@ use Rattle.host_policy.specs.Targets.{target}
 use Rattle.slirp_settings.specs.declared.Proto.TheVariants.{Tcp as OverTcp}
 use Rattle.host_policy.specs.declared.Verdict.{Verdict}
 use Rattle.host_policy.specs.declared.Verdict.TheVariants.{Go, Denied}
-use Rattle.record_flows.specs.Book.{book, scene, turned}
-use Rattle.record_flows.specs.Doings.{Comes as ComesOn}
-use Rattle.record_flows.specs.Flows.{Book, owner, Flow}
-use Rattle.record_flows.specs.Lots.{Lot, Dropped, AsksFor, GetsReset, asked_for, due_by, due_for_flows, is_mistaken, is_opening, is_to_many, lot_by, is_reset, is_reset_by, lot, NeedsRoom, giving_way, needs_room, quietest}
-use Rattle.record_flows.specs.Segments.{OnTuple}
-use Rattle.record_flows.specs.Taught.{taught}
-use Rattle.run_laws.specs.Sockets.{Flow as FlowKind, is_among, kind_of, next_number, open_sockets, with_made}
-use Rattle.slirp_laws.specs.Agenda.{agenda, all_wanted}
-use Rattle.slirp_laws.specs.Answers.{frames_of, identification, left, owed_for_segment, reset_for, unconnected}
-use Rattle.slirp_laws.specs.Errands.{errand_left}
-use Rattle.slirp_laws.specs.Laws.{Lawful, May}
-use Rattle.slirp_laws.proofs.Bools.{among_last}
-use Rattle.flows_follow.specs.Seats.{in_use_slots}
+use Rattle.spec_flows.specs.Book.{book, scene, turned}
+use Rattle.spec_flows.specs.Doings.{Comes as ComesOn}
+use Rattle.spec_flows.specs.Flows.{Book, owner, Flow}
+use Rattle.spec_flows.specs.Lots.{Lot, Dropped, AsksFor, GetsReset, asked_for, due_by, due_for_flows, is_mistaken, is_opening, is_to_many, lot_by, is_reset, is_reset_by, lot, NeedsRoom, giving_way, needs_room, quietest}
+use Rattle.spec_flows.specs.Segments.{OnTuple}
+use Rattle.spec_flows.specs.Taught.{taught}
+use Rattle.spec_trace.specs.Sockets.{Flow as FlowKind, is_among, kind_of, next_number, open_sockets, with_made}
+use Rattle.spec_run.specs.Agenda.{agenda, all_wanted}
+use Rattle.spec_run.specs.Answers.{frames_of, identification, left, owed_for_segment, reset_for, unconnected}
+use Rattle.spec_run.specs.Errands.{errand_left}
+use Rattle.spec_run.specs.Laws.{Lawful, May}
+use Rattle.spec_run.proofs.Bools.{among_last}
+use Rattle.sim_flows.specs.Seats.{in_use_slots}
 use Rattle.stream_netdev.specs.State.{LinkState}
 use Rattle.slirp_core.specs.Holds.{Standing, IsLast, Comes, Holds, Turns, flowing, is_ours}
 use Rattle.slirp_core.specs.Segments.{Coming}
 use Rattle.slirp_core.specs.State.{SlirpState}
 use Rattle.slirp_core.proofs.Guests.{guests_stay}
 use Rattle.slirp_core.proofs.Parts.{asks_nothing, keeps_by}
-use Rattle.tftp_rules.specs.Transfers.{Files}
+use Rattle.rules_tftp.specs.Transfers.{Files}
 use Rattle.slirp_core.proofs.Services.{none_due_for_services, unheard}
-use Rattle.flows_follow.specs.Core.{Following, mac_of, number_of}
-use Rattle.flows_follow.specs.Stands.{lot_without}
-use Rattle.flows_follow.proofs.Joined.{may_connect}
-use Rattle.flows_follow.proofs.Others.{holds_quiet}
+use Rattle.sim_flows.specs.Core.{Following, mac_of, number_of}
+use Rattle.sim_flows.specs.Stands.{lot_without}
+use Rattle.sim_flows.proofs.Joined.{may_connect}
+use Rattle.sim_flows.proofs.Others.{holds_quiet}
 use Rattle.tcp_flows.specs.Kept.{Kept}
 use Rattle.tcp_flows.proofs.Asking.{asked_then}
 use Rattle.tcp_flows.specs.Runs.{Begins as BeginsFlow, Between, HasLot, Hears, IsHeard, Leaves}
 use Rattle.tcp_flows.specs.declared.guest.Heard.{Heard}
 use Rattle.tcp_flows.specs.declared.guest.Heard.TheVariants.{Taken, Strange, Alone}
 use Rattle.slirp_core.proofs.Called.{framed, guests_left, sockets_left}
-use Rattle.flow_laws.specs.Close.{owes_reset}
+use Rattle.spec_flow.specs.Close.{owes_reset}
 use Rattle.std.specs.List.{list_any}
 use Rattle.tcp_flows.specs.Way.{GivesWay}
-use Rattle.run_laws.specs.Moments.{moment}
+use Rattle.spec_trace.specs.Moments.{moment}
 use Rattle.slirp_core.proofs.AsGiven.{answers_as}
 
 -- the kinds of sockets, one more that is a flow's

@@ -12,9 +12,9 @@ use Rattle.ipv4_head.specs.Sets.{Key, Outcome, UnevenPart, LongPart, Clashes, Wa
 use Rattle.ipv4_head.proofs.Members.{found_key, same_key}
 use Rattle.tcp_segment.specs.Tcp.{Tcp, read_tcp}
 use Rattle.udp_datagram.specs.Udp.{Udp, read_udp}
-use Rattle.run_laws.specs.Fragments.{arrived, joined_by, key_by, part_by}
-use Rattle.run_laws.specs.Packets.{Packet, ArpPacket, Message, DatagramPacket, Pair, Segment, datagram_in, datagram_of, may_come, packet_in, packet_of, packet_of_ip, pair_by, pair_in, Unheard}
-use Rattle.run_laws.specs.Packets.{whole_packet}
+use Rattle.spec_trace.specs.Fragments.{arrived, joined_by, key_by, part_by}
+use Rattle.spec_trace.specs.Packets.{Packet, ArpPacket, Message, DatagramPacket, Pair, Segment, datagram_in, datagram_of, may_come, packet_in, packet_of, packet_of_ip, pair_by, pair_in, Unheard}
+use Rattle.spec_trace.specs.Packets.{whole_packet}
 
 none_some : {A : Type 0} {x : A} → None ≡ Some x → ⊥
 none_some is = cc

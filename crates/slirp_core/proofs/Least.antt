@@ -9,22 +9,22 @@ use Rattle.std.proofs.lemmas.List.Sorted.{Contains-permutation, IsPermutation-re
 use Rattle.world_face.specs.Journal.{Entry, Close}
 use Rattle.slirp_settings.specs.Addresses.{Config}
 use Rattle.flow_splice.specs.Splice.{Splice, is_open}
-use Rattle.run_laws.specs.Shape.{Phase}
-use Rattle.run_laws.specs.Sockets.{is_among}
-use Rattle.slirp_laws.proofs.Bools.{equal, same}
-use Rattle.flows_follow.proofs.Options.{none_some, some_same, true_false}
+use Rattle.spec_trace.specs.Shape.{Phase}
+use Rattle.spec_trace.specs.Sockets.{is_among}
+use Rattle.spec_run.proofs.Bools.{equal, same}
+use Rattle.sim_flows.proofs.Options.{none_some, some_same, true_false}
 use Rattle.tcp_flows.specs.Reading.{IsFirst, IsNextOpen, IsOpenAt, NoneIsAbove}
 use Rattle.tcp_flows.specs.Runs.{ClosesFirst}
-use Rattle.udp_rules.specs.Associations.{numbers}
+use Rattle.rules_udp.specs.Associations.{numbers}
 use Rattle.udp_assoc.specs.Relays.{ClosesLeast}
-use Rattle.udp_rules.specs.declared.Association.{Association}
-use Rattle.dns_rules.specs.Questions.{numbers as question_numbers}
+use Rattle.rules_udp.specs.declared.Association.{Association}
+use Rattle.rules_dns.specs.Questions.{numbers as question_numbers}
 use Rattle.dns_relay.specs.Relaying.{ClosesLeast as ClosesLeastAsked}
-use Rattle.dns_rules.specs.declared.Question.{Question}
+use Rattle.rules_dns.specs.declared.Question.{Question}
 use Rattle.slirp_core.specs.Firsts.{IsFlowFirst, IsLeastOf, IsQuestionFirst, NoFlowFirst, NoQuestionFirst}
 use Rattle.slirp_core.specs.Holds.{AfterClosing, Closing, Holders, IsForwardFirst, IsOf, NoForwardFirst, Ran, carriers}
 use Rattle.slirp_core.specs.Sockets.{AllAbove}
-use Rattle.flows_follow.specs.Core.{number_of}
+use Rattle.sim_flows.specs.Core.{number_of}
 use Rattle.slirp_core.proofs.Given.{above}
 use Rattle.slirp_core.specs.Numbers.{count_open, open_flows}
 use Rattle.slirp_core.proofs.Askers.{among_first, among_second, asked_at_most, asked_least, least_asked, no_question, none_asked}

@@ -14,18 +14,18 @@ use Rattle.slirp_settings.specs.declared.Proto.TheVariants.{Tcp, Udp}
 use Rattle.slirp_settings.specs.declared.fields.Field.TheVariants.{Forwards}
 use Rattle.std.specs.Prelude.{Result, Ok, Err}
 use Rattle.std.specs.Result.{is_ok, result_err}
-use Rattle.forward_rules.specs.declared.FwdFault.{FwdFault}
-use Rattle.forward_rules.specs.Adding.{Adds, fault_of, opening_of}
-use Rattle.forward_rules.specs.Opened.{Opened, is_at, is_taken}
+use Rattle.rules_forward.specs.declared.FwdFault.{FwdFault}
+use Rattle.rules_forward.specs.Adding.{Adds, fault_of, opening_of}
+use Rattle.rules_forward.specs.Opened.{Opened, is_at, is_taken}
 use Rattle.port_forward.proofs.Adding.{no_cause}
-use Rattle.run_laws.specs.Shape.{Over, Refused}
-use Rattle.run_laws.specs.Sockets.{next_number}
+use Rattle.spec_trace.specs.Shape.{Over, Refused}
+use Rattle.spec_trace.specs.Sockets.{next_number}
 use Rattle.stream_netdev.specs.State.{LinkState}
 use Rattle.slirp_core.specs.Forwards.{Listens, with_numbers}
-use Rattle.forward_rules.specs.Opened.{forward_sockets}
+use Rattle.rules_forward.specs.Opened.{forward_sockets}
 use Rattle.slirp_core.specs.Holds.{Closing, Opens, holders_of}
 use Rattle.slirp_core.specs.State.{SlirpState}
-use Rattle.slirp_laws.proofs.Bools.{first_of, second_of, turned}
+use Rattle.spec_run.proofs.Bools.{first_of, second_of, turned}
 use Rattle.slirp_core.proofs.Given.{opening_next}
 use Rattle.slirp_core.proofs.Starting.{more_open, next_left, numbers_last, refused}
 

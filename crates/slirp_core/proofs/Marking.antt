@@ -1,7 +1,7 @@
 -- The marks of flows and the numbers in the slots, after calls that open no flow, after a flow began, and after both.
 use Rattle.std.proofs.Common.{◌≡◌, ℕ, ◌≤◌, ◌⊎◌, inl, inr, slice_get, Some, refl, ◌∙◌, arith}
 use Rattle.flow_splice.specs.Splice.{Splice}
-use Rattle.flows_follow.specs.Core.{number_of}
+use Rattle.sim_flows.specs.Core.{number_of}
 use Rattle.tcp_flows.specs.Kept.{Kept}
 use Rattle.tcp_flows.specs.Reading.{Stays}
 use Rattle.slirp_core.specs.Marks.{KeepsMarks}

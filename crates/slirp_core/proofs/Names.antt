@@ -4,24 +4,24 @@ use Rattle.std.proofs.Common.{inr, refl, sym, ◌∙◌, ap, subst, arith}
 use Rattle.net_octets.specs.declared.Endpoint.{Endpoint}
 use Rattle.world_face.specs.Journal.{Entry, Accept, Connect, Listen, UdpOpen}
 use Rattle.slirp_settings.specs.Addresses.{Config}
-use Rattle.udp_rules.specs.Associations.{numbers, moved_last as association_moved}
-use Rattle.udp_rules.specs.declared.Association.{Association}
-use Rattle.dns_rules.specs.Questions.{is_of, moved_last, numbered, numbers as question_numbers, socket_of, without}
-use Rattle.dns_rules.specs.declared.Question.{Question}
-use Rattle.run_laws.specs.Moments.{waits}
-use Rattle.run_laws.specs.Sockets.{Kind, Association as OfAssociation, DnsSocket, Flow as OfFlow, Forward as OfForward, Listener as OfListener, datagram_kind, is_among, is_association}
-use Rattle.run_laws.specs.Sockets.{kind_of, open_sockets}
-use Rattle.slirp_laws.specs.Datagrams.{Errand, asks_a_name}
-use Rattle.slirp_laws.specs.Errands.{errand_left}
-use Rattle.slirp_laws.specs.Laws.{Lawful, carries}
-use Rattle.slirp_laws.specs.Names.{datagram_kind_for, kind_for, questions}
-use Rattle.slirp_laws.specs.Questions.{is_for_question}
-use Rattle.slirp_laws.specs.Relayed.{associations}
-use Rattle.slirp_laws.proofs.Bools.{equal, or_assoc, or_false, or_second, same, second_of, turned}
-use Rattle.slirp_laws.proofs.Joining.{joined, waited_for}
-use Rattle.slirp_laws.proofs.Phases.{at_any_port}
+use Rattle.rules_udp.specs.Associations.{numbers, moved_last as association_moved}
+use Rattle.rules_udp.specs.declared.Association.{Association}
+use Rattle.rules_dns.specs.Questions.{is_of, moved_last, numbered, numbers as question_numbers, socket_of, without}
+use Rattle.rules_dns.specs.declared.Question.{Question}
+use Rattle.spec_trace.specs.Moments.{waits}
+use Rattle.spec_trace.specs.Sockets.{Kind, Association as OfAssociation, DnsSocket, Flow as OfFlow, Forward as OfForward, Listener as OfListener, datagram_kind, is_among, is_association}
+use Rattle.spec_trace.specs.Sockets.{kind_of, open_sockets}
+use Rattle.spec_run.specs.Datagrams.{Errand, asks_a_name}
+use Rattle.spec_run.specs.Errands.{errand_left}
+use Rattle.spec_run.specs.Laws.{Lawful, carries}
+use Rattle.spec_run.specs.Names.{datagram_kind_for, kind_for, questions}
+use Rattle.spec_run.specs.Questions.{is_for_question}
+use Rattle.spec_run.specs.Relayed.{associations}
+use Rattle.spec_run.proofs.Bools.{equal, or_assoc, or_false, or_second, same, second_of, turned}
+use Rattle.spec_run.proofs.Joining.{joined, waited_for}
+use Rattle.spec_run.proofs.Phases.{at_any_port}
 use Rattle.std.proofs.lemmas.Bool.Decides.{nat_tests}
-use Rattle.slirp_laws.proofs.Waiting.{are_waiting}
+use Rattle.spec_run.proofs.Waiting.{are_waiting}
 
 -- ---- their numbers
 

@@ -2,18 +2,18 @@
 use Rattle.std.proofs.Common.{◌≡◌, ℕ, ◌≤◌, Bool, true, false, List, Some, None, Option, slice_get, refl, sym, ◌∙◌, ap, subst}
 use Rattle.world_face.specs.Journal.{Call, Entry}
 use Rattle.slirp_settings.specs.Addresses.{Config}
-use Rattle.record_flows.specs.declared.Tuple.{Tuple}
-use Rattle.flow_laws.specs.Close.{is_in_use as has_its_tuple}
-use Rattle.record_flows.specs.Book.{book}
-use Rattle.record_flows.specs.Flows.{Flow, Rest, flow_of, uses}
+use Rattle.spec_flows.specs.declared.Tuple.{Tuple}
+use Rattle.spec_flow.specs.Close.{is_in_use as has_its_tuple}
+use Rattle.spec_flows.specs.Book.{book}
+use Rattle.spec_flows.specs.Flows.{Flow, Rest, flow_of, uses}
 use Rattle.flow_splice.specs.Splice.{Splice, is_in_use}
 use Rattle.flow_splice.specs.declared.Place.{Place}
 use Rattle.flow_splice.specs.declared.Place.TheVariants.{Empty, InUse, Resting}
-use Rattle.flows_follow.specs.Core.{CoreHolds, ends_of, number_of}
-use Rattle.flows_follow.specs.FlowsHold.{FlowsState, rests_at}
-use Rattle.flows_follow.specs.Seats.{IsSlotOf, number_in}
-use Rattle.flows_follow.specs.Stands.{slot_at}
-use Rattle.flows_follow.proofs.Options.{some_same, true_false}
+use Rattle.sim_flows.specs.Core.{CoreHolds, ends_of, number_of}
+use Rattle.sim_flows.specs.FlowsHold.{FlowsState, rests_at}
+use Rattle.sim_flows.specs.Seats.{IsSlotOf, number_in}
+use Rattle.sim_flows.specs.Stands.{slot_at}
+use Rattle.sim_flows.proofs.Options.{some_same, true_false}
 use Rattle.tcp_flows.specs.InUse.{IsInUseAt, IsNextUse}
 use Rattle.tcp_flows.specs.Reading.{HaveSlots, IsAbove}
 use Rattle.slirp_core.specs.NextFlow.{IsNextFlow}

@@ -2,25 +2,25 @@
 use Rattle.std.proofs.Common.{◌≡◌, ℕ, ◌||◌, ◌⊎◌, Bool, true, false, List, Option, Some, None, inl, inr, refl, sym, ◌∙◌, ap, subst}
 use Rattle.world_face.specs.Journal.{Entry}
 use Rattle.slirp_settings.specs.Addresses.{Config}
-use Rattle.flow_laws.specs.Flow.{is_closed}
-use Rattle.record_flows.specs.Book.{book}
-use Rattle.record_flows.specs.Flows.{Book, Flow, flow_of}
-use Rattle.record_flows.specs.Lots.{connects_to, due_by, due_for_flows}
-use Rattle.run_laws.specs.Sockets.{Kind, Association as OfAssociation, DnsSocket, Flow as OfFlow, Forward as OfForward, Listener, is_among, is_association, is_flow, kind_of, next_number, open_sockets}
-use Rattle.slirp_laws.specs.Datagrams.{Step}
-use Rattle.slirp_laws.specs.Laws.{Lawful, carries, joins}
-use Rattle.slirp_laws.specs.Names.{questions}
-use Rattle.slirp_laws.specs.Relayed.{associations}
-use Rattle.slirp_laws.proofs.Bools.{and_both, first_of, second_of}
+use Rattle.spec_flow.specs.Flow.{is_closed}
+use Rattle.spec_flows.specs.Book.{book}
+use Rattle.spec_flows.specs.Flows.{Book, Flow, flow_of}
+use Rattle.spec_flows.specs.Lots.{connects_to, due_by, due_for_flows}
+use Rattle.spec_trace.specs.Sockets.{Kind, Association as OfAssociation, DnsSocket, Flow as OfFlow, Forward as OfForward, Listener, is_among, is_association, is_flow, kind_of, next_number, open_sockets}
+use Rattle.spec_run.specs.Datagrams.{Step}
+use Rattle.spec_run.specs.Laws.{Lawful, carries, joins}
+use Rattle.spec_run.specs.Names.{questions}
+use Rattle.spec_run.specs.Relayed.{associations}
+use Rattle.spec_run.proofs.Bools.{and_both, first_of, second_of}
 use Rattle.stream_netdev.specs.State.{LinkState}
 use Rattle.slirp_core.specs.Forwards.{AreInForce, is_given}
-use Rattle.forward_rules.specs.Opened.{forward_sockets}
+use Rattle.rules_forward.specs.Opened.{forward_sockets}
 use Rattle.slirp_core.specs.Holds.{Standing, AreOpen, Flowing, HoldsOn, IsOf, carriers, holders_with, is_ours}
 use Rattle.slirp_core.specs.State.{SlirpState}
-use Rattle.flows_follow.specs.Core.{CoreHolds, number_of}
-use Rattle.flows_follow.proofs.Open.{joins_carries_none, open_flow, open_seat, seat_open}
+use Rattle.sim_flows.specs.Core.{CoreHolds, number_of}
+use Rattle.sim_flows.proofs.Open.{joins_carries_none, open_flow, open_seat, seat_open}
 use Rattle.tcp_flows.specs.Reading.{HasSocket}
-use Rattle.flows_follow.proofs.Options.{true_false}
+use Rattle.sim_flows.proofs.Options.{true_false}
 use Rattle.slirp_core.proofs.Given.{in_force_among}
 use Rattle.slirp_core.proofs.Parts.{carried}
 

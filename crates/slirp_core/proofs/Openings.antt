@@ -10,22 +10,22 @@ use Rattle.world_face.specs.declared.Made.TheVariants.{Done, Failed}
 use Rattle.slirp_settings.specs.Addresses.{Config}
 use Rattle.slirp_settings.specs.declared.Proto.{Proto}
 use Rattle.slirp_settings.specs.declared.Proto.TheVariants.{Tcp, Udp}
-use Rattle.forward_rules.specs.Adding.{opening_of as port_opening}
-use Rattle.run_laws.specs.Shape.{opened, phase}
-use Rattle.run_laws.specs.Moments.{moment, waits}
-use Rattle.run_laws.specs.Happenings.{happens}
-use Rattle.run_laws.specs.Sockets.{Forward as OfForward, datagram_kind, is_among, kind_of, open_sockets, with_made}
-use Rattle.record_flows.specs.Book.{book}
-use Rattle.record_flows.specs.Doings.{Nothing, doing}
-use Rattle.slirp_laws.specs.Agenda.{agenda}
-use Rattle.slirp_laws.specs.Answers.{identification, left, serving, unsent}
-use Rattle.slirp_laws.specs.Asking.{step}
-use Rattle.slirp_laws.specs.Datagrams.{NeedsNothing}
-use Rattle.slirp_laws.specs.Errands.{errand_left}
-use Rattle.slirp_laws.specs.Names.{answered, questions, with_opened as name_opened}
-use Rattle.slirp_laws.specs.Relayed.{associations, with_opened}
-use Rattle.slirp_laws.specs.Sending.{requests}
-use Rattle.slirp_laws.proofs.Bools.{among_last}
+use Rattle.rules_forward.specs.Adding.{opening_of as port_opening}
+use Rattle.spec_trace.specs.Shape.{opened, phase}
+use Rattle.spec_trace.specs.Moments.{moment, waits}
+use Rattle.spec_trace.specs.Happenings.{happens}
+use Rattle.spec_trace.specs.Sockets.{Forward as OfForward, datagram_kind, is_among, kind_of, open_sockets, with_made}
+use Rattle.spec_flows.specs.Book.{book}
+use Rattle.spec_flows.specs.Doings.{Nothing, doing}
+use Rattle.spec_run.specs.Agenda.{agenda}
+use Rattle.spec_run.specs.Answers.{identification, left, serving, unsent}
+use Rattle.spec_run.specs.Asking.{step}
+use Rattle.spec_run.specs.Datagrams.{NeedsNothing}
+use Rattle.spec_run.specs.Errands.{errand_left}
+use Rattle.spec_run.specs.Names.{answered, questions, with_opened as name_opened}
+use Rattle.spec_run.specs.Relayed.{associations, with_opened}
+use Rattle.spec_run.specs.Sending.{requests}
+use Rattle.spec_run.proofs.Bools.{among_last}
 use Rattle.slirp_core.specs.Forwards.{given_kind}
 use Rattle.slirp_core.specs.Holds.{is_ours}
 use Rattle.slirp_core.proofs.Given.{opening_kind, opening_made}

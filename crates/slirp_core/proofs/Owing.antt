@@ -7,14 +7,14 @@ use Rattle.world_face.specs.Frames.{goes_out}
 use Rattle.world_face.specs.declared.Io.{Io}
 use Rattle.world_face.specs.declared.Waited.{Waited}
 use Rattle.slirp_settings.specs.Addresses.{Config}
-use Rattle.run_laws.specs.Moments.{moment}
-use Rattle.tftp_rules.specs.Transfers.{Files, Said, Settled as SeeksNothing, Transfer, are_left, begun, next_again, said_again, ticked}
-use Rattle.tftp_rules.proofs.Turning.{next_left, ticked_none}
-use Rattle.slirp_laws.specs.Answers.{Serving, again_frames, begins_again, begun_by, datagrams_out, files_begun, files_sent, frames_of, identification, is_free, is_out, ledger, left}
-use Rattle.slirp_laws.specs.Answers.{serving, starts, taken, told_of_files, unless_begun, with_datagrams}
-use Rattle.slirp_laws.proofs.KeptFiles.{now_is}
+use Rattle.spec_trace.specs.Moments.{moment}
+use Rattle.rules_tftp.specs.Transfers.{Files, Said, Settled as SeeksNothing, Transfer, are_left, begun, next_again, said_again, ticked}
+use Rattle.rules_tftp.proofs.Turning.{next_left, ticked_none}
+use Rattle.spec_run.specs.Answers.{Serving, again_frames, begins_again, begun_by, datagrams_out, files_begun, files_sent, frames_of, identification, is_free, is_out, ledger, left}
+use Rattle.spec_run.specs.Answers.{serving, starts, taken, told_of_files, unless_begun, with_datagrams}
+use Rattle.spec_run.proofs.KeptFiles.{now_is}
 use Rattle.tcp_flows.specs.Runs.{LeavesOthers}
-use Rattle.slirp_laws.specs.Datagrams.{Step, NeedsNothing, NeedsRoom, NeedsSocket, NeedsSending}
+use Rattle.spec_run.specs.Datagrams.{Step, NeedsNothing, NeedsRoom, NeedsSocket, NeedsSending}
 use Rattle.slirp_core.specs.Owed.{IsOwed, IsOwedAt, OfFile, OfLeft, kept_by}
 use Rattle.slirp_core.specs.State.{SlirpState}
 

@@ -1,6 +1,6 @@
 -- What the core has, part by part, after a call on a socket that isn't a flow's.
 use Rattle.std.proofs.lemmas.Bool.Decides.{nat_tests}
-use Rattle.slirp_laws.proofs.Bools.{second_of}
+use Rattle.spec_run.proofs.Bools.{second_of}
 use Rattle.std.proofs.Common.{◌<◌, ◌≡◌, ℕ, ◌&&◌, ◌||◌, Bool, true, false, List, [], ◌∷◌, Option, Some, None, refl, sym, ◌∙◌, ap, subst, arith, nat_le, ◌++◌, length, if◌then◌else◌}
 use Rattle.std.specs.Option.{option_or}
 use Rattle.net_octets.specs.declared.Endpoint.{Endpoint}
@@ -8,33 +8,33 @@ use Rattle.poll_list.specs.declared.Want.{Want}
 use Rattle.world_face.specs.Journal.{Entry, Call, Allowed, call_of, Close, UdpOpen, UdpSend, UdpRecv}
 use Rattle.world_face.specs.declared.Made.TheVariants.{Done, Failed}
 use Rattle.slirp_settings.specs.Addresses.{Config}
-use Rattle.udp_rules.specs.Associations.{numbers, most_associations, socket_of}
-use Rattle.udp_rules.specs.declared.Association.{Association}
-use Rattle.dns_rules.specs.Questions.{ident_in, most_questions, numbers as question_numbers, socket_of as question_socket}
-use Rattle.dns_rules.specs.declared.Question.{Question}
-use Rattle.forward_rules.specs.Opened.{socket_for as port_for}
-use Rattle.record_flows.specs.Book.{book}
-use Rattle.record_flows.specs.Lots.{due_for_flows}
-use Rattle.run_laws.specs.Happenings.{happens}
-use Rattle.run_laws.specs.Shape.{Phase, Working, phase, due_in, opened}
-use Rattle.run_laws.specs.Moments.{waits}
-use Rattle.run_laws.specs.Sockets.{Kind, Association as OfAssociation, DnsSocket, Forward as OfForward, Listener as OfListener, Flow as OfFlow, is_among, is_association, kind_of, next_number, open_sockets}
-use Rattle.slirp_laws.specs.Agenda.{agenda, all_wanted, behind, from, is_to_read}
-use Rattle.slirp_laws.specs.Asking.{step}
-use Rattle.slirp_laws.specs.Errands.{errand_left}
-use Rattle.slirp_laws.specs.Datagrams.{Step, due_for, Errand, NeedsNothing, NeedsRoom, NeedsSocket, asks_a_name}
-use Rattle.slirp_laws.specs.Names.{questions, step_to_names, with_socket as with_question}
-use Rattle.slirp_laws.specs.Ports.{forward_for}
-use Rattle.slirp_laws.specs.Relayed.{associations, step_for, with_forward, with_socket, without_socket}
-use Rattle.slirp_laws.specs.Laws.{Lawful, May, carries, due, due_for_services, is_closing, begins_closing}
-use Rattle.slirp_laws.proofs.Joining.{joined_step}
+use Rattle.rules_udp.specs.Associations.{numbers, most_associations, socket_of}
+use Rattle.rules_udp.specs.declared.Association.{Association}
+use Rattle.rules_dns.specs.Questions.{ident_in, most_questions, numbers as question_numbers, socket_of as question_socket}
+use Rattle.rules_dns.specs.declared.Question.{Question}
+use Rattle.rules_forward.specs.Opened.{socket_for as port_for}
+use Rattle.spec_flows.specs.Book.{book}
+use Rattle.spec_flows.specs.Lots.{due_for_flows}
+use Rattle.spec_trace.specs.Happenings.{happens}
+use Rattle.spec_trace.specs.Shape.{Phase, Working, phase, due_in, opened}
+use Rattle.spec_trace.specs.Moments.{waits}
+use Rattle.spec_trace.specs.Sockets.{Kind, Association as OfAssociation, DnsSocket, Forward as OfForward, Listener as OfListener, Flow as OfFlow, is_among, is_association, kind_of, next_number, open_sockets}
+use Rattle.spec_run.specs.Agenda.{agenda, all_wanted, behind, from, is_to_read}
+use Rattle.spec_run.specs.Asking.{step}
+use Rattle.spec_run.specs.Errands.{errand_left}
+use Rattle.spec_run.specs.Datagrams.{Step, due_for, Errand, NeedsNothing, NeedsRoom, NeedsSocket, asks_a_name}
+use Rattle.spec_run.specs.Names.{questions, step_to_names, with_socket as with_question}
+use Rattle.spec_run.specs.Ports.{forward_for}
+use Rattle.spec_run.specs.Relayed.{associations, step_for, with_forward, with_socket, without_socket}
+use Rattle.spec_run.specs.Laws.{Lawful, May, carries, due, due_for_services, is_closing, begins_closing}
+use Rattle.spec_run.proofs.Joining.{joined_step}
 use Rattle.stream_netdev.specs.Keeps.{Keeps}
 use Rattle.stream_netdev.specs.State.{LinkState}
 use Rattle.slirp_core.specs.Holds.{Standing, InTurn, AreTwo, asked_by, carriers, holders_of, IsLast, OfAnswers, OfClock, OfRelay, Unbegun, Flowing, HoldsOn, OfFlows, OfSockets, Stands, Turns, Begins}
 use Rattle.slirp_core.specs.Forwards.{AreInForce, is_given}
 use Rattle.slirp_core.specs.State.{SlirpState}
 use Rattle.slirp_core.proofs.Guests.{guests_stay, of_guests}
-use Rattle.slirp_laws.specs.Answers.{serving}
+use Rattle.spec_run.specs.Answers.{serving}
 use Rattle.slirp_core.proofs.Services.{services_stay}
 use Rattle.slirp_core.proofs.Given.{IsOther, forward_is, stays_in_force}
 use Rattle.slirp_core.proofs.Names.{carried as carried_names, two_apart}
@@ -43,7 +43,7 @@ use Rattle.slirp_core.proofs.Flows.{close_same, flows_same, flows_stay, no_flow}
 use Rattle.poll_list.specs.Listing.{reads, same_who}
 use Rattle.poll_list.specs.declared.Who.{Who}
 use Rattle.world_face.specs.Frames.{MayFrame, partial, tail, is_blocked}
-use Rattle.slirp_laws.proofs.Steps.{errand_in}
+use Rattle.spec_run.proofs.Steps.{errand_in}
 
 -- ---- which call is due
 

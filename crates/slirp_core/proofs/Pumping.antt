@@ -9,35 +9,35 @@ use Rattle.world_face.specs.declared.Io.{Io}
 use Rattle.world_face.specs.declared.Io.TheVariants.{Done, End, NotYet, Failed}
 use Rattle.world_face.specs.Frames.{LinkFailed, goes_out, tail, spelling, opens}
 use Rattle.slirp_settings.specs.Addresses.{Config}
-use Rattle.slirp_laws.specs.Sending.{requests, requests_by}
-use Rattle.slirp_laws.specs.Answers.{identification, datagrams_in, datagrams_out, with_datagrams, again_frames, left, serving, taken, is_first, is_out}
-use Rattle.record_flows.specs.Book.{book}
-use Rattle.record_flows.specs.Doings.{doing_by}
-use Rattle.record_flows.specs.Laws.{MaySend, WritesBy, MustSend, flow_settings}
-use Rattle.run_laws.specs.Moments.{moment}
-use Rattle.slirp_laws.specs.Datagrams.{NeedsNothing}
-use Rattle.slirp_laws.specs.Sending.{is_beside, is_explained}
-use Rattle.slirp_laws.specs.Laws.{Lawful, may_begin}
-use Rattle.run_laws.specs.Shape.{phase, is_working, unless_over}
+use Rattle.spec_run.specs.Sending.{requests, requests_by}
+use Rattle.spec_run.specs.Answers.{identification, datagrams_in, datagrams_out, with_datagrams, again_frames, left, serving, taken, is_first, is_out}
+use Rattle.spec_flows.specs.Book.{book}
+use Rattle.spec_flows.specs.Doings.{doing_by}
+use Rattle.spec_flows.specs.Laws.{MaySend, WritesBy, MustSend, flow_settings}
+use Rattle.spec_trace.specs.Moments.{moment}
+use Rattle.spec_run.specs.Datagrams.{NeedsNothing}
+use Rattle.spec_run.specs.Sending.{is_beside, is_explained}
+use Rattle.spec_run.specs.Laws.{Lawful, may_begin}
+use Rattle.spec_trace.specs.Shape.{phase, is_working, unless_over}
 use Rattle.stream_netdev.specs.Keeps.{Keeps, Writes, Settles}
 use Rattle.stream_netdev.specs.Offers.{offered}
 use Rattle.stream_netdev.specs.State.{LinkState}
 use Rattle.stream_netdev.specs.declared.Offered.{Offered}
-use Rattle.forward_rules.specs.Opened.{forward_sockets}
+use Rattle.rules_forward.specs.Opened.{forward_sockets}
 use Rattle.slirp_core.specs.Holds.{Standing, InTurn, AfterPump, AreOpen, AreTwo, carriers, holders_with, Flowing, Holds, OfFlows, Turns, LeavesBehind, LeavesRest}
 use Rattle.slirp_core.specs.Outgoing.{sent_after}
 use Rattle.slirp_core.specs.Pumps.{keep}
 use Rattle.stream_netdev.specs.Offers.{pumped_of}
 use Rattle.slirp_core.specs.State.{SlirpState}
 use Rattle.stream_netdev.specs.declared.Pumped.{Pumped}
-use Rattle.slirp_laws.specs.Errands.{errand_left}
-use Rattle.slirp_laws.proofs.Deeds.{FlowsLetWrite, writes}
+use Rattle.spec_run.specs.Errands.{errand_left}
+use Rattle.spec_run.proofs.Deeds.{FlowsLetWrite, writes}
 use Rattle.slirp_core.proofs.Guests.{guests_stay, of_guests}
 use Rattle.slirp_core.proofs.Parts.{asks_nothing, asked_for, due_is, errand_for, in_turn, or_first, two_in}
 use Rattle.slirp_core.specs.Owed.{IsOwed, OfFile, OfLeft}
 use Rattle.slirp_core.proofs.Again.{again_gone, asks_nobody, may_write_again, nothing_to_flows}
 use Rattle.slirp_core.proofs.Owing.{again_stays, files_stay, left_then, owed_as, owed_on, quest_written, unbegun}
-use Rattle.slirp_laws.proofs.FileTurns.{MayGoAgain, is_explained_again}
+use Rattle.spec_run.proofs.FileTurns.{MayGoAgain, is_explained_again}
 use Rattle.slirp_core.proofs.Services.{none_due_for_services}
 use Rattle.slirp_core.proofs.Flows.{answer_goes, flows_answered, flows_stay, flows_stay_open}
 use Rattle.slirp_core.proofs.Open.{are_open}

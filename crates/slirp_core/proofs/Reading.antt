@@ -1,8 +1,8 @@
 -- Reads of the link, and what a frame brings.
 use Rattle.slirp_core.specs.Forwards.{AreInForce}
-use Rattle.forward_rules.specs.Opened.{Opened}
+use Rattle.rules_forward.specs.Opened.{Opened}
 use Rattle.std.proofs.Common.{◌≡◌, ℕ, ◌<◌, ◌&&◌, not, Bool, true, false, List, [], ◌∷◌, ◌++◌, drop, Option, Some, None, option_map, if◌then◌else◌, refl, sym, ◌∙◌, ap, subst, arith}
-use Rattle.flow_laws.specs.Guest.{is_empty}
+use Rattle.spec_flow.specs.Guest.{is_empty}
 use Rattle.poll_list.specs.declared.Want.{Want}
 use Rattle.poll_list.specs.declared.Who.TheVariants.{Link as TheLink}
 use Rattle.net_octets.specs.declared.Ip4.{Ip4}
@@ -15,29 +15,29 @@ use Rattle.slirp_settings.specs.Addresses.{Config}
 use Rattle.ipv4_head.specs.Ip.{Ip}
 use Rattle.ipv4_head.specs.Sets.{PartSet, young}
 use Rattle.tcp_segment.specs.Tcp.{Tcp}
-use Rattle.record_flows.specs.Book.{book}
-use Rattle.record_flows.specs.Doings.{Nothing, Comes as ComesOn, comes, doing, doing_by}
-use Rattle.record_flows.specs.Segments.{OnTuple, from_guest, segment_by}
-use Rattle.run_laws.specs.Guests.{known, with_arrival}
-use Rattle.run_laws.specs.Happenings.{arrival_of, happens}
-use Rattle.run_laws.specs.Fragments.{fragment_in, sets, waiting, with_fragment, with_frame as waits_with}
-use Rattle.run_laws.specs.Moments.{moment, waits}
-use Rattle.run_laws.specs.Packets.{Packet, Unheard, ArpPacket, Message, DatagramPacket, Segment, Datagram, packet_in}
-use Rattle.run_laws.specs.Shape.{Phase, Working, Over, By, phase, phase_after, is_working}
-use Rattle.slirp_laws.specs.Agenda.{agenda, all_wanted, behind, from, is_to_read, reads_on as goes_on_reading, wanted_of}
-use Rattle.dhcp_rules.specs.declared.Lease.{Lease}
+use Rattle.spec_flows.specs.Book.{book}
+use Rattle.spec_flows.specs.Doings.{Nothing, Comes as ComesOn, comes, doing, doing_by}
+use Rattle.spec_flows.specs.Segments.{OnTuple, from_guest, segment_by}
+use Rattle.spec_trace.specs.Guests.{known, with_arrival}
+use Rattle.spec_trace.specs.Happenings.{arrival_of, happens}
+use Rattle.spec_trace.specs.Fragments.{fragment_in, sets, waiting, with_fragment, with_frame as waits_with}
+use Rattle.spec_trace.specs.Moments.{moment, waits}
+use Rattle.spec_trace.specs.Packets.{Packet, Unheard, ArpPacket, Message, DatagramPacket, Segment, Datagram, packet_in}
+use Rattle.spec_trace.specs.Shape.{Phase, Working, Over, By, phase, phase_after, is_working}
+use Rattle.spec_run.specs.Agenda.{agenda, all_wanted, behind, from, is_to_read, reads_on as goes_on_reading, wanted_of}
+use Rattle.rules_dhcp.specs.declared.Lease.{Lease}
 use Rattle.ipv4_reasm.specs.Areas.{Gathered}
-use Rattle.slirp_laws.specs.Answers.{Serving, files_after, files_by_fate, files_by_packet, frames_of, identification, is_out, ledger, left, left_after, owed_for_fate, owed_for_packet, serving, strays}
-use Rattle.slirp_laws.specs.Leasing.{leases, leases_by, leases_by_packet}
-use Rattle.slirp_laws.specs.Asking.{step_of}
-use Rattle.slirp_laws.specs.Errands.{errand_after, errand_left}
-use Rattle.slirp_laws.specs.Datagrams.{Fate, Ignored, Refused, ForLeases, ForFiles, GoesTo, NeedsNothing, errand_by, errand_by_packet, fate}
-use Rattle.tftp_rules.specs.Transfers.{Files, settled}
-use Rattle.slirp_laws.specs.Laws.{Lawful, May, is_closing, joins}
-use Rattle.run_laws.specs.Sockets.{next_number}
-use Rattle.flows_follow.specs.Stands.{InWork}
-use Rattle.slirp_laws.specs.Relayed.{associations}
-use Rattle.slirp_laws.proofs.Deeds.{reads_on}
+use Rattle.spec_run.specs.Answers.{Serving, files_after, files_by_fate, files_by_packet, frames_of, identification, is_out, ledger, left, left_after, owed_for_fate, owed_for_packet, serving, strays}
+use Rattle.spec_run.specs.Leasing.{leases, leases_by, leases_by_packet}
+use Rattle.spec_run.specs.Asking.{step_of}
+use Rattle.spec_run.specs.Errands.{errand_after, errand_left}
+use Rattle.spec_run.specs.Datagrams.{Fate, Ignored, Refused, ForLeases, ForFiles, GoesTo, NeedsNothing, errand_by, errand_by_packet, fate}
+use Rattle.rules_tftp.specs.Transfers.{Files, settled}
+use Rattle.spec_run.specs.Laws.{Lawful, May, is_closing, joins}
+use Rattle.spec_trace.specs.Sockets.{next_number}
+use Rattle.sim_flows.specs.Stands.{InWork}
+use Rattle.spec_run.specs.Relayed.{associations}
+use Rattle.spec_run.proofs.Deeds.{reads_on}
 use Rattle.stream_netdev.specs.Frames.{ended, Pieces, Reads}
 use Rattle.stream_netdev.specs.Keeps.{Keeps, ReadsFrame, hands, ending_of}
 use Rattle.stream_netdev.specs.State.{LinkState}
@@ -51,7 +51,7 @@ use Rattle.slirp_core.specs.Waiting.{OfFragments}
 use Rattle.slirp_core.specs.Segments.{coming}
 use Rattle.slirp_core.proofs.Bridging.{teaches_same}
 use Rattle.slirp_core.proofs.Learning.{teaches_sender}
-use Rattle.record_flows.specs.Taught.{taught, taught_by, taught_pair}
+use Rattle.spec_flows.specs.Taught.{taught, taught_by, taught_pair}
 use Rattle.std.specs.Prelude.{Contains}
 use Rattle.slirp_core.proofs.Guests.{guests_learn}
 use Rattle.slirp_core.proofs.Parts.{behind_of, errand_for, from_of, reads_of, skipped, due_is, in_turn, two_in}
@@ -60,7 +60,7 @@ use Rattle.tcp_flows.specs.Kept.{Kept}
 use Rattle.slirp_core.proofs.Flows.{flows_stay, flows_stay_open}
 use Rattle.slirp_core.proofs.Owing.{nothing_left, of_left, owed_at}
 use Rattle.slirp_core.proofs.Services.{none_due_for_services, serving_is}
-use Rattle.slirp_laws.specs.Names.{answered, questions}
+use Rattle.spec_run.specs.Names.{answered, questions}
 use Rattle.slirp_core.proofs.Given.{unmoved}
 use Rattle.slirp_core.proofs.Open.{open_by}
 

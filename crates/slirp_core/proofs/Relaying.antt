@@ -1,6 +1,6 @@
 -- Calls on the sockets of datagrams: those of associations, of questions, and of ports of the host that are given to guests.
 use Rattle.std.proofs.Common.{◌≡◌, ℕ, ◌+◌, ◌<◌, ◌==◌, ◌&&◌, ◌||◌, not, Bool, true, false, nat_le, nat_lt, List, [], ◌∷◌, ◌++◌, length, find, Option, Some, None}
-use Rattle.flow_laws.specs.Guest.{is_empty}
+use Rattle.spec_flow.specs.Guest.{is_empty}
 use Rattle.std.specs.Option.{option_or}
 use Rattle.std.proofs.Common.{option_map, unwrap_or, if◌then◌else◌, inl, refl, sym, ◌∙◌, ap, arith}
 use Rattle.std.proofs.lemmas.Bool.Decides.{nat_tests}
@@ -20,40 +20,40 @@ use Rattle.slirp_settings.specs.Classes.{same_endpoint}
 use Rattle.slirp_settings.specs.declared.Forward.{Forward as AForward}
 use Rattle.slirp_settings.specs.declared.Proto.TheVariants.{Udp as ByUdp}
 use Rattle.arp_table.specs.Table.{mac_of as learnt_for}
-use Rattle.udp_rules.specs.Associations.{most_associations, numbers, numbered, is_idle, is_of, socket_of, without, moved_last, sent_from, heard_at}
-use Rattle.udp_rules.specs.declared.Association.{Association}
+use Rattle.rules_udp.specs.Associations.{most_associations, numbers, numbered, is_idle, is_of, socket_of, without, moved_last, sent_from, heard_at}
+use Rattle.rules_udp.specs.declared.Association.{Association}
 use Rattle.dns_relay.specs.Asking.{bind_for}
-use Rattle.dns_rules.specs.Questions.{asked_from, heard_at as heard_on, ident_in, is_answered, is_idle as is_over, is_of as is_asked, most_questions, moved_last as question_moved}
-use Rattle.dns_rules.specs.Questions.{numbered as question_numbered, numbers as question_numbers, socket_of as question_socket, without as question_without}
-use Rattle.dns_rules.specs.declared.Question.{Question}
+use Rattle.rules_dns.specs.Questions.{asked_from, heard_at as heard_on, ident_in, is_answered, is_idle as is_over, is_of as is_asked, most_questions, moved_last as question_moved}
+use Rattle.rules_dns.specs.Questions.{numbered as question_numbered, numbers as question_numbers, socket_of as question_socket, without as question_without}
+use Rattle.rules_dns.specs.declared.Question.{Question}
 use Rattle.udp_assoc.proofs.Yielding.{still_none}
-use Rattle.forward_rules.specs.Opened.{socket_for as port_for}
-use Rattle.run_laws.specs.Moments.{moment, waits}
-use Rattle.record_flows.specs.Book.{book}
-use Rattle.record_flows.specs.Flows.{is_it}
-use Rattle.record_flows.specs.Lots.{due_for_flows}
-use Rattle.run_laws.specs.Shape.{due_in, phase, is_ended, is_over as is_run_over, is_working}
-use Rattle.run_laws.specs.Sockets.{Association as OfAssociation, DnsSocket, Flow as OfFlow, Forward, Kind, Listener, datagram_kind, is_among, is_association, is_forward, kind_of, first}
-use Rattle.run_laws.specs.Sockets.{next_number, open_sockets, with_made}
-use Rattle.slirp_laws.specs.Agenda.{agenda, all_wanted, is_to_read, wanted_of}
-use Rattle.slirp_laws.specs.Answers.{frames_of, identification, is_out, left, name_answer, serving, told_about, no_network, unsent, reply_at, reply_for, reply_on}
-use Rattle.slirp_laws.specs.Asking.{step as asked}
-use Rattle.slirp_laws.specs.Errands.{errand_left}
-use Rattle.slirp_laws.specs.Names.{answered, answered_on, has_waited, question, questions, step_to_names, with_opened as name_opened, with_sent as name_sent, with_socket as with_question}
-use Rattle.slirp_laws.specs.Names.{without_socket as without_question}
-use Rattle.slirp_laws.specs.Ports.{forwards_open, is_port, mac_for, mac_known, mac_of, opened_for}
-use Rattle.slirp_laws.specs.Said.{SaysOf}
-use Rattle.slirp_laws.specs.Datagrams.{Errand, Step, NeedsNothing, NeedsRoom, NeedsSocket, NeedsSending, asks_a_name, due_for, opened_at}
-use Rattle.slirp_laws.specs.Relayed.{association, associations, with_forward, with_opened, with_sent, with_socket, without_socket}
-use Rattle.slirp_laws.specs.Laws.{May, MayDue, carries, due, due_for_services, gives_way, is_all_out, is_for_datagrams, is_unused, may_part}
-use Rattle.slirp_laws.specs.Laws.{parts, relays}
-use Rattle.slirp_laws.proofs.Bools.{among_last, among_without, and_both, first_of, same, second_of, turned}
-use Rattle.slirp_laws.proofs.Deeds.{any_one, closes, hears, opens, sends, this_one}
-use Rattle.slirp_laws.proofs.Finding.{idle_is, says_of}
-use Rattle.slirp_laws.proofs.Joining.{joined}
-use Rattle.slirp_laws.proofs.Listed.{numbers_moved, socket_last}
-use Rattle.slirp_laws.proofs.Longest.{among_if, find_some}
-use Rattle.slirp_laws.proofs.Steps.{errand_in}
+use Rattle.rules_forward.specs.Opened.{socket_for as port_for}
+use Rattle.spec_trace.specs.Moments.{moment, waits}
+use Rattle.spec_flows.specs.Book.{book}
+use Rattle.spec_flows.specs.Flows.{is_it}
+use Rattle.spec_flows.specs.Lots.{due_for_flows}
+use Rattle.spec_trace.specs.Shape.{due_in, phase, is_ended, is_over as is_run_over, is_working}
+use Rattle.spec_trace.specs.Sockets.{Association as OfAssociation, DnsSocket, Flow as OfFlow, Forward, Kind, Listener, datagram_kind, is_among, is_association, is_forward, kind_of, first}
+use Rattle.spec_trace.specs.Sockets.{next_number, open_sockets, with_made}
+use Rattle.spec_run.specs.Agenda.{agenda, all_wanted, is_to_read, wanted_of}
+use Rattle.spec_run.specs.Answers.{frames_of, identification, is_out, left, name_answer, serving, told_about, no_network, unsent, reply_at, reply_for, reply_on}
+use Rattle.spec_run.specs.Asking.{step as asked}
+use Rattle.spec_run.specs.Errands.{errand_left}
+use Rattle.spec_run.specs.Names.{answered, answered_on, has_waited, question, questions, step_to_names, with_opened as name_opened, with_sent as name_sent, with_socket as with_question}
+use Rattle.spec_run.specs.Names.{without_socket as without_question}
+use Rattle.spec_run.specs.Ports.{forwards_open, is_port, mac_for, mac_known, mac_of, opened_for}
+use Rattle.spec_run.specs.Said.{SaysOf}
+use Rattle.spec_run.specs.Datagrams.{Errand, Step, NeedsNothing, NeedsRoom, NeedsSocket, NeedsSending, asks_a_name, due_for, opened_at}
+use Rattle.spec_run.specs.Relayed.{association, associations, with_forward, with_opened, with_sent, with_socket, without_socket}
+use Rattle.spec_run.specs.Laws.{May, MayDue, carries, due, due_for_services, gives_way, is_all_out, is_for_datagrams, is_unused, may_part}
+use Rattle.spec_run.specs.Laws.{parts, relays}
+use Rattle.spec_run.proofs.Bools.{among_last, among_without, and_both, first_of, same, second_of, turned}
+use Rattle.spec_run.proofs.Deeds.{any_one, closes, hears, opens, sends, this_one}
+use Rattle.spec_run.proofs.Finding.{idle_is, says_of}
+use Rattle.spec_run.proofs.Joining.{joined}
+use Rattle.spec_run.proofs.Listed.{numbers_moved, socket_last}
+use Rattle.spec_run.proofs.Longest.{among_if, find_some}
+use Rattle.spec_run.proofs.Steps.{errand_in}
 use Rattle.stream_netdev.specs.State.{LinkState}
 use Rattle.slirp_core.specs.Holds.{asked_by, Standing, standing, InTurn, IsLast, Flowing, HoldsAt, HoldsOn, Holds, OfRelay, is_ours}
 use Rattle.slirp_core.specs.Replies.{owed_at}
@@ -63,7 +63,7 @@ use Rattle.slirp_core.proofs.Given.{leads_at}
 use Rattle.slirp_core.proofs.Names.{association_unmoved, carried as carried_names, kind_carried, kind_named, named_apart, neither, none_moved, none_numbered, none_without, one_numbered, two_apart}
 use Rattle.slirp_core.proofs.Parts.{asks_nothing, behind_of, errand_for, forward_in, or_first, or_second, reads_of, still_open, after_socket, asked_for, due_is, in_turn}
 use Rattle.slirp_core.specs.Owed.{IsOwedAt}
-use Rattle.tftp_rules.specs.Transfers.{Settled as SeeksNothing}
+use Rattle.rules_tftp.specs.Transfers.{Settled as SeeksNothing}
 use Rattle.slirp_core.proofs.Owing.{left_stays, left_then, nothing_left as none_left, of_left, owed_stays}
 use Rattle.slirp_core.proofs.Services.{asks_resolver, close_due, none_due_for_services, opened_for_name, opened_for_other}
 use Rattle.slirp_core.proofs.Sockets.{numbered_among, idle_among}

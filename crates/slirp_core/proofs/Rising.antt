@@ -6,10 +6,10 @@ use Rattle.world_face.specs.declared.Accepted.TheVariants.{From, NotYet as NotYe
 use Rattle.world_face.specs.declared.Made.{Made}
 use Rattle.world_face.specs.declared.Made.TheVariants.{Done, Failed}
 use Rattle.slirp_settings.specs.Addresses.{Config}
-use Rattle.run_laws.specs.Sockets.{next_number, open_sockets, with_made}
-use Rattle.slirp_laws.specs.Laws.{Lawful, May}
-use Rattle.slirp_laws.proofs.Bools.{equal}
-use Rattle.slirp_laws.proofs.OpenSockets.{peer_next}
+use Rattle.spec_trace.specs.Sockets.{next_number, open_sockets, with_made}
+use Rattle.spec_run.specs.Laws.{Lawful, May}
+use Rattle.spec_run.proofs.Bools.{equal}
+use Rattle.spec_run.proofs.OpenSockets.{peer_next}
 use Rattle.slirp_core.specs.Sockets.{IsRising}
 use Rattle.slirp_core.proofs.Sockets.{rising_last, rising_up, rising_without}
 

@@ -1,5 +1,5 @@
 -- What a receipt and an accept leave of the report by which they came: nothing.
-use Rattle.run_laws.specs.Sockets.{next_number}
+use Rattle.spec_trace.specs.Sockets.{next_number}
 use Rattle.std.proofs.Common.{◌≡◌, ℕ, ◌&&◌, ◌||◌, Bool, true, false, is_some, List, [], ◌∷◌, ◌++◌, Option, None, Some, refl, sym, ap, ◌∙◌, if◌then◌else◌}
 use Rattle.std.specs.Option.{option_and_then}
 use Rattle.std.proofs.lemmas.List.Sorted.{IsPermutation-refl}
@@ -12,19 +12,19 @@ use Rattle.slirp_settings.specs.Addresses.{Config}
 use Rattle.slirp_settings.specs.declared.Forward.{Forward}
 use Rattle.slirp_settings.specs.declared.Proto.{Proto}
 use Rattle.slirp_settings.specs.declared.Proto.TheVariants.{Tcp, Udp}
-use Rattle.flows_follow.specs.Peers.{fits_peer}
-use Rattle.run_laws.specs.Moments.{waits}
-use Rattle.run_laws.specs.Sockets.{is_among}
-use Rattle.slirp_laws.specs.Laws.{takes_peers}
-use Rattle.slirp_laws.specs.Ports.{given_by}
-use Rattle.slirp_laws.proofs.Bools.{or_second, same}
+use Rattle.sim_flows.specs.Peers.{fits_peer}
+use Rattle.spec_trace.specs.Moments.{waits}
+use Rattle.spec_trace.specs.Sockets.{is_among}
+use Rattle.spec_run.specs.Laws.{takes_peers}
+use Rattle.spec_run.specs.Ports.{given_by}
+use Rattle.spec_run.proofs.Bools.{or_second, same}
 use Rattle.stream_netdev.specs.State.{LinkState}
-use Rattle.run_duties.specs.Said.{some_reads}
-use Rattle.run_duties.specs.Serving.{is_left_to_read, serves_reading}
-use Rattle.run_duties.specs.Waiting.{takes_datagrams, takes_in}
-use Rattle.run_duties.proofs.Serving.{read_since, reading_on, unread}
-use Rattle.forward_rules.specs.Opened.{forward_with}
-use Rattle.forward_rules.specs.Opened.{sockets_over}
+use Rattle.spec_duties.specs.Said.{some_reads}
+use Rattle.spec_duties.specs.Serving.{is_left_to_read, serves_reading}
+use Rattle.spec_duties.specs.Waiting.{takes_datagrams, takes_in}
+use Rattle.spec_duties.proofs.Serving.{read_since, reading_on, unread}
+use Rattle.rules_forward.specs.Opened.{forward_with}
+use Rattle.rules_forward.specs.Opened.{sockets_over}
 use Rattle.slirp_core.specs.Hearing.{Receives, is_heard}
 use Rattle.slirp_core.specs.Holds.{Flowing, Holds, Standing, carriers, holders_of, standing}
 use Rattle.slirp_core.specs.State.{SlirpState}

@@ -7,22 +7,22 @@ use Rattle.world_face.specs.Journal.{CallClose, Entry}
 use Rattle.slirp_settings.specs.Addresses.{Config, address, endpoint}
 use Rattle.slirp_settings.specs.Classes.{is_loopback}
 use Rattle.dns_relay.specs.Asking.{bind_for}
-use Rattle.dns_rules.specs.Questions.{is_question}
-use Rattle.tftp_rules.specs.Asking.{call_for}
+use Rattle.rules_dns.specs.Questions.{is_question}
+use Rattle.rules_tftp.specs.Asking.{call_for}
 use Rattle.tftp_server.specs.Serving.{Serving as FileServing}
-use Rattle.tftp_rules.specs.Transfers.{Files, Settled as SeeksNothing, Transfer}
-use Rattle.run_laws.specs.Happenings.{happens}
-use Rattle.run_laws.specs.Moments.{moment}
-use Rattle.run_laws.specs.Packets.{Datagram}
-use Rattle.slirp_laws.specs.Answers.{serving}
-use Rattle.slirp_laws.specs.Datagrams.{Errand, Fate, ForFiles, Ignored, ForLeases, GoesTo, Refused, asks_a_name, errand_by, errand_of, fate, opened_at}
-use Rattle.slirp_laws.specs.Errands.{errand_left}
-use Rattle.slirp_laws.specs.Laws.{due_for_services}
-use Rattle.slirp_laws.specs.Leasing.{leases, leases_by}
-use Rattle.slirp_laws.specs.Names.{answered}
-use Rattle.slirp_laws.proofs.Askers.{is_asked, to_resolver}
-use Rattle.slirp_laws.proofs.KeptFiles.{now_is}
-use Rattle.slirp_laws.proofs.Steps.{errand_asks}
+use Rattle.rules_tftp.specs.Transfers.{Files, Settled as SeeksNothing, Transfer}
+use Rattle.spec_trace.specs.Happenings.{happens}
+use Rattle.spec_trace.specs.Moments.{moment}
+use Rattle.spec_trace.specs.Packets.{Datagram}
+use Rattle.spec_run.specs.Answers.{serving}
+use Rattle.spec_run.specs.Datagrams.{Errand, Fate, ForFiles, Ignored, ForLeases, GoesTo, Refused, asks_a_name, errand_by, errand_of, fate, opened_at}
+use Rattle.spec_run.specs.Errands.{errand_left}
+use Rattle.spec_run.specs.Laws.{due_for_services}
+use Rattle.spec_run.specs.Leasing.{leases, leases_by}
+use Rattle.spec_run.specs.Names.{answered}
+use Rattle.spec_run.proofs.Askers.{is_asked, to_resolver}
+use Rattle.spec_run.proofs.KeptFiles.{now_is}
+use Rattle.spec_run.proofs.Steps.{errand_asks}
 use Rattle.slirp_core.specs.Services.{IsServer, OfServices}
 use Rattle.slirp_core.specs.State.{SlirpState, serving_of}
 

@@ -5,19 +5,19 @@ use Rattle.std.proofs.Common.{◌≡◌, ℕ, ◌+◌, ◌-◌, length, false, L
 use Rattle.world_face.specs.Journal.{AreAllowed, Call, CallFileLen, CallFileRead, Entry, FileLen, FileRead, call_of}
 use Rattle.world_face.proofs.Telling.{allowed_then}
 use Rattle.slirp_settings.specs.Addresses.{Config}
-use Rattle.run_laws.specs.Packets.{Datagram}
-use Rattle.tftp_rules.specs.Asking.{AreAskedFor, IsServed, after_calls, call_for}
-use Rattle.tftp_rules.specs.Packets.{packet_in}
-use Rattle.tftp_rules.specs.Transfers.{Files, Outcome, Quest, Said, SeeksLength, SeeksOctets, Settled as SeeksNothing, Transfer, came, octets_of, place_of, settled}
-use Rattle.slirp_laws.specs.Agenda.{agenda, all_wanted}
-use Rattle.slirp_laws.specs.Answers.{frames_of, serving, told_of_files}
-use Rattle.slirp_laws.specs.Datagrams.{NeedsNothing}
-use Rattle.slirp_laws.specs.Errands.{errand_left}
-use Rattle.slirp_laws.specs.Leasing.{leases}
-use Rattle.slirp_laws.specs.Names.{questions}
-use Rattle.slirp_laws.specs.Relayed.{associations}
-use Rattle.slirp_laws.proofs.FileSteps.{AreFileCalls, MaySeek, are_file_calls, silent_packet}
-use Rattle.slirp_laws.proofs.KeptFiles.{now_is}
+use Rattle.spec_trace.specs.Packets.{Datagram}
+use Rattle.rules_tftp.specs.Asking.{AreAskedFor, IsServed, after_calls, call_for}
+use Rattle.rules_tftp.specs.Packets.{packet_in}
+use Rattle.rules_tftp.specs.Transfers.{Files, Outcome, Quest, Said, SeeksLength, SeeksOctets, Settled as SeeksNothing, Transfer, came, octets_of, place_of, settled}
+use Rattle.spec_run.specs.Agenda.{agenda, all_wanted}
+use Rattle.spec_run.specs.Answers.{frames_of, serving, told_of_files}
+use Rattle.spec_run.specs.Datagrams.{NeedsNothing}
+use Rattle.spec_run.specs.Errands.{errand_left}
+use Rattle.spec_run.specs.Leasing.{leases}
+use Rattle.spec_run.specs.Names.{questions}
+use Rattle.spec_run.specs.Relayed.{associations}
+use Rattle.spec_run.proofs.FileSteps.{AreFileCalls, MaySeek, are_file_calls, silent_packet}
+use Rattle.spec_run.proofs.KeptFiles.{now_is}
 use Rattle.stream_netdev.specs.Keeps.{Keeps}
 use Rattle.stream_netdev.specs.State.{LinkState}
 use Rattle.tcp_flows.specs.Kept.{Kept}

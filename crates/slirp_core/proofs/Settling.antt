@@ -3,7 +3,7 @@ use Rattle.std.proofs.Common.{◌≡◌, ℕ, true, List, ◌++◌, sym, subst}
 use Rattle.world_face.specs.Journal.{Entry}
 use Rattle.world_face.specs.Tells.{Brings, Telling}
 use Rattle.slirp_settings.specs.Addresses.{Config}
-use Rattle.flow_laws.specs.Dutiful.{AreAhead, resend_deadline}
+use Rattle.spec_flow.specs.Dutiful.{AreAhead, resend_deadline}
 use Rattle.stream_netdev.specs.State.{LinkState}
 use Rattle.tcp_flows.specs.Reading.{AllClear, AreTold, HaveSlots}
 use Rattle.tcp_flows.specs.Settled.{AreSettled, IsInTime}

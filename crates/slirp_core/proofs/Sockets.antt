@@ -2,11 +2,11 @@
 use Rattle.std.proofs.Common.{◌≡◌, ℕ, ◌+◌, ◌<◌, ◌==◌, ◌&&◌, ◌||◌, not, Bool, true, false, cond, List, [], ◌∷◌, ◌++◌, filter, Some, None, is_some, refl, sym, ◌∙◌, ap, arith}
 use Rattle.std.proofs.lemmas.List.Elements.{All-head}
 use Rattle.std.specs.List.{list_any}
-use Rattle.udp_rules.specs.Associations.{IsLeast, is_numbered, is_over, is_idle, numbers, numbered}
-use Rattle.udp_rules.specs.declared.Association.{Association}
-use Rattle.run_laws.specs.Sockets.{is_among}
-use Rattle.slirp_laws.proofs.Bools.{among_last, or_second, same, turned}
-use Rattle.slirp_laws.proofs.Joining.{numbers_last}
+use Rattle.rules_udp.specs.Associations.{IsLeast, is_numbered, is_over, is_idle, numbers, numbered}
+use Rattle.rules_udp.specs.declared.Association.{Association}
+use Rattle.spec_trace.specs.Sockets.{is_among}
+use Rattle.spec_run.proofs.Bools.{among_last, or_second, same, turned}
+use Rattle.spec_run.proofs.Joining.{numbers_last}
 use Rattle.slirp_core.specs.Sockets.{AllAbove, IsRising}
 
 -- the one with a number is among them

@@ -10,55 +10,55 @@ use Rattle.world_face.specs.Frames.{Ending, MayFrame, is_blocked, partial, tail}
 use Rattle.world_face.specs.declared.Made.{Made}
 use Rattle.world_face.specs.declared.Made.TheVariants.{Done, Failed}
 use Rattle.slirp_settings.specs.Addresses.{Config, forward_on}
-use Rattle.slirp_laws.proofs.Given.{led_by_settings}
+use Rattle.spec_run.proofs.Given.{led_by_settings}
 use Rattle.slirp_settings.specs.declared.Forward.{Forward}
 use Rattle.slirp_settings.specs.declared.Proto.{Proto}
 use Rattle.slirp_settings.specs.declared.Proto.TheVariants.{Tcp, Udp}
-use Rattle.forward_rules.specs.Adding.{opening_of as port_opening}
-use Rattle.forward_rules.specs.Opened.{Opened}
-use Rattle.udp_rules.specs.Associations.{numbers}
-use Rattle.dns_rules.specs.Questions.{numbers as question_numbers}
+use Rattle.rules_forward.specs.Adding.{opening_of as port_opening}
+use Rattle.rules_forward.specs.Opened.{Opened}
+use Rattle.rules_udp.specs.Associations.{numbers}
+use Rattle.rules_dns.specs.Questions.{numbers as question_numbers}
 use Rattle.ipv4_head.specs.Sets.{PartSet, young}
 use Rattle.ipv4_reasm.specs.Areas.{Gathered}
-use Rattle.run_laws.specs.Shape.{By, Opening, Over, Refused, Started, clocked, due_in, is_over, opened, opening_of as opening_call, phase}
-use Rattle.run_laws.specs.Moments.{moment, waits}
-use Rattle.run_laws.specs.Happenings.{happens}
-use Rattle.run_laws.specs.Sockets.{is_among, kind_of, next_number, open_sockets, with_made}
-use Rattle.record_flows.specs.Book.{book}
-use Rattle.record_flows.specs.Doings.{Nothing, doing}
-use Rattle.record_flows.specs.Lots.{due_for_flows}
-use Rattle.slirp_laws.specs.Agenda.{agenda}
-use Rattle.slirp_laws.specs.Answers.{identification, left, serving}
-use Rattle.tftp_rules.specs.Transfers.{Files}
-use Rattle.slirp_laws.specs.Asking.{step}
-use Rattle.slirp_laws.specs.Errands.{errand_left}
-use Rattle.slirp_laws.specs.Sending.{requests}
-use Rattle.slirp_laws.specs.Names.{answered, questions, with_opened as name_opened}
-use Rattle.slirp_laws.specs.Relayed.{associations, with_opened}
-use Rattle.slirp_laws.specs.Datagrams.{NeedsNothing, due_for}
-use Rattle.slirp_laws.specs.Laws.{May, due, due_for_services}
-use Rattle.slirp_laws.proofs.Bools.{among_last, same}
-use Rattle.slirp_laws.proofs.Deeds.{asks, listens, opens as opens_socket}
+use Rattle.spec_trace.specs.Shape.{By, Opening, Over, Refused, Started, clocked, due_in, is_over, opened, opening_of as opening_call, phase}
+use Rattle.spec_trace.specs.Moments.{moment, waits}
+use Rattle.spec_trace.specs.Happenings.{happens}
+use Rattle.spec_trace.specs.Sockets.{is_among, kind_of, next_number, open_sockets, with_made}
+use Rattle.spec_flows.specs.Book.{book}
+use Rattle.spec_flows.specs.Doings.{Nothing, doing}
+use Rattle.spec_flows.specs.Lots.{due_for_flows}
+use Rattle.spec_run.specs.Agenda.{agenda}
+use Rattle.spec_run.specs.Answers.{identification, left, serving}
+use Rattle.rules_tftp.specs.Transfers.{Files}
+use Rattle.spec_run.specs.Asking.{step}
+use Rattle.spec_run.specs.Errands.{errand_left}
+use Rattle.spec_run.specs.Sending.{requests}
+use Rattle.spec_run.specs.Names.{answered, questions, with_opened as name_opened}
+use Rattle.spec_run.specs.Relayed.{associations, with_opened}
+use Rattle.spec_run.specs.Datagrams.{NeedsNothing, due_for}
+use Rattle.spec_run.specs.Laws.{May, due, due_for_services}
+use Rattle.spec_run.proofs.Bools.{among_last, same}
+use Rattle.spec_run.proofs.Deeds.{asks, listens, opens as opens_socket}
 use Rattle.stream_netdev.specs.State.{LinkState, under_way}
 use Rattle.slirp_core.specs.Forwards.{AreInForce, given_kind, with_numbers}
-use Rattle.forward_rules.specs.Opened.{forward_sockets}
+use Rattle.rules_forward.specs.Opened.{forward_sockets}
 use Rattle.slirp_core.specs.Fragments.{IsHeld}
 use Rattle.slirp_core.specs.Holds.{Standing, after, Begins, Holders, Closing, asked_by, carriers, holders_of, holders_with, Ended, Flowing, Holds, IsOf, OfFlows, Opens, Rests, OverFor, as_given}
 use Rattle.slirp_core.specs.Holds.{AllWaited, Stands, Turns, flowing, is_ours}
 use Rattle.slirp_core.specs.State.{SlirpState}
 use Rattle.slirp_core.proofs.Guests.{guests_forget, guests_stay}
-use Rattle.dhcp_rules.specs.declared.Lease.TheVariants.{Free as LeaseFree}
+use Rattle.rules_dhcp.specs.declared.Lease.TheVariants.{Free as LeaseFree}
 use Rattle.slirp_core.proofs.Parts.{errand_for, two_in}
 use Rattle.slirp_core.proofs.Owing.{owed_as, owed_stays, owed_told}
 use Rattle.slirp_core.proofs.Services.{none_due_for_services, services_as, services_stay}
 use Rattle.slirp_core.proofs.Waitings.{fragments_dropped}
 use Rattle.flow_table.specs.Slots.{all_free}
 use Rattle.flow_table.specs.declared.Slot.TheVariants.{Free}
-use Rattle.flows_follow.specs.FlowsHold.{FlowsState}
-use Rattle.flows_follow.proofs.Beginning.{seats_begin}
+use Rattle.sim_flows.specs.FlowsHold.{FlowsState}
+use Rattle.sim_flows.proofs.Beginning.{seats_begin}
 use Rattle.flow_splice.specs.Splice.{Splice}
-use Rattle.flows_follow.specs.Core.{CoreHolds, Following, number_of}
-use Rattle.flows_follow.proofs.Options.{true_false}
+use Rattle.sim_flows.specs.Core.{CoreHolds, Following, number_of}
+use Rattle.sim_flows.proofs.Options.{true_false}
 use Rattle.tcp_flows.specs.Kept.{IsFor, Kept}
 use Rattle.tcp_flows.specs.Reading.{NoneInSlots}
 use Rattle.slirp_core.proofs.Flows.{flows_ask_nothing, flows_stay, flows_stay_open, flows_told}

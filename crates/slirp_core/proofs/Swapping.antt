@@ -2,8 +2,8 @@
 use Rattle.std.proofs.Common.{◌≡◌, ℕ, List, []}
 use Rattle.world_face.specs.Journal.{Entry}
 use Rattle.slirp_settings.specs.Addresses.{Config}
-use Rattle.tftp_rules.specs.Transfers.{Transfer}
-use Rattle.slirp_laws.specs.Datagrams.{NeedsNothing}
+use Rattle.rules_tftp.specs.Transfers.{Transfer}
+use Rattle.spec_run.specs.Datagrams.{NeedsNothing}
 use Rattle.stream_netdev.specs.State.{LinkState}
 use Rattle.tcp_flows.specs.Kept.{Kept}
 use Rattle.slirp_core.specs.Holds.{Begins, Flowing, Holds, OfAnswers, Standing, Stands, Turns}

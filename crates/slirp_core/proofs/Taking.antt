@@ -16,23 +16,23 @@ use Rattle.icmp_echo.specs.declared.IcmpView.TheVariants.{Echo, Unreachable, Oth
 use Rattle.udp_assoc.specs.Relays.{FitsRoom}
 use Rattle.udp_datagram.specs.Udp.{Udp, summed, udp_octets, udp_with, written_sum}
 use Rattle.udp_datagram.proofs.Spelling.{length-udp}
-use Rattle.dhcp_rules.specs.declared.Lease.{Lease}
-use Rattle.dhcp_rules.specs.declared.Message.{Message as ClientMessage}
-use Rattle.dhcp_rules.specs.Replies.{everybody, goes_to_all, is_silence, replied_octets, reply_octets, reply_to as lease_reply_to}
-use Rattle.dhcp_rules.specs.Serving.{served}
-use Rattle.tftp_rules.specs.Saying.{IsFromServer, said_by}
-use Rattle.udp_rules.specs.declared.Reply.{Reply}
-use Rattle.udp_rules.specs.declared.Reply.TheVariants.{Nothing as ReplyNothing, Datagram as ADatagram, Unreachable as ReplyUnreachable}
-use Rattle.slirp_laws.specs.Leasing.{leases_by_fate, sending_of}
-use Rattle.slirp_laws.specs.Datagrams.{Fate, Ignored, Refused, ForLeases, ForFiles, GoesTo, fate}
-use Rattle.slirp_laws.specs.Answers.{ArpAnswer, IpAnswer, answer_of, answers_of, datagram_frames, fits_datagram, is_untold, told_about, told_of_files, reply_at, frames_of, owed_for_icmp, request, reset_for}
+use Rattle.rules_dhcp.specs.declared.Lease.{Lease}
+use Rattle.rules_dhcp.specs.declared.Message.{Message as ClientMessage}
+use Rattle.rules_dhcp.specs.Replies.{everybody, goes_to_all, is_silence, replied_octets, reply_octets, reply_to as lease_reply_to}
+use Rattle.rules_dhcp.specs.Serving.{served}
+use Rattle.rules_tftp.specs.Saying.{IsFromServer, said_by}
+use Rattle.rules_udp.specs.declared.Reply.{Reply}
+use Rattle.rules_udp.specs.declared.Reply.TheVariants.{Nothing as ReplyNothing, Datagram as ADatagram, Unreachable as ReplyUnreachable}
+use Rattle.spec_run.specs.Leasing.{leases_by_fate, sending_of}
+use Rattle.spec_run.specs.Datagrams.{Fate, Ignored, Refused, ForLeases, ForFiles, GoesTo, fate}
+use Rattle.spec_run.specs.Answers.{ArpAnswer, IpAnswer, answer_of, answers_of, datagram_frames, fits_datagram, is_untold, told_about, told_of_files, reply_at, frames_of, owed_for_icmp, request, reset_for}
 use Rattle.arp_table.specs.Arp.{everyone}
 use Rattle.tcp_segment.specs.Tcp.{Tcp, read_tcp, tcp_length, tcp_octets}
-use Rattle.record_flows.specs.declared.Tuple.{Tuple}
-use Rattle.flow_laws.specs.Event.{Segment}
-use Rattle.record_flows.specs.Lots.{reset_to}
-use Rattle.record_flows.specs.Segments.{OnTuple}
-use Rattle.run_laws.specs.Packets.{Datagram}
+use Rattle.spec_flows.specs.declared.Tuple.{Tuple}
+use Rattle.spec_flow.specs.Event.{Segment}
+use Rattle.spec_flows.specs.Lots.{reset_to}
+use Rattle.spec_flows.specs.Segments.{OnTuple}
+use Rattle.spec_trace.specs.Packets.{Datagram}
 use Rattle.owed_frames.specs.Outgoing.{segment_octets}
 use Rattle.owed_frames.specs.declared.outgoing.Course.{Course}
 use Rattle.stream_netdev.specs.State.{LinkState}

@@ -4,8 +4,8 @@ use Rattle.std.proofs.lemmas.Bool.Decides.{nat_tests}
 use Rattle.std.proofs.lemmas.List.Elements.{All-head, All-tail}
 use Rattle.std.specs.List.{list_any}
 use Rattle.world_face.specs.Journal.{Entry, Close}
-use Rattle.udp_rules.specs.Associations.{is_numbered, is_over, without}
-use Rattle.udp_rules.specs.declared.Association.{Association}
+use Rattle.rules_udp.specs.Associations.{is_numbered, is_over, without}
+use Rattle.rules_udp.specs.declared.Association.{Association}
 use Rattle.tcp_flows.specs.Runs.{ClosesBelow}
 
 -- those whose idle life is over have numbers from this one on

@@ -1,6 +1,6 @@
 -- What the core tells of the reports that are left to be served.
 use Rattle.std.proofs.Common.{◌≡◌, ◌⊎◌, ℕ, zero, suc, ◌≤◌, ◌==◌, ◌&&◌, ◌||◌, not, nat_lt, Bool, true, false, is_some, List, [], ◌∷◌, length, slice_get, slice_set, Option, None, Some, inl}
-use Rattle.flow_laws.specs.Guest.{is_empty}
+use Rattle.spec_flow.specs.Guest.{is_empty}
 use Rattle.std.proofs.Common.{inr, refl, sym, ap, ◌∙◌, subst, arith}
 use Rattle.std.proofs.lemmas.Bool.Decides.{nat_tests}
 use Rattle.std.specs.List.{list_any}
@@ -11,25 +11,25 @@ use Rattle.poll_list.specs.declared.Who.TheVariants.{Link, Listener, Tcp, Udp}
 use Rattle.world_face.specs.Frames.{tail}
 use Rattle.world_face.specs.Journal.{Entry}
 use Rattle.slirp_settings.specs.Addresses.{Config}
-use Rattle.flows_follow.proofs.Seats.{differ as slots_differ, same_or_not}
-use Rattle.flows_follow.proofs.Tables.{get_set_other}
-use Rattle.flow_laws.specs.Flow.{is_closed}
+use Rattle.sim_flows.proofs.Seats.{differ as slots_differ, same_or_not}
+use Rattle.sim_flows.proofs.Tables.{get_set_other}
+use Rattle.spec_flow.specs.Flow.{is_closed}
 use Rattle.flow_splice.specs.Splice.{Splice, is_open}
-use Rattle.record_flows.specs.Book.{book}
-use Rattle.record_flows.specs.Flows.{Flow, flow_of}
-use Rattle.run_laws.specs.Sockets.{Kind, Association, DnsSocket, Forward, Flow as OfFlow, Listener as OfListener, is_among, is_flow, is_listener, kind_of, next_number, open_sockets}
-use Rattle.slirp_laws.specs.Answers.{is_out, left, may_go_again, serving}
-use Rattle.slirp_laws.specs.Laws.{Lawful}
-use Rattle.slirp_laws.proofs.Bools.{equal, first_of, same, second_of}
-use Rattle.flows_follow.proofs.Options.{true_false}
-use Rattle.flows_follow.proofs.Sockets.{open_has_socket, open_is_young}
-use Rattle.flows_follow.specs.Core.{number_of}
+use Rattle.spec_flows.specs.Book.{book}
+use Rattle.spec_flows.specs.Flows.{Flow, flow_of}
+use Rattle.spec_trace.specs.Sockets.{Kind, Association, DnsSocket, Forward, Flow as OfFlow, Listener as OfListener, is_among, is_flow, is_listener, kind_of, next_number, open_sockets}
+use Rattle.spec_run.specs.Answers.{is_out, left, may_go_again, serving}
+use Rattle.spec_run.specs.Laws.{Lawful}
+use Rattle.spec_run.proofs.Bools.{equal, first_of, same, second_of}
+use Rattle.sim_flows.proofs.Options.{true_false}
+use Rattle.sim_flows.proofs.Sockets.{open_has_socket, open_is_young}
+use Rattle.sim_flows.specs.Core.{number_of}
 use Rattle.stream_netdev.specs.State.{LinkState}
 use Rattle.tcp_flows.specs.Kept.{Kept}
 use Rattle.tcp_flows.specs.Reading.{HasSocket, IsOpenAt, NoneOpen, Stays}
-use Rattle.run_duties.specs.Serving.{IsServed}
-use Rattle.run_duties.specs.Waiting.{MayBeWritten, MayWriteFlow, WaitsFor, are_in_order, comes_before, comes_first, is_all_sent, is_for_datagrams, is_read, reads_flow, takes_datagrams, writes_flow}
-use Rattle.run_duties.proofs.Serving.{unread, unwritten}
+use Rattle.spec_duties.specs.Serving.{IsServed}
+use Rattle.spec_duties.specs.Waiting.{MayBeWritten, MayWriteFlow, WaitsFor, are_in_order, comes_before, comes_first, is_all_sent, is_for_datagrams, is_read, reads_flow, takes_datagrams, writes_flow}
+use Rattle.spec_duties.proofs.Serving.{unread, unwritten}
 use Rattle.slirp_core.specs.Holds.{Flowing, Holds, Standing}
 use Rattle.slirp_core.specs.Owed.{IsOwed}
 use Rattle.slirp_core.specs.Pumps.{is_settled}

@@ -13,41 +13,41 @@ use Rattle.world_face.specs.declared.Accepted.TheVariants.{From, NotYet as NotYe
 use Rattle.slirp_settings.specs.Addresses.{Config}
 use Rattle.slirp_settings.specs.declared.Forward.{Forward}
 use Rattle.arp_table.specs.Table.{mac_of as learnt_for}
-use Rattle.flow_laws.specs.Event.{Accepts}
-use Rattle.flow_laws.specs.Flow.{first_number}
-use Rattle.record_flows.specs.Book.{book, doom, is_refused, opens, port_by, port_of, quiet, scene, tuple_for, visits_for}
-use Rattle.record_flows.specs.Doings.{Nothing, doing}
-use Rattle.record_flows.specs.Flows.{Book, flow_of, has_room_for_peer, is_it, is_used}
+use Rattle.spec_flow.specs.Event.{Accepts}
+use Rattle.spec_flow.specs.Flow.{first_number}
+use Rattle.spec_flows.specs.Book.{book, doom, is_refused, opens, port_by, port_of, quiet, scene, tuple_for, visits_for}
+use Rattle.spec_flows.specs.Doings.{Nothing, doing}
+use Rattle.spec_flows.specs.Flows.{Book, flow_of, has_room_for_peer, is_it, is_used}
 use Rattle.host_policy.specs.Targets.{is_hidden, shown}
 use Rattle.world_face.specs.Tells.{Answers, Brings, Telling}
 use Rattle.world_face.proofs.Telling.{brings_one}
-use Rattle.record_flows.specs.Laws.{MayShut, flow_settings}
-use Rattle.record_flows.specs.Lots.{due_for_flows}
-use Rattle.run_laws.specs.Moments.{moment}
-use Rattle.run_laws.specs.Shape.{is_ended, is_over, is_working}
+use Rattle.spec_flows.specs.Laws.{MayShut, flow_settings}
+use Rattle.spec_flows.specs.Lots.{due_for_flows}
+use Rattle.spec_trace.specs.Moments.{moment}
+use Rattle.spec_trace.specs.Shape.{is_ended, is_over, is_working}
 use Rattle.slirp_settings.specs.declared.Proto.TheVariants.{Tcp}
-use Rattle.dns_rules.specs.Questions.{numbers as question_numbers, without as question_without}
-use Rattle.run_laws.specs.Sockets.{Flow as OfFlow, Listener as OfListener, is_among, is_association, is_listener, kind_of, next_number, number_for_peer, open_sockets, with_peer, first}
-use Rattle.flows_follow.specs.Peers.{fits_peer}
-use Rattle.flows_follow.proofs.Peers.{room_recorded}
-use Rattle.slirp_laws.specs.Agenda.{agenda, all_wanted, is_to_read, wanted_of}
-use Rattle.slirp_laws.specs.Errands.{errand_left}
-use Rattle.slirp_laws.specs.Laws.{May, carries, may_leave, may_part, parts, takes_peers}
-use Rattle.slirp_laws.specs.Names.{kind_for}
-use Rattle.slirp_laws.proofs.Bools.{among_last, among_without, and_both, or_second, same, second_of}
-use Rattle.slirp_laws.proofs.Deeds.{accepts, closes, this_one}
+use Rattle.rules_dns.specs.Questions.{numbers as question_numbers, without as question_without}
+use Rattle.spec_trace.specs.Sockets.{Flow as OfFlow, Listener as OfListener, is_among, is_association, is_listener, kind_of, next_number, number_for_peer, open_sockets, with_peer, first}
+use Rattle.sim_flows.specs.Peers.{fits_peer}
+use Rattle.sim_flows.proofs.Peers.{room_recorded}
+use Rattle.spec_run.specs.Agenda.{agenda, all_wanted, is_to_read, wanted_of}
+use Rattle.spec_run.specs.Errands.{errand_left}
+use Rattle.spec_run.specs.Laws.{May, carries, may_leave, may_part, parts, takes_peers}
+use Rattle.spec_run.specs.Names.{kind_for}
+use Rattle.spec_run.proofs.Bools.{among_last, among_without, and_both, or_second, same, second_of}
+use Rattle.spec_run.proofs.Deeds.{accepts, closes, this_one}
 use Rattle.stream_netdev.specs.State.{LinkState}
-use Rattle.flows_follow.specs.Stands.{InWork}
-use Rattle.flows_follow.proofs.Calling.{due_is as due_for_a_flow}
-use Rattle.flows_follow.proofs.Known.{known_was_taught}
+use Rattle.sim_flows.specs.Stands.{InWork}
+use Rattle.sim_flows.proofs.Calling.{due_is as due_for_a_flow}
+use Rattle.sim_flows.proofs.Known.{known_was_taught}
 use Rattle.tcp_flows.specs.Kept.{Kept}
 use Rattle.tcp_flows.specs.Runs.{Between, Welcomes}
-use Rattle.slirp_laws.specs.Datagrams.{NeedsNothing}
-use Rattle.udp_rules.specs.Associations.{numbers, without}
-use Rattle.slirp_laws.proofs.OpenSockets.{next_is_new}
+use Rattle.spec_run.specs.Datagrams.{NeedsNothing}
+use Rattle.rules_udp.specs.Associations.{numbers, without}
+use Rattle.spec_run.proofs.OpenSockets.{next_is_new}
 use Rattle.slirp_core.proofs.Given.{in_force_with, stays_in_force}
-use Rattle.run_duties.specs.Serving.{is_left_to_read}
-use Rattle.forward_rules.specs.Opened.{forward_with}
+use Rattle.spec_duties.specs.Serving.{is_left_to_read}
+use Rattle.rules_forward.specs.Opened.{forward_with}
 use Rattle.slirp_core.specs.Forwards.{IsInForce, given_kind, is_given}
 use Rattle.slirp_core.specs.Visits.{Treats}
 use Rattle.slirp_core.specs.Holds.{Begins, Holds, InTurn, OfFlows, Stands, Turns, flowing, is_ours, standing}

@@ -10,21 +10,21 @@ use Rattle.world_face.specs.declared.Waited.{Waited}
 use Rattle.world_face.specs.declared.Waited.TheVariants.{Ready}
 use Rattle.world_face.specs.Frames.{Ending, wait_ending}
 use Rattle.slirp_settings.specs.Addresses.{Config}
-use Rattle.run_laws.specs.Moments.{waits}
-use Rattle.run_laws.specs.Shape.{Started, Over, By, phase, phase_after, unless_over, may_turn}
-use Rattle.run_laws.specs.Sockets.{next_number}
-use Rattle.slirp_laws.specs.Datagrams.{Step, NeedsNothing, due_for}
-use Rattle.slirp_laws.specs.Laws.{Lawful, due, most_wanted}
-use Rattle.slirp_laws.proofs.Deeds.{asks, waits_now}
+use Rattle.spec_trace.specs.Moments.{waits}
+use Rattle.spec_trace.specs.Shape.{Started, Over, By, phase, phase_after, unless_over, may_turn}
+use Rattle.spec_trace.specs.Sockets.{next_number}
+use Rattle.spec_run.specs.Datagrams.{Step, NeedsNothing, due_for}
+use Rattle.spec_run.specs.Laws.{Lawful, due, most_wanted}
+use Rattle.spec_run.proofs.Deeds.{asks, waits_now}
 use Rattle.stream_netdev.specs.State.{LinkState, under_way}
-use Rattle.forward_rules.specs.Opened.{forward_sockets}
+use Rattle.rules_forward.specs.Opened.{forward_sockets}
 use Rattle.slirp_core.specs.Holds.{after, standing, AreOpen, carriers, holders_with, Begins, Ended, Holds, OfFlows, Stands, Turns, flowing}
 use Rattle.slirp_core.specs.State.{SlirpState}
 use Rattle.slirp_core.proofs.Guests.{guests_stay}
 use Rattle.slirp_core.proofs.Parts.{errand_for, asked_for, due_in_phase, due_is, two_in}
 use Rattle.slirp_core.proofs.Owing.{owed_told, owed_waited}
 use Rattle.slirp_core.proofs.Services.{none_due_for_services}
-use Rattle.tftp_rules.specs.Transfers.{next_again}
+use Rattle.rules_tftp.specs.Transfers.{next_again}
 use Rattle.tcp_flows.specs.Kept.{Kept}
 use Rattle.slirp_core.proofs.Flows.{flows_ask_nothing, flows_paused, flows_stay_open, flows_told}
 use Rattle.slirp_core.proofs.Open.{are_open}

@@ -7,9 +7,9 @@ use Rattle.slirp_settings.specs.Addresses.{Config}
 use Rattle.ipv4_head.specs.Sets.{Carrying, Key, Part, PartSet, changed_by, is_young, left_by, outcome_among, parts_for, young}
 use Rattle.ipv4_head.proofs.Members.{of_young}
 use Rattle.ipv4_reasm.specs.Areas.{Gathered, StandFor}
-use Rattle.run_laws.specs.Fragments.{Fragment, fragment_in, sets, waiting, with_fragment, with_frame}
-use Rattle.run_laws.specs.Happenings.{happens}
-use Rattle.run_laws.specs.Moments.{moment}
+use Rattle.spec_trace.specs.Fragments.{Fragment, fragment_in, sets, waiting, with_fragment, with_frame}
+use Rattle.spec_trace.specs.Happenings.{happens}
+use Rattle.spec_trace.specs.Moments.{moment}
 use Rattle.slirp_core.specs.Fragments.{IsHeld}
 use Rattle.slirp_core.specs.State.{SlirpState}
 use Rattle.slirp_core.specs.Waiting.{OfFragments}

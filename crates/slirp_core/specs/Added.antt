@@ -5,11 +5,11 @@ use Rattle.world_face.specs.Journal.{Close, Entry}
 use Rattle.slirp_settings.specs.Addresses.{Config, forward_on}
 use Rattle.slirp_settings.specs.declared.Forward.{Forward}
 use Rattle.slirp_settings.specs.declared.Proto.{Proto}
-use Rattle.forward_rules.specs.Adding.{fault_of}
-use Rattle.forward_rules.specs.Opened.{socket_at}
-use Rattle.forward_rules.specs.declared.FwdFault.{FwdFault}
-use Rattle.forward_rules.specs.declared.FwdFault.TheVariants.{Taken, BadGuest, Full, Refused}
-use Rattle.run_laws.specs.Sockets.{is_among}
+use Rattle.rules_forward.specs.Adding.{fault_of}
+use Rattle.rules_forward.specs.Opened.{socket_at}
+use Rattle.rules_forward.specs.declared.FwdFault.{FwdFault}
+use Rattle.rules_forward.specs.declared.FwdFault.TheVariants.{Taken, BadGuest, Full, Refused}
+use Rattle.spec_trace.specs.Sockets.{is_among}
 use Rattle.slirp_core.specs.State.{SlirpState}
 
 -- A forward against which nothing speaks is the one that the settings have for the number of its socket.

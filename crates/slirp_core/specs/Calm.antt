@@ -3,7 +3,7 @@ use Rattle.std.specs.Prelude.{List}
 use Rattle.net_octets.specs.declared.Ip4.{Ip4}
 use Rattle.net_octets.specs.declared.Mac.{Mac}
 use Rattle.flow_splice.specs.Splice.{Splice}
-use Rattle.flows_follow.specs.FlowsHold.{FlowsState}
+use Rattle.sim_flows.specs.FlowsHold.{FlowsState}
 use Rattle.tcp_flows.specs.Reading.{AllClear, AreTold, HaveSlots}
 
 -- No flow owes a frame, each stands in the slot of its place, and each knows its guest's hardware address if that is among these.

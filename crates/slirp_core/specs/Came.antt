@@ -9,7 +9,7 @@ use Rattle.stream_netdev.specs.declared.Arrived.TheVariants.{Frame}
 use Rattle.ipv4_head.specs.Ip.{Ip, read_ip}
 use Rattle.ipv4_head.specs.Sets.{PartSet, young}
 use Rattle.ipv4_reasm.specs.Areas.{Gathered}
-use Rattle.run_laws.specs.Fragments.{fragment_by}
+use Rattle.spec_trace.specs.Fragments.{fragment_by}
 use Rattle.slirp_core.specs.Fragments.{HoldWith, IsHeld, after_ip, after_octets}
 use Rattle.slirp_core.specs.Holds.{WorkLeft, Standing, Holds, flowing}
 use Rattle.slirp_core.specs.Packets.{request_for_udp, udp_of, udp_of_arrived}

@@ -2,9 +2,9 @@
 use Rattle.std.specs.Prelude.{◌≡◌, ℕ, ◌≤◌, ◌++◌, true, false, List, length}
 use Rattle.net_octets.specs.declared.Endpoint.{Endpoint}
 use Rattle.slirp_settings.specs.Addresses.{Config}
-use Rattle.dns_rules.specs.Questions.{is_question}
-use Rattle.run_laws.specs.Packets.{Datagram}
-use Rattle.slirp_laws.specs.Datagrams.{Errand, Fate, Ignored, Refused, ForLeases, ForFiles, GoesTo, is_to_names}
+use Rattle.rules_dns.specs.Questions.{is_question}
+use Rattle.spec_trace.specs.Packets.{Datagram}
+use Rattle.spec_run.specs.Datagrams.{Errand, Fate, Ignored, Refused, ForLeases, ForFiles, GoesTo, is_to_names}
 use Rattle.slirp_core.specs.declared.datagrams.DatagramView.{DatagramView}
 use Rattle.slirp_core.specs.declared.datagrams.Fate.{Fate as SeenFate}
 use Rattle.slirp_core.specs.declared.datagrams.Fate.TheVariants.{Ignored as SeenIgnored, Refused as SeenRefused, Leases, Files, Question, Out}

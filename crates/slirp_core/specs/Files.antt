@@ -1,10 +1,10 @@
 -- What the server of files makes of a packet.
 use Rattle.std.specs.Prelude.{◌≡◌, List, Option}
 use Rattle.world_face.specs.Journal.{Entry}
-use Rattle.tftp_rules.specs.Asking.{IsServed}
-use Rattle.tftp_rules.specs.Transfers.{Said, came, settled}
-use Rattle.run_laws.specs.Packets.{Datagram}
-use Rattle.slirp_laws.specs.Answers.{frames_of, told_of_files}
+use Rattle.rules_tftp.specs.Asking.{IsServed}
+use Rattle.rules_tftp.specs.Transfers.{Said, came, settled}
+use Rattle.spec_trace.specs.Packets.{Datagram}
+use Rattle.spec_run.specs.Answers.{frames_of, told_of_files}
 use Rattle.slirp_core.specs.State.{SlirpState}
 
 -- these calls were made for it, and what they left is kept, and told

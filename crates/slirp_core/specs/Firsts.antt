@@ -1,14 +1,14 @@
 -- Which open socket has the least number, but for those of forwards; and how many are open.
 use Rattle.std.specs.Prelude.{◌≡◌, ℕ, ◌+◌, ◌≤◌, true, List, [], length, Option, Some, None}
 use Rattle.flow_splice.specs.Splice.{Splice}
-use Rattle.run_laws.specs.Sockets.{is_among}
-use Rattle.flows_follow.specs.Core.{number_of}
+use Rattle.spec_trace.specs.Sockets.{is_among}
+use Rattle.sim_flows.specs.Core.{number_of}
 use Rattle.tcp_flows.specs.Reading.{IsFirst, IsOpenAt, NoneIsAbove}
-use Rattle.udp_rules.specs.Associations.{IsLeast, numbers}
-use Rattle.udp_rules.specs.declared.Association.{Association}
-use Rattle.dns_rules.specs.Questions.{numbers as question_numbers}
+use Rattle.rules_udp.specs.Associations.{IsLeast, numbers}
+use Rattle.rules_udp.specs.declared.Association.{Association}
+use Rattle.rules_dns.specs.Questions.{numbers as question_numbers}
 use Rattle.dns_relay.specs.Relaying.{IsLeast as IsLeastAsked}
-use Rattle.dns_rules.specs.declared.Question.{Question}
+use Rattle.rules_dns.specs.declared.Question.{Question}
 use Rattle.slirp_core.specs.Numbers.{open_flows}
 use Rattle.slirp_core.specs.State.{SlirpState}
 

@@ -9,10 +9,10 @@ use Rattle.slirp_settings.specs.declared.Forward.{Forward}
 use Rattle.slirp_settings.specs.Ranges.{same_proto}
 use Rattle.slirp_settings.specs.declared.Proto.{Proto}
 use Rattle.slirp_settings.specs.declared.Proto.TheVariants.{Tcp, Udp}
-use Rattle.forward_rules.specs.Adding.{opening_of}
-use Rattle.forward_rules.specs.Opened.{Opened, forward_sockets, forward_with, socket_of}
-use Rattle.run_laws.specs.Sockets.{Kind, Forward as OfForward, Listener, is_among, is_forward, is_listener, kind_of, next_number, open_sockets}
-use Rattle.slirp_laws.specs.Ports.{given_by}
+use Rattle.rules_forward.specs.Adding.{opening_of}
+use Rattle.rules_forward.specs.Opened.{Opened, forward_sockets, forward_with, socket_of}
+use Rattle.spec_trace.specs.Sockets.{Kind, Forward as OfForward, Listener, is_among, is_forward, is_listener, kind_of, next_number, open_sockets}
+use Rattle.spec_run.specs.Ports.{given_by}
 use Rattle.slirp_core.specs.Sockets.{IsRising}
 
 -- these forwards with the numbers from this one on

@@ -7,8 +7,8 @@ use Rattle.ether_frame.specs.Ether.{read_ether}
 use Rattle.ipv4_head.specs.Ip.{Ip}
 use Rattle.ipv4_head.specs.Sets.{Carrying, Key, OfSets, Part, PartSet, sets_left, whole_with, young}
 use Rattle.ipv4_reasm.specs.Areas.{Gathered, StandFor}
-use Rattle.run_laws.specs.Fragments.{Fragment, key_by, with_fragment}
-use Rattle.slirp_laws.specs.Answers.{frames_of}
+use Rattle.spec_trace.specs.Fragments.{Fragment, key_by, with_fragment}
+use Rattle.spec_run.specs.Answers.{frames_of}
 use Rattle.slirp_core.specs.Packets.{leases_with, owed_for, owed_for_arrived, owed_for_frame, owed_for_ip, udp_in, udp_of, udp_of_arrived, with_ether, with_ip}
 use Rattle.slirp_core.specs.State.{SlirpState, serving_of}
 use Rattle.slirp_core.specs.declared.fragments.Assembled.{Assembled}

@@ -5,7 +5,7 @@ use Rattle.world_face.specs.declared.Got.{Got}
 use Rattle.slirp_settings.specs.Addresses.{Config}
 use Rattle.stream_netdev.specs.State.{LinkState}
 use Rattle.tcp_flows.specs.Runs.{ClosesRising}
-use Rattle.run_laws.specs.Sockets.{is_among}
+use Rattle.spec_trace.specs.Sockets.{is_among}
 use Rattle.slirp_core.specs.Forwards.{guest_on}
 use Rattle.slirp_core.specs.Holds.{Holds, after, carriers, flowing, holders_of}
 use Rattle.slirp_core.specs.State.{SlirpState}

@@ -5,33 +5,33 @@ use Rattle.world_face.specs.Journal.{Entry, AreAllowed}
 use Rattle.world_face.specs.Frames.{Ending, LinkFailed}
 use Rattle.slirp_settings.specs.Addresses.{Config}
 use Rattle.slirp_settings.specs.declared.Forward.{Forward}
-use Rattle.udp_rules.specs.Associations.{numbers}
-use Rattle.udp_rules.specs.declared.Association.{Association as AnAssociation}
-use Rattle.dns_rules.specs.declared.Question.{Question}
-use Rattle.dns_rules.specs.Questions.{numbers as question_numbers}
-use Rattle.record_flows.specs.Book.{book}
-use Rattle.record_flows.specs.Laws.{NoneMustClose}
-use Rattle.record_flows.specs.Lots.{due_for_flows, is_reset}
-use Rattle.record_flows.specs.Taught.{taught}
+use Rattle.rules_udp.specs.Associations.{numbers}
+use Rattle.rules_udp.specs.declared.Association.{Association as AnAssociation}
+use Rattle.rules_dns.specs.declared.Question.{Question}
+use Rattle.rules_dns.specs.Questions.{numbers as question_numbers}
+use Rattle.spec_flows.specs.Book.{book}
+use Rattle.spec_flows.specs.Laws.{NoneMustClose}
+use Rattle.spec_flows.specs.Lots.{due_for_flows, is_reset}
+use Rattle.spec_flows.specs.Taught.{taught}
 use Rattle.flow_splice.specs.Splice.{Splice}
-use Rattle.run_laws.specs.Guests.{known}
-use Rattle.run_laws.specs.Moments.{moment, waits}
-use Rattle.forward_rules.specs.Opened.{Opened, socket_for}
-use Rattle.run_laws.specs.Packets.{Datagram}
-use Rattle.slirp_laws.specs.Leasing.{leases}
-use Rattle.run_laws.specs.Shape.{Cause, Refused, Phase, Opening, Started, Working, By, Over, phase, is_ended}
-use Rattle.run_laws.specs.Sockets.{Kind, is_among, is_association, is_flow, kind_of, next_number, open_sockets}
-use Rattle.slirp_laws.specs.Agenda.{agenda, all_wanted}
-use Rattle.slirp_laws.specs.Answers.{frames_of, identification, left, owed_for_segment, serving, served_file, told_of_files}
-use Rattle.slirp_laws.specs.Errands.{errand_left}
-use Rattle.slirp_laws.specs.Datagrams.{Errand, Step, NeedsNothing}
-use Rattle.slirp_laws.specs.Relayed.{associations, step_for}
-use Rattle.slirp_laws.specs.Laws.{Finished, Lawful, due_for_services, is_closing}
-use Rattle.slirp_laws.specs.Names.{answered, questions}
+use Rattle.spec_trace.specs.Guests.{known}
+use Rattle.spec_trace.specs.Moments.{moment, waits}
+use Rattle.rules_forward.specs.Opened.{Opened, socket_for}
+use Rattle.spec_trace.specs.Packets.{Datagram}
+use Rattle.spec_run.specs.Leasing.{leases}
+use Rattle.spec_trace.specs.Shape.{Cause, Refused, Phase, Opening, Started, Working, By, Over, phase, is_ended}
+use Rattle.spec_trace.specs.Sockets.{Kind, is_among, is_association, is_flow, kind_of, next_number, open_sockets}
+use Rattle.spec_run.specs.Agenda.{agenda, all_wanted}
+use Rattle.spec_run.specs.Answers.{frames_of, identification, left, owed_for_segment, serving, served_file, told_of_files}
+use Rattle.spec_run.specs.Errands.{errand_left}
+use Rattle.spec_run.specs.Datagrams.{Errand, Step, NeedsNothing}
+use Rattle.spec_run.specs.Relayed.{associations, step_for}
+use Rattle.spec_run.specs.Laws.{Finished, Lawful, due_for_services, is_closing}
+use Rattle.spec_run.specs.Names.{answered, questions}
 use Rattle.stream_netdev.specs.Keeps.{Keeps}
 use Rattle.stream_netdev.specs.State.{LinkState}
 use Rattle.slirp_core.specs.Forwards.{AreInForce, is_given, with_numbers}
-use Rattle.forward_rules.specs.Opened.{forward_sockets}
+use Rattle.rules_forward.specs.Opened.{forward_sockets}
 use Rattle.slirp_core.specs.Owed.{IsOwedAt}
 use Rattle.slirp_core.specs.Packets.{Request, ToSend, ToServe}
 use Rattle.slirp_core.specs.Segments.{Coming}
@@ -41,8 +41,8 @@ use Rattle.slirp_core.specs.State.{SlirpState, serving_of}
 use Rattle.slirp_core.specs.Waiting.{OfFragments}
 use Rattle.stream_netdev.specs.declared.Pumped.{Pumped}
 use Rattle.stream_netdev.specs.declared.Pumped.TheVariants.{Clear, Blocked, Failed}
-use Rattle.flows_follow.specs.Asked.{AreAsked}
-use Rattle.flows_follow.specs.Core.{CoreHolds, number_of}
+use Rattle.sim_flows.specs.Asked.{AreAsked}
+use Rattle.sim_flows.specs.Core.{CoreHolds, number_of}
 use Rattle.tcp_flows.specs.Kept.{IsFor, Kept}
 use Rattle.tcp_flows.specs.Reading.{AllClear, HasSocket, IsOpenAt, NoneInSlots}
 use Rattle.tcp_flows.specs.Runs.{Brings}

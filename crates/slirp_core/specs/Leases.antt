@@ -1,10 +1,10 @@
 -- What the core makes of datagrams for its server of leases.
 use Rattle.std.specs.Prelude.{}
-use Rattle.dhcp_rules.specs.Serving.{leases_after}
-use Rattle.run_laws.specs.Packets.{Datagram}
-use Rattle.slirp_laws.specs.Answers.{answers_of, frames_of}
-use Rattle.slirp_laws.specs.Datagrams.{fate}
-use Rattle.slirp_laws.specs.Leasing.{lease_reply, leases_by_fate}
+use Rattle.rules_dhcp.specs.Serving.{leases_after}
+use Rattle.spec_trace.specs.Packets.{Datagram}
+use Rattle.spec_run.specs.Answers.{answers_of, frames_of}
+use Rattle.spec_run.specs.Datagrams.{fate}
+use Rattle.spec_run.specs.Leasing.{lease_reply, leases_by_fate}
 use Rattle.slirp_core.specs.Packets.{owed_at_once}
 use Rattle.slirp_core.specs.State.{SlirpState, serving_of}
 

@@ -1,7 +1,7 @@
 -- What calls between two waits leave of the marks by which a flow is told once a turn, and of the numbers in the slots.
 use Rattle.std.specs.Prelude.{◌≡◌, ℕ, ◌≤◌, ◌⊎◌, slice_get, Some}
 use Rattle.flow_splice.specs.Splice.{Splice}
-use Rattle.flows_follow.specs.Core.{number_of}
+use Rattle.sim_flows.specs.Core.{number_of}
 use Rattle.tcp_flows.specs.Kept.{Kept}
 
 -- the marks stay, and each flow has the number that the flow of its slot had, or is one that began with this number or a later one

@@ -1,8 +1,8 @@
 -- The flows of a run that are in use, one after another by rising number.
 use Rattle.std.specs.Prelude.{◌≡◌, ℕ, ◌≤◌, true, List, Option, Some, None}
-use Rattle.record_flows.specs.declared.Tuple.{Tuple}
-use Rattle.flow_laws.specs.Close.{is_in_use}
-use Rattle.record_flows.specs.Flows.{Flow, flow_of, uses}
+use Rattle.spec_flows.specs.declared.Tuple.{Tuple}
+use Rattle.spec_flow.specs.Close.{is_in_use}
+use Rattle.spec_flows.specs.Flows.{Flow, flow_of, uses}
 use Rattle.tcp_flows.specs.Reading.{IsAbove}
 
 -- the flow with this number has its tuple in use, between these ends; of all such flows above the last one its number is the least

@@ -3,7 +3,7 @@ use Rattle.std.specs.Prelude.{◌≡◌, ℕ, ◌+◌, ◌<◌, ◌≤◌, List,
 use Rattle.slirp_settings.specs.Addresses.{Config}
 use Rattle.flow_table.specs.Slots.{all_free}
 use Rattle.flow_splice.specs.Splice.{Splice, is_open}
-use Rattle.flows_follow.specs.Core.{number_of}
+use Rattle.sim_flows.specs.Core.{number_of}
 use Rattle.tcp_flows.specs.Kept.{Kept}
 
 -- each flow's number is under that of the next socket; no more were opened than numbers were drawn; and there are at most 4,096

@@ -1,6 +1,6 @@
 -- The identification of the datagrams that go out.
 use Rattle.std.specs.Prelude.{ℕ, ◌+◌, ◌%◌, ◌^◌, List, [], ◌∷◌}
-use Rattle.slirp_laws.specs.Answers.{datagrams_in}
+use Rattle.spec_run.specs.Answers.{datagrams_in}
 use Rattle.stream_netdev.specs.declared.Offered.{Offered}
 use Rattle.stream_netdev.specs.declared.Offered.TheVariants.{Taken, Blocked, Failed}
 

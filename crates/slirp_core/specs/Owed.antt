@@ -2,9 +2,9 @@
 use Rattle.std.specs.Prelude.{◌≡◌, ℕ, ◌<◌, ◌⊎◌, not, Bool, true, false, is_some, List, [], length, Some, None}
 use Rattle.world_face.specs.Journal.{Entry}
 use Rattle.slirp_settings.specs.Addresses.{Config}
-use Rattle.tftp_rules.specs.Transfers.{Said, Transfer, ticked}
-use Rattle.slirp_laws.specs.Answers.{frames_of, identification, left, may_go_again, serving, told_of_files}
-use Rattle.slirp_laws.specs.Datagrams.{Step, NeedsNothing}
+use Rattle.rules_tftp.specs.Transfers.{Said, Transfer, ticked}
+use Rattle.spec_run.specs.Answers.{frames_of, identification, left, may_go_again, serving, told_of_files}
+use Rattle.spec_run.specs.Datagrams.{Step, NeedsNothing}
 use Rattle.slirp_core.specs.State.{SlirpState}
 
 -- The transfers that the core keeps of these. Before a wait those that are over are gone, and where nothing else was to be sent the first packet that is due was counted.

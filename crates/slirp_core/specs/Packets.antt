@@ -10,16 +10,16 @@ use Rattle.ipv4_head.specs.Ip.{Ip, read_ip}
 use Rattle.ipv4_head.specs.Sets.{PartSet}
 use Rattle.icmp_echo.specs.Icmp.{read_icmp}
 use Rattle.udp_datagram.specs.Udp.{read_udp}
-use Rattle.run_laws.specs.Fragments.{arrived}
-use Rattle.run_laws.specs.Packets.{Packet, Unheard, ArpPacket, Message, DatagramPacket, Segment, Datagram, datagram_of, may_come}
-use Rattle.dhcp_rules.specs.declared.Lease.{Lease}
-use Rattle.slirp_laws.specs.Datagrams.{Errand, Fate, Ignored, Refused, ForLeases, ForFiles, GoesTo, fate}
-use Rattle.slirp_laws.specs.Leasing.{leases_by_fate}
+use Rattle.spec_trace.specs.Fragments.{arrived}
+use Rattle.spec_trace.specs.Packets.{Packet, Unheard, ArpPacket, Message, DatagramPacket, Segment, Datagram, datagram_of, may_come}
+use Rattle.rules_dhcp.specs.declared.Lease.{Lease}
+use Rattle.spec_run.specs.Datagrams.{Errand, Fate, Ignored, Refused, ForLeases, ForFiles, GoesTo, fate}
+use Rattle.spec_run.specs.Leasing.{leases_by_fate}
 use Rattle.arp_table.specs.declared.ArpView.{ArpView}
 use Rattle.arp_table.specs.Arp.{Arp, arp_of, read_arp}
 use Rattle.icmp_echo.specs.declared.IcmpView.{IcmpView}
 use Rattle.icmp_echo.specs.declared.IcmpView.TheVariants.{Echo, Unreachable, Other}
-use Rattle.slirp_laws.specs.Answers.{Answer, ArpAnswer, Serving, owed_for_arp, owed_for_fate, owed_for_icmp}
+use Rattle.spec_run.specs.Answers.{Answer, ArpAnswer, Serving, owed_for_arp, owed_for_fate, owed_for_icmp}
 
 abbrev pub packet_of : ArpView → Answer
 packet_of view = ArpAnswer view.target_mac.0 (arp_of view)

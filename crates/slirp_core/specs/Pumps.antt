@@ -5,17 +5,17 @@ use Rattle.poll_list.specs.Listing.{names}
 use Rattle.poll_list.specs.declared.Want.{Want}
 use Rattle.poll_list.specs.declared.Who.TheVariants.{Tcp}
 use Rattle.stream_netdev.specs.State.{LinkState}
-use Rattle.udp_rules.specs.Associations.{idle_life}
-use Rattle.udp_rules.specs.declared.Association.{Association}
-use Rattle.dns_rules.specs.Questions.{question_life}
-use Rattle.dns_rules.specs.declared.Question.{Question}
+use Rattle.rules_udp.specs.Associations.{idle_life}
+use Rattle.rules_udp.specs.declared.Association.{Association}
+use Rattle.rules_dns.specs.Questions.{question_life}
+use Rattle.rules_dns.specs.declared.Question.{Question}
 use Rattle.slirp_settings.specs.declared.Proto.TheVariants.{Tcp as OverTcp, Udp as OverUdp}
 use Rattle.stream_netdev.specs.declared.Offered.{Offered}
 use Rattle.stream_netdev.specs.declared.Offered.TheVariants.{Taken, Blocked as OfferBlocked, Failed as OfferFailed}
-use Rattle.flows_follow.specs.Peers.{fits_peer}
+use Rattle.sim_flows.specs.Peers.{fits_peer}
 use Rattle.tcp_flows.specs.Reading.{AreWantsOf}
-use Rattle.waiting_flows.specs.Wants.{link_want, listener_want, socket_wants}
-use Rattle.forward_rules.specs.Opened.{sockets_over}
+use Rattle.sim_flows.specs.Wants.{link_want, listener_want, socket_wants}
+use Rattle.rules_forward.specs.Opened.{sockets_over}
 use Rattle.slirp_core.specs.Holds.{carriers, holders_of}
 use Rattle.slirp_core.specs.State.{SlirpState}
 

@@ -5,12 +5,12 @@ use Rattle.net_octets.specs.declared.Mac.{Mac}
 use Rattle.arp_table.specs.Table.{mac_of as learnt_for}
 use Rattle.slirp_settings.specs.Addresses.{Config}
 use Rattle.dns_relay.specs.Relaying.{Asked}
-use Rattle.udp_rules.specs.declared.Reply.{Reply}
-use Rattle.udp_rules.specs.declared.Reply.TheVariants.{Nothing, Datagram as ADatagram, Unreachable}
+use Rattle.rules_udp.specs.declared.Reply.{Reply}
+use Rattle.rules_udp.specs.declared.Reply.TheVariants.{Nothing, Datagram as ADatagram, Unreachable}
 use Rattle.udp_assoc.specs.Relays.{Outbound}
-use Rattle.run_laws.specs.Packets.{Datagram}
-use Rattle.slirp_laws.specs.Answers.{answer_of, asks_for, frames_of, told_about, reply_at}
-use Rattle.slirp_laws.specs.Datagrams.{Errand}
+use Rattle.spec_trace.specs.Packets.{Datagram}
+use Rattle.spec_run.specs.Answers.{answer_of, asks_for, frames_of, told_about, reply_at}
+use Rattle.spec_run.specs.Datagrams.{Errand}
 use Rattle.slirp_core.specs.State.{SlirpState}
 
 -- an errand as the associations have it

@@ -7,10 +7,10 @@ use Rattle.ether_frame.specs.Ether.{Ether, read_ether}
 use Rattle.ipv4_head.specs.Ip.{Ip, read_ip}
 use Rattle.ipv4_head.specs.Sets.{PartSet}
 use Rattle.tcp_segment.specs.Tcp.{Tcp, read_tcp, tcp_of}
-use Rattle.record_flows.specs.Lots.{Lot, Dropped, AsksFor, GetsReset, NeedsRoom}
-use Rattle.record_flows.specs.Segments.{OnTuple, from_guest, segment_of}
-use Rattle.run_laws.specs.Fragments.{arrived}
-use Rattle.run_laws.specs.Packets.{Packet, Segment}
+use Rattle.spec_flows.specs.Lots.{Lot, Dropped, AsksFor, GetsReset, NeedsRoom}
+use Rattle.spec_flows.specs.Segments.{OnTuple, from_guest, segment_of}
+use Rattle.spec_trace.specs.Fragments.{arrived}
+use Rattle.spec_trace.specs.Packets.{Packet, Segment}
 use Rattle.slirp_core.specs.Packets.{is_segment}
 use Rattle.slirp_core.specs.declared.tcp.SegmentView.{SegmentView}
 use Rattle.slirp_core.specs.declared.tcp.StrayLot.{StrayLot}

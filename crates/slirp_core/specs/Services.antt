@@ -3,12 +3,12 @@ use Rattle.std.specs.Prelude.{◌≡◌, ℕ, ◌<◌, All, List}
 use Rattle.world_face.specs.Journal.{Entry}
 use Rattle.slirp_settings.specs.Addresses.{Config}
 use Rattle.dns_relay.specs.Asking.{bind_for}
-use Rattle.dns_rules.specs.Questions.{numbers}
+use Rattle.rules_dns.specs.Questions.{numbers}
 use Rattle.dns_relay.specs.State.{RelayState}
 use Rattle.tftp_server.specs.Serving.{Serving as FileServing}
-use Rattle.tftp_rules.specs.Transfers.{Settled as SeeksNothing}
-use Rattle.slirp_laws.specs.Answers.{serving}
-use Rattle.slirp_laws.specs.Leasing.{leases}
+use Rattle.rules_tftp.specs.Transfers.{Settled as SeeksNothing}
+use Rattle.spec_run.specs.Answers.{serving}
+use Rattle.spec_run.specs.Leasing.{leases}
 use Rattle.slirp_core.specs.State.{SlirpState}
 
 -- who has which address; and no file is asked for

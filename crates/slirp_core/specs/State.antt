@@ -3,14 +3,14 @@ use Rattle.std.specs.Prelude.{ℕ, List, [], None, replicate}
 use Rattle.net_octets.specs.declared.Ip4.{Ip4}
 use Rattle.net_octets.specs.declared.Mac.{Mac}
 use Rattle.slirp_settings.specs.Addresses.{Config}
-use Rattle.dhcp_rules.specs.declared.Lease.{Lease}
-use Rattle.dhcp_rules.specs.declared.Lease.TheVariants.{Free}
-use Rattle.dns_rules.specs.declared.Question.{Question}
-use Rattle.udp_rules.specs.declared.Association.{Association}
+use Rattle.rules_dhcp.specs.declared.Lease.{Lease}
+use Rattle.rules_dhcp.specs.declared.Lease.TheVariants.{Free}
+use Rattle.rules_dns.specs.declared.Question.{Question}
+use Rattle.rules_udp.specs.declared.Association.{Association}
 use Rattle.ipv4_reasm.specs.Areas.{Gathered}
-use Rattle.forward_rules.specs.Opened.{Opened}
-use Rattle.tftp_rules.specs.Transfers.{Transfer, settled}
-use Rattle.slirp_laws.specs.Answers.{Serving}
+use Rattle.rules_forward.specs.Opened.{Opened}
+use Rattle.rules_tftp.specs.Transfers.{Transfer, settled}
+use Rattle.spec_run.specs.Answers.{Serving}
 use Rattle.tcp_flows.specs.Kept.{Kept}
 use Rattle.slirp_core.specs.Numbers.{flows_for}
 

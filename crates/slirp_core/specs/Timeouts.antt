@@ -4,21 +4,21 @@ use Rattle.world_face.specs.Journal.{Entry}
 use Rattle.slirp_settings.specs.Addresses.{Config}
 use Rattle.ipv4_head.specs.Sets.{PartSet}
 use Rattle.ipv4_reasm.specs.Answers.{IsFirstDue}
-use Rattle.flow_laws.specs.Dutiful.{AreAhead, close_deadline, resend_deadline}
-use Rattle.flow_laws.specs.Bounds.{IsBy}
-use Rattle.record_flows.specs.Book.{book}
+use Rattle.spec_flow.specs.Dutiful.{AreAhead, close_deadline, resend_deadline}
+use Rattle.spec_flow.specs.Bounds.{IsBy}
+use Rattle.spec_flows.specs.Book.{book}
 use Rattle.flow_splice.specs.Splice.{Splice}
-use Rattle.run_duties.specs.Times.{of_flows, rest_ends}
-use Rattle.flows_follow.specs.Core.{CoreHolds}
+use Rattle.spec_duties.specs.Times.{of_flows, rest_ends}
+use Rattle.sim_flows.specs.Core.{CoreHolds}
 use Rattle.tcp_flows.specs.Reading.{AllClear, IsDue, IsDueAfter, NoneDue, NoneDueAfter}
 use Rattle.tcp_flows.specs.Settled.{HaveTime, IsInTime}
 use Rattle.tcp_flows.specs.Waits.{IsForSome, RestOnce}
-use Rattle.run_laws.specs.Moments.{moment}
+use Rattle.spec_trace.specs.Moments.{moment}
 use Rattle.slirp_core.specs.Pumps.{question_left, time_left}
 use Rattle.slirp_core.specs.State.{SlirpState}
 use Rattle.world_face.specs.Moments.{sooner}
 use Rattle.tftp_server.specs.Serving.{IsNextDue}
-use Rattle.tftp_rules.specs.Transfers.{Transfer}
+use Rattle.rules_tftp.specs.Transfers.{Transfer}
 
 -- what is left until the first of these sets is 60,000 ms old
 abbrev pub IsPartTime : ℕ → List PartSet → Option ℕ → Type 0

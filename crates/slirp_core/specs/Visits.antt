@@ -8,9 +8,9 @@ use Rattle.world_face.specs.declared.Accepted.{Accepted}
 use Rattle.slirp_settings.specs.declared.Proto.TheVariants.{Tcp}
 use Rattle.slirp_settings.specs.declared.Forward.{Forward}
 use Rattle.slirp_settings.specs.Ranges.{same_proto}
-use Rattle.forward_rules.specs.Opened.{forward_with}
-use Rattle.flows_follow.specs.Peers.{fits_peer}
-use Rattle.record_flows.specs.Book.{tuple_for}
+use Rattle.rules_forward.specs.Opened.{forward_with}
+use Rattle.sim_flows.specs.Peers.{fits_peer}
+use Rattle.spec_flows.specs.Book.{tuple_for}
 use Rattle.tcp_flows.specs.Runs.{Welcomes}
 use Rattle.slirp_core.specs.State.{SlirpState}
 

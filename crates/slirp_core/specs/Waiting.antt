@@ -4,8 +4,8 @@ use Rattle.world_face.specs.Journal.{Entry}
 use Rattle.slirp_settings.specs.Addresses.{Config}
 use Rattle.ipv4_head.specs.Sets.{PartSet, young}
 use Rattle.ipv4_reasm.specs.Areas.{Gathered}
-use Rattle.run_laws.specs.Fragments.{waiting}
-use Rattle.run_laws.specs.Moments.{moment}
+use Rattle.spec_trace.specs.Fragments.{waiting}
+use Rattle.spec_trace.specs.Moments.{moment}
 use Rattle.slirp_core.specs.Fragments.{IsHeld}
 use Rattle.slirp_core.specs.State.{SlirpState}
 

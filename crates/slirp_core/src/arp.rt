@@ -2,7 +2,7 @@
 ghost use Rattle.std.specs.Prelude.{[], ◌≡◌};
 ghost use Rattle.arp_table.specs.Arp.{arp_of};
 ghost use Rattle.net_octets.specs.Octets.{our_mac};
-ghost use Rattle.slirp_laws.specs.Answers.{owed_for_arp};
+ghost use Rattle.spec_run.specs.Answers.{owed_for_arp};
 ghost use Rattle.slirp_core.specs.Packets.{packets_of};
 
 use crate::network::Slirp;
@@ -14,7 +14,7 @@ impl Slirp {
     ghost use Rattle.arp_table.specs.Arp.{read_arp};
     ghost use Rattle.slirp_core.specs.Packets.{with_arp};
     ghost use Rattle.std.specs.Prelude.{◌∷◌};
-    ghost use Rattle.slirp_laws.specs.Answers.{ArpAnswer, frames_of, request};
+    ghost use Rattle.spec_run.specs.Answers.{ArpAnswer, frames_of, request};
     ghost use Rattle.arp_table.specs.Arp.{everyone};
     ghost use Rattle.slirp_core.specs.Packets.{owed_for};
 

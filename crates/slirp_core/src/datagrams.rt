@@ -4,7 +4,7 @@ ghost use Rattle.std.specs.Option.{option_map};
 ghost use Rattle.slirp_settings.specs.Addresses.{is_guest};
 ghost use Rattle.ipv4_head.specs.Ip.{ip_of};
 ghost use Rattle.slirp_core.specs.Packets.{udp_of};
-ghost use Rattle.run_laws.specs.Packets.{quoted};
+ghost use Rattle.spec_trace.specs.Packets.{quoted};
 ghost use Rattle.slirp_core.specs.Datagrams.{Lies, datagram_of};
 ghost use Rattle.world_face.specs.Limits.{most_to_udp};
 ghost use Rattle.slirp_settings.specs.Ports.{leases_port};
@@ -101,7 +101,7 @@ fn may_come(policy: &Policy, from: Ip4, to_port: u16) -> bool
 }
 
 impl Fate {
-    ghost use Rattle.slirp_laws.specs.Datagrams.{fate, fate_by};
+    ghost use Rattle.spec_run.specs.Datagrams.{fate, fate_by};
     ghost use Rattle.slirp_core.specs.Datagrams.{IsNamed, fate_of};
 
     /// What becomes of a datagram: nothing of one from port 0, nor of one to the server of leases where it isn't wanted; nor of one to the name server that is

@@ -9,8 +9,8 @@ use world_face::World;
 impl Slirp {
     ghost use Rattle.slirp_settings.specs.Addresses.{Config};
     ghost use Rattle.stream_netdev.specs.State.{LinkState};
-    ghost use Rattle.tftp_rules.specs.Transfers.{next_again};
-    ghost use Rattle.tftp_rules.proofs.Turning.{due_count};
+    ghost use Rattle.rules_tftp.specs.Transfers.{next_again};
+    ghost use Rattle.rules_tftp.proofs.Turning.{due_count};
     ghost use Rattle.world_face.specs.Journal.{Entry};
     ghost use Rattle.world_face.specs.Tells.{Brings, Makes};
     ghost use Rattle.slirp_core.specs.Datagrams.{datagram_of};

@@ -1,15 +1,15 @@
 // Ports of the host that are given to guests: they are opened before all else or while a run goes on, and closed at the end or before it.
 ghost use Rattle.std.specs.Prelude.{[], ◌≡◌, ◌≢◌, ◌<◌, ◌≤◌, ◌+◌, ◌^◌, ℕ, length, map, slice_get, OnSome, IfSome, Some, None};
 ghost use Rattle.std.specs.Result.{result_err};
-ghost use Rattle.forward_rules.specs.declared.FwdFault.TheVariants.{Refused};
+ghost use Rattle.rules_forward.specs.declared.FwdFault.TheVariants.{Refused};
 ghost use Rattle.slirp_core.specs.Added.{number_after};
 
 use crate::network::Slirp;
-use forward_rules::FwdFault;
 use net_octets::Endpoint;
 use port_forward::NotThere;
-use record_flows::Tuple;
+use rules_forward::FwdFault;
 use slirp_settings::{Forward, Proto};
+use spec_flows::Tuple;
 use world_face::{Accepted, World};
 
 impl Slirp {
@@ -22,21 +22,21 @@ impl Slirp {
     ghost use Rattle.world_face.specs.Journal.{Entry};
     ghost use Rattle.poll_list.specs.declared.Want.{Want as AnItem};
     ghost use Rattle.poll_list.specs.declared.Who.TheVariants.{Listener};
-    ghost use Rattle.slirp_laws.specs.Agenda.{is_to_read, wanted_of};
+    ghost use Rattle.spec_run.specs.Agenda.{is_to_read, wanted_of};
     ghost use Rattle.slirp_core.specs.Counts.{AreGrown};
     ghost use Rattle.slirp_core.specs.Forwards.{Listens};
     ghost use Rattle.slirp_core.specs.Holds.{Holds, after, as_given, flowing, standing};
     ghost use Rattle.slirp_core.specs.Marks.{KeepsMarks};
-    ghost use Rattle.forward_rules.specs.Adding.{Adds, fault_of};
-    ghost use Rattle.forward_rules.specs.Opened.{socket_at, without};
+    ghost use Rattle.rules_forward.specs.Adding.{Adds, fault_of};
+    ghost use Rattle.rules_forward.specs.Opened.{socket_at, without};
     ghost use Rattle.slirp_core.specs.Added.{MayAdd, MayRemove, closed_at};
     ghost use Rattle.std.specs.Result.{is_ok};
-    ghost use Rattle.flows_follow.specs.Seats.{in_use_slots};
-    ghost use Rattle.record_flows.specs.Book.{book, is_refused, tuple_for};
+    ghost use Rattle.sim_flows.specs.Seats.{in_use_slots};
+    ghost use Rattle.spec_flows.specs.Book.{book, is_refused, tuple_for};
     ghost use Rattle.host_policy.specs.Targets.{is_hidden};
-    ghost use Rattle.flows_follow.specs.Core.{CoreHolds};
+    ghost use Rattle.sim_flows.specs.Core.{CoreHolds};
     ghost use Rattle.tcp_flows.specs.Reading.{NoneUses};
-    ghost use Rattle.run_duties.specs.Serving.{is_left_to_read};
+    ghost use Rattle.spec_duties.specs.Serving.{is_left_to_read};
     ghost use Rattle.slirp_core.specs.Visits.{AsksForPeer, ClosesOne, Treats, is_awaited};
     ghost use Rattle.std.specs.Prelude.{Bool, List, ◌∷◌, true, false, not, is_some};
 

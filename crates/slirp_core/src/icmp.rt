@@ -17,7 +17,7 @@ pub(crate) const PROHIBITED: u8 = 10;
 
 impl Slirp {
     ghost use Rattle.icmp_echo.specs.Icmp.{read_icmp};
-    ghost use Rattle.slirp_laws.specs.Answers.{frames_of, owed_for_icmp, told_about};
+    ghost use Rattle.spec_run.specs.Answers.{frames_of, owed_for_icmp, told_about};
     ghost use Rattle.slirp_core.specs.Packets.{owed_for};
     ghost use Rattle.slirp_core.specs.Datagrams.{datagram_of};
 

@@ -15,8 +15,8 @@ mod timeouts;
 mod udp;
 mod wants;
 
-pub use forward_rules::FwdFault;
 pub use fragments::LONGEST_ASSEMBLED;
 pub use network::Slirp;
 pub use port_forward::NotThere;
+pub use rules_forward::FwdFault;
 pub use wants::TurnWants;

@@ -2,7 +2,7 @@
 ghost use Rattle.std.specs.Prelude.{[], ◌≡◌, ◌≤◌, ◌^◌, ◌<◌, All, ℕ, Some, length, not, slice_get, true, false, unwrap_or};
 ghost use Rattle.std.specs.List.Sorted.{IsNonDecreasing};
 ghost use Rattle.slirp_settings.specs.Settings.{settings};
-ghost use Rattle.run_laws.specs.Sockets.{is_among};
+ghost use Rattle.spec_trace.specs.Sockets.{is_among};
 ghost use Rattle.ipv4_head.specs.Ip.{ip_of, is_unbroken};
 
 use crate::datagrams::datagram_in;
@@ -51,8 +51,8 @@ pub struct Slirp {
 
 impl Model for Slirp {
     ghost use Rattle.std.specs.Prelude.{◌≡◌, ◌<◌, ◌≤◌, ◌^◌, All, length, unwrap_or};
-    ghost use Rattle.udp_rules.specs.Associations.{numbers};
-    ghost use Rattle.tftp_rules.specs.Saying.{most_packet};
+    ghost use Rattle.rules_udp.specs.Associations.{numbers};
+    ghost use Rattle.rules_tftp.specs.Saying.{most_packet};
     ghost use Rattle.slirp_core.specs.State.{SlirpState};
     ghost use Rattle.slirp_core.specs.Numbers.{AreDrawn};
     ghost use Rattle.slirp_core.specs.Services.{AreAsked, IsServer};
@@ -84,8 +84,8 @@ impl Model for Slirp {
 }
 
 impl Slirp {
-    ghost use Rattle.dhcp_rules.specs.declared.Lease.TheVariants.{Free};
-    ghost use Rattle.tftp_rules.specs.Saying.{most_packet};
+    ghost use Rattle.rules_dhcp.specs.declared.Lease.TheVariants.{Free};
+    ghost use Rattle.rules_tftp.specs.Saying.{most_packet};
     ghost use Rattle.slirp_core.specs.Services.{IsServer};
     ghost use Rattle.slirp_core.specs.State.{fresh};
     ghost use Rattle.world_face.specs.Limits.{last_moment};
@@ -94,8 +94,8 @@ impl Slirp {
     ghost use Rattle.slirp_settings.specs.Addresses.{Config};
     ghost use Rattle.slirp_settings.specs.Ranges.{IsSound};
     ghost use Rattle.slirp_settings.specs.Settings.{settings};
-    ghost use Rattle.udp_rules.specs.Associations.{is_over};
-    ghost use Rattle.dns_rules.specs.Questions.{is_over as is_over_question, numbers as question_numbers};
+    ghost use Rattle.rules_udp.specs.Associations.{is_over};
+    ghost use Rattle.rules_dns.specs.Questions.{is_over as is_over_question, numbers as question_numbers};
     ghost use Rattle.slirp_core.specs.Packets.{with_address};
     ghost use Rattle.slirp_core.specs.Numbers.{flows_for};
     ghost use Rattle.ipv4_head.specs.Sets.{PartSet, young};
@@ -108,22 +108,22 @@ impl Slirp {
     ghost use Rattle.tcp_flows.specs.Settled.{HaveTime, IsInTime, OwesNoAck};
     ghost use Rattle.world_face.specs.Journal.{Close, Entry};
     ghost use Rattle.flow_splice.specs.Splice.{Splice};
-    ghost use Rattle.flows_follow.specs.Core.{CoreHolds, number_of};
-    ghost use Rattle.udp_rules.specs.Associations.{IsLeast, numbers};
+    ghost use Rattle.sim_flows.specs.Core.{CoreHolds, number_of};
+    ghost use Rattle.rules_udp.specs.Associations.{IsLeast, numbers};
     ghost use Rattle.dns_relay.specs.Relaying.{IsLeast as IsLeastAsked};
-    ghost use Rattle.run_laws.specs.Sockets.{is_among};
+    ghost use Rattle.spec_trace.specs.Sockets.{is_among};
     ghost use Rattle.slirp_core.specs.Firsts.{IsFlowFirst, IsQuestionFirst, NoFlowFirst, NoQuestionFirst, open_count, others_open};
     ghost use Rattle.stream_netdev.specs.State.{LinkState};
     ghost use Rattle.slirp_core.specs.Datagrams.{Lies};
     ghost use Rattle.poll_list.specs.declared.Want.{Want as AnItem};
     ghost use Rattle.poll_list.specs.declared.Who.TheVariants.{Link as TheLink};
-    ghost use Rattle.slirp_laws.specs.Agenda.{is_to_read, wanted_of};
+    ghost use Rattle.spec_run.specs.Agenda.{is_to_read, wanted_of};
     ghost use Rattle.slirp_core.specs.Came.{DatagramCame, FrameCame, OctetsCame};
     ghost use Rattle.slirp_core.specs.Counts.{AreGrown};
     ghost use Rattle.slirp_core.specs.Marks.{KeepsMarks};
-    ghost use Rattle.tftp_rules.specs.Transfers.{are_left};
+    ghost use Rattle.rules_tftp.specs.Transfers.{are_left};
     ghost use Rattle.slirp_core.specs.Forwards.{AreCloses, ClosesForward};
-    ghost use Rattle.forward_rules.specs.Opened.{forward_sockets};
+    ghost use Rattle.rules_forward.specs.Opened.{forward_sockets};
     ghost use Rattle.slirp_core.specs.Holds.{Standing, after, carriers, flowing, Holds, holders_of, standing, ClosesAll, ClosesNext, ClosesOther, HoldsNothingElse, IsForwardFirst, NoForwardFirst};
 
     /// A network in which no guest is known, no socket is open and nothing is owed, with room for as many flows of TCP as the settings say. It takes all the memory that it will ever need.

@@ -2,7 +2,7 @@
 ghost use Rattle.std.specs.Prelude.{◌≡◌, [], IfOk, length};
 ghost use Rattle.slirp_settings.specs.Ranges.{IsSound};
 ghost use Rattle.slirp_settings.specs.Settings.{settings};
-ghost use Rattle.tftp_rules.specs.Saying.{most_packet};
+ghost use Rattle.rules_tftp.specs.Saying.{most_packet};
 ghost use Rattle.slirp_core.specs.Numbers.{flows_for};
 ghost use Rattle.slirp_core.specs.Services.{IsServer};
 
@@ -10,10 +10,10 @@ use ipv4_reasm::Reasm;
 use net_octets::NoMemory;
 use owed_frames::Outgoing;
 use port_forward::Ports;
+use rules_tftp::MOST_PACKET;
 use slirp_settings::SlirpConfig;
 use std::alloc::Global;
 use tcp_flows::{Sizes, TcpFlows};
-use tftp_rules::MOST_PACKET;
 use tftp_server::Tftp;
 
 // The frames that are owed, the fragments that wait to be joined, and room for a reply.

@@ -9,9 +9,9 @@ use crate::network::Slirp;
 use host_policy::Policy;
 use net_octets::{Ip4, Mac};
 use owed_frames::{Course, Outgoing, datagrams_in};
+use rules_udp::Reply;
 use stream_netdev::{Link, Offered, Pumped, outcome};
 use udp_datagram::UdpView;
-use udp_rules::Reply;
 use world_face::World;
 
 impl Slirp {
@@ -25,7 +25,7 @@ impl Slirp {
     ghost use Rattle.slirp_core.specs.Holds.{Standing, flowing, Holds, AfterPump, Leaves, LeavesBehind, LeavesNone, LeavesRest};
     ghost use Rattle.std.specs.Prelude.{ℕ, Bool, List, None, true};
     ghost use Rattle.world_face.specs.Journal.{Entry};
-    ghost use Rattle.flows_follow.specs.Core.{CoreHolds};
+    ghost use Rattle.sim_flows.specs.Core.{CoreHolds};
     ghost use Rattle.tcp_flows.specs.Reading.{AreTold, HaveSlots};
     ghost use Rattle.tcp_flows.specs.Settled.{AreSettled, HaveTime, IsInTime};
     ghost use Rattle.slirp_core.specs.Calm.{AreClear};

@@ -3,13 +3,13 @@ ghost use Rattle.std.specs.Prelude.{[], ◌≡◌, ◌≤◌, ◌+◌, ◌<◌, 
 ghost use Rattle.std.specs.Option.{option_map};
 ghost use Rattle.ipv4_head.specs.Ip.{Ip, ip_of};
 ghost use Rattle.tcp_segment.specs.Tcp.{numbers_of, read_tcp, tcp_of};
-ghost use Rattle.flows_follow.specs.Seats.{in_use_slots};
-ghost use Rattle.record_flows.specs.Lots.{is_opening, lot_by, reset_to};
+ghost use Rattle.sim_flows.specs.Seats.{in_use_slots};
+ghost use Rattle.spec_flows.specs.Lots.{is_opening, lot_by, reset_to};
 ghost use Rattle.slirp_settings.specs.declared.Proto.TheVariants.{Tcp as OverTcp};
-ghost use Rattle.record_flows.specs.Segments.{segment_of};
+ghost use Rattle.spec_flows.specs.Segments.{segment_of};
 ghost use Rattle.slirp_settings.specs.Addresses.{Config};
 ghost use Rattle.host_policy.specs.Targets.{target};
-ghost use Rattle.flows_follow.specs.Stands.{lot_without};
+ghost use Rattle.sim_flows.specs.Stands.{lot_without};
 ghost use Rattle.slirp_core.specs.Packets.{is_segment};
 ghost use Rattle.slirp_core.specs.Segments.{coming, coming_of, lot_of};
 ghost use Rattle.net_octets.specs.Sizes.{most_carried};
@@ -18,9 +18,9 @@ use crate::network::Slirp;
 use host_policy::{Policy, Verdict};
 use ipv4_head::IpView;
 use net_octets::{Endpoint, Mac, TCP_PROTO};
-use record_flows::Tuple;
 use seq_space::Seq;
 use slirp_settings::Proto;
+use spec_flows::Tuple;
 use tcp_flows::Heard;
 use tcp_segment::{ACK, RST, TcpView};
 use world_face::{Made, World};
@@ -47,21 +47,21 @@ pub enum StrayLot {
 }
 
 impl Slirp {
-    ghost use Rattle.slirp_laws.specs.Answers.{frames_of, reset_for};
+    ghost use Rattle.spec_run.specs.Answers.{frames_of, reset_for};
     ghost use Rattle.slirp_core.specs.Counts.{AreGrown};
     ghost use Rattle.slirp_core.specs.Holds.{Standing, Holds, Comes, flowing, standing};
     ghost use Rattle.slirp_core.specs.Marks.{KeepsMarks};
     ghost use Rattle.slirp_core.specs.NextFlow.{IsNextFlow};
-    ghost use Rattle.record_flows.specs.Book.{book};
+    ghost use Rattle.spec_flows.specs.Book.{book};
     ghost use Rattle.stream_netdev.specs.State.{LinkState};
     ghost use Rattle.world_face.specs.Tells.{Brings};
     ghost use Rattle.flow_splice.specs.Splice.{Splice};
     ghost use Rattle.poll_list.specs.declared.Want.{Want as AnItem};
     ghost use Rattle.poll_list.specs.declared.Who.TheVariants.{Tcp};
-    ghost use Rattle.slirp_laws.specs.Agenda.{wanted_of};
+    ghost use Rattle.spec_run.specs.Agenda.{wanted_of};
     ghost use Rattle.tcp_flows.specs.Fronts.{IsFrontOf};
     ghost use Rattle.world_face.specs.Journal.{Entry};
-    ghost use Rattle.flows_follow.specs.Core.{number_of};
+    ghost use Rattle.sim_flows.specs.Core.{number_of};
     ghost use Rattle.tcp_flows.specs.Reading.{HasSocket, IsOpenAt, NoneOpen, Stays};
     ghost use Rattle.tcp_flows.specs.Told.{ServesOnce};
     ghost use Rattle.std.specs.Prelude.{◌++◌, Bool, IfNone, drop, min, slice_set, take};

@@ -5,12 +5,12 @@ ghost use Rattle.ipv4_head.specs.Sets.{PartSet};
 ghost use Rattle.slirp_core.specs.Fragments.{IsHeld};
 ghost use Rattle.slirp_core.specs.Pumps.{question_left, time_left};
 ghost use Rattle.slirp_core.specs.Timeouts.{IsFileTime, IsFlowTime, IsPartTime, SuitsFlows};
-ghost use Rattle.flows_follow.specs.Core.{CoreHolds};
+ghost use Rattle.sim_flows.specs.Core.{CoreHolds};
 ghost use Rattle.world_face.specs.Journal.{Entry};
 
 use crate::network::Slirp;
-use dns_rules::QUESTION_LIFE;
-use udp_rules::IDLE_LIFE;
+use rules_dns::QUESTION_LIFE;
+use rules_udp::IDLE_LIFE;
 
 impl Slirp {
     // How long it is until the idle life of the longest unused socket is over.

@@ -6,10 +6,10 @@ ghost use Rattle.tcp_flows.specs.Reading.{AreWantsOf};
 ghost use Rattle.tcp_flows.specs.Waits.{AreWaitedFor};
 ghost use Rattle.slirp_settings.specs.Addresses.{Config};
 ghost use Rattle.world_face.specs.Journal.{Entry};
-ghost use Rattle.flows_follow.specs.Core.{CoreHolds, number_of};
+ghost use Rattle.sim_flows.specs.Core.{CoreHolds, number_of};
 ghost use Rattle.poll_list.specs.Listing.{AreWants};
 ghost use Rattle.slirp_core.specs.Pumps.{TcpOnce, into, merged};
-ghost use Rattle.waiting_flows.specs.Wants.{link_want, listener_want, socket_wants, udp_want};
+ghost use Rattle.sim_flows.specs.Wants.{link_want, listener_want, socket_wants, udp_want};
 ghost use Rattle.slirp_core.specs.Carrying.{HasRoom, sockets_of};
 ghost use Rattle.slirp_core.specs.Kinds.{is_of_datagrams, is_of_flow, is_of_link_or_listener};
 
@@ -67,7 +67,7 @@ impl Model for TurnWants {
     ghost use Rattle.poll_list.specs.Listing.{AreWants, Listing};
     ghost use Rattle.slirp_core.specs.Kinds.{InThreeParts};
     ghost use Rattle.slirp_core.specs.Pumps.{merged};
-    ghost use Rattle.waiting_flows.specs.Wants.{link_want, listener_want, udp_want};
+    ghost use Rattle.sim_flows.specs.Wants.{link_want, listener_want, udp_want};
 
     ghost Value = { Listing };
 
@@ -254,7 +254,7 @@ impl TurnWants {
 impl Slirp {
     ghost use Rattle.ipv4_head.specs.Sets.{PartSet};
     ghost use Rattle.slirp_settings.specs.declared.Proto.TheVariants.{Tcp, Udp};
-    ghost use Rattle.forward_rules.specs.Opened.{sockets_over};
+    ghost use Rattle.rules_forward.specs.Opened.{sockets_over};
     ghost use Rattle.slirp_core.specs.Fragments.{IsHeld};
     ghost use Rattle.slirp_core.specs.Pumps.{WantsOf, listeners_of};
     ghost use Rattle.slirp_core.specs.Timeouts.{IsTimeout};

@@ -8,7 +8,7 @@ use Rattle.world_face.specs.Frames.{partial, is_whole, arrives, goes_out, begun_
 use Rattle.world_face.specs.Limits.{most_from_link}
 use Rattle.world_face.specs.Puts.{added}
 use Rattle.world_face.specs.Tells.{Rose}
-use Rattle.run_laws.specs.Moments.{moment}
+use Rattle.spec_trace.specs.Moments.{moment}
 
 -- the magic number, version 2.4, no zone, no accuracy, frames of up to 69,632 octets, and Ethernet; the most significant octet of each number first
 abbrev pub file_head : List ℕ

@@ -5,25 +5,25 @@ use Rattle.std.proofs.lemmas.Bool.Decides.{nat_tests}
 use Rattle.net_octets.specs.declared.Endpoint.{Endpoint}
 use Rattle.world_face.specs.Journal.{Entry}
 use Rattle.slirp_settings.specs.Addresses.{Config}
-use Rattle.flow_laws.specs.Event.{Accepts, Connects, Segment, Story}
-use Rattle.flow_laws.specs.Close.{ends_rest, owes_reset, renews, rests_since}
-use Rattle.flow_laws.specs.Flow.{first_number, is_closed}
-use Rattle.flow_laws.specs.Lawful.{IsLawful}
-use Rattle.record_flows.specs.Book.{after_close, after_segment, book, doom, is_refused, is_young, joins_for, make_room, opens, port_of, rest, scene, story_in, tuple_for, turned}
-use Rattle.record_flows.specs.Book.{visits_for, with_room, without}
-use Rattle.record_flows.specs.Doings.{Doing, Nothing, Comes, Goes, Seeks, Pauses, Joins, Visits, Calls, Shuts, doing}
-use Rattle.record_flows.specs.Flows.{Book, Flow, Rest, Scene, flow_of, is_numbered, owner, rests_among, shuts, tell, used}
-use Rattle.record_flows.specs.Laws.{flow_settings}
-use Rattle.record_flows.specs.Segments.{OnTuple}
-use Rattle.record_flows.proofs.Apart.{found_told}
-use Rattle.record_flows.proofs.Keeping.{are_kept}
-use Rattle.record_flows.proofs.Laws.{is_lawful}
-use Rattle.run_laws.specs.Moments.{moment}
-use Rattle.run_laws.specs.Sockets.{is_among}
-use Rattle.slirp_laws.specs.Laws.{Lawful}
-use Rattle.slirp_laws.proofs.KeepingFlows.{keeps_flows}
-use Rattle.flows_follow.specs.Seats.{Once}
-use Rattle.flows_follow.proofs.Resting.{in_use_awake}
+use Rattle.spec_flow.specs.Event.{Accepts, Connects, Segment, Story}
+use Rattle.spec_flow.specs.Close.{ends_rest, owes_reset, renews, rests_since}
+use Rattle.spec_flow.specs.Flow.{first_number, is_closed}
+use Rattle.spec_flow.specs.Lawful.{IsLawful}
+use Rattle.spec_flows.specs.Book.{after_close, after_segment, book, doom, is_refused, is_young, joins_for, make_room, opens, port_of, rest, scene, story_in, tuple_for, turned}
+use Rattle.spec_flows.specs.Book.{visits_for, with_room, without}
+use Rattle.spec_flows.specs.Doings.{Doing, Nothing, Comes, Goes, Seeks, Pauses, Joins, Visits, Calls, Shuts, doing}
+use Rattle.spec_flows.specs.Flows.{Book, Flow, Rest, Scene, flow_of, is_numbered, owner, rests_among, shuts, tell, used}
+use Rattle.spec_flows.specs.Laws.{flow_settings}
+use Rattle.spec_flows.specs.Segments.{OnTuple}
+use Rattle.spec_flows.proofs.Apart.{found_told}
+use Rattle.spec_flows.proofs.Keeping.{are_kept}
+use Rattle.spec_flows.proofs.Laws.{is_lawful}
+use Rattle.spec_trace.specs.Moments.{moment}
+use Rattle.spec_trace.specs.Sockets.{is_among}
+use Rattle.spec_run.specs.Laws.{Lawful}
+use Rattle.spec_run.proofs.KeepingFlows.{keeps_flows}
+use Rattle.sim_flows.specs.Seats.{Once}
+use Rattle.sim_flows.proofs.Resting.{in_use_awake}
 use Rattle.tcp_flows.proofs.Begun.{has, rest_begun}
 
 -- ---- numbers of rests

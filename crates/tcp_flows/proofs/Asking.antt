@@ -13,26 +13,26 @@ use Rattle.world_face.specs.declared.Joined.TheVariants.{Yes, NotYet as NotYetJo
 use Rattle.world_face.specs.declared.Made.{Made}
 use Rattle.world_face.specs.declared.Made.TheVariants.{Done as MadeDone, Failed as MadeFailed}
 use Rattle.slirp_settings.specs.Addresses.{Config, address}
-use Rattle.run_laws.specs.Happenings.{Arrival, happens}
-use Rattle.run_laws.specs.Sockets.{is_among}
-use Rattle.flow_laws.specs.Event.{Arrives, At, Departs, Segment, Story}
-use Rattle.flow_laws.specs.Flow.{is_accepted}
-use Rattle.record_flows.specs.Book.{book, scene, turned}
-use Rattle.record_flows.specs.Doings.{Doing, Nothing, Comes, Goes, Seeks, Pauses, Joins, Visits, Calls, Shuts, by_call, comes, doing, doing_by, ended_by, goes, joined, joins, read_by}
-use Rattle.record_flows.specs.Doings.{seeks, visits, written_by}
-use Rattle.record_flows.specs.Flows.{Book, Flow, Scene, flow_of, is_on, is_numbered, is_strange, sends, shuts, tell, with_event}
-use Rattle.record_flows.specs.Segments.{OnTuple, asked_in, segment_came, segment_in}
-use Rattle.flows_follow.specs.Only.{AreOf, IsOf}
-use Rattle.flows_follow.proofs.Seats.{differ, same_or_not}
-use Rattle.flows_follow.proofs.Tables.{get_set_other, get_set_same}
-use Rattle.slirp_laws.specs.Answers.{left}
-use Rattle.slirp_laws.specs.Sending.{accepted_for, requests, requests_by, times}
-use Rattle.slirp_laws.proofs.Bools.{turned as swapped}
+use Rattle.spec_trace.specs.Happenings.{Arrival, happens}
+use Rattle.spec_trace.specs.Sockets.{is_among}
+use Rattle.spec_flow.specs.Event.{Arrives, At, Departs, Segment, Story}
+use Rattle.spec_flow.specs.Flow.{is_accepted}
+use Rattle.spec_flows.specs.Book.{book, scene, turned}
+use Rattle.spec_flows.specs.Doings.{Doing, Nothing, Comes, Goes, Seeks, Pauses, Joins, Visits, Calls, Shuts, by_call, comes, doing, doing_by, ended_by, goes, joined, joins, read_by}
+use Rattle.spec_flows.specs.Doings.{seeks, visits, written_by}
+use Rattle.spec_flows.specs.Flows.{Book, Flow, Scene, flow_of, is_on, is_numbered, is_strange, sends, shuts, tell, with_event}
+use Rattle.spec_flows.specs.Segments.{OnTuple, asked_in, segment_came, segment_in}
+use Rattle.sim_flows.specs.Only.{AreOf, IsOf}
+use Rattle.sim_flows.proofs.Seats.{differ, same_or_not}
+use Rattle.sim_flows.proofs.Tables.{get_set_other, get_set_same}
+use Rattle.spec_run.specs.Answers.{left}
+use Rattle.spec_run.specs.Sending.{accepted_for, requests, requests_by, times}
+use Rattle.spec_run.proofs.Bools.{turned as swapped}
 use Rattle.flow_splice.specs.Splice.{Splice}
-use Rattle.flows_follow.specs.Asked.{AreAsked, accepted_numbers, sum_of, was_accepted}
-use Rattle.flows_follow.specs.Core.{number_of}
-use Rattle.flows_follow.proofs.Options.{none_some}
-use Rattle.flows_follow.proofs.Requests.{ComeFrom, accepted_same}
+use Rattle.sim_flows.specs.Asked.{AreAsked, accepted_numbers, sum_of, was_accepted}
+use Rattle.sim_flows.specs.Core.{number_of}
+use Rattle.sim_flows.proofs.Options.{none_some}
+use Rattle.sim_flows.proofs.Requests.{ComeFrom, accepted_same}
 
 -- ---- what was asked for
 

@@ -1,6 +1,6 @@
 -- When a flow is to be looked at.
 use Rattle.std.proofs.Common.{refl, ◌≡◌, ℕ, ◌<◌, ◌&&◌, not, min, Bool, true, false, Some, None, Option, ap, sym, ◌∙◌, subst, arith, if◌then◌else◌}
-use Rattle.connection_follows.specs.Holding.{is_connects}
+use Rattle.sim_connection.specs.Holding.{is_connects}
 use Rattle.tcp_connection.specs.Timing.{due_of as conn_due}
 use Rattle.tcp_connection.specs.Connection.{is_opening}
 use Rattle.tcp_connection.specs.Hosts.{is_open as host_is_open}

@@ -2,13 +2,13 @@
 use Rattle.std.proofs.Common.{◌≡◌, ℕ, ◌<◌, ◌≤◌, ◌&&◌, nat_lt, Bool, true, false, List, [], ◌∷◌, ◌++◌, length, slice_get, Option, Some, None, ◌⊎◌}
 use Rattle.std.proofs.Common.{inl, inr, if◌then◌else◌, refl, sym, ◌∙◌, ap, subst, arith}
 use Rattle.std.proofs.lemmas.Bool.Decides.{nat_tests}
-use Rattle.slirp_laws.proofs.Bools.{and_both, first_of, second_of}
-use Rattle.record_flows.specs.declared.Tuple.{Tuple}
+use Rattle.spec_run.proofs.Bools.{and_both, first_of, second_of}
+use Rattle.spec_flows.specs.declared.Tuple.{Tuple}
 use Rattle.flow_splice.specs.Splice.{Splice, is_in_use}
 use Rattle.flow_splice.specs.declared.Place.{Place}
 use Rattle.flow_splice.specs.declared.Place.TheVariants.{Empty, InUse, Resting}
-use Rattle.flows_follow.specs.Core.{ends_of, number_of}
-use Rattle.flows_follow.proofs.Options.{true_false}
+use Rattle.sim_flows.specs.Core.{ends_of, number_of}
+use Rattle.sim_flows.proofs.Options.{true_false}
 use Rattle.tcp_flows.specs.InUse.{IsInUseAt, IsNextPart, IsNextUse, counts, is_above, lesser, use_above}
 use Rattle.tcp_flows.specs.Kept.{part_at, part_of}
 use Rattle.tcp_flows.specs.Reading.{IsAbove}

@@ -8,7 +8,7 @@ use Rattle.flow_splice.specs.Wants.{due_of, is_deserted, left_at}
 use Rattle.flow_splice.specs.declared.Place.{Place}
 use Rattle.flow_splice.specs.declared.Place.TheVariants.{Empty, InUse, Resting}
 use Rattle.tcp_flows.specs.Kept.{part_at, part_of}
-use Rattle.flow_rules.specs.Choices.{if_after}
+use Rattle.rules_flow.specs.Choices.{if_after}
 use Rattle.tcp_flows.specs.Reading.{IsDueAfter, IsNextAfter, blocked_time_of, earlier, time_at}
 
 -- ---- a list with one more

@@ -8,17 +8,17 @@ use Rattle.net_octets.specs.declared.Ip4.{Ip4}
 use Rattle.net_octets.specs.declared.Mac.{Mac}
 use Rattle.arp_table.specs.Table.{mac_of as learnt_for}
 use Rattle.slirp_settings.specs.Addresses.{Config}
-use Rattle.run_laws.specs.Guests.{known}
-use Rattle.row_lists.proofs.Places.{set_same}
+use Rattle.spec_trace.specs.Guests.{known}
+use Rattle.ordered_rows.proofs.Places.{set_same}
 use Rattle.flow_table.specs.Slots.{AreKept, Flows}
-use Rattle.record_flows.specs.declared.Tuple.{Tuple}
-use Rattle.flow_laws.specs.Close.{is_in_use}
-use Rattle.record_flows.specs.Flows.{Flow}
-use Rattle.record_flows.specs.Laws.{flow_settings}
-use Rattle.flows_follow.specs.FlowsHold.{FlowsState, rests_at}
-use Rattle.flows_follow.specs.Seats.{IsSlotOf}
-use Rattle.flows_follow.proofs.Seats.{differ, same_or_not}
-use Rattle.flows_follow.proofs.Tables.{get_set_at, get_set_other}
+use Rattle.spec_flows.specs.declared.Tuple.{Tuple}
+use Rattle.spec_flow.specs.Close.{is_in_use}
+use Rattle.spec_flows.specs.Flows.{Flow}
+use Rattle.spec_flows.specs.Laws.{flow_settings}
+use Rattle.sim_flows.specs.FlowsHold.{FlowsState, rests_at}
+use Rattle.sim_flows.specs.Seats.{IsSlotOf}
+use Rattle.sim_flows.proofs.Seats.{differ, same_or_not}
+use Rattle.sim_flows.proofs.Tables.{get_set_at, get_set_other}
 use Rattle.flow_splice.proofs.Patience.{learnt_patient}
 use Rattle.flow_splice.specs.Ahead.{HasPatience, IsAhead}
 use Rattle.flow_splice.specs.Follows.{FollowsAt}
@@ -26,17 +26,17 @@ use Rattle.flow_splice.specs.Sends.{learnt, or_known}
 use Rattle.flow_splice.specs.Splice.{Splice, is_open}
 use Rattle.flow_splice.specs.declared.Place.{Place}
 use Rattle.flow_splice.specs.declared.Place.TheVariants.{Empty, InUse, Resting}
-use Rattle.flows_follow.specs.Asked.{AreAsked}
-use Rattle.flows_follow.specs.Core.{CoreHolds, ends_of, number_of}
-use Rattle.flows_follow.specs.Stands.{slot_at}
-use Rattle.flows_follow.proofs.Options.{none_some, some_same, true_false}
-use Rattle.flows_follow.proofs.Told.{core_told}
+use Rattle.sim_flows.specs.Asked.{AreAsked}
+use Rattle.sim_flows.specs.Core.{CoreHolds, ends_of, number_of}
+use Rattle.sim_flows.specs.Stands.{slot_at}
+use Rattle.sim_flows.proofs.Options.{none_some, some_same, true_false}
+use Rattle.sim_flows.proofs.Told.{core_told}
 use Rattle.tcp_flows.specs.Kept.{IsFor, Kept, flows_of, part_at, part_of, slot_of}
 use Rattle.tcp_flows.specs.Reading.{HaveLearnt, AreTold, IsOpenAt, NoneInSlots, learnt_from}
 use Rattle.tcp_flows.specs.Rows.{Moves, MovesAt, count, is_seeking, seeks_at, table_at, waits_of}
 use Rattle.tcp_flows.specs.Runs.{Learns}
 use Rattle.tcp_flows.specs.Settled.{IsInTime, OwesNoAck}
-use Rattle.flow_rules.specs.declared.Waits.{Waits}
+use Rattle.rules_flow.specs.declared.Waits.{Waits}
 use Rattle.tcp_flows.proofs.Asking.{asked_then}
 use Rattle.tcp_flows.proofs.Changing.{waits_seen}
 use Rattle.tcp_flows.proofs.Following.{count_some}

@@ -12,9 +12,9 @@ use Rattle.std.proofs.lemmas.Option.{same_Some}
 use Rattle.poll_list.specs.declared.Want.{Want}
 use Rattle.tcp_flows.specs.Places.{IsPlaceOf, has_at, has_number}
 use Rattle.poll_list.specs.declared.Who.TheVariants.{Tcp}
-use Rattle.flow_rules.specs.Choices.{same_ways}
+use Rattle.rules_flow.specs.Choices.{same_ways}
 use Rattle.tcp_flows.specs.Standing.{AreOrdered, AreOver, is_any, listed, number_in, placed, wants_after, with_wants}
-use Rattle.flow_rules.specs.declared.Waits.{Waits}
+use Rattle.rules_flow.specs.declared.Waits.{Waits}
 
 -- ---- tests of two numbers
 

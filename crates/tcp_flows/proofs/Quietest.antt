@@ -4,9 +4,9 @@ use Rattle.std.proofs.Common.{inl, inr, if◌then◌else◌, refl, sym, ◌∙�
 use Rattle.std.proofs.lemmas.Bool.Decides.{nat_tests}
 use Rattle.std.proofs.lemmas.List.{take_more}
 use Rattle.flow_splice.specs.Splice.{Splice}
-use Rattle.flow_rules.specs.Choices.{earlier_quiet, is_before}
+use Rattle.rules_flow.specs.Choices.{earlier_quiet, is_before}
 use Rattle.tcp_flows.specs.Way.{AreFirst, IsFirstQuiet, gives, quiet_at, quiet_of}
-use Rattle.flow_rules.specs.declared.Quiet.{Quiet}
+use Rattle.rules_flow.specs.declared.Quiet.{Quiet}
 use Rattle.tcp_flows.proofs.Later.{push_cases, push_new, push_old}
 
 true_false : true ≡ false → ⊥

@@ -1,13 +1,13 @@
 -- The part of a slot, as a call on it finds it.
 use Rattle.std.proofs.Common.{◌≡◌, ℕ, Bool, true, List, map, get_or, slice_get, Option, Some, ap, sym, ◌∙◌}
 use Rattle.flow_table.specs.Slots.{Flows, HasTuple}
-use Rattle.record_flows.specs.declared.Tuple.{Tuple}
+use Rattle.spec_flows.specs.declared.Tuple.{Tuple}
 use Rattle.tcp_segment.specs.Tcp.{Tcp}
 use Rattle.flow_splice.specs.Guests.{heard_at_rest, renews}
 use Rattle.flow_splice.specs.Splice.{Splice, is_at_rest, is_open}
 use Rattle.flow_splice.specs.declared.Place.{Place}
 use Rattle.flow_splice.specs.declared.Place.TheVariants.{Empty, Resting}
-use Rattle.flows_follow.specs.Core.{ends_of}
+use Rattle.sim_flows.specs.Core.{ends_of}
 use Rattle.tcp_flows.specs.Kept.{part_of, slot_of}
 use Rattle.tcp_flows.specs.Rows.{Moves, table_at}
 use Rattle.tcp_flows.proofs.Following.{has_tuple}

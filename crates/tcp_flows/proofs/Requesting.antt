@@ -7,24 +7,24 @@ use Rattle.world_face.specs.Journal.{Close, Entry, LinkWrite}
 use Rattle.world_face.specs.declared.Io.{Io}
 use Rattle.world_face.specs.declared.Io.TheVariants.{Done, End, NotYet, Failed}
 use Rattle.slirp_settings.specs.Addresses.{Config}
-use Rattle.flow_laws.specs.Event.{Arrives, Story}
-use Rattle.flow_laws.specs.Settings.{Settings}
-use Rattle.record_flows.specs.Book.{book, scene, turned}
-use Rattle.record_flows.specs.Doings.{Comes, Doing, doing, doing_by, goes}
-use Rattle.record_flows.specs.Flows.{is_on, with_event}
-use Rattle.record_flows.specs.Segments.{OnTuple, asked_in, segment_in}
-use Rattle.slirp_laws.specs.Answers.{is_first, left}
-use Rattle.slirp_laws.specs.Sending.{asked_beside, requests, requests_by}
+use Rattle.spec_flow.specs.Event.{Arrives, Story}
+use Rattle.spec_flow.specs.Settings.{Settings}
+use Rattle.spec_flows.specs.Book.{book, scene, turned}
+use Rattle.spec_flows.specs.Doings.{Comes, Doing, doing, doing_by, goes}
+use Rattle.spec_flows.specs.Flows.{is_on, with_event}
+use Rattle.spec_flows.specs.Segments.{OnTuple, asked_in, segment_in}
+use Rattle.spec_run.specs.Answers.{is_first, left}
+use Rattle.spec_run.specs.Sending.{asked_beside, requests, requests_by}
 use Rattle.flow_splice.specs.Entries.{Adds, AreEvents, ident_after}
 use Rattle.flow_splice.specs.Frames.{segment_frame}
 use Rattle.flow_splice.specs.Hosts.{is_for_reading, is_for_writing, shuts}
 use Rattle.flow_splice.specs.Shapes.{IsHostWork, ends, gives, is_at_most_a_close, is_reading, is_writing}
 use Rattle.flow_splice.specs.Splice.{Face, Splice}
 use Rattle.flow_splice.specs.declared.Place.TheVariants.{Empty}
-use Rattle.flows_follow.specs.Asked.{AreAsked, accepted_numbers}
-use Rattle.flows_follow.specs.Core.{number_of}
-use Rattle.flows_follow.proofs.ReadBack.{asks_none, four_off}
-use Rattle.flows_follow.proofs.Requests.{ComeFrom}
+use Rattle.sim_flows.specs.Asked.{AreAsked, accepted_numbers}
+use Rattle.sim_flows.specs.Core.{number_of}
+use Rattle.sim_flows.proofs.ReadBack.{asks_none, four_off}
+use Rattle.sim_flows.proofs.Requests.{ComeFrom}
 use Rattle.tcp_flows.specs.Kept.{part_of}
 use Rattle.tcp_flows.proofs.Asking.{asked_from, asked_then, has_frame, is_frame, told_numbers}
 use Rattle.tcp_flows.proofs.Keeping.{part_back}

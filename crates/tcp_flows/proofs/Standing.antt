@@ -1,18 +1,18 @@
 -- The wants that stand for the flows, where the flow of one slot changes.
 use Rattle.std.proofs.Common.{refl, ◌≡◌, ℕ, ◌+◌, ◌&&◌, ◌||◌, Bool, true, false, List, [], ◌∷◌, length, set, Some, slice_get, inl, inr, ap, sym, ◌∙◌, subst, arith}
 use Rattle.std.specs.Prelude.{Contains}
-use Rattle.flows_follow.specs.Only.{one_if}
-use Rattle.flows_follow.proofs.Seats.{differ, same_or_not}
-use Rattle.flows_follow.proofs.Tables.{get_set_at, get_set_other, get_set_same}
+use Rattle.sim_flows.specs.Only.{one_if}
+use Rattle.sim_flows.proofs.Seats.{differ, same_or_not}
+use Rattle.sim_flows.proofs.Tables.{get_set_at, get_set_other, get_set_same}
 use Rattle.poll_list.specs.declared.Want.{Want}
 use Rattle.poll_list.specs.declared.Who.TheVariants.{Tcp as OnTcp}
 use Rattle.flow_splice.specs.Splice.{Splice, is_open}
 use Rattle.flow_splice.specs.Wants.{may_read, may_write, reads, writes}
-use Rattle.flows_follow.specs.Core.{number_of}
-use Rattle.flows_follow.proofs.Options.{some_same, true_false}
+use Rattle.sim_flows.specs.Core.{number_of}
+use Rattle.sim_flows.proofs.Options.{some_same, true_false}
 use Rattle.tcp_flows.specs.Reading.{is_wanted, want_of}
 use Rattle.tcp_flows.specs.Rows.{AreStanding, count, waits_of}
-use Rattle.flow_rules.specs.Choices.{same_way, same_ways}
+use Rattle.rules_flow.specs.Choices.{same_way, same_ways}
 use Rattle.tcp_flows.specs.Standing.{listed, number_in, wants_after, with_wants}
 use Rattle.tcp_flows.proofs.Following.{count_set}
 use Rattle.tcp_flows.proofs.Placing.{after_other, after_same, first_has, has_only, has_these, has_yet, listed_for, listed_none, listed_some, long_none, long_one, none_has, only_one, order_then}

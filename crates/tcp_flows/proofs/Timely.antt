@@ -1,7 +1,7 @@
 -- Flows that time closes at no moment, and a pump.
 use Rattle.std.proofs.Common.{refl, ◌≡◌, ℕ, Bool, true, false, List, set, slice_get, Some, Option, inl, inr, sym, ◌∙◌, subst}
-use Rattle.flows_follow.proofs.Seats.{differ, same_or_not}
-use Rattle.flows_follow.proofs.Tables.{get_set_other, get_set_same}
+use Rattle.sim_flows.proofs.Seats.{differ, same_or_not}
+use Rattle.sim_flows.proofs.Tables.{get_set_other, get_set_same}
 use Rattle.flow_splice.specs.Splice.{Splice, is_open}
 use Rattle.flow_splice.specs.Wants.{HasTime}
 use Rattle.tcp_flows.specs.Reading.{IsOpenAt}

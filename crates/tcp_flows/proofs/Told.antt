@@ -3,33 +3,33 @@ use Rattle.std.proofs.Common.{◌≡◌, ℕ, ◌==◌, ◌&&◌, ◌||◌, not,
 use Rattle.poll_list.specs.declared.Who.TheVariants.{Tcp as OnTcp}
 use Rattle.world_face.specs.Journal.{Call, Entry, Connected, TcpRead, TcpWrite, TcpEnd, Close}
 use Rattle.slirp_settings.specs.Addresses.{Config}
-use Rattle.run_laws.specs.Moments.{waits}
-use Rattle.run_laws.specs.Sockets.{is_among, is_flow, kind_of, next_number, open_sockets}
-use Rattle.flow_laws.specs.Close.{owes_reset}
-use Rattle.flow_laws.specs.Dutiful.{must_wait_to_write, waits_to_read}
-use Rattle.flow_laws.specs.Flow.{is_closed}
-use Rattle.flow_laws.proofs.Refuting.{never_false}
-use Rattle.record_flows.specs.Book.{book}
-use Rattle.record_flows.specs.Doings.{doing}
-use Rattle.record_flows.specs.Flows.{Flow, flow_of}
-use Rattle.record_flows.specs.Laws.{flow_settings}
-use Rattle.slirp_laws.specs.Laws.{Lawful}
-use Rattle.slirp_laws.proofs.Bools.{among_without, first_of, same}
-use Rattle.flows_follow.specs.FlowsHold.{FlowsState, rests_at}
-use Rattle.flows_follow.specs.Only.{AreOf, IsOf}
-use Rattle.connection_follows.specs.Holding.{is_connects}
+use Rattle.spec_trace.specs.Moments.{waits}
+use Rattle.spec_trace.specs.Sockets.{is_among, is_flow, kind_of, next_number, open_sockets}
+use Rattle.spec_flow.specs.Close.{owes_reset}
+use Rattle.spec_flow.specs.Dutiful.{must_wait_to_write, waits_to_read}
+use Rattle.spec_flow.specs.Flow.{is_closed}
+use Rattle.spec_flow.proofs.Refuting.{never_false}
+use Rattle.spec_flows.specs.Book.{book}
+use Rattle.spec_flows.specs.Doings.{doing}
+use Rattle.spec_flows.specs.Flows.{Flow, flow_of}
+use Rattle.spec_flows.specs.Laws.{flow_settings}
+use Rattle.spec_run.specs.Laws.{Lawful}
+use Rattle.spec_run.proofs.Bools.{among_without, first_of, same}
+use Rattle.sim_flows.specs.FlowsHold.{FlowsState, rests_at}
+use Rattle.sim_flows.specs.Only.{AreOf, IsOf}
+use Rattle.sim_connection.specs.Holding.{is_connects}
 use Rattle.flow_splice.specs.Hosts.{ServesReport, is_for_writing, reads_or_shuts, serves_write, some_is}
 use Rattle.flow_splice.specs.Splice.{Splice, is_open}
 use Rattle.flow_splice.specs.Wants.{reads, writes}
 use Rattle.flow_splice.proofs.Promises.{wants_are}
-use Rattle.flows_follow.specs.Core.{CoreHolds, Following, number_of}
-use Rattle.flows_follow.proofs.Sockets.{open_has_socket}
-use Rattle.run_duties.specs.Said.{some_writes}
-use Rattle.run_duties.specs.Serving.{is_left_to_read, is_left_to_write}
-use Rattle.run_duties.specs.Waiting.{is_read, is_written, reads_flow, writes_flow}
-use Rattle.run_duties.proofs.Going.{stays_below}
-use Rattle.run_duties.proofs.Serving.{read_since, reading_on, unread, unwritten, write_since, writing_on}
-use Rattle.waiting_flows.proofs.Placing.{placed}
+use Rattle.sim_flows.specs.Core.{CoreHolds, Following, number_of}
+use Rattle.sim_flows.proofs.Sockets.{open_has_socket}
+use Rattle.spec_duties.specs.Said.{some_writes}
+use Rattle.spec_duties.specs.Serving.{is_left_to_read, is_left_to_write}
+use Rattle.spec_duties.specs.Waiting.{is_read, is_written, reads_flow, writes_flow}
+use Rattle.spec_duties.proofs.Going.{stays_below}
+use Rattle.spec_duties.proofs.Serving.{read_since, reading_on, unread, unwritten, write_since, writing_on}
+use Rattle.sim_flows.proofs.Placing.{placed}
 use Rattle.flow_splice.proofs.Calls.{for_writing, some_for}
 use Rattle.tcp_flows.specs.Reading.{NoneOpen}
 use Rattle.tcp_flows.specs.Told.{IsTold}

@@ -2,21 +2,21 @@
 use Rattle.std.proofs.Common.{refl, ◌≡◌, ℕ, Bool, true, false, List, length, Some, None, Option, option_and_then, slice_get, ap, sym, ◌∙◌}
 use Rattle.world_face.specs.Journal.{Call, Entry}
 use Rattle.slirp_settings.specs.Addresses.{Config}
-use Rattle.run_laws.specs.Sockets.{next_number}
+use Rattle.spec_trace.specs.Sockets.{next_number}
 use Rattle.flow_table.specs.Slots.{HasTuple, RestsSince, tuple_of}
 use Rattle.flow_table.specs.declared.Slot.{Slot}
 use Rattle.flow_table.specs.declared.Slot.TheVariants.{Free, InUse as SlotInUse, Resting as SlotResting}
-use Rattle.record_flows.specs.declared.Tuple.{Tuple}
-use Rattle.record_flows.specs.Book.{book}
-use Rattle.record_flows.specs.Flows.{is_used, uses}
-use Rattle.flows_follow.specs.FlowsHold.{FlowsState, rests_at}
+use Rattle.spec_flows.specs.declared.Tuple.{Tuple}
+use Rattle.spec_flows.specs.Book.{book}
+use Rattle.spec_flows.specs.Flows.{is_used, uses}
+use Rattle.sim_flows.specs.FlowsHold.{FlowsState, rests_at}
 use Rattle.flow_splice.specs.Splice.{Splice, is_in_use}
 use Rattle.flow_splice.specs.declared.Place.{Place}
 use Rattle.flow_splice.specs.declared.Place.TheVariants.{Empty, InUse, Resting}
-use Rattle.flows_follow.specs.Core.{CoreHolds, Following, number_of}
-use Rattle.flows_follow.specs.Stands.{slot_at}
-use Rattle.flows_follow.proofs.Looking.{none_used, slot_rests, slot_used}
-use Rattle.flows_follow.proofs.Options.{none_some, some_same, true_false}
+use Rattle.sim_flows.specs.Core.{CoreHolds, Following, number_of}
+use Rattle.sim_flows.specs.Stands.{slot_at}
+use Rattle.sim_flows.proofs.Looking.{none_used, slot_rests, slot_used}
+use Rattle.sim_flows.proofs.Options.{none_some, some_same, true_false}
 use Rattle.tcp_flows.specs.Reading.{NoneUses}
 
 module _ (slots : List Slot) (t : Tuple) where

@@ -9,18 +9,18 @@ use Rattle.net_octets.specs.declared.Mac.{Mac}
 use Rattle.world_face.specs.Journal.{Call, CallClose, Close, Entry}
 use Rattle.slirp_settings.specs.Addresses.{Config}
 use Rattle.flow_table.specs.Slots.{AreKept, Flows}
-use Rattle.flow_laws.specs.Event.{At, Closes, Segment, Story}
-use Rattle.flow_laws.specs.Close.{before, follows_reset, last_at, may_give_way, newest_rst, owes_reset, is_fatal}
-use Rattle.flow_laws.specs.Flow.{is_closed}
-use Rattle.record_flows.specs.Book.{book, scene}
-use Rattle.record_flows.specs.Flows.{Flow, comes_directly, comes_last, flow_of, guest_is_known, is_resting, is_used, used}
-use Rattle.record_flows.specs.Laws.{flow_settings}
-use Rattle.record_flows.specs.Lots.{NeedsRoom, OfFlow, asked_for, due_by, due_for_flows, giving_way, lot, needs_room, quietest}
-use Rattle.record_flows.specs.Segments.{OnTuple}
-use Rattle.record_flows.specs.Taught.{taught}
-use Rattle.run_laws.specs.Sockets.{next_number}
-use Rattle.connection_follows.specs.Over.{is_resets}
-use Rattle.connection_follows.proofs.Settling.{open_owes_none}
+use Rattle.spec_flow.specs.Event.{At, Closes, Segment, Story}
+use Rattle.spec_flow.specs.Close.{before, follows_reset, last_at, may_give_way, newest_rst, owes_reset, is_fatal}
+use Rattle.spec_flow.specs.Flow.{is_closed}
+use Rattle.spec_flows.specs.Book.{book, scene}
+use Rattle.spec_flows.specs.Flows.{Flow, comes_directly, comes_last, flow_of, guest_is_known, is_resting, is_used, used}
+use Rattle.spec_flows.specs.Laws.{flow_settings}
+use Rattle.spec_flows.specs.Lots.{NeedsRoom, OfFlow, asked_for, due_by, due_for_flows, giving_way, lot, needs_room, quietest}
+use Rattle.spec_flows.specs.Segments.{OnTuple}
+use Rattle.spec_flows.specs.Taught.{taught}
+use Rattle.spec_trace.specs.Sockets.{next_number}
+use Rattle.sim_connection.specs.Over.{is_resets}
+use Rattle.sim_connection.proofs.Settling.{open_owes_none}
 use Rattle.flow_splice.specs.Follows.{Follows, FollowsAt}
 use Rattle.flow_splice.specs.Hosts.{IsAsOld}
 use Rattle.flow_splice.specs.Splice.{Face, Splice, is_in_use, is_open}
@@ -28,22 +28,22 @@ use Rattle.flow_splice.specs.Wants.{gives_way_at}
 use Rattle.flow_splice.specs.declared.Place.{Place}
 use Rattle.flow_splice.specs.declared.Place.TheVariants.{Empty, InUse, Resting}
 use Rattle.flow_splice.proofs.GivingWay.{last_is, way_is}
-use Rattle.flows_follow.specs.Core.{CoreHolds, Following, ends_of, number_of}
-use Rattle.flows_follow.specs.FlowsHold.{FlowsState, rests_at}
-use Rattle.flows_follow.proofs.Giving.{none_gives, none_owes, one_gives, one_owes}
-use Rattle.slirp_laws.specs.Agenda.{agenda}
-use Rattle.flows_follow.specs.Asked.{AreAsked}
-use Rattle.flows_follow.specs.Seats.{Once}
-use Rattle.flows_follow.specs.Stands.{lot_without, slot_at}
-use Rattle.flows_follow.proofs.Only.{number_of_found}
-use Rattle.flows_follow.proofs.Parting.{apart, called, core_parted, its_close, may_part, still_works}
-use Rattle.flows_follow.proofs.Pumped.{Called, state_at}
-use Rattle.flow_rules.specs.Choices.{is_before}
+use Rattle.sim_flows.specs.Core.{CoreHolds, Following, ends_of, number_of}
+use Rattle.sim_flows.specs.FlowsHold.{FlowsState, rests_at}
+use Rattle.sim_flows.proofs.Giving.{none_gives, none_owes, one_gives, one_owes}
+use Rattle.spec_run.specs.Agenda.{agenda}
+use Rattle.sim_flows.specs.Asked.{AreAsked}
+use Rattle.sim_flows.specs.Seats.{Once}
+use Rattle.sim_flows.specs.Stands.{lot_without, slot_at}
+use Rattle.sim_flows.proofs.Only.{number_of_found}
+use Rattle.sim_flows.proofs.Parting.{apart, called, core_parted, its_close, may_part, still_works}
+use Rattle.sim_flows.proofs.Pumped.{Called, state_at}
+use Rattle.rules_flow.specs.Choices.{is_before}
 use Rattle.tcp_flows.specs.Way.{AreFirst, GivesWay, IsCrowded, IsFirstQuiet, gives, owes, quiet_of}
 use Rattle.tcp_flows.specs.Kept.{IsFor, Kept, flows_of, part_of, slot_of}
 use Rattle.tcp_flows.specs.Rows.{Moves, table_at}
 use Rattle.tcp_flows.specs.Runs.{Between, Leaves}
-use Rattle.flow_rules.specs.declared.Quiet.{Quiet}
+use Rattle.rules_flow.specs.declared.Quiet.{Quiet}
 use Rattle.tcp_flows.proofs.Asking.{asked_by_calls}
 use Rattle.tcp_flows.proofs.Beside.{close_beside, leaves_none, none_strange}
 use Rattle.tcp_flows.proofs.Keeping.{open_moves, open_used, raw_here, read_here}

@@ -1,8 +1,8 @@
 -- The flows in use, one after another by rising number.
 use Rattle.std.specs.Prelude.{◌≡◌, ℕ, ◌≤◌, ◌&&◌, nat_lt, Bool, true, List, Option, Some, None, slice_get, if◌then◌else◌}
-use Rattle.record_flows.specs.declared.Tuple.{Tuple}
+use Rattle.spec_flows.specs.declared.Tuple.{Tuple}
 use Rattle.flow_splice.specs.Splice.{Splice, is_in_use}
-use Rattle.flows_follow.specs.Core.{ends_of, number_of}
+use Rattle.sim_flows.specs.Core.{ends_of, number_of}
 use Rattle.tcp_flows.specs.Reading.{IsAbove}
 
 -- the flow in a slot, whose two ends are in use

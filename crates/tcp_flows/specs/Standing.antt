@@ -3,8 +3,8 @@ use Rattle.std.specs.Prelude.{ℕ, ◌<◌, Bool, true, false, ◌||◌, ◌&&�
 use Rattle.poll_list.specs.declared.Want.{Want}
 use Rattle.poll_list.specs.declared.Who.{Who}
 use Rattle.poll_list.specs.declared.Who.TheVariants.{Link, Listener, Udp, Tcp}
-use Rattle.flow_rules.specs.Choices.{same_ways}
-use Rattle.flow_rules.specs.declared.Waits.{Waits}
+use Rattle.rules_flow.specs.Choices.{same_ways}
+use Rattle.rules_flow.specs.declared.Waits.{Waits}
 
 -- what each slot's flow waits for, and the wants of the sockets for which something is waited
 pub record Waited : Type 0 where

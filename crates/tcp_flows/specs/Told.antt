@@ -4,8 +4,8 @@ use Rattle.poll_list.specs.declared.Who.TheVariants.{Tcp as OnTcp}
 use Rattle.world_face.specs.Journal.{Entry}
 use Rattle.slirp_settings.specs.Addresses.{Config}
 use Rattle.flow_splice.specs.Splice.{Splice}
-use Rattle.run_duties.specs.Serving.{is_left_to_read, is_left_to_write}
-use Rattle.flows_follow.specs.Core.{number_of}
+use Rattle.spec_duties.specs.Serving.{is_left_to_read, is_left_to_write}
+use Rattle.sim_flows.specs.Core.{number_of}
 use Rattle.tcp_flows.specs.Kept.{Kept}
 use Rattle.tcp_flows.specs.Reading.{IsOpenAt}
 

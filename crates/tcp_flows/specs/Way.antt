@@ -2,16 +2,16 @@
 use Rattle.std.specs.Prelude.{◌≡◌, ℕ, ◌==◌, ◌&&◌, ◌||◌, ◌⊎◌, ◌++◌, not, nat_le, nat_lt, Bool, true, false, List, [], ◌∷◌, Option, Some, None, slice_get, if◌then◌else◌}
 use Rattle.world_face.specs.Journal.{Entry}
 use Rattle.slirp_settings.specs.Addresses.{Config}
-use Rattle.flow_rules.specs.Choices.{is_before}
-use Rattle.flow_rules.specs.declared.Quiet.{Quiet}
-use Rattle.record_flows.specs.Book.{book}
-use Rattle.record_flows.specs.Lots.{NeedsRoom, due_for_flows, giving_way, lot}
-use Rattle.record_flows.specs.Segments.{OnTuple}
-use Rattle.run_laws.specs.Sockets.{next_number}
-use Rattle.slirp_laws.specs.Agenda.{agenda}
+use Rattle.rules_flow.specs.Choices.{is_before}
+use Rattle.rules_flow.specs.declared.Quiet.{Quiet}
+use Rattle.spec_flows.specs.Book.{book}
+use Rattle.spec_flows.specs.Lots.{NeedsRoom, due_for_flows, giving_way, lot}
+use Rattle.spec_flows.specs.Segments.{OnTuple}
+use Rattle.spec_trace.specs.Sockets.{next_number}
+use Rattle.spec_run.specs.Agenda.{agenda}
 use Rattle.flow_splice.specs.Splice.{Splice, is_in_use, is_open}
 use Rattle.flow_splice.specs.Wants.{gives_way_at}
-use Rattle.flows_follow.specs.Core.{number_of}
+use Rattle.sim_flows.specs.Core.{number_of}
 use Rattle.tcp_flows.specs.Kept.{Kept}
 use Rattle.tcp_flows.specs.Runs.{Between, Leaves}
 

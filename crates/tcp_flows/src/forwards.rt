@@ -1,7 +1,7 @@
 // Peers come to ports of the host that are given to guests, and guests' hardware addresses are learnt.
 ghost use Rattle.std.specs.Prelude.{◌≡◌, ℕ, ◌+◌, ◌-◌, ◌^◌, ◌<◌, ◌≤◌, List, [], length, option_map, slice_get, slice_set, true, false, Some};
-ghost use Rattle.flows_follow.specs.Seats.{in_use_slots};
-ghost use Rattle.flow_laws.specs.Flow.{first_number};
+ghost use Rattle.sim_flows.specs.Seats.{in_use_slots};
+ghost use Rattle.spec_flow.specs.Flow.{first_number};
 ghost use Rattle.flow_table.specs.Slots.{NoneHas};
 ghost use Rattle.flow_table.specs.declared.Slot.TheVariants.{InUse as SlotInUse};
 ghost use Rattle.flow_splice.specs.Splice.{Splice, is_in_use as is_in_use_by};
@@ -16,14 +16,14 @@ use crate::rows::Before;
 use arp_table::ArpTable;
 use flow_splice::Place;
 use net_octets::Mac;
-use record_flows::Tuple;
+use spec_flows::Tuple;
 use tcp_connection::Conn;
 
 impl TcpFlows {
-    ghost use Rattle.record_flows.specs.Book.{book};
-    ghost use Rattle.record_flows.specs.Flows.{is_used};
+    ghost use Rattle.spec_flows.specs.Book.{book};
+    ghost use Rattle.spec_flows.specs.Flows.{is_used};
     ghost use Rattle.slirp_settings.specs.Addresses.{Config};
-    ghost use Rattle.flows_follow.specs.Core.{CoreHolds, number_of};
+    ghost use Rattle.sim_flows.specs.Core.{CoreHolds, number_of};
     ghost use Rattle.std.specs.Prelude.{Bool, Option};
     ghost use Rattle.tcp_flows.specs.Kept.{with_flows};
     ghost use Rattle.tcp_flows.specs.Reading.{HaveLearnt, AreTold, NoneInSlots, NoneUses, Stays, StaysBut, learnt_from};

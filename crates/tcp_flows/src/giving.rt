@@ -8,8 +8,8 @@ ghost use Rattle.tcp_flows.specs.Way.{AreFirst, IsFirstQuiet, gives as gives_by,
 
 use crate::flows::TcpFlows;
 use crate::rows::Before;
-use flow_rules::{Quiet, earlier_quiet};
 use flow_splice::{Place, Spliced};
+use rules_flow::{Quiet, earlier_quiet};
 use world_face::World;
 
 impl TcpFlows {

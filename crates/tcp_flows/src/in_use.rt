@@ -1,13 +1,13 @@
 // Flows in use, one after another by rising number.
 ghost use Rattle.std.specs.Prelude.{◌≡◌, map};
 ghost use Rattle.flow_splice.specs.Splice.{is_in_use};
-ghost use Rattle.flows_follow.specs.Core.{ends_of};
+ghost use Rattle.sim_flows.specs.Core.{ends_of};
 ghost use Rattle.tcp_flows.specs.InUse.{IsNextUse, counts as counts_by, is_above as is_above_by, lesser as lesser_by, use_above as use_above_by};
 ghost use Rattle.tcp_flows.specs.Kept.{part_of};
 
 use crate::flows::TcpFlows;
 use flow_splice::{Place, Spliced};
-use record_flows::Tuple;
+use spec_flows::Tuple;
 
 impl TcpFlows {
     ghost use Rattle.tcp_flows.specs.Reading.{HaveSlots};

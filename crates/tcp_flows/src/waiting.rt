@@ -2,14 +2,14 @@
 ghost use Rattle.std.specs.Prelude.{◌≡◌, ◌^◌, ◌<◌, ◌≤◌, length, slice_get, slice_set, replicate, IfOk, Some, []};
 ghost use Rattle.std.specs.Vec.{vec_capacity};
 ghost use Rattle.poll_list.specs.Writes.{count_to_write};
-ghost use Rattle.flow_rules.specs.declared.Waits.{Waits as WaitsOf};
+ghost use Rattle.rules_flow.specs.declared.Waits.{Waits as WaitsOf};
 ghost use Rattle.tcp_flows.specs.Places.{IsPlaceOf, has_at};
 ghost use Rattle.tcp_flows.specs.Standing.{AreOrdered, is_any as is_any_by, listed, number_in, wants_after, with_wants};
 ghost use Rattle.tcp_flows.specs.Rows.{no_waits};
 
-use flow_rules::{Waits, same_ways};
 use net_octets::NoMemory;
 use poll_list::{Want, Who};
+use rules_flow::{Waits, same_ways};
 use std::alloc::Global;
 use std::marker::Model;
 

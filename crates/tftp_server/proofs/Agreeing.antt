@@ -4,7 +4,7 @@ use Rattle.std.proofs.Common.{is_some, refl, sym, ◌∙◌, ap, arith}
 use Rattle.std.specs.List.{list_any}
 use Rattle.std.proofs.lemmas.List.{length-append, map-append}
 use Rattle.std.proofs.lemmas.List.Folds.{list_any-append}
-use Rattle.tftp_rules.specs.Packets.{Terms, answers, has_answered, number_in, with_size, with_timeout}
+use Rattle.rules_tftp.specs.Packets.{Terms, answers, has_answered, number_in, with_size, with_timeout}
 use Rattle.tftp_server.specs.Options.{AreOnce, answered_pair, free, is_among, name_of}
 use Rattle.tftp_server.specs.declared.options.Known.{Known}
 use Rattle.tftp_server.specs.declared.options.Known.TheVariants.{BlockSize, Timeout, FileSize}

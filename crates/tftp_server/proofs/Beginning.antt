@@ -1,8 +1,8 @@
 -- What a request comes to.
 use Rattle.std.proofs.Common.{◌≡◌, ℕ, nat_eq, codes, Bool, true, false, cond, List, length, Option, Some, None, is_some, option_map, refl, sym, ◌∙◌, ap}
 use Rattle.net_octets.specs.declared.Endpoint.{Endpoint}
-use Rattle.tftp_rules.specs.Packets.{Request, Terms, file_in, is_name, options_octets, says}
-use Rattle.tftp_rules.specs.Transfers.{Sought, SeeksLength, Transfer, measured, refuses, requested, requested_file, seeks_next, sends, transfer, with_room}
+use Rattle.rules_tftp.specs.Packets.{Request, Terms, file_in, is_name, options_octets, says}
+use Rattle.rules_tftp.specs.Transfers.{Sought, SeeksLength, Transfer, measured, refuses, requested, requested_file, seeks_next, sends, transfer, with_room}
 use Rattle.tftp_server.specs.Reading.{name_taken}
 
 -- no option is answered, or some are

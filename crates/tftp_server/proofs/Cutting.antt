@@ -4,7 +4,7 @@ use Rattle.std.proofs.Common.{option_map, refl, sym, ◌∙◌, ap, arith, appen
 use Rattle.std.specs.List.{position_or_len}
 use Rattle.std.specs.Option.{option_and_then}
 use Rattle.std.proofs.lemmas.Bool.Decides.{nat_tests}
-use Rattle.tftp_rules.specs.Packets.{Request, pairs_of, parts_from, request_in, request_of, texts_from, texts_in}
+use Rattle.rules_tftp.specs.Packets.{Request, pairs_of, parts_from, request_in, request_of, texts_from, texts_in}
 use Rattle.tftp_server.specs.Reading.{are_pairs, cut, first_pair, options_of, pair_with, pairs_in, with_front}
 
 -- the parts at a place

@@ -6,12 +6,12 @@ use Rattle.std.proofs.lemmas.List.{get_or-map, length-map, map-append, map-set, 
 use Rattle.std.proofs.lemmas.List.Quantifiers.{position-Some}
 use Rattle.net_octets.specs.declared.Endpoint.{Endpoint}
 use Rattle.slirp_settings.specs.Classes.{same_endpoint}
-use Rattle.tftp_rules.specs.Transfers.{Transfer, acknowledged, goes_again, is_for, leaves, seeks_next, sent_again, without}
+use Rattle.rules_tftp.specs.Transfers.{Transfer, acknowledged, goes_again, is_for, leaves, seeks_next, sent_again, without}
 use Rattle.tftp_server.specs.Rows.{transfer_of, transfers_of}
-use Rattle.tftp_rules.specs.Soundness.{AreApart}
+use Rattle.rules_tftp.specs.Soundness.{AreApart}
 use Rattle.tftp_server.specs.declared.row.Row.{Row}
-use Rattle.tftp_rules.proofs.Listing.{apart_push, find_map, position_none, position_some, removed, same_is}
-use Rattle.tftp_rules.proofs.Naming.{both}
+use Rattle.rules_tftp.proofs.Listing.{apart_push, find_map, position_none, position_some, removed, same_is}
+use Rattle.rules_tftp.proofs.Naming.{both}
 
 abbrev pub is_row_of : Endpoint → Row → Bool
 is_row_of guest r = same_endpoint r.guest guest

@@ -3,13 +3,13 @@ use Rattle.std.proofs.Common.{◌≡◌, ℕ, ◌&&◌, ◌||◌, nat_eq, bytes_
 use Rattle.std.specs.List.{list_any}
 use Rattle.std.specs.Option.{option_and_then}
 use Rattle.std.proofs.lemmas.Bool.Decides.{nat_tests}
-use Rattle.tftp_rules.specs.Packets.{Terms, answers, has_answered, number_in, says, small, terms_from, with_option, with_size, with_timeout}
+use Rattle.rules_tftp.specs.Packets.{Terms, answers, has_answered, number_in, says, small, terms_from, with_option, with_size, with_timeout}
 use Rattle.tftp_server.specs.Options.{known_by, name_of, with_known}
 use Rattle.tftp_server.specs.declared.options.Known.{Known}
 use Rattle.tftp_server.specs.declared.options.Known.TheVariants.{BlockSize, Timeout, FileSize}
 use Rattle.tftp_server.specs.declared.options.Answer.{Answer}
 use Rattle.tftp_server.proofs.Agreeing.{among_map, shown}
-use Rattle.tftp_rules.proofs.Naming.{both}
+use Rattle.rules_tftp.proofs.Naming.{both}
 
 pub same_octets : (a b : List ℕ) → bytes_eq a b ≡ true → a ≡ b
 same_octets [] [] is = refl

@@ -1,7 +1,7 @@
 -- Numbers that aren't counted on past a bound.
 use Rattle.std.proofs.Common.{◌≡◌, ℕ, ◌+◌, ◌-◌, ◌*◌, ◌≤◌, min, List, [], ◌∷◌, sym, ap, subst, arith, inl, inr}
 use Rattle.std.proofs.lemmas.Bool.{cases_lt}
-use Rattle.tftp_rules.specs.Packets.{number_from}
+use Rattle.rules_tftp.specs.Packets.{number_from}
 
 grows : (n : ℕ) (digits : List ℕ) → n ≤ number_from n digits
 grows n [] = omega arith

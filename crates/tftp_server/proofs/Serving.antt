@@ -3,9 +3,9 @@ use Rattle.std.proofs.Common.{◌≡◌, ℕ, true, false, List, [], ◌∷◌, 
 use Rattle.world_face.specs.Journal.{Entry, call_of}
 use Rattle.world_face.specs.Tells.{Makes, Telling, Answers}
 use Rattle.world_face.proofs.Telling.{makes_as, makes_none, makes_one, makes_then}
-use Rattle.tftp_rules.specs.Transfers.{Outcome, Said, Settled, Transfer, refuses, seeks_block, sends_block}
-use Rattle.tftp_rules.specs.Asking.{AreAskedFor, IsServed, after_calls, by_answer, call_for, or_outcome}
-use Rattle.tftp_rules.specs.Blocks.{ReadsBlock}
+use Rattle.rules_tftp.specs.Transfers.{Outcome, Said, Settled, Transfer, refuses, seeks_block, sends_block}
+use Rattle.rules_tftp.specs.Asking.{AreAskedFor, IsServed, after_calls, by_answer, call_for, or_outcome}
+use Rattle.rules_tftp.specs.Blocks.{ReadsBlock}
 
 -- nothing is asked for
 pub at_once : (now : ℕ) (o : Outcome) (new : List Transfer) (told : Option Said) → o.files.quest ≡ Settled → new ≡ o.files.transfers → told ≡ o.told → IsServed now o new told []

@@ -5,7 +5,7 @@ use Rattle.std.proofs.lemmas.Bool.Decides.{nat_tests}
 use Rattle.std.proofs.lemmas.List.{length-append, map-append, take-append-le, take_all, take_more}
 use Rattle.std.proofs.lemmas.List.Elements.{All-push, All-weaker}
 use Rattle.std.proofs.lemmas.List.Quantifiers.{Any-push}
-use Rattle.tftp_rules.specs.Transfers.{Transfer}
+use Rattle.rules_tftp.specs.Transfers.{Transfer}
 use Rattle.tftp_server.specs.Serving.{IsNextDue, earlier}
 use Rattle.tftp_server.specs.Rows.{transfer_of, transfers_of}
 use Rattle.tftp_server.specs.declared.row.Row.{Row}

@@ -3,8 +3,8 @@ use Rattle.std.proofs.Common.{ℕ, ◌≤◌, List, [], ◌∷◌, length, Optio
 use Rattle.std.proofs.lemmas.List.{length-map}
 use Rattle.std.proofs.lemmas.List.Elements.{All-cons, All-nil}
 use Rattle.tftp_server.specs.Rows.{transfer_of, transfers_of}
-use Rattle.tftp_rules.specs.Soundness.{AreApart, AreSound, AreTimed, WaitsWell}
-use Rattle.tftp_rules.specs.Transfers.{Transfer}
+use Rattle.rules_tftp.specs.Soundness.{AreApart, AreSound, AreTimed, WaitsWell}
+use Rattle.rules_tftp.specs.Transfers.{Transfer}
 use Rattle.tftp_server.specs.declared.row.Row.{Row}
 
 rows_timed : (folder : Option (List ℕ)) (rows : List Row) → AreTimed (transfers_of folder rows)

@@ -2,7 +2,7 @@
 use Rattle.std.proofs.Common.{◌≡◌, ℕ, ◌+◌, ◌<◌, ◌≤◌, List, [], ◌∷◌, ◌++◌, length, map, take, get_or, refl, sym, ◌∙◌, ap, append_assoc, decimal}
 use Rattle.std.proofs.lemmas.List.{map-append, take_all, take_more}
 use Rattle.net_octets.specs.Octets.{two}
-use Rattle.tftp_rules.specs.Packets.{Terms, answered_octets, options_octets}
+use Rattle.rules_tftp.specs.Packets.{Terms, answered_octets, options_octets}
 use Rattle.tftp_server.specs.Options.{answered_pair}
 use Rattle.tftp_server.specs.declared.options.Answer.{Answer}
 

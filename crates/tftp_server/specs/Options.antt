@@ -1,7 +1,7 @@
 -- The options that are known, as the code keeps them.
 use Rattle.std.specs.Prelude.{◌≡◌, ℕ, ◌+◌, Bool, List, length, bytes_eq, codes, Option, Some, None, option_map, if◌then◌else◌}
 use Rattle.std.specs.List.{list_any}
-use Rattle.tftp_rules.specs.Packets.{Terms, answers, number_in, says, with_size, with_timeout}
+use Rattle.rules_tftp.specs.Packets.{Terms, answers, number_in, says, with_size, with_timeout}
 use Rattle.tftp_server.specs.declared.options.Known.{Known}
 use Rattle.tftp_server.specs.declared.options.Known.TheVariants.{BlockSize, Timeout, FileSize}
 use Rattle.tftp_server.specs.declared.options.Answer.{Answer}

@@ -2,7 +2,7 @@
 use Rattle.std.specs.Prelude.{ℕ, ◌==◌, Bool, List, [], ◌∷◌, Option, Some, None, is_some, option_map, unwrap_or, if◌then◌else◌}
 use Rattle.std.specs.Option.{option_and_then}
 use Rattle.std.specs.Borrow.{Bor}
-use Rattle.tftp_rules.specs.Packets.{Packet, Asks, AsksToWrite, Acknowledges, GivesUp, Unheard, Request, is_name, pairs_of, texts_in}
+use Rattle.rules_tftp.specs.Packets.{Packet, Asks, AsksToWrite, Acknowledges, GivesUp, Unheard, Request, is_name, pairs_of, texts_in}
 use Rattle.tftp_server.specs.declared.packets.PacketView.{PacketView}
 use Rattle.tftp_server.specs.declared.packets.PacketView.TheVariants.{Asks as AsksBy, AsksToWrite as AsksToWriteIt, Acknowledges as AcknowledgesIt, GivesUp as GivesItUp, Unheard as IsUnheard}
 use Rattle.tftp_server.specs.declared.packets.RequestView.{RequestView}

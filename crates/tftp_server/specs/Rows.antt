@@ -1,8 +1,8 @@
 -- Transfers as the code keeps them: the names of files without their folder.
 use Rattle.std.specs.Prelude.{◌≡◌, ℕ, ◌+◌, ◌<◌, List, [], length, map, find, Option, Some, None, unwrap_or, slice_index_or, slice_set, if◌then◌else◌}
 use Rattle.net_octets.specs.declared.Endpoint.{Endpoint}
-use Rattle.tftp_rules.specs.Packets.{file_in}
-use Rattle.tftp_rules.specs.Transfers.{Outcome, Sought, SeeksLength, Transfer, acknowledged, is_for, leaves, seeks_next, sent_again, without}
+use Rattle.rules_tftp.specs.Packets.{file_in}
+use Rattle.rules_tftp.specs.Transfers.{Outcome, Sought, SeeksLength, Transfer, acknowledged, is_for, leaves, seeks_next, sent_again, without}
 use Rattle.tftp_server.specs.Reading.{options_of}
 use Rattle.tftp_server.specs.Serving.{Serving}
 use Rattle.tftp_server.specs.declared.row.Row.{Row}

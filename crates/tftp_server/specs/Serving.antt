@@ -1,6 +1,6 @@
 -- What contracts see of the server, and what it tells a guest.
 use Rattle.std.specs.Prelude.{◌≡◌, ℕ, ◌≤◌, ◌<◌, nat_le, All, Any, List, Option, Some, None, if◌then◌else◌}
-use Rattle.tftp_rules.specs.Transfers.{Transfer}
+use Rattle.rules_tftp.specs.Transfers.{Transfer}
 
 -- the address of the server, the folder whose files are read, where there is one, and the transfers, the longest unused first
 pub record Serving : Type 0 where

@@ -1,7 +1,7 @@
 //! The options of a request that are known (RFC 2347; RFC 2348; RFC 2349).
 ghost use Rattle.std.specs.Prelude.{◌≡◌, ◌≤◌, ℕ, List, codes, length, map, Some, None, true, false, if◌then◌else◌};
 ghost use Rattle.std.specs.Option.{option_map};
-ghost use Rattle.tftp_rules.specs.Packets.{answers, has_answered, number_in, terms_of, usual_terms, with_option, with_size, with_timeout};
+ghost use Rattle.rules_tftp.specs.Packets.{answers, has_answered, number_in, terms_of, usual_terms, with_option, with_size, with_timeout};
 ghost use Rattle.tftp_server.specs.Reading.{are_pairs, options_of};
 ghost use Rattle.tftp_server.specs.Options.{answered_pair, is_among, known_by, name_of, with_known};
 ghost use Rattle.tftp_server.specs.declared.options.Known.TheVariants.{BlockSize, Timeout, FileSize};
@@ -79,7 +79,7 @@ pub struct Agreed {
 
 impl Model for Agreed {
     ghost use Rattle.std.specs.Prelude.{◌≤◌, map};
-    ghost use Rattle.tftp_rules.specs.Packets.{Terms};
+    ghost use Rattle.rules_tftp.specs.Packets.{Terms};
     ghost use Rattle.tftp_server.specs.Options.{answered_pair, AreOnce};
 
     ghost Value = { Terms };

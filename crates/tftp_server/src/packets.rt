@@ -2,7 +2,7 @@
 ghost use Rattle.std.specs.Prelude.{◌≡◌, ◌==◌, ◌<◌, ◌≤◌, [], length, map, min, position, true, IfSome};
 ghost use Rattle.std.specs.Option.{option_map};
 ghost use Rattle.std.specs.List.{list_all};
-ghost use Rattle.tftp_rules.specs.Packets.{is_digit, is_name, is_part, is_printable, number_from, number_in, packet_in, parts_from, request_in, says, small};
+ghost use Rattle.rules_tftp.specs.Packets.{is_digit, is_name, is_part, is_printable, number_from, number_in, packet_in, parts_from, request_in, says, small};
 ghost use Rattle.tftp_server.specs.Reading.{are_pairs, cut, first_pair, name_taken, packet_of, pair_of, parts_of, request_of_view};
 
 use crate::MOST_NAME;

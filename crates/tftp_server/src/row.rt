@@ -4,7 +4,7 @@ ghost use Rattle.std.specs.Prelude.{◌≡◌, ◌≤◌, ◌*◌, false};
 use crate::MOST_NAME;
 use arrayvec::{ArrayString, ArrayVec};
 use net_octets::{Endpoint, Mac};
-use tftp_rules::MOST_PACKET;
+use rules_tftp::MOST_PACKET;
 
 /// A file that a port of a guest gets: the port, and the hardware address from which its request came; the name and the length of the file; the octets of a
 /// block and the timeout in milliseconds; the block that was sent last, counted on, 0 for the options; whether it is the file's last, and its packet; how often

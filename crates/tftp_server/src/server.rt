@@ -2,14 +2,14 @@
 ghost use Rattle.std.specs.Prelude.{◌≡◌, ◌+◌, ◌-◌, ◌*◌, ◌^◌, ◌≤◌, ◌<◌, ℕ, List, [], length, find, min, take, Option, Some, None, true, false};
 ghost use Rattle.world_face.specs.Tells.{Makes};
 ghost use Rattle.world_face.specs.Limits.{most_name};
-ghost use Rattle.tftp_rules.specs.Packets.{error_octets, file_in, options_octets, request_in, terms_of};
-ghost use Rattle.tftp_rules.specs.Transfers.{Transfer, acknowledged, came, is_for, measured, most_transfers, octets_of, place_of, requested, seeks_next, sends, sends_block, settled, transfer};
-ghost use Rattle.tftp_rules.specs.Asking.{IsServed};
+ghost use Rattle.rules_tftp.specs.Packets.{error_octets, file_in, options_octets, request_in, terms_of};
+ghost use Rattle.rules_tftp.specs.Transfers.{Transfer, acknowledged, came, is_for, measured, most_transfers, octets_of, place_of, requested, seeks_next, sends, sends_block, settled, transfer};
+ghost use Rattle.rules_tftp.specs.Asking.{IsServed};
 ghost use Rattle.tftp_server.specs.Reading.{are_pairs};
-ghost use Rattle.tftp_rules.specs.Saying.{most_packet, said_by, IsFromServer};
+ghost use Rattle.rules_tftp.specs.Saying.{most_packet, said_by, IsFromServer};
 ghost use Rattle.tftp_server.specs.Rows.{folder_octets, next_of, seeking_length, sought, transfer_of};
-ghost use Rattle.tftp_rules.specs.Soundness.{AreSound};
-ghost use Rattle.tftp_rules.specs.Blocks.{ReadsBlock};
+ghost use Rattle.rules_tftp.specs.Soundness.{AreSound};
+ghost use Rattle.rules_tftp.specs.Blocks.{ReadsBlock};
 
 use crate::options::Agreed;
 use crate::packets::{PacketView, name_in, read_packet, read_request, says};
@@ -18,7 +18,7 @@ use crate::transfers::{Tftp, tell};
 use crate::written::{block_packet, error_packet, options_packet};
 use arrayvec::{ArrayString, ArrayVec};
 use net_octets::{Endpoint, Ip4, Mac};
-use udp_rules::Reply;
+use rules_udp::Reply;
 use world_face::{FileSize, Io, World};
 
 /// An error that has no number of its own (RFC 1350, 5).

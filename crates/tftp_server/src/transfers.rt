@@ -4,20 +4,20 @@ ghost use Rattle.slirp_settings.specs.Ranges.{IsSound};
 ghost use Rattle.slirp_settings.specs.Settings.{settings};
 ghost use Rattle.slirp_settings.specs.Classes.{same_endpoint};
 ghost use Rattle.net_octets.specs.declared.Endpoint.{Endpoint as AnEndpoint};
-ghost use Rattle.tftp_rules.specs.Transfers.{is_for, without, with_room, sending, ticked, begun, most_transfers};
+ghost use Rattle.rules_tftp.specs.Transfers.{is_for, without, with_room, sending, ticked, begun, most_transfers};
 ghost use Rattle.tftp_server.specs.Serving.{earlier, IsNextDue};
-ghost use Rattle.tftp_rules.specs.Saying.{most_packet, said_by, IsFromServer};
+ghost use Rattle.rules_tftp.specs.Saying.{most_packet, said_by, IsFromServer};
 ghost use Rattle.tftp_server.specs.Rows.{transfer_of, transfers_of, IsSentAgain, TakesAcknowledged};
-ghost use Rattle.tftp_rules.specs.Soundness.{AreSound};
+ghost use Rattle.rules_tftp.specs.Soundness.{AreSound};
 
 use crate::row::Row;
 use crate::{MOST_AGAIN, MOST_TRANSFERS};
 use arrayvec::ArrayString;
 use net_octets::{Endpoint, Ip4, Mac, NoMemory};
+use rules_udp::Reply;
 use slirp_settings::{FILES_PORT, SlirpConfig};
 use std::alloc::Global;
 use std::marker::Model;
-use udp_rules::Reply;
 
 /// The files that guests get over TFTP. Contracts see the address of the server, the folder, and the list of transfers, the longest unused first, each with its packet.
 ///
@@ -35,7 +35,7 @@ impl Model for Tftp {
     ghost use Rattle.std.specs.Vec.{vec_len, vec_capacity};
     ghost use Rattle.tftp_server.specs.Serving.{Serving};
     ghost use Rattle.tftp_server.specs.Rows.{transfers_of};
-    ghost use Rattle.tftp_rules.specs.Soundness.{AreApart};
+    ghost use Rattle.rules_tftp.specs.Soundness.{AreApart};
 
     ghost Value = { Serving };
 

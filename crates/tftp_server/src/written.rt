@@ -1,13 +1,13 @@
 //! What a guest is told: the options that are answered, a block of a file, an error (RFC 1350, 5; RFC 2347).
 ghost use Rattle.std.specs.Prelude.{◌≡◌, ◌+◌, ◌%◌, ◌^◌, ◌≤◌, ◌++◌, ◌∷◌, [], length};
-ghost use Rattle.tftp_rules.specs.Packets.{answered_octets, block_octets, error_octets, options_octets};
-ghost use Rattle.tftp_rules.specs.Saying.{most_packet};
+ghost use Rattle.rules_tftp.specs.Packets.{answered_octets, block_octets, error_octets, options_octets};
+ghost use Rattle.rules_tftp.specs.Saying.{most_packet};
 ghost use Rattle.tftp_server.specs.Options.{answered_pair};
 
 use crate::options::{Agreed, Answer};
 use arrayvec::ArrayVec;
 use itoa::Buffer;
-use tftp_rules::MOST_PACKET;
+use rules_tftp::MOST_PACKET;
 
 /// The options that are answered.
 pub fn options_packet(agreed: &Agreed) -> ArrayVec<u8, MOST_PACKET>

@@ -9,11 +9,11 @@ use Rattle.idle_sockets.specs.declared.IdleSocket.{IdleSocket}
 use Rattle.idle_sockets.specs.Closing.{calls_for_room as calls_for_room_of, with_room as with_room_of}
 use Rattle.idle_sockets.proofs.Mapping.{calls_mapped, find_mapped, room_mapped}
 use Rattle.idle_sockets.proofs.Yielding.{all_without, of_room}
-use Rattle.udp_rules.specs.Associations.{is_numbered as is_association, is_of as is_port, moved_last as association_moved, numbered as numbered_association, numbers as association_numbers}
-use Rattle.udp_rules.specs.Associations.{socket_of as association_socket}
+use Rattle.rules_udp.specs.Associations.{is_numbered as is_association, is_of as is_port, moved_last as association_moved, numbered as numbered_association, numbers as association_numbers}
+use Rattle.rules_udp.specs.Associations.{socket_of as association_socket}
 use Rattle.udp_assoc.specs.Kept.{as_association, associations, is_only, only, AreOnly}
 use Rattle.udp_assoc.specs.Relays.{calls_for_room, with_room}
-use Rattle.udp_rules.specs.declared.Association.{Association}
+use Rattle.rules_udp.specs.declared.Association.{Association}
 
 pub moved : (change : IdleSocket → IdleSocket) (changes : Association → Association) → ((s : IdleSocket) → as_association (change s) ≡ changes (as_association s)) → (n : ℕ)
     (sockets : List IdleSocket) → associations (moved_last change n sockets) ≡ association_moved changes n (associations sockets)

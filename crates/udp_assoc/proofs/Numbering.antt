@@ -3,8 +3,8 @@ use Rattle.std.proofs.Common.{◌≡◌, ℕ, Bool, cond, true, false, List, [],
 use Rattle.std.specs.List.Sorted.{IsPermutation}
 use Rattle.std.proofs.lemmas.List.{map-append}
 use Rattle.std.proofs.lemmas.List.Sorted.{IsPermutation-refl, IsPermutation-append_comm, IsPermutation-append_right}
-use Rattle.udp_rules.specs.Associations.{numbers, moved_last, is_numbered}
-use Rattle.udp_rules.specs.declared.Association.{Association}
+use Rattle.rules_udp.specs.Associations.{numbers, moved_last, is_numbered}
+use Rattle.rules_udp.specs.declared.Association.{Association}
 
 -- they are the same, in another order
 pub moved_numbers : (change : Association → Association) → ((a : Association) → (change a).number ≡ a.number) → (number : ℕ) (list : List Association)

@@ -1,8 +1,8 @@
 -- A port without an association has none where another was closed.
 use Rattle.std.proofs.Common.{◌≡◌, ℕ, not, Bool, true, false, List, [], ◌∷◌, find, Some, None, option_map, if◌then◌else◌, refl, ◌∙◌, ap}
 use Rattle.net_octets.specs.declared.Endpoint.{Endpoint}
-use Rattle.udp_rules.specs.Associations.{is_numbered, is_of, socket_of, without}
-use Rattle.udp_rules.specs.declared.Association.{Association}
+use Rattle.rules_udp.specs.Associations.{is_numbered, is_of, socket_of, without}
+use Rattle.rules_udp.specs.declared.Association.{Association}
 
 pub still_none : (guest : Endpoint) (socket : ℕ) (list : List Association) → socket_of guest list ≡ None → socket_of guest (without socket list) ≡ None
 still_none guest socket [] none = none

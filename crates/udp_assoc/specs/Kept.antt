@@ -1,7 +1,7 @@
 -- How associations are kept: as sockets with an idle life, of which a port has one at most.
 use Rattle.std.specs.Prelude.{◌≡◌, ℕ, ◌==◌, true, Bool, All, List, map}
 use Rattle.idle_sockets.specs.declared.IdleSocket.{IdleSocket}
-use Rattle.udp_rules.specs.declared.Association.{Association}
+use Rattle.rules_udp.specs.declared.Association.{Association}
 
 -- the identifier of a socket that is the only one of its port
 abbrev pub only : ℕ

@@ -3,8 +3,8 @@ use Rattle.std.specs.Prelude.{◌≡◌, ℕ, ◌+◌, ◌≤◌, ◌<◌, Bool,
 use Rattle.net_octets.specs.declared.Endpoint.{Endpoint}
 use Rattle.net_octets.specs.declared.Mac.{Mac}
 use Rattle.slirp_settings.specs.Addresses.{endpoint}
-use Rattle.udp_rules.specs.declared.Reply.{Reply}
-use Rattle.udp_rules.specs.declared.Reply.TheVariants.{Nothing, Datagram, Unreachable}
+use Rattle.rules_udp.specs.declared.Reply.{Reply}
+use Rattle.rules_udp.specs.declared.Reply.TheVariants.{Nothing, Datagram, Unreachable}
 use Rattle.world_face.specs.Journal.{Entry, UdpOpen, UdpSend, UdpRecv, filled_got}
 use Rattle.world_face.specs.declared.Made.TheVariants.{Done as MadeDone, Failed as MadeFailed}
 use Rattle.world_face.specs.declared.Sent.{Sent}
@@ -12,8 +12,8 @@ use Rattle.world_face.specs.declared.Sent.TheVariants.{Done, NotYet, Failed}
 use Rattle.world_face.specs.declared.Got.{Got}
 use Rattle.world_face.specs.declared.Got.TheVariants.{From, NotYet as GotNotYet, Failed as GotFailed}
 use Rattle.idle_sockets.specs.Closing.{calls_for_room as calls_for_room_of, with_room as with_room_of, ClosesAll, ClosesLeast as ClosesLeastOf}
-use Rattle.udp_rules.specs.Associations.{most_associations, numbered, socket_of, moved_last, sent_from, heard_at, is_over}
-use Rattle.udp_rules.specs.declared.Association.{Association}
+use Rattle.rules_udp.specs.Associations.{most_associations, numbered, socket_of, moved_last, sent_from, heard_at, is_over}
+use Rattle.rules_udp.specs.declared.Association.{Association}
 
 -- a datagram of a guest: its endpoint, the hardware address from which it came, where it goes, and its payload
 pub record Outbound : Type 0 where

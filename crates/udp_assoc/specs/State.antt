@@ -1,6 +1,6 @@
 -- What contracts see of the sockets of associations.
 use Rattle.std.specs.Prelude.{ℕ, List}
-use Rattle.udp_rules.specs.declared.Association.{Association}
+use Rattle.rules_udp.specs.declared.Association.{Association}
 
 -- the address of the host at which sockets are opened, 0 for every address, and the associations, the longest unused first
 pub record AssocsState : Type 0 where

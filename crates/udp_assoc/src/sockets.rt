@@ -4,7 +4,7 @@ ghost use Rattle.std.specs.List.Sorted.{IsNonDecreasing};
 ghost use Rattle.std.specs.Option.{option_map};
 ghost use Rattle.world_face.specs.Limits.{most_to_udp};
 ghost use Rattle.world_face.specs.Tells.{Makes};
-ghost use Rattle.udp_rules.specs.Associations.{idle_life, is_over, most_associations, numbers, socket_of};
+ghost use Rattle.rules_udp.specs.Associations.{idle_life, is_over, most_associations, numbers, socket_of};
 ghost use Rattle.udp_assoc.specs.Relays.{FitsRoom, Receives, SendsOn};
 ghost use Rattle.udp_assoc.specs.Kept.{as_association};
 ghost use Rattle.idle_sockets.specs.Numbers.{Rise};
@@ -12,8 +12,8 @@ ghost use Rattle.udp_assoc.specs.Sending.{outbound_of};
 
 use idle_sockets::{IdleSocket, IdleSockets};
 use net_octets::{Endpoint, Ip4, Mac};
+use rules_udp::{Association, IDLE_LIFE, Reply};
 use std::marker::Model;
-use udp_rules::{Association, IDLE_LIFE, Reply};
 use world_face::{Got, Made, Sent, World};
 
 /// Why a destination can't be reached: the network can't (RFC 792).
@@ -60,7 +60,7 @@ impl Model for Assocs {
 impl Assocs {
     ghost use Rattle.std.specs.Prelude.{List};
     ghost use Rattle.udp_assoc.specs.Relays.{Relays, OpensFor, Hears, Ticks, ClosesLeast, with_reply};
-    ghost use Rattle.udp_rules.specs.Associations.{moved_last, sent_from};
+    ghost use Rattle.rules_udp.specs.Associations.{moved_last, sent_from};
     ghost use Rattle.std.specs.Prelude.{ℕ, None};
 
     /// No socket is open. Sockets will be opened at port 0 of this address of the host, where the system chooses the port; 0.0.0.0 is every address. All room

@@ -2,9 +2,9 @@ use crate::cases::Case;
 use arrayvec::ArrayVec;
 use dhcp_server::Leases;
 use net_octets::{Endpoint, Ip4, Mac};
+use rules_udp::Reply;
 use slirp_settings::SlirpConfig;
 use std::alloc::{AllocError, Global};
-use udp_rules::Reply;
 
 /// Room for a reply, in octets.
 const ROOM: usize = 1024;

@@ -1,6 +1,6 @@
 use Rattle.std.proofs.Common.{sym, ◌∙◌, subst, ap, Some}
 use Rattle.std.proofs.lemmas.Option.{same_Some}
-use Rattle.record_flows.specs.declared.Tuple.{Tuple}
+use Rattle.spec_flows.specs.declared.Tuple.{Tuple}
 use Rattle.flow_table.specs.Slots.{HasTuple}
 use Rattle.flow_table.specs.Rows.{entry_of}
 use Rattle.flow_table.proofs.Tuples.{entry_left, one_fewer, read_has}

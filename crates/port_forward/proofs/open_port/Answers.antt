@@ -1,7 +1,7 @@
 use Rattle.std.proofs.Common.{sym, subst}
 use Rattle.world_face.specs.Tells.{Answers}
 use Rattle.slirp_settings.specs.declared.Proto.{Proto}
-use Rattle.forward_rules.specs.Adding.{opening_of}
+use Rattle.rules_forward.specs.Adding.{opening_of}
 use Rattle.port_forward.proofs.open_port.Goals as goal
 
 pub returns-in-Tcp : goal.returns-in-Tcp

@@ -2,8 +2,8 @@ use Rattle.std.proofs.Common.{◌≡◌, ◌⊎◌, inl, inr, ℕ, List, [], ◌
 use Rattle.slirp_settings.specs.declared.Forward.{Forward}
 use Rattle.replay.proofs.Putting.{puts_same}
 use Rattle.app_edges.specs.Texts.{told_text}
-use Rattle.app_outcome.specs.declared.Outcome.{Outcome}
-use Rattle.app_outcome.specs.declared.Outcome.TheVariants.{ScheduleRead, ScheduleTooLarge}
+use Rattle.app_edges.specs.declared.outcome.Outcome.{Outcome}
+use Rattle.app_edges.specs.declared.outcome.Outcome.TheVariants.{ScheduleRead, ScheduleTooLarge}
 use Rattle.app_edges.proofs.status.tell.Goals as goal
 
 pub returns-in-FrameTooLong-clause-text : goal.returns-in-FrameTooLong-clause-text

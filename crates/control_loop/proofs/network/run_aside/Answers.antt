@@ -1,8 +1,8 @@
 use Rattle.std.proofs.Common.{sym, subst}
 use Rattle.world_face.specs.Tells.{Makes}
-use Rattle.control_aside.specs.Stretches.{Asided}
-use Rattle.control_laws.specs.Desk.{Reads}
-use Rattle.control_laws.specs.Laws.{IsReading}
+use Rattle.control.specs.Stretches.{Asided}
+use Rattle.spec_control.specs.Desk.{Reads}
+use Rattle.spec_control.specs.Laws.{IsReading}
 use Rattle.control_loop.specs.Runs.{RunsWith}
 use Rattle.control_loop.proofs.network.run_aside.Goals as goal
 

@@ -3,7 +3,7 @@ use Rattle.std.proofs.Common.{◌≡◌, ◌-◌, List, ℕ, length, take, drop,
 use Rattle.std.proofs.lemmas.List.{take_all, length-drop}
 use Rattle.tlv_table.specs.Tables.{Rules}
 use Rattle.tlv_table.specs.Reading.{reading}
-use Rattle.dhcp_rules.specs.Messages.{form, rows_read, message_of}
+use Rattle.rules_dhcp.specs.Messages.{form, rows_read, message_of}
 use Rattle.dhcp_server.proofs.message.message_in.Goals as goal
 
 -- what follows the fixed part

@@ -1,7 +1,7 @@
 -- The part is filled.
 use Rattle.std.proofs.Common.{◌+◌, ◌-◌, ◌∙◌, ap, replicate, drop, arith}
 use Rattle.std.proofs.lemmas.List.{length-replicate, length-take-le, length-drop}
-use Rattle.dhcp_rules.specs.Replies.{zeros}
+use Rattle.rules_dhcp.specs.Replies.{zeros}
 use Rattle.dhcp_server.proofs.Adding.{adds_part}
 use Rattle.dhcp_server.proofs.reply.add_zeros.Goals as goal
 

@@ -2,7 +2,7 @@
 use Rattle.std.proofs.Common.{◌≡◌, ◌+◌, ◌-◌, ◌++◌, [], ◌∙◌, sym, ap, length, take, drop, refl, arith, append-nil}
 use Rattle.tlv_table.specs.Tables.{Rules}
 use Rattle.tlv_table.specs.Grammar.{Field, item_octets}
-use Rattle.dhcp_rules.specs.Messages.{form}
+use Rattle.rules_dhcp.specs.Messages.{form}
 use Rattle.dhcp_server.proofs.Adding.{adds_front}
 use Rattle.dhcp_server.proofs.reply.put.Goals as goal
 

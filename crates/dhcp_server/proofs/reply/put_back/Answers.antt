@@ -1,6 +1,6 @@
 -- The parts one after another.
 use Rattle.std.proofs.Common.{subst}
-use Rattle.dhcp_rules.specs.Replies.{filled}
+use Rattle.rules_dhcp.specs.Replies.{filled}
 use Rattle.dhcp_server.specs.Writing.{Adds}
 use Rattle.dhcp_server.proofs.Adding.{then}
 use Rattle.dhcp_server.proofs.reply.put_back.Goals as goal

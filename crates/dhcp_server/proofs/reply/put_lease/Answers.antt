@@ -1,7 +1,7 @@
 -- One behind the other.
 use Rattle.slirp_settings.specs.Settings.{settings}
-use Rattle.dhcp_rules.specs.Messages.{form}
-use Rattle.dhcp_rules.specs.Replies.{lease_option, network_options}
+use Rattle.rules_dhcp.specs.Messages.{form}
+use Rattle.rules_dhcp.specs.Replies.{lease_option, network_options}
 use Rattle.dhcp_server.proofs.Adding.{then_options}
 use Rattle.dhcp_server.proofs.reply.put_lease.Goals as goal
 

@@ -2,8 +2,8 @@
 use Rattle.std.proofs.Common.{ℕ, List, [], ◌∷◌, ◌++◌}
 use Rattle.net_octets.specs.Octets.{four}
 use Rattle.slirp_settings.specs.Settings.{settings}
-use Rattle.dhcp_rules.specs.Messages.{form}
-use Rattle.dhcp_rules.specs.Replies.{router, name_server, text_option}
+use Rattle.rules_dhcp.specs.Messages.{form}
+use Rattle.rules_dhcp.specs.Replies.{router, name_server, text_option}
 use Rattle.dhcp_server.proofs.Adding.{then_options}
 use Rattle.dhcp_server.proofs.reply.put_network.Goals as goal
 

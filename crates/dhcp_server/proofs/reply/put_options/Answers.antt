@@ -3,8 +3,8 @@ use Rattle.std.proofs.Common.{ℕ, List, [], ◌∷◌, ◌++◌, subst}
 use Rattle.net_octets.specs.Octets.{four}
 use Rattle.slirp_settings.specs.Settings.{settings}
 use Rattle.tlv_table.specs.Putting.{put_octets}
-use Rattle.dhcp_rules.specs.Messages.{form}
-use Rattle.dhcp_rules.specs.Replies.{kind_of, further_options}
+use Rattle.rules_dhcp.specs.Messages.{form}
+use Rattle.rules_dhcp.specs.Replies.{kind_of, further_options}
 use Rattle.dhcp_server.specs.Writing.{Adds}
 use Rattle.dhcp_server.proofs.Adding.{then_options}
 use Rattle.dhcp_server.proofs.reply.put_options.Goals as goal

@@ -1,6 +1,6 @@
 -- The parts one after another, and zeros up to 300 octets.
 use Rattle.std.proofs.Common.{◌-◌, ◌∙◌, ap, subst, arith}
-use Rattle.dhcp_rules.specs.Replies.{zeros}
+use Rattle.rules_dhcp.specs.Replies.{zeros}
 use Rattle.dhcp_server.specs.Writing.{Adds}
 use Rattle.dhcp_server.proofs.Adding.{then}
 use Rattle.dhcp_server.proofs.reply.write.Goals as goal

@@ -1,7 +1,7 @@
 -- What is written stands at the front.
 use Rattle.std.proofs.Common.{◌≡◌, [], ◌++◌, Bool, false, sym, ◌∙◌, subst, length, drop, if◌then◌else◌, ◌≤◌, arith}
 use Rattle.slirp_settings.specs.Settings.{settings}
-use Rattle.dhcp_rules.specs.Replies.{is_silence, reply_octets}
+use Rattle.rules_dhcp.specs.Replies.{is_silence, reply_octets}
 use Rattle.dhcp_server.proofs.Adding.{all_written}
 use Rattle.dhcp_server.proofs.reply.write_reply.Goals as goal
 

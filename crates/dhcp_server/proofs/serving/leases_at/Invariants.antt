@@ -1,5 +1,5 @@
 use Rattle.std.proofs.Common.{◌≡◌, ◌++◌, map, take, drop}
-use Rattle.dhcp_rules.specs.Leases.{at_moment}
+use Rattle.rules_dhcp.specs.Leases.{at_moment}
 use Rattle.dhcp_server.proofs.serving.leases_at.Given as goal
 
 -- the entries so far are changed

@@ -1,5 +1,5 @@
 use Rattle.std.proofs.Common.{◌≡◌, ◌++◌, map, take, drop}
-use Rattle.dhcp_rules.specs.Leases.{freed}
+use Rattle.rules_dhcp.specs.Leases.{freed}
 use Rattle.dhcp_server.proofs.serving.without.Given as goal
 
 -- the entries so far are changed

@@ -1,7 +1,7 @@
 -- One entry more is changed.
 use Rattle.std.proofs.Common.{◌<◌, length, arith}
-use Rattle.dhcp_rules.specs.declared.Lease.TheVariants.{Free}
-use Rattle.dhcp_rules.specs.Leases.{not_reserved}
+use Rattle.rules_dhcp.specs.declared.Lease.TheVariants.{Free}
+use Rattle.rules_dhcp.specs.Leases.{not_reserved}
 use Rattle.dhcp_server.proofs.Mapping.{goes_on}
 use Rattle.dhcp_server.proofs.serving.without_offers.Goals as goal
 

@@ -1,5 +1,5 @@
 use Rattle.std.proofs.Common.{◌≡◌, ◌++◌, map, take, drop}
-use Rattle.dhcp_rules.specs.Leases.{not_reserved}
+use Rattle.rules_dhcp.specs.Leases.{not_reserved}
 use Rattle.dhcp_server.proofs.serving.without_offers.Given as goal
 
 -- the entries so far are changed

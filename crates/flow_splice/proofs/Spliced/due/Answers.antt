@@ -1,6 +1,6 @@
 use Rattle.std.proofs.Common.{ℕ, Option, subst, sym}
-use Rattle.flow_laws.specs.Dutiful.{close_deadline, resend_deadline, wakes}
-use Rattle.flow_laws.specs.Bounds.{IsBy, IsFrom}
+use Rattle.spec_flow.specs.Dutiful.{close_deadline, resend_deadline, wakes}
+use Rattle.spec_flow.specs.Bounds.{IsBy, IsFrom}
 use Rattle.flow_splice.proofs.Bounds.{due_by_connect, due_by_resend, due_from}
 use Rattle.flow_splice.proofs.Spliced.due.Goals as goal
 

@@ -2,7 +2,7 @@ use Rattle.std.proofs.Common.{◌≡◌, ℕ, ap, subst, sym, ◌∙◌}
 use Rattle.world_face.proofs.Telling.{makes_as}
 use Rattle.tcp_connection.specs.Connection.{HasBuffers}
 use Rattle.tcp_connection.specs.Timing.{after_tick}
-use Rattle.connection_follows.specs.Holding.{is_live}
+use Rattle.sim_connection.specs.Holding.{is_live}
 use Rattle.flow_splice.specs.Hosts.{Sees, ends}
 use Rattle.flow_splice.specs.Splice.{Splice}
 use Rattle.flow_splice.proofs.Shaping.{sees_at_most}

@@ -1,7 +1,7 @@
 use Rattle.std.proofs.Common.{ap, subst, ◌∙◌}
 use Rattle.world_face.specs.Journal.{Close}
 use Rattle.world_face.specs.Tells.{Answers}
-use Rattle.connection_follows.specs.Holding.{is_live}
+use Rattle.sim_connection.specs.Holding.{is_live}
 use Rattle.flow_splice.specs.Splice.{Splice}
 use Rattle.flow_splice.proofs.Shutting.{reset_dead}
 use Rattle.flow_splice.proofs.Spliced.fail.Goals as goal

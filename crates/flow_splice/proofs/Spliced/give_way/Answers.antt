@@ -1,5 +1,5 @@
 use Rattle.std.proofs.Common.{◌∷◌, subst, sym}
-use Rattle.flow_laws.specs.Event.{At, Closes}
+use Rattle.spec_flow.specs.Event.{At, Closes}
 use Rattle.flow_splice.specs.Follows.{Follows}
 use Rattle.flow_splice.specs.Splice.{Splice}
 use Rattle.flow_splice.proofs.GivingWay.{way_follows}

@@ -1,7 +1,7 @@
 use Rattle.std.proofs.Common.{◌≡◌, ℕ, Bool, false, subst, sym, ◌∙◌}
 use Rattle.world_face.proofs.Telling.{makes_as}
 use Rattle.tcp_connection.specs.declared.Change.{Change}
-use Rattle.connection_follows.specs.Sending.{is_rst}
+use Rattle.sim_connection.specs.Sending.{is_rst}
 use Rattle.flow_splice.specs.Hosts.{Sees, ends}
 use Rattle.flow_splice.specs.Sends.{GoesOut, went_out}
 use Rattle.flow_splice.specs.Splice.{Splice}

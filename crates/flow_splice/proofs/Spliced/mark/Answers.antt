@@ -3,7 +3,7 @@ use Rattle.world_face.proofs.Telling.{makes_as, makes_none}
 use Rattle.stream_netdev.specs.declared.Offered.{Offered}
 use Rattle.stream_netdev.specs.declared.Offered.TheVariants.{Blocked, Failed}
 use Rattle.tcp_connection.specs.declared.Owed.{Owed}
-use Rattle.connection_follows.specs.Sending.{is_rst}
+use Rattle.sim_connection.specs.Sending.{is_rst}
 use Rattle.flow_splice.specs.Sends.{GoesOut, Marks}
 use Rattle.flow_splice.specs.Splice.{Splice}
 use Rattle.flow_splice.proofs.Spliced.mark.Goals as goal

@@ -7,7 +7,7 @@ use Rattle.tcp_connection.specs.Connection.{HasBuffers}
 use Rattle.tcp_connection.specs.Owing.{owed_of}
 use Rattle.tcp_connection.specs.declared.Owed.{Owed}
 use Rattle.tcp_connection.specs.declared.Head.{Head}
-use Rattle.connection_follows.specs.Sending.{segment_out, with_head}
+use Rattle.sim_connection.specs.Sending.{segment_out, with_head}
 use Rattle.flow_splice.specs.Frames.{IsSized, segment_frame}
 use Rattle.flow_splice.specs.Splice.{Splice}
 use Rattle.flow_splice.proofs.Sending.{fits_of, held_of}

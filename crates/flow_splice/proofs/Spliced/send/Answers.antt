@@ -8,7 +8,7 @@ use Rattle.stream_netdev.specs.declared.Offered.{Offered}
 use Rattle.stream_netdev.specs.declared.Offered.TheVariants.{Taken, Blocked, Failed as OfferFailed}
 use Rattle.tcp_connection.specs.Owing.{owed_of}
 use Rattle.tcp_connection.specs.declared.Owed.{Owed}
-use Rattle.connection_follows.specs.Sending.{segment_out}
+use Rattle.sim_connection.specs.Sending.{segment_out}
 use Rattle.flow_splice.specs.Frames.{segment_frame}
 use Rattle.flow_splice.specs.Sends.{Marks, Sends, takes_part_at}
 use Rattle.stream_netdev.specs.Offers.{pumped_of}

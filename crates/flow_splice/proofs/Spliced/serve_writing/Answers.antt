@@ -1,5 +1,5 @@
 use Rattle.std.proofs.Common.{◌≡◌, Bool, true, refl, subst, sym, ◌∙◌}
-use Rattle.flow_rules.proofs.Works.{when_end, when_join, when_nothing, when_octets}
+use Rattle.rules_flow.proofs.Works.{when_end, when_join, when_nothing, when_octets}
 use Rattle.flow_splice.specs.Hosts.{serves_write, some_is}
 use Rattle.flow_splice.proofs.Calls.{reads_on_yet}
 use Rattle.flow_splice.proofs.Events.{goes_none}

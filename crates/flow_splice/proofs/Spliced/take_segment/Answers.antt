@@ -5,7 +5,7 @@ use Rattle.tcp_receive.specs.Coming.{Comes}
 use Rattle.tcp_segment.specs.Tcp.{Tcp, tcp_of}
 use Rattle.tcp_connection.specs.Connection.{HasBuffers}
 use Rattle.tcp_transmit.specs.Transmission.{octets_read}
-use Rattle.connection_follows.specs.Holding.{is_live}
+use Rattle.sim_connection.specs.Holding.{is_live}
 use Rattle.flow_splice.specs.Guests.{heard}
 use Rattle.flow_splice.specs.Hosts.{IsAsOld, Sees, ends}
 use Rattle.flow_splice.specs.Splice.{Splice}

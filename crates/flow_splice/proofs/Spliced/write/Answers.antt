@@ -5,7 +5,7 @@ use Rattle.world_face.specs.declared.Io.{Io}
 use Rattle.world_face.specs.declared.Io.TheVariants.{Done, End, NotYet, Failed}
 use Rattle.tcp_connection.specs.Connection.{HasBuffers}
 use Rattle.tcp_connection.specs.Hosts.{reset}
-use Rattle.connection_follows.specs.Holding.{without}
+use Rattle.sim_connection.specs.Holding.{without}
 use Rattle.sock_buffers.specs.Upward.{Upward}
 use Rattle.flow_splice.specs.Serves.{GoesOn}
 use Rattle.flow_splice.specs.Splice.{Splice, closed}

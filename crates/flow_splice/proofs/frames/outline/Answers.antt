@@ -1,6 +1,6 @@
 use Rattle.std.proofs.Common.{ℕ, Option, ap, ◌∙◌}
 use Rattle.tcp_segment.specs.Tcp.{Tcp}
-use Rattle.connection_follows.specs.Sending.{with_head}
+use Rattle.sim_connection.specs.Sending.{with_head}
 use Rattle.flow_splice.specs.Frames.{tcp_out}
 use Rattle.flow_splice.proofs.frames.outline.Goals as goal
 

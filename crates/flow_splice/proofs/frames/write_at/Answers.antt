@@ -5,7 +5,7 @@ use Rattle.net_octets.specs.Octets.{two, our_mac}
 use Rattle.ether_frame.specs.Ether.{ether_octets}
 use Rattle.ipv4_head.specs.Ip.{summed_head}
 use Rattle.tcp_segment.specs.Tcp.{Tcp, tcp_octets, tcp_of}
-use Rattle.connection_follows.specs.Sending.{carried}
+use Rattle.sim_connection.specs.Sending.{carried}
 use Rattle.flow_splice.proofs.frames.write_at.Goals as goal
 
 pub returns-clause-written : goal.returns-clause-written

@@ -7,7 +7,7 @@ use Rattle.ipv4_head.specs.Ip.{ip_octets, summed_head}
 use Rattle.tcp_segment.specs.Tcp.{Tcp, mss_octets, options_octets, scale_octets, summed, tcp_length, tcp_octets, tcp_of, tcp_with, words_of}
 use Rattle.tcp_segment.proofs.Spelling.{length-segment}
 use Rattle.sock_buffers.specs.Downward.{Downward}
-use Rattle.connection_follows.specs.Sending.{carried, with_head}
+use Rattle.sim_connection.specs.Sending.{carried, with_head}
 use Rattle.flow_splice.specs.Frames.{tcp_out}
 use Rattle.flow_splice.specs.Splice.{Face}
 use Rattle.flow_splice.proofs.Sizing.{carries_few, mss_fits}

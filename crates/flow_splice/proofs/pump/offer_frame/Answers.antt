@@ -4,7 +4,7 @@ use Rattle.world_face.specs.Journal.{Entry}
 use Rattle.world_face.specs.Tells.{Makes}
 use Rattle.stream_netdev.specs.Keeps.{Keeps, Writes}
 use Rattle.stream_netdev.proofs.Writing.{spelt_is}
-use Rattle.connection_follows.specs.Sending.{with_head}
+use Rattle.sim_connection.specs.Sending.{with_head}
 use Rattle.flow_splice.specs.Frames.{segment_frame}
 use Rattle.flow_splice.proofs.pump.offer_frame.Goals as goal
 

@@ -3,10 +3,10 @@ use Rattle.std.proofs.lemmas.List.{map-append}
 use Rattle.world_face.specs.Tells.{Answers}
 use Rattle.world_face.specs.declared.Made.{Made}
 use Rattle.world_face.specs.declared.Made.TheVariants.{Done, Failed}
-use Rattle.forward_rules.specs.Adding.{opening_of}
+use Rattle.rules_forward.specs.Adding.{opening_of}
 use Rattle.port_forward.specs.Entries.{opened_of}
-use Rattle.forward_rules.specs.Opened.{Opened}
-use Rattle.forward_rules.specs.declared.FwdFault.TheVariants.{Taken, BadGuest, Full, Refused}
+use Rattle.rules_forward.specs.Opened.{Opened}
+use Rattle.rules_forward.specs.declared.FwdFault.TheVariants.{Taken, BadGuest, Full, Refused}
 use Rattle.port_forward.specs.declared.ports.Lead.{Lead}
 use Rattle.port_forward.specs.declared.ports.Port.{Port}
 use Rattle.port_forward.proofs.Adding.{full_last, is_taken_first, no_cause, not_guest_next, opens, refuses}

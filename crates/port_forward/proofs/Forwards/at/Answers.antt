@@ -2,7 +2,7 @@ use Rattle.std.proofs.Common.{List, Some, slice_get, option_map, sym, ◌∙◌,
 use Rattle.std.proofs.lemmas.Option.{slice_get-map}
 use Rattle.slirp_settings.specs.declared.Forward.{Forward}
 use Rattle.port_forward.specs.Entries.{opened_of}
-use Rattle.forward_rules.specs.Opened.{Opened}
+use Rattle.rules_forward.specs.Opened.{Opened}
 use Rattle.port_forward.proofs.Forwards.at.Goals as goal
 
 pub returns : goal.returns

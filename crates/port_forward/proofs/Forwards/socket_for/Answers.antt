@@ -3,7 +3,7 @@ use Rattle.std.proofs.lemmas.Iterator.Consumers.{YieldsList-from_rest}
 use Rattle.std.proofs.lemmas.Iterator.Search.{find_from_yields_List}
 use Rattle.std.specs.Map.Iter.{deref_pair}
 use Rattle.port_forward.specs.Entries.{opened_of}
-use Rattle.forward_rules.specs.Opened.{leads_to}
+use Rattle.rules_forward.specs.Opened.{leads_to}
 use Rattle.port_forward.specs.declared.ports.Lead.{Lead}
 use Rattle.port_forward.specs.declared.ports.Port.{Port}
 use Rattle.port_forward.proofs.Listing.{first_socket, number_of}

@@ -1,7 +1,7 @@
 use Rattle.std.proofs.Common.{◌++◌, ◌∷◌, [], Bool, List, length, take, sym, ◌∙◌, ap, arith, if◌then◌else◌}
 use Rattle.std.proofs.lemmas.List.{append-nil}
-use Rattle.forward_rules.specs.Opened.{Opened}
-use Rattle.forward_rules.specs.Opened.{sockets_over}
+use Rattle.rules_forward.specs.Opened.{Opened}
+use Rattle.rules_forward.specs.Opened.{sockets_over}
 use Rattle.port_forward.proofs.Forwarding.{all_taken, at_ok, few_taken, none_further, over_taken}
 use Rattle.port_forward.proofs.by_proto.list_over.Goals.{in-Some+then-is_over, in-Some+else-is_over, in_default}
 use Rattle.port_forward.proofs.by_proto.list_over.Goals as goal

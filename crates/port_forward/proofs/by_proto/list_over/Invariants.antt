@@ -1,5 +1,5 @@
 use Rattle.std.proofs.Common.{◌≡◌, take}
-use Rattle.forward_rules.specs.Opened.{sockets_over}
+use Rattle.rules_forward.specs.Opened.{sockets_over}
 use Rattle.port_forward.proofs.by_proto.list_over.Given as goal
 
 abbrev pub invariant-loop-place : goal.invariant-loop-place

@@ -5,7 +5,7 @@ use Rattle.command_words.specs.Meaning.{HasPlace, Meaning, Means, broken_in, con
 use Rattle.command_words.specs.declared.Command.{Command}
 use Rattle.command_words.specs.declared.WordFault.{WordFault}
 use Rattle.slirp_app.specs.Doing.{Course, Meant}
-use Rattle.app_outcome.specs.declared.Outcome.{Outcome}
+use Rattle.app_edges.specs.declared.outcome.Outcome.{Outcome}
 use Rattle.slirp_app.proofs.Courses.{answered_by_none, can_be_done, none_broken, one_meaning, refused_course}
 use Rattle.slirp_app.proofs.command.run_words.Goals as goal
 

@@ -8,9 +8,9 @@ use Rattle.slirp_app.specs.Doing.{DrivesRun, ReplaysFile, TellsText}
 use Rattle.world_face.specs.Puts.{Puts, added}
 use Rattle.world_face.specs.Tells.{Rose}
 use Rattle.world_face.specs.declared.sink.Failed.{Failed}
-use Rattle.app_outcome.specs.Statuses.{code_of, is_unrun}
+use Rattle.app_edges.specs.Statuses.{code_of, is_unrun}
 use Rattle.app_edges.specs.Texts.{Got, help_text, told_text, version_text}
-use Rattle.app_outcome.specs.declared.Outcome.{Outcome}
+use Rattle.app_edges.specs.declared.outcome.Outcome.{Outcome}
 use Rattle.slirp_app.proofs.Causing as causing
 use Rattle.slirp_app.proofs.Courses as courses
 use Rattle.slirp_app.proofs.command.slirp_main.Goals as goal

@@ -3,7 +3,7 @@ use Rattle.std.specs.Result.{is_ok}
 use Rattle.replay.specs.Unread.{IsFirstUnread}
 use Rattle.replay.specs.declared.ScriptFault.{ScriptFault}
 use Rattle.replay.specs.declared.ScriptFault.TheVariants.{Line as AtLine, NoMemory as OutOfMemory, TooLarge}
-use Rattle.app_outcome.specs.declared.Outcome.TheVariants.{ScheduleLine, NoMemory}
+use Rattle.app_edges.specs.declared.outcome.Outcome.TheVariants.{ScheduleLine, NoMemory}
 use Rattle.slirp_app.proofs.replaying.replay.Goals as goal
 
 neither : {A B : Type 0} (result : Result A B) (a b : B) → is_ok result ≡ true → (result ≡ Err a) ⊎ (result ≡ Err b) → ⊥

@@ -3,11 +3,11 @@ use Rattle.slirp_settings.specs.Settings.{settings}
 use Rattle.replay.specs.Rows.{TakesTooMuch}
 use Rattle.replay.specs.Unread.{IsFirstUnread}
 use Rattle.app_edges.specs.Fetching.{is_read}
-use Rattle.app_outcome.specs.declared.Outcome.{Outcome}
-use Rattle.app_outcome.specs.declared.Outcome.TheVariants.{ScheduleLine, NoMemory}
+use Rattle.app_edges.specs.declared.outcome.Outcome.{Outcome}
+use Rattle.app_edges.specs.declared.outcome.Outcome.TheVariants.{ScheduleLine, NoMemory}
 use Rattle.world_face.proofs.Telling.{makes_as}
 use Rattle.slirp_app.specs.Causes.{Came}
-use Rattle.app_outcome.specs.Statuses.{code_of}
+use Rattle.app_edges.specs.Statuses.{code_of}
 use Rattle.slirp_app.proofs.replaying.replay_file.Goals as goal
 
 not_memory : (outcome : Outcome) (line : ℕ) → IsTrue (is_read (code_of outcome)) → (outcome ≡ ScheduleLine line) ⊎ (outcome ≡ NoMemory) → outcome ≡ ScheduleLine line

@@ -2,7 +2,7 @@ use Rattle.std.proofs.Common.{◌≡◌, subst}
 use Rattle.world_face.specs.Journal.{place_of}
 use Rattle.world_face.specs.Tells.{Makes, Rose}
 use Rattle.slirp_app.specs.Serving.{CapturesAt}
-use Rattle.app_outcome.specs.Statuses.{code_of}
+use Rattle.app_edges.specs.Statuses.{code_of}
 use Rattle.slirp_app.proofs.tapping.capture_link.Goals as goal
 
 -- the sink's reference came back, so that what stands behind it is known

@@ -1,6 +1,6 @@
 use Rattle.std.proofs.Common.{◌≡◌, ◌+◌, ◌++◌, map, take, length}
 use Rattle.poll_list.specs.Listing.{AreWants}
-use Rattle.waiting_flows.specs.Wants.{listener_want}
+use Rattle.sim_flows.specs.Wants.{listener_want}
 use Rattle.slirp_core.proofs.wants.add_listeners.Given as goal
 
 abbrev pub invariant-loop-number : goal.invariant-loop-number

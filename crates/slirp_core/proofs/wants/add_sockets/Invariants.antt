@@ -1,6 +1,6 @@
 use Rattle.std.proofs.Common.{◌≡◌, ◌+◌, ◌++◌, map, take, length}
 use Rattle.poll_list.specs.Listing.{AreWants}
-use Rattle.waiting_flows.specs.Wants.{udp_want}
+use Rattle.sim_flows.specs.Wants.{udp_want}
 use Rattle.slirp_core.proofs.wants.add_sockets.Given as goal
 
 abbrev pub invariant-loop-number : goal.invariant-loop-number

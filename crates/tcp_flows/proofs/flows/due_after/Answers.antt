@@ -2,7 +2,7 @@ use Rattle.std.proofs.Common.{◌+◌, List, Option, map, take, ap, sym, subst, 
 use Rattle.std.proofs.lemmas.List.{take_all}
 use Rattle.flow_splice.specs.Splice.{Splice}
 use Rattle.tcp_flows.specs.Kept.{part_of}
-use Rattle.flow_rules.specs.Choices.{if_after}
+use Rattle.rules_flow.specs.Choices.{if_after}
 use Rattle.tcp_flows.specs.Reading.{IsNextAfter, earlier, blocked_time_of}
 use Rattle.tcp_flows.proofs.Later.{next_more, parts_more}
 use Rattle.tcp_flows.proofs.flows.due_after.Goals as goal

@@ -1,7 +1,7 @@
 use Rattle.std.proofs.Common.{◌≡◌, ◌+◌, ◌++◌, ◌∷◌, [], ℕ, List, length, take, ap, arith, sym, subst, ◌∙◌}
 use Rattle.std.proofs.lemmas.List.{length-take-le, take_all}
 use Rattle.flow_splice.specs.Splice.{Splice}
-use Rattle.flow_rules.specs.Choices.{earlier_quiet}
+use Rattle.rules_flow.specs.Choices.{earlier_quiet}
 use Rattle.tcp_flows.specs.Way.{AreFirst, quiet_at}
 use Rattle.tcp_flows.proofs.Quietest.{first_more, seen_more}
 use Rattle.tcp_flows.proofs.giving.quietest.Goals as goal

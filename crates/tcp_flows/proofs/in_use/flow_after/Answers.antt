@@ -1,8 +1,8 @@
 use Rattle.std.proofs.Common.{ℕ, ◌+◌, List, Option, map, take, ap, sym, subst, ◌∙◌}
 use Rattle.std.proofs.lemmas.List.{take_all}
-use Rattle.record_flows.specs.declared.Tuple.{Tuple}
+use Rattle.spec_flows.specs.declared.Tuple.{Tuple}
 use Rattle.flow_splice.specs.Splice.{Splice}
-use Rattle.flows_follow.proofs.Options.{none_some}
+use Rattle.sim_flows.proofs.Options.{none_some}
 use Rattle.tcp_flows.specs.InUse.{IsNextUse, lesser, use_above}
 use Rattle.tcp_flows.specs.Kept.{part_of}
 use Rattle.tcp_flows.proofs.InUse.{use_more}

@@ -2,7 +2,7 @@
 use Rattle.std.proofs.Common.{◌≡◌, ℕ, Bool, true, false, ◌&&◌, List, [], Option, Some, None, refl, sym, ◌∙◌, ap}
 use Rattle.std.specs.List.{list_all}
 use Rattle.std.specs.Option.{option_map}
-use Rattle.tftp_rules.specs.Packets.{is_part, parts_from}
+use Rattle.rules_tftp.specs.Packets.{is_part, parts_from}
 use Rattle.tftp_server.specs.Reading.{cut, parts_of}
 use Rattle.tftp_server.proofs.Cutting.{parts_after, parts_by}
 use Rattle.tftp_server.proofs.packets.are_parts.Goals as goal

@@ -1,6 +1,6 @@
 use Rattle.std.proofs.Common.{◌≡◌, [], length}
 use Rattle.std.specs.List.{list_all}
-use Rattle.tftp_rules.specs.Packets.{is_part, parts_from}
+use Rattle.rules_tftp.specs.Packets.{is_part, parts_from}
 use Rattle.tftp_server.proofs.packets.are_parts.Given as goal
 
 abbrev pub invariant-loop-part : goal.invariant-loop-part

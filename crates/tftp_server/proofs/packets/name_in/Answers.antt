@@ -1,6 +1,6 @@
 -- Printable octets are a text.
 use Rattle.std.proofs.Common.{sym}
-use Rattle.tftp_rules.proofs.Naming.{name_is_text}
+use Rattle.rules_tftp.proofs.Naming.{name_is_text}
 use Rattle.tftp_server.proofs.packets.name_in.Goals as goal
 
 pub unreachable-requires : goal.unreachable-requires

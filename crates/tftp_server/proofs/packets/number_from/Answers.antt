@@ -1,6 +1,6 @@
 -- A digit more.
 use Rattle.std.proofs.Common.{◌≡◌, ℕ, ◌+◌, ◌-◌, ◌*◌, ◌<◌, min, List, ◌∷◌, length, get_or, drop, sym, ◌∙◌, ap, arith, drop-cons, add-one}
-use Rattle.tftp_rules.specs.Packets.{number_from}
+use Rattle.rules_tftp.specs.Packets.{number_from}
 use Rattle.tftp_server.proofs.Numbering.{cut_number}
 use Rattle.tftp_server.proofs.packets.number_from.Goals as goal
 

@@ -1,5 +1,5 @@
 use Rattle.std.proofs.Common.{◌≡◌, ◌≤◌, min, drop}
-use Rattle.tftp_rules.specs.Packets.{number_from}
+use Rattle.rules_tftp.specs.Packets.{number_from}
 use Rattle.tftp_server.proofs.packets.number_from.Given as goal
 
 abbrev pub invariant-loop-x : goal.invariant-loop-x

@@ -4,9 +4,9 @@ use Rattle.std.proofs.lemmas.List.{length-append, length-take-le, take_all}
 use borrow.Rule.Slice.PartMut.{put_mid}
 use Rattle.world_face.specs.Tells.{Makes}
 use Rattle.world_face.proofs.Bytes.{fill}
-use Rattle.tftp_rules.specs.Transfers.{octets_of}
-use Rattle.tftp_rules.specs.Blocks.{ReadsOn}
-use Rattle.tftp_rules.proofs.Reading.{none_read, read_all, read_more, read_none, refused_if}
+use Rattle.rules_tftp.specs.Transfers.{octets_of}
+use Rattle.rules_tftp.specs.Blocks.{ReadsOn}
+use Rattle.rules_tftp.proofs.Reading.{none_read, read_all, read_more, read_none, refused_if}
 use Rattle.tftp_server.proofs.server.read_block.Goals as goal
 
 pub loop-there-init : goal.loop-there-init

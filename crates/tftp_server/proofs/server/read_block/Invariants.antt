@@ -1,7 +1,7 @@
 use Rattle.std.proofs.Common.{◌≡◌, ◌≤◌, ◌-◌, ℕ, List, length, take}
 use Rattle.world_face.specs.Tells.{Makes}
-use Rattle.tftp_rules.specs.Transfers.{Transfer, octets_of, place_of}
-use Rattle.tftp_rules.specs.Blocks.{ReadsOn}
+use Rattle.rules_tftp.specs.Transfers.{Transfer, octets_of, place_of}
+use Rattle.rules_tftp.specs.Blocks.{ReadsOn}
 use Rattle.tftp_server.proofs.server.read_block.Given as goal
 
 abbrev pub invariant-loop-there : goal.invariant-loop-there

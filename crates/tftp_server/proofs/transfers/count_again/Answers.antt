@@ -1,7 +1,7 @@
 -- One row goes again.
 use Rattle.std.proofs.Common.{refl, arith}
 use Rattle.tftp_server.proofs.Keeping.{again_is, is_due_at, is_due_row}
-use Rattle.tftp_rules.proofs.Listing.{position_some}
+use Rattle.rules_tftp.proofs.Listing.{position_some}
 use Rattle.tftp_server.proofs.transfers.count_again.Goals as goal
 
 pub overflow_add-row : goal.overflow_add-row

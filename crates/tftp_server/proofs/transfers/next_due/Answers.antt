@@ -1,7 +1,7 @@
 -- A row more.
 use Rattle.std.proofs.Common.{◌+◌, List, take, sym, subst}
 use Rattle.std.proofs.lemmas.List.{take_all}
-use Rattle.tftp_rules.specs.Transfers.{Transfer}
+use Rattle.rules_tftp.specs.Transfers.{Transfer}
 use Rattle.tftp_server.specs.Serving.{IsNextDue, earlier}
 use Rattle.tftp_server.specs.Rows.{transfer_of, transfers_of}
 use Rattle.tftp_server.specs.declared.row.Row.{Row}

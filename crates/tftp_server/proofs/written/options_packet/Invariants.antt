@@ -1,6 +1,6 @@
 use Rattle.std.proofs.Common.{◌≡◌, ◌+◌, ◌*◌, ◌≤◌, ◌++◌, length, map, take}
 use Rattle.net_octets.specs.Octets.{two}
-use Rattle.tftp_rules.specs.Packets.{answered_octets}
+use Rattle.rules_tftp.specs.Packets.{answered_octets}
 use Rattle.tftp_server.specs.Options.{answered_pair}
 use Rattle.tftp_server.proofs.written.options_packet.Given as goal
 

@@ -1,8 +1,8 @@
 use Rattle.std.proofs.Common.{◌++◌, [], refl, sym, subst, arith}
 use Rattle.std.specs.Result.{result_err}
 use Rattle.world_face.proofs.Telling.{makes_as}
-use Rattle.control_rules.specs.Talk.{listener, with_left}
-use Rattle.control_laws.specs.Replies.{added_text, reply_line}
+use Rattle.rules_control.specs.Talk.{listener, with_left}
+use Rattle.spec_control.specs.Replies.{added_text, reply_line}
 use Rattle.control_loop.specs.Standing.{Stands}
 use Rattle.control_loop.specs.declared.desk.Desk.{Desk}
 use Rattle.control_loop.proofs.Commands.{add_led}

@@ -1,6 +1,6 @@
 use Rattle.std.proofs.Common.{[], ◌++◌, sym, ◌∙◌, subst}
 use Rattle.world_face.proofs.Telling.{makes_as}
-use Rattle.control_rules.specs.Talk.{after_accept}
+use Rattle.rules_control.specs.Talk.{after_accept}
 use Rattle.control_loop.specs.Standing.{Stands}
 use Rattle.control_loop.specs.declared.desk.Desk.{Desk}
 use Rattle.control_loop.proofs.Leading.{leads_still}

@@ -2,7 +2,7 @@ use Rattle.std.proofs.Common.{[], ◌++◌, refl, sym, ◌∙◌, ap, subst}
 use Rattle.world_face.proofs.Telling.{makes_as}
 use Rattle.slirp_settings.specs.Addresses.{Config}
 use Rattle.world_face.specs.Tells.{Makes}
-use Rattle.control_rules.specs.Talk.{after_read, after_write, fails, is_last}
+use Rattle.rules_control.specs.Talk.{after_read, after_write, fails, is_last}
 use Rattle.control_loop.specs.Standing.{Leads, Owes, Stands}
 use Rattle.control_loop.specs.declared.desk.Desk.{Desk}
 use Rattle.control_loop.proofs.Leading.{leads_still, leads_then}

@@ -2,11 +2,11 @@ use Rattle.std.proofs.Common.{◌≡◌, ℕ, ◌<◌, false, Option, Some, None
 use Rattle.std.specs.List.{list_any}
 use Rattle.world_face.proofs.Telling.{makes_as}
 use Rattle.slirp_settings.specs.Addresses.{Config}
-use Rattle.forward_rules.specs.Opened.{socket_at}
+use Rattle.rules_forward.specs.Opened.{socket_at}
 use Rattle.slirp_core.specs.Added.{MayRemove, closed_at}
 use Rattle.slirp_core.specs.Holds.{after}
 use Rattle.serve_loop.specs.Turns.{AttendsNow}
-use Rattle.control_aside.proofs.Apartness.{is_wait}
+use Rattle.control.proofs.Apartness.{is_wait}
 use Rattle.control_loop.proofs.Below.{called_and_brought}
 use Rattle.control_loop.proofs.desk.Desk.close_port.Goals as goal
 

@@ -3,10 +3,10 @@ use Rattle.std.proofs.lemmas.List.Elements.{All-head, All-tail}
 use Rattle.std.specs.List.{list_any}
 use Rattle.world_face.specs.Journal.{AreAllowed, Close, Entry}
 use Rattle.slirp_core.specs.Forwards.{AreCloses, IsClose}
-use Rattle.forward_rules.specs.Opened.{forward_sockets}
+use Rattle.rules_forward.specs.Opened.{forward_sockets}
 use Rattle.slirp_core.specs.Holds.{ClosesAll, holders_of}
 use Rattle.slirp_core.proofs.Counted.{grown}
-use Rattle.control_aside.proofs.Apartness.{is_wait}
+use Rattle.control.proofs.Apartness.{is_wait}
 use Rattle.control_loop.proofs.Below.{called, with_allowed}
 use Rattle.control_loop.proofs.desk.Desk.close_ports.Goals as goal
 

@@ -1,6 +1,6 @@
 use Rattle.std.proofs.Common.{[], refl, sym, subst, codes}
-use Rattle.control_laws.specs.Replies.{reply_line}
-use Rattle.control_rules.specs.declared.Command.TheVariants.{List as Lists, What}
+use Rattle.spec_control.specs.Replies.{reply_line}
+use Rattle.rules_control.specs.declared.Command.TheVariants.{List as Lists, What}
 use Rattle.world_face.specs.Tells.{Makes}
 use Rattle.control_loop.specs.Standing.{Asks, Leads, Stands}
 use Rattle.control_loop.specs.declared.desk.Desk.{Desk}

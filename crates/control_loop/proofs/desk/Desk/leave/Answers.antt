@@ -1,7 +1,7 @@
 use Rattle.std.proofs.Common.{◌≡◌, ℕ, Bool, true, false, ◌++◌, Option, None, Some, refl, ◌∙◌, ap}
 use Rattle.std.specs.List.{list_any}
-use Rattle.control_rules.specs.Talk.{all_closed, closed_if, listener, peer_closed}
-use Rattle.control_aside.proofs.Apartness.{is_wait}
+use Rattle.rules_control.specs.Talk.{all_closed, closed_if, listener, peer_closed}
+use Rattle.control.proofs.Apartness.{is_wait}
 use Rattle.control_loop.proofs.Below.{called}
 use Rattle.control_loop.proofs.desk.Desk.leave.Goals as goal
 

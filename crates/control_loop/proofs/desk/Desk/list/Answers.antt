@@ -1,12 +1,12 @@
 use Rattle.std.proofs.Common.{◌≡◌, ℕ, ◌≤◌, ◌==◌, false, List, [], ◌∷◌, ◌++◌, length, refl, sym, ◌∙◌, ap, subst, arith, codes}
 use Rattle.std.proofs.lemmas.Bool.Decides.{nat_tests}
 use Rattle.std.proofs.lemmas.List.{length-append}
-use Rattle.record_flows.specs.Book.{book}
+use Rattle.spec_flows.specs.Book.{book}
 use Rattle.slirp_core.specs.Holds.{after}
 use Rattle.serve_loop.specs.Turns.{AttendsNow}
-use Rattle.control_rules.specs.Talk.{Talk, with_left}
-use Rattle.control_laws.specs.Desk.{flows_in_use}
-use Rattle.control_laws.specs.Replies.{flow_lines, reply_line}
+use Rattle.rules_control.specs.Talk.{Talk, with_left}
+use Rattle.spec_control.specs.Desk.{flows_in_use}
+use Rattle.spec_control.specs.Replies.{flow_lines, reply_line}
 use Rattle.control_loop.specs.Standing.{Says}
 use Rattle.control_loop.specs.declared.desk.Desk.{Desk}
 use Rattle.control_loop.proofs.desk.Desk.list.Goals as goal

@@ -1,13 +1,13 @@
 use Rattle.std.proofs.Common.{◌≡◌, ℕ, ◌^◌, ◌<◌, false, ◌++◌, length, Option, Some, IfSome, refl, sym, ◌∙◌, ap, subst, arith}
 use Rattle.std.proofs.lemmas.List.{length-append}
-use Rattle.record_flows.specs.declared.Tuple.{Tuple}
-use Rattle.record_flows.specs.Book.{book}
+use Rattle.spec_flows.specs.declared.Tuple.{Tuple}
+use Rattle.spec_flows.specs.Book.{book}
 use Rattle.slirp_core.specs.Holds.{after}
 use Rattle.slirp_core.specs.NextFlow.{IsNextFlow}
 use Rattle.serve_loop.specs.Turns.{AttendsNow}
-use Rattle.control_rules.specs.Talk.{Talk, with_left}
-use Rattle.control_laws.specs.Desk.{flows_in_use}
-use Rattle.control_laws.specs.Replies.{flow_lines}
+use Rattle.rules_control.specs.Talk.{Talk, with_left}
+use Rattle.spec_control.specs.Desk.{flows_in_use}
+use Rattle.spec_control.specs.Replies.{flow_lines}
 use Rattle.control_loop.specs.declared.desk.Desk.{Desk}
 use Rattle.control_loop.proofs.Listing.{all_left, digits_few, falls, left_after, listed_few, no_line_more, none_left_after, none_of_none, one_fewer, one_line_more}
 use Rattle.control_loop.proofs.desk.Desk.list_flows.Goals as goal

@@ -1,12 +1,12 @@
 use Rattle.std.proofs.Common.{◌≡◌, ℕ, ◌+◌, ◌*◌, ◌≤◌, false, List, ◌++◌, length}
 use Rattle.world_face.specs.Journal.{Entry}
 use Rattle.slirp_settings.specs.Addresses.{Config}
-use Rattle.record_flows.specs.Book.{book}
+use Rattle.spec_flows.specs.Book.{book}
 use Rattle.slirp_core.specs.Holds.{after}
 use Rattle.serve_loop.specs.Turns.{AttendsNow}
-use Rattle.control_rules.specs.Talk.{with_left}
-use Rattle.control_laws.specs.Desk.{flows_in_use}
-use Rattle.control_laws.specs.Replies.{flow_lines}
+use Rattle.rules_control.specs.Talk.{with_left}
+use Rattle.spec_control.specs.Desk.{flows_in_use}
+use Rattle.spec_control.specs.Replies.{flow_lines}
 use Rattle.control_loop.proofs.Listing.{left_after}
 use Rattle.control_loop.proofs.desk.Desk.list_flows.Given as goal
 

@@ -1,8 +1,8 @@
 use Rattle.std.proofs.Common.{◌≡◌, ℕ, ◌+◌, ◌≤◌, List, ◌++◌, length, slice_get, take, Some, sym, ◌∙◌, ap, subst, arith}
 use Rattle.std.proofs.lemmas.List.{length-append}
-use Rattle.forward_rules.specs.Opened.{Opened}
-use Rattle.control_rules.specs.Talk.{Talk, with_left}
-use Rattle.control_laws.specs.Replies.{forward_lines, forward_text, reply_line}
+use Rattle.rules_forward.specs.Opened.{Opened}
+use Rattle.rules_control.specs.Talk.{Talk, with_left}
+use Rattle.spec_control.specs.Replies.{forward_lines, forward_text, reply_line}
 use Rattle.control_loop.specs.declared.desk.Desk.{Desk}
 use Rattle.control_loop.proofs.Listing.{all_taken, no_port_more, one_port_more}
 use Rattle.control_loop.proofs.desk.Desk.list_ports.Goals as goal

@@ -1,6 +1,6 @@
 use Rattle.std.proofs.Common.{◌≡◌, ◌*◌, ◌<◌, ◌≤◌, length, take}
-use Rattle.control_rules.specs.Talk.{with_left}
-use Rattle.control_laws.specs.Replies.{forward_lines}
+use Rattle.rules_control.specs.Talk.{with_left}
+use Rattle.spec_control.specs.Replies.{forward_lines}
 use Rattle.control_loop.proofs.desk.Desk.list_ports.Given as goal
 
 abbrev pub invariant-loop-place : goal.invariant-loop-place

@@ -2,8 +2,8 @@ use Rattle.std.proofs.Common.{◌≡◌, [], ◌∷◌, refl, ap}
 use Rattle.std.specs.List.{list_any}
 use Rattle.world_face.specs.Journal.{Listen}
 use Rattle.world_face.proofs.Telling.{makes_one}
-use Rattle.control_rules.specs.Talk.{listener}
-use Rattle.control_aside.proofs.Apartness.{is_wait}
+use Rattle.rules_control.specs.Talk.{listener}
+use Rattle.control.proofs.Apartness.{is_wait}
 use Rattle.control_loop.proofs.Below.{called}
 use Rattle.control_loop.proofs.desk.Desk.listen.Goals as goal
 

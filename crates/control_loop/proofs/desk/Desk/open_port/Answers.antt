@@ -9,14 +9,14 @@ use Rattle.slirp_settings.specs.Addresses.{Config}
 use Rattle.slirp_settings.specs.declared.Forward.{Forward}
 use Rattle.slirp_settings.specs.declared.Proto.{Proto}
 use Rattle.slirp_settings.specs.declared.Proto.TheVariants.{Tcp, Udp}
-use Rattle.forward_rules.specs.Adding.{Adds, fault_of, opening_of}
-use Rattle.forward_rules.specs.Opened.{Opened}
-use Rattle.forward_rules.specs.declared.FwdFault.{FwdFault}
-use Rattle.forward_rules.specs.declared.FwdFault.TheVariants.{Taken}
+use Rattle.rules_forward.specs.Adding.{Adds, fault_of, opening_of}
+use Rattle.rules_forward.specs.Opened.{Opened}
+use Rattle.rules_forward.specs.declared.FwdFault.{FwdFault}
+use Rattle.rules_forward.specs.declared.FwdFault.TheVariants.{Taken}
 use Rattle.slirp_core.specs.Added.{MayAdd}
 use Rattle.slirp_core.specs.Holds.{after}
 use Rattle.serve_loop.specs.Turns.{AttendsNow}
-use Rattle.control_aside.proofs.Apartness.{is_wait}
+use Rattle.control.proofs.Apartness.{is_wait}
 use Rattle.control_loop.specs.Standing.{cause_against}
 use Rattle.control_loop.proofs.Below.{called_and_brought}
 use Rattle.control_loop.proofs.desk.Desk.open_port.Goals as goal

@@ -2,7 +2,7 @@ use Rattle.std.proofs.Common.{◌≡◌, None, ap}
 use Rattle.world_face.proofs.Telling.{makes_as}
 use Rattle.slirp_settings.specs.Addresses.{Config}
 use Rattle.slirp_core.specs.Holds.{AfterListening, as_given}
-use Rattle.control_aside.specs.Stretches.{Asided}
+use Rattle.control.specs.Stretches.{Asided}
 use Rattle.control_loop.proofs.Below.{made_by_all}
 use Rattle.control_loop.proofs.desk.Desk.open_ports.Goals as goal
 

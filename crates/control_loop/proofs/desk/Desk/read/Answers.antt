@@ -2,8 +2,8 @@ use Rattle.std.proofs.Common.{◌≡◌, ℕ, Bool, true, false, List, [], ◌�
 use Rattle.std.specs.List.{list_any}
 use Rattle.world_face.specs.Journal.{Allowed, AreAllowed, Entry, TcpRead}
 use Rattle.world_face.specs.declared.Io.{Io}
-use Rattle.control_rules.specs.Talk.{Talk, closed_if, free, is_last}
-use Rattle.control_aside.proofs.Apartness.{is_wait}
+use Rattle.rules_control.specs.Talk.{Talk, closed_if, free, is_last}
+use Rattle.control.proofs.Apartness.{is_wait}
 use Rattle.control_loop.proofs.Below.{called}
 use Rattle.control_loop.proofs.desk.Desk.read.Goals as goal
 

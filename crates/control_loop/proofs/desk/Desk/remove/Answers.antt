@@ -1,11 +1,11 @@
 use Rattle.std.proofs.Common.{◌≡◌, ℕ, ◌++◌, true, false, is_some, [], refl, sym, ◌∙◌, ap, subst, arith}
 use Rattle.world_face.proofs.Telling.{makes_as}
-use Rattle.forward_rules.specs.Opened.{socket_at}
-use Rattle.run_laws.specs.Sockets.{is_among, open_sockets}
-use Rattle.slirp_laws.proofs.OpenSockets.{open_below}
-use Rattle.control_rules.specs.Talk.{listener, with_left}
-use Rattle.control_rules.specs.Apart.{is_controls, without_control}
-use Rattle.control_laws.specs.Replies.{removed_text, reply_line}
+use Rattle.rules_forward.specs.Opened.{socket_at}
+use Rattle.spec_trace.specs.Sockets.{is_among, open_sockets}
+use Rattle.spec_run.proofs.OpenSockets.{open_below}
+use Rattle.rules_control.specs.Talk.{listener, with_left}
+use Rattle.rules_control.specs.Apart.{is_controls, without_control}
+use Rattle.spec_control.specs.Replies.{removed_text, reply_line}
 use Rattle.control_loop.specs.Standing.{Stands, with_lists}
 use Rattle.control_loop.specs.declared.desk.Desk.{Desk}
 use Rattle.control_loop.proofs.Answering.{attends}

@@ -8,7 +8,7 @@ use Rattle.slirp_settings.specs.Addresses.{Config}
 use Rattle.stream_netdev.specs.State.{LinkState}
 use Rattle.tcp_flows.specs.Kept.{Kept}
 use Rattle.tcp_flows.specs.Reading.{NoneInSlots}
-use Rattle.forward_rules.specs.Opened.{forward_sockets}
+use Rattle.rules_forward.specs.Opened.{forward_sockets}
 use Rattle.slirp_core.specs.Holds.{HoldsNothingElse, Opens, after, as_given}
 use Rattle.slirp_core.specs.State.{SlirpState}
 use Rattle.serve_loop.proofs.Serving.{reads_new}
@@ -18,10 +18,10 @@ use Rattle.serve_loop.specs.Turns.{AttendsNow}
 use Rattle.serve_loop.specs.declared.service.End.TheVariants.{ControlRefused}
 use Rattle.stream_netdev.specs.Keeps.{ReadsOn}
 use Rattle.stream_netdev.specs.State.{under_way}
-use Rattle.control_rules.specs.Talk.{after_listen, listener, silent, want_of}
-use Rattle.control_aside.specs.Stretches.{AreSeen}
-use Rattle.control_laws.specs.Desk.{Reads}
-use Rattle.control_laws.specs.Laws.{IsReading}
+use Rattle.rules_control.specs.Talk.{after_listen, listener, silent, want_of}
+use Rattle.control.specs.Stretches.{AreSeen}
+use Rattle.spec_control.specs.Desk.{Reads}
+use Rattle.spec_control.specs.Laws.{IsReading}
 use Rattle.control_loop.specs.Runs.{RunsWith}
 use Rattle.control_loop.specs.Standing.{Stands}
 use Rattle.control_loop.specs.declared.desk.Desk.{Desk}

@@ -3,8 +3,8 @@ use Rattle.world_face.proofs.Telling.{makes_as}
 use Rattle.slirp_settings.specs.Addresses.{Config}
 use Rattle.slirp_core.specs.Holds.{after}
 use Rattle.serve_loop.specs.Turns.{AttendsAfterWholeTurn, AttendsNow}
-use Rattle.control_rules.specs.Talk.{want_of}
-use Rattle.control_aside.specs.Stretches.{beginning_with}
+use Rattle.rules_control.specs.Talk.{want_of}
+use Rattle.control.specs.Stretches.{beginning_with}
 use Rattle.control_loop.proofs.Below.{brought_below}
 use Rattle.control_loop.proofs.Waits.{own_item}
 use Rattle.control_loop.proofs.desk.Desk.take_turn.Goals as goal

@@ -5,11 +5,11 @@ use Rattle.slirp_settings.specs.Addresses.{Config}
 use Rattle.stream_netdev.specs.State.{LinkState, under_way}
 use Rattle.slirp_core.specs.State.{SlirpState}
 use Rattle.serve_loop.specs.Turns.{IsCalm}
-use Rattle.control_rules.specs.Talk.{want_of}
+use Rattle.rules_control.specs.Talk.{want_of}
 use Rattle.poll_list.specs.Picks.{as_list}
 use Rattle.stream_netdev.specs.Keeps.{ReadsOn}
-use Rattle.control_rules.specs.Apart.{reported_of, without_control}
-use Rattle.control_laws.specs.Desk.{desk}
+use Rattle.rules_control.specs.Apart.{reported_of, without_control}
+use Rattle.spec_control.specs.Desk.{desk}
 use Rattle.control_loop.specs.Standing.{Closes, Leads, Stands, with_lists}
 use Rattle.control_loop.specs.declared.desk.Desk.{Desk}
 use Rattle.control_loop.proofs.Added.{has_just}

@@ -7,10 +7,10 @@ use Rattle.slirp_settings.specs.Addresses.{Config}
 use Rattle.slirp_core.proofs.Counted.{grown}
 use Rattle.serve_loop.proofs.Counted.{end_after, end_before, grown_then}
 use Rattle.serve_loop.specs.declared.service.End.TheVariants.{TurnsSpent}
-use Rattle.control_rules.specs.Talk.{all_closed, want_of}
+use Rattle.rules_control.specs.Talk.{all_closed, want_of}
 use Rattle.control_loop.specs.Runs.{RunsWith}
-use Rattle.control_laws.specs.Desk.{Reads}
-use Rattle.control_laws.specs.Laws.{IsReading}
+use Rattle.spec_control.specs.Desk.{Reads}
+use Rattle.spec_control.specs.Laws.{IsReading}
 use Rattle.control_loop.specs.Standing.{Closes, IsSet, Stands}
 use Rattle.control_loop.specs.declared.desk.Desk.{Desk}
 use Rattle.control_loop.proofs.Ending.{spent_all}

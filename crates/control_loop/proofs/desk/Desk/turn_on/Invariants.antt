@@ -2,8 +2,8 @@ use Rattle.std.proofs.Common.{◌≡◌, ◌≤◌, List, [], ◌++◌}
 use Rattle.world_face.specs.Journal.{Entry}
 use Rattle.world_face.specs.Tells.{Makes}
 use Rattle.slirp_core.specs.Counts.{AreGrown}
-use Rattle.control_laws.specs.Desk.{Reads}
-use Rattle.control_laws.specs.Laws.{IsReading}
+use Rattle.spec_control.specs.Desk.{Reads}
+use Rattle.spec_control.specs.Laws.{IsReading}
 use Rattle.control_loop.specs.Standing.{IsFit, IsReady, Stands}
 use Rattle.control_loop.proofs.desk.Desk.turn_on.Given as goal
 

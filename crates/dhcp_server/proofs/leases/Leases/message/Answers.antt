@@ -1,12 +1,12 @@
 -- What the message leaves and how it is answered is the definition's, and no hardware address has two addresses.
 use Rattle.std.proofs.Common.{◌≡◌, ◌≤◌, ◌++◌, List, ℕ, Some, length, drop, sym, ap, ◌∙◌, subst, arith}
 use Rattle.slirp_settings.specs.Settings.{settings}
-use Rattle.dhcp_rules.specs.declared.Outcome.{Outcome}
-use Rattle.dhcp_rules.specs.Leases.{IsOneToOne}
+use Rattle.rules_dhcp.specs.declared.Outcome.{Outcome}
+use Rattle.rules_dhcp.specs.Leases.{IsOneToOne}
 use Rattle.dhcp_server.specs.Lending.{Lending}
-use Rattle.dhcp_rules.specs.Messages.{read_message}
-use Rattle.dhcp_rules.specs.Replies.{reply_of, octets_of_reply, reply_to, replied_octets}
-use Rattle.dhcp_rules.proofs.Owning.{IsGood, good_outcome}
+use Rattle.rules_dhcp.specs.Messages.{read_message}
+use Rattle.rules_dhcp.specs.Replies.{reply_of, octets_of_reply, reply_to, replied_octets}
+use Rattle.rules_dhcp.proofs.Owning.{IsGood, good_outcome}
 use Rattle.dhcp_server.proofs.leases.Leases.message.Goals as goal
 
 pub write_reply-requires-clause-place : goal.write_reply-requires-clause-place

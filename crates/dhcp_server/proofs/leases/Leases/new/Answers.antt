@@ -6,7 +6,7 @@ use Rattle.std.proofs.lemmas.Bool.Decides.{nat_tests}
 use Rattle.slirp_settings.specs.Addresses.{Config, is_guest, pool}
 use Rattle.slirp_settings.specs.Settings.{settings}
 use Rattle.slirp_settings.specs.declared.fields.Field.TheVariants.{VdhcpStart}
-use Rattle.dhcp_rules.proofs.Owning.{all_free}
+use Rattle.rules_dhcp.proofs.Owning.{all_free}
 use Rattle.dhcp_server.proofs.leases.Leases.new.Goals as goal
 
 below : (a b : ℕ) → nat_lt a b ≡ true → a < b

@@ -6,7 +6,7 @@ use Rattle.idle_sockets.proofs.Mapping.{closes_mapped, length_mapped}
 use Rattle.dns_relay.specs.Kept.{as_question, questions}
 use Rattle.dns_relay.specs.Relaying.{ClosesLeast}
 use Rattle.dns_relay.specs.State.{RelayState}
-use Rattle.dns_rules.specs.declared.Question.{Question}
+use Rattle.rules_dns.specs.declared.Question.{Question}
 use Rattle.dns_relay.proofs.relay.Relay.close_first.Goals as goal
 
 pub returns-clause-closes : goal.returns-clause-closes

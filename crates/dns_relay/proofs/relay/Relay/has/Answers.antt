@@ -1,5 +1,5 @@
 use Rattle.std.proofs.Common.{is_some, ◌∙◌, ap}
-use Rattle.dns_rules.specs.Questions.{numbered}
+use Rattle.rules_dns.specs.Questions.{numbered}
 use Rattle.dns_relay.specs.State.{RelayState}
 use Rattle.dns_relay.proofs.Keeping.{is_there}
 use Rattle.dns_relay.proofs.relay.Relay.has.Goals as goal

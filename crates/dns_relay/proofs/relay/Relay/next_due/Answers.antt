@@ -2,9 +2,9 @@ use Rattle.std.proofs.Common.{◌+◌, ◌^◌, ◌-◌, min, slice_get, option_
 use Rattle.idle_sockets.specs.declared.IdleSocket.{IdleSocket}
 use Rattle.idle_sockets.proofs.Mapping.{first_mapped}
 use Rattle.dns_relay.specs.Kept.{as_question}
-use Rattle.dns_rules.specs.Questions.{question_life}
+use Rattle.rules_dns.specs.Questions.{question_life}
 use Rattle.dns_relay.specs.State.{RelayState}
-use Rattle.dns_rules.specs.declared.Question.{Question}
+use Rattle.rules_dns.specs.declared.Question.{Question}
 use Rattle.dns_relay.proofs.relay.Relay.next_due.Goals as goal
 
 pub returns : goal.returns

@@ -1,7 +1,7 @@
 use Rattle.std.proofs.Common.{◌≡◌, ℕ, ◌<◌, All, List, ◌++◌, ◌∷◌, [], length, refl, sym, ◌∙◌, ap, subst, arith}
 use Rattle.std.proofs.lemmas.List.{map-append}
 use Rattle.slirp_settings.specs.Addresses.{endpoint}
-use Rattle.udp_rules.specs.declared.Reply.TheVariants.{Unreachable}
+use Rattle.rules_udp.specs.declared.Reply.TheVariants.{Unreachable}
 use Rattle.world_face.specs.Journal.{Entry, UdpOpen, UdpSend}
 use Rattle.world_face.specs.Tells.{Makes}
 use Rattle.world_face.specs.declared.Made.TheVariants.{Done, Failed}
@@ -10,10 +10,10 @@ use Rattle.idle_sockets.specs.declared.IdleSocket.{IdleSocket}
 use Rattle.idle_sockets.proofs.Mapping.{length_mapped}
 use Rattle.dns_relay.specs.Asking.{asked_of}
 use Rattle.dns_relay.specs.Kept.{as_question, questions}
-use Rattle.dns_rules.specs.Questions.{asked_from, moved_last, numbers, socket_of}
+use Rattle.rules_dns.specs.Questions.{asked_from, moved_last, numbers, socket_of}
 use Rattle.dns_relay.specs.Relaying.{Opens, OpensFor, OpensNone, no_network}
 use Rattle.dns_relay.specs.State.{RelayState}
-use Rattle.dns_rules.specs.declared.Question.{Question}
+use Rattle.rules_dns.specs.declared.Question.{Question}
 use Rattle.dns_relay.proofs.Keeping.{numbers_are, socket_is}
 use Rattle.dns_relay.proofs.relay.Relay.open_for.Goals as goal
 

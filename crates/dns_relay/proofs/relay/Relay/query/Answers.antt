@@ -4,10 +4,10 @@ use Rattle.world_face.proofs.Telling.{makes_as, makes_then}
 use Rattle.idle_sockets.proofs.Mapping.{length_mapped}
 use Rattle.idle_sockets.proofs.Yielding.{of_room}
 use Rattle.dns_relay.specs.Kept.{as_question, questions}
-use Rattle.dns_rules.specs.Questions.{most_questions, socket_of}
+use Rattle.rules_dns.specs.Questions.{most_questions, socket_of}
 use Rattle.dns_relay.specs.Relaying.{Asked, BySocket, ByNewSocket, OpensFor}
 use Rattle.dns_relay.specs.State.{RelayState}
-use Rattle.dns_rules.specs.declared.Question.{Question}
+use Rattle.rules_dns.specs.declared.Question.{Question}
 use Rattle.dns_relay.proofs.Below.{AreBelow, below_without}
 use Rattle.dns_relay.proofs.Keeping.{calls_are, left, port_is}
 use Rattle.dns_relay.proofs.Yielding.{still_none}

@@ -7,10 +7,10 @@ use Rattle.idle_sockets.specs.Closing.{without as without_socket}
 use Rattle.idle_sockets.specs.Sockets.{heard_at as socket_heard, moved_last as socket_moved, number_of}
 use Rattle.idle_sockets.proofs.Mapping.{without_mapped}
 use Rattle.dns_relay.specs.Kept.{as_question, questions}
-use Rattle.dns_rules.specs.Questions.{heard_at, is_answered, moved_last, without}
+use Rattle.rules_dns.specs.Questions.{heard_at, is_answered, moved_last, without}
 use Rattle.dns_relay.specs.Relaying.{calls_after, list_after}
 use Rattle.dns_relay.specs.State.{RelayState}
-use Rattle.dns_rules.specs.declared.Question.{Question}
+use Rattle.rules_dns.specs.declared.Question.{Question}
 use Rattle.dns_relay.proofs.Keeping.{moved}
 use Rattle.dns_relay.proofs.relay.Relay.receive_answer.Goals as goal
 

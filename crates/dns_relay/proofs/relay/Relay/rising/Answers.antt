@@ -1,6 +1,6 @@
 use Rattle.std.proofs.Common.{ℕ, List, ◌∙◌, ap, subst}
 use Rattle.std.specs.List.Sorted.{IsPermutation}
-use Rattle.dns_rules.specs.Questions.{numbers}
+use Rattle.rules_dns.specs.Questions.{numbers}
 use Rattle.dns_relay.specs.State.{RelayState}
 use Rattle.dns_relay.proofs.Keeping.{numbers_are}
 use Rattle.dns_relay.proofs.relay.Relay.rising.Goals as goal

@@ -1,9 +1,9 @@
 use Rattle.std.proofs.Common.{List, refl, ◌∙◌, ap}
 use Rattle.idle_sockets.specs.Sockets.{sent_from}
 use Rattle.dns_relay.specs.Kept.{questions}
-use Rattle.dns_rules.specs.Questions.{asked_from, moved_last}
+use Rattle.rules_dns.specs.Questions.{asked_from, moved_last}
 use Rattle.dns_relay.specs.State.{RelayState}
-use Rattle.dns_rules.specs.declared.Question.{Question}
+use Rattle.rules_dns.specs.declared.Question.{Question}
 use Rattle.dns_relay.proofs.Keeping.{moved}
 use Rattle.dns_relay.proofs.relay.Relay.send_on.Goals as goal
 

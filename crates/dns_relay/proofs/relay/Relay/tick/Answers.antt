@@ -3,10 +3,10 @@ use Rattle.world_face.proofs.Telling.{makes_as}
 use Rattle.idle_sockets.specs.Sockets.{is_over as is_over_socket, number_of}
 use Rattle.idle_sockets.proofs.Mapping.{all_closed_mapped, all_mapped}
 use Rattle.dns_relay.specs.Kept.{as_question, questions}
-use Rattle.dns_rules.specs.Questions.{is_over, question_life}
+use Rattle.rules_dns.specs.Questions.{is_over, question_life}
 use Rattle.dns_relay.specs.Relaying.{Ticks}
 use Rattle.dns_relay.specs.State.{RelayState}
-use Rattle.dns_rules.specs.declared.Question.{Question}
+use Rattle.rules_dns.specs.declared.Question.{Question}
 use Rattle.dns_relay.proofs.relay.Relay.tick.Goals as goal
 
 pub returns-clause-closes : goal.returns-clause-closes

@@ -1,5 +1,5 @@
 use Rattle.std.proofs.Common.{[], sym, subst}
-use Rattle.octet_buffer.specs.Buffered.{Buffered}
+use Rattle.host_io.specs.Buffered.{Buffered}
 use Rattle.world_face.specs.Journal.{filled}
 use Rattle.world_face.specs.declared.Io.{Io}
 use Rattle.guest_link.specs.Places.{of_guest}

@@ -1,7 +1,7 @@
 use Rattle.std.proofs.Common.{◌≡◌, [], ◌++◌, List, ℕ, take, take-append-drop, ap, subst, sym, ◌∙◌}
 use Rattle.std.proofs.lemmas.List.{append-nil}
 use Rattle.std.specs.Io.KnownBytes.{Keeps}
-use Rattle.octet_buffer.specs.Buffered.{Buffered}
+use Rattle.host_io.specs.Buffered.{Buffered}
 use Rattle.guest_link.specs.Linking.{Linked}
 use Rattle.guest_link.specs.Places.{of_guest}
 use Rattle.guest_link.specs.Keeping.{SendsOn}

@@ -1,6 +1,6 @@
 use Rattle.std.proofs.Common.{List, ℕ, ◌≡◌, ◌<◌, ◌+◌, false, None, Some, find, option_map, ap, sym, ◌∙◌, subst}
 use Rattle.std.proofs.lemmas.Bool.{leb-false}
-use Rattle.udp_rules.specs.Lives.{is_life_over}
+use Rattle.rules_udp.specs.Lives.{is_life_over}
 use Rattle.idle_sockets.specs.Sockets.{is_over, number_of}
 use Rattle.idle_sockets.specs.Closing.{IsLeast}
 use Rattle.idle_sockets.specs.Numbers.{Rise, times}

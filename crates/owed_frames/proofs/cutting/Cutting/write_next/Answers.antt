@@ -1,7 +1,7 @@
 use Rattle.std.proofs.Common.{◌≡◌, ℕ, ◌<◌, List, drop, take, sym, ◌∙◌, ap, arith}
 use Rattle.world_face.specs.Frames.{spelling}
 use Rattle.ipv4_head.specs.Cuts.{cut_at}
-use Rattle.slirp_laws.specs.Answers.{part_frame, uncut}
+use Rattle.spec_run.specs.Answers.{part_frame, uncut}
 use Rattle.stream_netdev.proofs.Writing.{frame_of_spelt, spelt_is}
 use Rattle.owed_frames.proofs.NextFrames.{next_frame}
 use Rattle.owed_frames.proofs.cutting.Cutting.write_next.Goals as goal

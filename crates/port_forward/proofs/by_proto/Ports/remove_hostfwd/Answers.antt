@@ -1,5 +1,5 @@
 use Rattle.std.proofs.Common.{List, ◌∙◌, ap}
-use Rattle.forward_rules.specs.Opened.{Opened, socket_at}
+use Rattle.rules_forward.specs.Opened.{Opened, socket_at}
 use Rattle.port_forward.proofs.by_proto.Ports.remove_hostfwd.Goals as goal
 
 pub returns-clause-there : goal.returns-clause-there

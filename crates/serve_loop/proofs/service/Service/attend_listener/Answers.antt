@@ -4,8 +4,8 @@ use Rattle.poll_list.specs.declared.Who.{Who}
 use Rattle.poll_list.specs.declared.Who.TheVariants.{Link as TheLink, Listener}
 use Rattle.world_face.specs.Tells.{Brings}
 use Rattle.world_face.proofs.Telling.{brings_none, brings_then}
-use Rattle.run_duties.specs.Waiting.{is_written}
-use Rattle.run_duties.proofs.Serving.{unwritten}
+use Rattle.spec_duties.specs.Waiting.{is_written}
+use Rattle.spec_duties.proofs.Serving.{unwritten}
 use Rattle.slirp_core.specs.Holds.{standing}
 use Rattle.slirp_core.proofs.Telling.{from_more}
 use Rattle.serve_loop.proofs.Attending.{pump_serves, socket_passed, socket_serves}

@@ -2,7 +2,7 @@ use Rattle.std.proofs.Common.{◌≡◌, map, reverse, subst}
 use Rattle.world_face.specs.Journal.{Close}
 use Rattle.world_face.specs.Tells.{Makes}
 use Rattle.slirp_core.specs.Forwards.{AreCloses}
-use Rattle.forward_rules.specs.Opened.{forward_sockets}
+use Rattle.rules_forward.specs.Opened.{forward_sockets}
 use Rattle.slirp_core.specs.Holds.{ClosesAll, HoldsNothingElse, holders_of}
 use Rattle.serve_loop.specs.Served.{ServiceState}
 use Rattle.serve_loop.proofs.service.Service.close_all.Goals as goal

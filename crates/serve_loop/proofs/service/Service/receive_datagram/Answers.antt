@@ -1,6 +1,6 @@
 use Rattle.std.proofs.Common.{◌≡◌, ◌∷◌, false, refl, sym, ◌∙◌, ap, subst}
 use Rattle.poll_list.specs.declared.Who.TheVariants.{Udp}
-use Rattle.run_duties.specs.Serving.{is_left_to_read}
+use Rattle.spec_duties.specs.Serving.{is_left_to_read}
 use Rattle.world_face.specs.Tells.{Brings}
 use Rattle.world_face.proofs.Telling.{brings_none}
 use Rattle.slirp_core.specs.Holds.{flowing, standing}

@@ -3,7 +3,7 @@ use Rattle.world_face.specs.Frames.{LinkEnded, LinkCut, LongFrame, LinkFailed}
 use Rattle.world_face.specs.Tells.{Brings}
 use Rattle.poll_list.specs.declared.Who.TheVariants.{Link as TheLink}
 use Rattle.world_face.proofs.Telling.{brings_as, brings_none, brings_then}
-use Rattle.run_duties.specs.Serving.{is_left_to_read}
+use Rattle.spec_duties.specs.Serving.{is_left_to_read}
 use Rattle.stream_netdev.specs.declared.Arrived.TheVariants.{NotYet, End, Cut, TooLong, Failed}
 use Rattle.slirp_core.specs.Holds.{flowing, standing}
 use Rattle.serve_loop.specs.Turns.{AfterTurn, HoldsNow}

@@ -1,7 +1,7 @@
 use Rattle.std.proofs.Common.{◌≡◌, false, is_some, refl, sym, ◌∙◌, ap, subst}
 use Rattle.world_face.specs.Tells.{Brings, Makes}
 use Rattle.slirp_settings.specs.Addresses.{Config}
-use Rattle.forward_rules.specs.Opened.{socket_at, without}
+use Rattle.rules_forward.specs.Opened.{socket_at, without}
 use Rattle.slirp_core.specs.Added.{MayRemove, closed_at}
 use Rattle.slirp_core.specs.Holds.{after}
 use Rattle.slirp_core.specs.State.{SlirpState}

@@ -4,7 +4,7 @@ use Rattle.world_face.specs.Tells.{Brings}
 use Rattle.slirp_settings.specs.Addresses.{Config}
 use Rattle.stream_netdev.specs.Keeps.{ReadsOn}
 use Rattle.stream_netdev.specs.State.{under_way}
-use Rattle.tftp_rules.proofs.Turning.{due_count}
+use Rattle.rules_tftp.proofs.Turning.{due_count}
 use Rattle.slirp_core.specs.Counts.{AreGrown}
 use Rattle.slirp_core.specs.Holds.{Standing}
 use Rattle.serve_loop.specs.Turns.{AllSent, AreYoung, HoldsNow, IsCalm, IsInTime, NoneTold}

@@ -6,7 +6,7 @@ use Rattle.world_face.specs.Tells.{Makes}
 use Rattle.serve_loop.specs.Served.{ServiceState}
 use Rattle.serve_loop.specs.Turns.{Closes}
 use Rattle.serve_loop.specs.declared.service.End.TheVariants.{TurnsSpent}
-use Rattle.run_duties.specs.Duties.{Dutiful}
+use Rattle.spec_duties.specs.Duties.{Dutiful}
 use Rattle.serve_loop.proofs.Serving.{attended, finishes, made_by_turn, made_so, spent, told}
 use Rattle.slirp_core.proofs.Counted.{grown}
 use Rattle.serve_loop.proofs.Counted.{end_after, grown_then}

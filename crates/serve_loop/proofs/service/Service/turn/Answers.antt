@@ -4,7 +4,7 @@ use Rattle.world_face.proofs.Telling.{brings_from, brings_then}
 use Rattle.slirp_core.specs.Holds.{after, holders_of}
 use Rattle.slirp_core.proofs.Counted.{grown}
 use Rattle.serve_loop.specs.Served.{ServiceState}
-use Rattle.run_duties.specs.Duties.{Dutiful}
+use Rattle.spec_duties.specs.Duties.{Dutiful}
 use Rattle.serve_loop.specs.Turns.{AttendsNow, EndedAs}
 use Rattle.serve_loop.proofs.Counted.{end_before}
 use Rattle.serve_loop.proofs.Serving.{attends_for, ran}

@@ -3,7 +3,7 @@ use Rattle.std.specs.Option.{option_map_or}
 use Rattle.slirp_settings.specs.Ranges.{same_proto}
 use Rattle.slirp_settings.specs.declared.Proto.TheVariants.{Tcp}
 use Rattle.slirp_settings.specs.declared.Forward.{Forward}
-use Rattle.forward_rules.specs.Opened.{forward_with}
+use Rattle.rules_forward.specs.Opened.{forward_with}
 use Rattle.std.proofs.lemmas.Bool.Decides.{nat_tests}
 use Rattle.net_octets.specs.declared.Endpoint.{Endpoint}
 use Rattle.poll_list.specs.declared.Who.TheVariants.{Listener as AListener}
@@ -12,12 +12,12 @@ use Rattle.world_face.specs.declared.Accepted.TheVariants.{From}
 use Rattle.world_face.specs.Tells.{Answers, Brings}
 use Rattle.world_face.proofs.Telling.{brings_none, makes_one, makes_then}
 use Rattle.slirp_settings.specs.Addresses.{Config}
-use Rattle.flows_follow.specs.Peers.{fits_peer, peer_slots}
-use Rattle.flows_follow.specs.Seats.{in_use_slots}
-use Rattle.flow_rules.specs.Choices.{most_for_peers}
-use Rattle.record_flows.specs.Book.{book, is_refused}
-use Rattle.flows_follow.specs.Core.{CoreHolds}
-use Rattle.run_duties.specs.Serving.{is_left_to_read}
+use Rattle.sim_flows.specs.Peers.{fits_peer, peer_slots}
+use Rattle.sim_flows.specs.Seats.{in_use_slots}
+use Rattle.rules_flow.specs.Choices.{most_for_peers}
+use Rattle.spec_flows.specs.Book.{book, is_refused}
+use Rattle.sim_flows.specs.Core.{CoreHolds}
+use Rattle.spec_duties.specs.Serving.{is_left_to_read}
 use Rattle.slirp_core.specs.Holds.{Holds, as_given, flowing, standing}
 use Rattle.slirp_core.specs.State.{SlirpState}
 use Rattle.slirp_core.specs.Visits.{AsksForPeer, ClosesOne, Treats}

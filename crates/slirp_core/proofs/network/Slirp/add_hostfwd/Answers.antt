@@ -1,7 +1,7 @@
 use Rattle.std.proofs.Common.{false, sym, ◌∙◌, ap, subst}
 use Rattle.std.specs.Result.{result_err}
 use Rattle.world_face.specs.Tells.{Brings, Makes}
-use Rattle.forward_rules.specs.Adding.{Adds, fault_of}
+use Rattle.rules_forward.specs.Adding.{Adds, fault_of}
 use Rattle.slirp_core.specs.Added.{MayAdd, number_after}
 use Rattle.slirp_core.specs.Holds.{Holds, after, flowing}
 use Rattle.slirp_core.specs.State.{SlirpState}

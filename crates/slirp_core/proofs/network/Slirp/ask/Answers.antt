@@ -6,7 +6,7 @@ use Rattle.dns_relay.specs.Asking.{bind_for}
 use Rattle.dns_relay.specs.Relaying.{Relays}
 use Rattle.dns_relay.specs.State.{RelayState}
 use Rattle.dns_relay.proofs.Below.{below_relayed}
-use Rattle.slirp_laws.specs.Datagrams.{asks_a_name}
+use Rattle.spec_run.specs.Datagrams.{asks_a_name}
 use Rattle.slirp_core.specs.Datagrams.{errand_of}
 use Rattle.slirp_core.specs.Holds.{asked_by, HoldsAt, Holds, flowing}
 use Rattle.slirp_core.specs.Replies.{asked_of}

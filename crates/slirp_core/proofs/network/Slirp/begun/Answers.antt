@@ -3,10 +3,10 @@ use Rattle.std.proofs.lemmas.List.Elements.{All-nil}
 use Rattle.slirp_settings.specs.Addresses.{Config}
 use Rattle.slirp_settings.specs.Settings.{settings}
 use Rattle.dns_relay.specs.Asking.{bind_for}
-use Rattle.dns_rules.specs.Questions.{numbers as question_numbers}
+use Rattle.rules_dns.specs.Questions.{numbers as question_numbers}
 use Rattle.dns_relay.specs.State.{RelayState}
 use Rattle.slirp_core.specs.Services.{AreAsked, IsServer}
-use Rattle.udp_rules.specs.Associations.{numbers}
+use Rattle.rules_udp.specs.Associations.{numbers}
 use Rattle.udp_assoc.specs.State.{AssocsState}
 use Rattle.slirp_core.specs.Numbers.{AreDrawn}
 use Rattle.slirp_core.proofs.Drawn.{drawn_none}

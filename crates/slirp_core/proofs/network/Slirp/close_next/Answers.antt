@@ -1,7 +1,7 @@
 use Rattle.std.proofs.Common.{Bool, sym, ◌∙◌, subst}
 use Rattle.world_face.specs.Tells.{Makes}
 use Rattle.world_face.proofs.Telling.{makes_as}
-use Rattle.flows_follow.proofs.Options.{true_false}
+use Rattle.sim_flows.proofs.Options.{true_false}
 use Rattle.slirp_core.specs.Forwards.{AreCloses, ClosesForward}
 use Rattle.slirp_core.specs.Holds.{ClosesNext, HoldsNothingElse, holders_of}
 use Rattle.slirp_core.specs.State.{SlirpState}

@@ -2,13 +2,13 @@ use Rattle.std.proofs.Common.{◌+◌, ◌++◌, ◌<◌, length, sym, ◌∙◌
 use Rattle.world_face.specs.Tells.{Makes}
 use Rattle.world_face.proofs.Telling.{makes_as}
 use Rattle.dns_relay.proofs.Below.{below_closed}
-use Rattle.dns_rules.specs.Questions.{numbers as question_numbers}
+use Rattle.rules_dns.specs.Questions.{numbers as question_numbers}
 use Rattle.dns_relay.specs.State.{RelayState}
-use Rattle.udp_rules.specs.Associations.{numbers}
+use Rattle.rules_udp.specs.Associations.{numbers}
 use Rattle.tcp_flows.specs.Kept.{Kept}
 use Rattle.slirp_core.specs.Firsts.{IsFlowFirst, IsQuestionFirst, NoFlowFirst, NoQuestionFirst, others_open}
 use Rattle.slirp_core.specs.Forwards.{AreCloses}
-use Rattle.forward_rules.specs.Opened.{forward_sockets}
+use Rattle.rules_forward.specs.Opened.{forward_sockets}
 use Rattle.slirp_core.specs.Holds.{ClosesOther, Holders, carriers, holders_of}
 use Rattle.slirp_core.specs.Numbers.{open_flows}
 use Rattle.slirp_core.specs.Services.{AreAsked}

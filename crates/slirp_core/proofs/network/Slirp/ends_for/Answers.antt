@@ -1,8 +1,8 @@
 use Rattle.std.proofs.Common.{◌≡◌, None, Some, not, if◌then◌else◌, sym, ◌∙◌, ap, subst}
 use Rattle.slirp_settings.specs.Addresses.{Config}
-use Rattle.record_flows.specs.Book.{book}
+use Rattle.spec_flows.specs.Book.{book}
 use Rattle.host_policy.specs.Targets.{is_hidden, shown}
-use Rattle.flows_follow.specs.Core.{CoreHolds}
+use Rattle.sim_flows.specs.Core.{CoreHolds}
 use Rattle.slirp_core.specs.State.{SlirpState}
 use Rattle.slirp_core.proofs.Visiting.{refused_by}
 use Rattle.slirp_core.proofs.network.Slirp.ends_for.Goals as goal

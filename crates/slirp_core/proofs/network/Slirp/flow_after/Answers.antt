@@ -1,7 +1,7 @@
 use Rattle.std.proofs.Common.{ℕ, ◌<◌, List, Option, None, Some, IfSome, false, sym, subst}
-use Rattle.record_flows.specs.declared.Tuple.{Tuple}
+use Rattle.spec_flows.specs.declared.Tuple.{Tuple}
 use Rattle.flow_splice.specs.Splice.{Splice}
-use Rattle.flows_follow.specs.Core.{CoreHolds}
+use Rattle.sim_flows.specs.Core.{CoreHolds}
 use Rattle.tcp_flows.specs.InUse.{IsNextUse}
 use Rattle.tcp_flows.specs.Kept.{Kept}
 use Rattle.slirp_core.specs.Numbers.{AreDrawn}

@@ -1,7 +1,7 @@
 use Rattle.std.proofs.Common.{refl, subst}
-use Rattle.dns_rules.specs.Questions.{numbers as question_numbers}
-use Rattle.flows_follow.specs.Core.{number_of}
-use Rattle.udp_rules.specs.Associations.{numbers}
+use Rattle.rules_dns.specs.Questions.{numbers as question_numbers}
+use Rattle.sim_flows.specs.Core.{number_of}
+use Rattle.rules_udp.specs.Associations.{numbers}
 use Rattle.slirp_core.specs.Firsts.{IsFlowFirst, NoFlowFirst}
 use Rattle.slirp_core.specs.Holds.{Holders, carriers, holders_of}
 use Rattle.slirp_core.specs.State.{SlirpState}

@@ -1,13 +1,13 @@
 use Rattle.std.proofs.Common.{◌≡◌, ◌≤◌, Some, inl, inr, slice_get, sym, ◌∙◌, subst, true, List, ℕ}
 use Rattle.flow_splice.specs.Splice.{Splice}
 use Rattle.slirp_settings.specs.declared.Forward.{Forward}
-use Rattle.run_laws.specs.Sockets.{is_among}
-use Rattle.flows_follow.specs.Core.{number_of}
+use Rattle.spec_trace.specs.Sockets.{is_among}
+use Rattle.sim_flows.specs.Core.{number_of}
 use Rattle.tcp_flows.specs.Reading.{IsFirst as FirstOfFlows, IsOpenAt}
-use Rattle.dns_rules.specs.Questions.{numbers as question_numbers}
-use Rattle.udp_rules.specs.Associations.{numbers}
-use Rattle.forward_rules.specs.Opened.{Opened}
-use Rattle.forward_rules.specs.Opened.{forward_sockets}
+use Rattle.rules_dns.specs.Questions.{numbers as question_numbers}
+use Rattle.rules_udp.specs.Associations.{numbers}
+use Rattle.rules_forward.specs.Opened.{Opened}
+use Rattle.rules_forward.specs.Opened.{forward_sockets}
 use Rattle.slirp_core.specs.Holds.{Holders, IsForwardFirst, IsOf, NoForwardFirst, carriers, holders_of}
 use Rattle.slirp_core.specs.State.{SlirpState}
 use Rattle.slirp_core.proofs.Askers.{among_first, among_second}

@@ -1,5 +1,5 @@
 use Rattle.std.proofs.Common.{None, subst, sym}
-use Rattle.flows_follow.specs.Core.{CoreHolds}
+use Rattle.sim_flows.specs.Core.{CoreHolds}
 use Rattle.slirp_core.specs.State.{SlirpState}
 use Rattle.slirp_core.proofs.network.Slirp.held.Goals as goal
 

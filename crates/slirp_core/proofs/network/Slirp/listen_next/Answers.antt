@@ -2,8 +2,8 @@ use Rattle.std.proofs.Common.{Bool, Option, sym, ◌∙◌, ap, subst}
 use Rattle.std.specs.Result.{result_err}
 use Rattle.world_face.specs.Tells.{Makes}
 use Rattle.world_face.proofs.Telling.{makes_as}
-use Rattle.forward_rules.specs.Adding.{Adds, fault_of}
-use Rattle.forward_rules.specs.declared.FwdFault.{FwdFault}
+use Rattle.rules_forward.specs.Adding.{Adds, fault_of}
+use Rattle.rules_forward.specs.declared.FwdFault.{FwdFault}
 use Rattle.slirp_core.specs.Forwards.{Listens}
 use Rattle.slirp_core.specs.State.{SlirpState}
 use Rattle.slirp_core.proofs.Listening.{listens_by}

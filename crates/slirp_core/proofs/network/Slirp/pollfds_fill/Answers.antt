@@ -1,13 +1,13 @@
 use Rattle.std.proofs.Common.{◌≡◌, ◌++◌, Bool, List, None, Option, ℕ, length, sym, ◌∙◌, ap, subst, arith}
 use Rattle.std.specs.List.Sorted.{IsNonDecreasing, IsPermutation}
-use Rattle.dns_rules.specs.Questions.{numbers as question_numbers}
+use Rattle.rules_dns.specs.Questions.{numbers as question_numbers}
 use Rattle.poll_list.specs.declared.Want.{Want}
 use Rattle.world_face.specs.Journal.{Entry}
 use Rattle.slirp_settings.specs.Addresses.{Config}
-use Rattle.flows_follow.specs.Core.{CoreHolds}
+use Rattle.sim_flows.specs.Core.{CoreHolds}
 use Rattle.tcp_flows.specs.Reading.{AreWantsOf}
 use Rattle.tcp_flows.specs.Waits.{AreWaitedFor}
-use Rattle.udp_rules.specs.Associations.{numbers}
+use Rattle.rules_udp.specs.Associations.{numbers}
 use Rattle.slirp_core.specs.Holds.{carriers, holders_of}
 use Rattle.slirp_core.specs.Pumps.{merged, time_left}
 use Rattle.slirp_core.specs.State.{SlirpState}
@@ -16,7 +16,7 @@ use Rattle.slirp_core.specs.Timeouts.{IsFlowTime, SuitsFlows}
 use Rattle.slirp_core.proofs.Filling.{wants_of}
 use Rattle.port_forward.proofs.Forwarding.{both_over}
 use Rattle.slirp_settings.specs.declared.Proto.TheVariants.{Udp as OverUdp}
-use Rattle.forward_rules.specs.Opened.{sockets_over}
+use Rattle.rules_forward.specs.Opened.{sockets_over}
 use Rattle.slirp_core.proofs.Merging.{merged_rises, merged_three}
 use Rattle.slirp_core.proofs.network.Slirp.pollfds_fill.Goals as goal
 

@@ -1,5 +1,5 @@
 use Rattle.std.proofs.Common.{◌≤◌, length, ◌∙◌, ap, subst}
-use Rattle.forward_rules.specs.Opened.{sockets_over}
+use Rattle.rules_forward.specs.Opened.{sockets_over}
 use Rattle.slirp_core.specs.State.{SlirpState}
 use Rattle.slirp_core.proofs.network.Slirp.ports_over.Goals as goal
 

@@ -2,7 +2,7 @@ use Rattle.std.proofs.Common.{[], ◌≡◌, ◌∙◌, ℕ, None, true, ap, ref
 use Rattle.world_face.proofs.Counting.{rose_after}
 use Rattle.world_face.proofs.Telling.{brings_none, brings_then}
 use Rattle.std.specs.Prelude.{false}
-use Rattle.flows_follow.specs.Core.{CoreHolds}
+use Rattle.sim_flows.specs.Core.{CoreHolds}
 use Rattle.tcp_flows.specs.Kept.{Kept}
 use Rattle.tcp_flows.specs.Reading.{AreTold}
 use Rattle.tcp_flows.specs.Settled.{HaveTime, IsInTime}

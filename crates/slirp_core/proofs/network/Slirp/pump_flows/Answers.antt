@@ -1,6 +1,6 @@
 use Rattle.std.proofs.Common.{None, sym, ◌∙◌, ap, subst}
 use Rattle.world_face.specs.Tells.{Brings}
-use Rattle.flows_follow.specs.Core.{CoreHolds}
+use Rattle.sim_flows.specs.Core.{CoreHolds}
 use Rattle.tcp_flows.specs.Kept.{Kept}
 use Rattle.tcp_flows.specs.Reading.{AreTold}
 use Rattle.tcp_flows.specs.Settled.{HaveTime, IsInTime}

@@ -1,5 +1,5 @@
 use Rattle.std.proofs.Common.{sym, subst}
-use Rattle.udp_rules.specs.Associations.{numbers}
+use Rattle.rules_udp.specs.Associations.{numbers}
 use Rattle.slirp_core.specs.Firsts.{IsQuestionFirst, NoQuestionFirst}
 use Rattle.slirp_core.specs.State.{SlirpState}
 use Rattle.slirp_core.proofs.Least.{among_rising, first_is_least, no_question_first, question_is_under, question_isnt_under}

@@ -4,10 +4,10 @@ use Rattle.world_face.specs.Tells.{Brings}
 use Rattle.world_face.proofs.Telling.{makes_as}
 use Rattle.slirp_core.proofs.Telling.{brings_allowed}
 use Rattle.slirp_settings.specs.Addresses.{Config}
-use Rattle.dns_rules.specs.Questions.{numbered}
+use Rattle.rules_dns.specs.Questions.{numbered}
 use Rattle.dns_relay.specs.State.{RelayState}
 use Rattle.dns_relay.proofs.Below.{below_heard}
-use Rattle.run_duties.specs.Serving.{is_left_to_read}
+use Rattle.spec_duties.specs.Serving.{is_left_to_read}
 use Rattle.slirp_core.specs.Holds.{Holds, flowing, standing}
 use Rattle.slirp_core.specs.State.{SlirpState}
 use Rattle.slirp_core.proofs.Asking.{heard, receives_on}

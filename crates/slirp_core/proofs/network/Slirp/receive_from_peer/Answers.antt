@@ -4,11 +4,11 @@ use Rattle.poll_list.specs.declared.Who.TheVariants.{Udp}
 use Rattle.world_face.specs.Tells.{Brings}
 use Rattle.world_face.proofs.Telling.{makes_as}
 use Rattle.slirp_core.proofs.Telling.{brings_allowed}
-use Rattle.dns_rules.specs.Questions.{numbered}
-use Rattle.run_laws.specs.Sockets.{is_among}
-use Rattle.udp_rules.specs.Associations.{numbers}
+use Rattle.rules_dns.specs.Questions.{numbered}
+use Rattle.spec_trace.specs.Sockets.{is_among}
+use Rattle.rules_udp.specs.Associations.{numbers}
 use Rattle.udp_assoc.specs.Relays.{Hears}
-use Rattle.run_duties.specs.Serving.{is_left_to_read}
+use Rattle.spec_duties.specs.Serving.{is_left_to_read}
 use Rattle.slirp_core.specs.Forwards.{guest_on}
 use Rattle.slirp_core.specs.Hearing.{is_heard}
 use Rattle.slirp_core.specs.Holds.{Holds, flowing, standing}

@@ -1,7 +1,7 @@
 use Rattle.std.proofs.Common.{◌≡◌, ◌+◌, false, List, length, is_some, sym, ◌∙◌, ap, subst}
 use Rattle.std.specs.Result.{is_ok}
 use Rattle.world_face.specs.Tells.{Brings, Makes}
-use Rattle.forward_rules.specs.Opened.{Opened, socket_at, without}
+use Rattle.rules_forward.specs.Opened.{Opened, socket_at, without}
 use Rattle.slirp_core.specs.Added.{MayRemove, closed_at}
 use Rattle.slirp_core.specs.Holds.{Holds, after, flowing}
 use Rattle.slirp_core.specs.State.{SlirpState}

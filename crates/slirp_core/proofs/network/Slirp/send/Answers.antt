@@ -3,7 +3,7 @@ use Rattle.world_face.specs.Tells.{Brings}
 use Rattle.slirp_core.proofs.Telling.{brings_allowed}
 use Rattle.slirp_settings.specs.Addresses.{Config}
 use Rattle.udp_assoc.specs.Relays.{Relays}
-use Rattle.slirp_laws.specs.Datagrams.{asks_a_name}
+use Rattle.spec_run.specs.Datagrams.{asks_a_name}
 use Rattle.slirp_core.specs.Datagrams.{errand_of}
 use Rattle.slirp_core.specs.Holds.{asked_by, HoldsAt, Holds, flowing}
 use Rattle.slirp_core.specs.Replies.{outbound_of}

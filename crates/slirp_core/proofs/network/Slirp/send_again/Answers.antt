@@ -1,13 +1,13 @@
 use Rattle.std.proofs.Common.{◌≡◌, ℕ, ◌≤◌, ◌<◌, List, [], ◌∷◌, drop, length, nat_lt, true, false, Option, Some, None, option_map, rules, refl, sym, ◌∙◌, ap, subst, arith}
 use Rattle.std.proofs.lemmas.Bool.Decides.{nat_tests}
 use Rattle.std.proofs.lemmas.List.{take_at}
-use Rattle.tftp_rules.specs.Soundness.{AreSound}
+use Rattle.rules_tftp.specs.Soundness.{AreSound}
 use Rattle.tftp_server.specs.Serving.{Serving}
-use Rattle.tftp_rules.specs.Saying.{IsFromServer}
-use Rattle.tftp_rules.specs.Transfers.{Said, Transfer, begun, next_again, said_again, ticked}
-use Rattle.tftp_rules.proofs.Turning.{due_count, fewer_due, next_left, ticked_none}
+use Rattle.rules_tftp.specs.Saying.{IsFromServer}
+use Rattle.rules_tftp.specs.Transfers.{Said, Transfer, begun, next_again, said_again, ticked}
+use Rattle.rules_tftp.proofs.Turning.{due_count, fewer_due, next_left, ticked_none}
 use Rattle.slirp_settings.specs.Addresses.{Config}
-use Rattle.slirp_laws.specs.Answers.{frames_of, told_of_files}
+use Rattle.spec_run.specs.Answers.{frames_of, told_of_files}
 use Rattle.slirp_core.specs.Holds.{Holds, flowing}
 use Rattle.slirp_core.specs.State.{SlirpState}
 use Rattle.slirp_core.proofs.Again.{frames_some, said_fits, sends_it}

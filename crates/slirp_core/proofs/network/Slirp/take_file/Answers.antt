@@ -2,10 +2,10 @@ use Rattle.std.proofs.Common.{◌≡◌, ℕ, rules, Option, List, ◌++◌, dro
 use Rattle.std.proofs.lemmas.List.{take_at}
 use Rattle.world_face.specs.Tells.{Brings, Makes}
 use Rattle.world_face.proofs.Telling.{makes_as}
-use Rattle.tftp_rules.specs.Asking.{IsServed}
-use Rattle.tftp_rules.specs.Saying.{IsFromServer, said_by}
-use Rattle.tftp_rules.specs.Transfers.{came, settled}
-use Rattle.slirp_laws.specs.Answers.{frames_of, told_of_files}
+use Rattle.rules_tftp.specs.Asking.{IsServed}
+use Rattle.rules_tftp.specs.Saying.{IsFromServer, said_by}
+use Rattle.rules_tftp.specs.Transfers.{came, settled}
+use Rattle.spec_run.specs.Answers.{frames_of, told_of_files}
 use Rattle.slirp_core.specs.Datagrams.{datagram_of}
 use Rattle.slirp_core.specs.Files.{ServesFile}
 use Rattle.slirp_core.specs.Holds.{AsksFile, Holds, flowing}

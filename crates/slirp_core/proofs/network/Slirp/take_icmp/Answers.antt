@@ -2,7 +2,7 @@ use Rattle.std.proofs.Common.{◌≡◌, ℕ, List, ◌∙◌, ap}
 use Rattle.ipv4_head.specs.Ip.{ip_of}
 use Rattle.net_octets.specs.Kinds.{icmp_proto}
 use Rattle.icmp_echo.specs.Icmp.{icmp_octets, icmp_of, read_icmp}
-use Rattle.slirp_laws.specs.Answers.{datagram_frames, frames_of, owed_for_icmp}
+use Rattle.spec_run.specs.Answers.{datagram_frames, frames_of, owed_for_icmp}
 use Rattle.slirp_core.specs.Packets.{owed_for}
 use Rattle.slirp_core.specs.State.{SlirpState}
 use Rattle.owed_frames.specs.declared.outgoing.Course.{Course}

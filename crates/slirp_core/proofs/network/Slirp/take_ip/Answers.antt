@@ -2,7 +2,7 @@ use Rattle.std.proofs.Common.{◌≡◌, ℕ, not, Bool, true, false, Some, None
 use Rattle.world_face.proofs.Telling.{brings_none}
 use Rattle.ipv4_head.specs.Ip.{Ip, ip_of, is_unbroken}
 use Rattle.ipv4_head.specs.Sets.{part_of}
-use Rattle.run_laws.specs.Fragments.{part_by}
+use Rattle.spec_trace.specs.Fragments.{part_by}
 use Rattle.slirp_core.specs.Came.{DatagramCame}
 use Rattle.slirp_core.specs.Datagrams.{Lies}
 use Rattle.slirp_core.specs.Fragments.{Gathers, IsHeld}

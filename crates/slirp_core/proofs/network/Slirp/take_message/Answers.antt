@@ -1,12 +1,12 @@
 use Rattle.std.proofs.Common.{◌≡◌, ℕ, ◌++◌, List, [], drop, length, refl, ◌∙◌, ap, arith, length-append}
 use Rattle.std.proofs.lemmas.List.{take_at}
 use Rattle.slirp_settings.specs.Addresses.{Config}
-use Rattle.udp_rules.specs.declared.Reply.{Reply}
-use Rattle.dhcp_rules.specs.Messages.{read_message}
-use Rattle.dhcp_rules.specs.Replies.{replied_octets, reply_to}
-use Rattle.dhcp_rules.specs.Serving.{leases_after}
-use Rattle.slirp_laws.specs.Answers.{answers_of, frames_of}
-use Rattle.slirp_laws.specs.Leasing.{sending_of}
+use Rattle.rules_udp.specs.declared.Reply.{Reply}
+use Rattle.rules_dhcp.specs.Messages.{read_message}
+use Rattle.rules_dhcp.specs.Replies.{replied_octets, reply_to}
+use Rattle.rules_dhcp.specs.Serving.{leases_after}
+use Rattle.spec_run.specs.Answers.{answers_of, frames_of}
+use Rattle.spec_run.specs.Leasing.{sending_of}
 use Rattle.slirp_core.specs.Datagrams.{datagram_of}
 use Rattle.slirp_core.specs.Leases.{after_message}
 use Rattle.slirp_core.specs.Replies.{replied_by}

@@ -4,10 +4,10 @@ use Rattle.world_face.specs.Tells.{Brings, Makes}
 use Rattle.world_face.specs.declared.Made.TheVariants.{Done, Failed}
 use Rattle.world_face.proofs.Telling.{makes_next, makes_then}
 use Rattle.slirp_settings.specs.Addresses.{Config}
-use Rattle.slirp_laws.specs.Answers.{frames_of, reset_for}
+use Rattle.spec_run.specs.Answers.{frames_of, reset_for}
 use Rattle.udp_assoc.proofs.Below.{below_up}
-use Rattle.flows_follow.specs.Seats.{in_use_slots}
-use Rattle.flows_follow.specs.Stands.{lot_without}
+use Rattle.sim_flows.specs.Seats.{in_use_slots}
+use Rattle.sim_flows.specs.Stands.{lot_without}
 use Rattle.tcp_flows.specs.Kept.{Kept}
 use Rattle.tcp_flows.specs.Way.{GivesWay}
 use Rattle.tcp_flows.specs.Runs.{Hears}

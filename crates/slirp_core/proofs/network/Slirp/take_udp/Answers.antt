@@ -1,6 +1,6 @@
 use Rattle.std.proofs.Common.{◌≡◌, false, sym, ◌∙◌, ap, subst}
 use Rattle.world_face.proofs.Telling.{brings_none}
-use Rattle.slirp_laws.specs.Datagrams.{ForFiles, ForLeases, GoesTo, Ignored, Refused, fate, is_to_names}
+use Rattle.spec_run.specs.Datagrams.{ForFiles, ForLeases, GoesTo, Ignored, Refused, fate, is_to_names}
 use Rattle.slirp_core.specs.Datagrams.{datagram_of}
 use Rattle.slirp_core.specs.Holds.{Holds, flowing}
 use Rattle.slirp_core.specs.State.{SlirpState}

@@ -4,7 +4,7 @@ use Rattle.net_octets.specs.Octets.{our_mac}
 use Rattle.slirp_settings.specs.Addresses.{Config, last_address}
 use Rattle.slirp_settings.specs.Classes.{is_group_or_reserved}
 use Rattle.icmp_echo.specs.Icmp.{unreachable_octets}
-use Rattle.slirp_laws.specs.Answers.{datagram_frames, is_untold, frames_of, told_about}
+use Rattle.spec_run.specs.Answers.{datagram_frames, is_untold, frames_of, told_about}
 use Rattle.slirp_core.specs.Datagrams.{datagram_of}
 use Rattle.slirp_core.specs.State.{SlirpState}
 use Rattle.owed_frames.specs.declared.outgoing.Course.{Course}

@@ -1,7 +1,7 @@
 use Rattle.std.proofs.Common.{List, ◌++◌, None, false, true, ap, subst, sym}
 use Rattle.world_face.specs.Tells.{Brings, Makes}
 use Rattle.world_face.proofs.Telling.{makes_as}
-use Rattle.flows_follow.specs.Core.{CoreHolds}
+use Rattle.sim_flows.specs.Core.{CoreHolds}
 use Rattle.tcp_flows.specs.Runs.{ClosesRising}
 use Rattle.tcp_flows.specs.Reading.{AreTold}
 use Rattle.tcp_flows.specs.Settled.{OwesNoAck}
@@ -11,7 +11,7 @@ use Rattle.slirp_core.specs.Hearing.{WhereItTicks}
 use Rattle.slirp_core.proofs.Called.{flows_put, told_rising, told_the_time, without_over}
 use Rattle.slirp_core.proofs.Services.{server_on}
 use Rattle.tftp_server.specs.Serving.{Serving}
-use Rattle.tftp_rules.specs.Transfers.{Transfer}
+use Rattle.rules_tftp.specs.Transfers.{Transfer}
 use Rattle.slirp_core.proofs.Drawn.{drawn_stay}
 use Rattle.slirp_core.proofs.Telling.{brings_allowed}
 use Rattle.slirp_core.proofs.Viewed.{state_of}

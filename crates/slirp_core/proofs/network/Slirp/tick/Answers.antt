@@ -3,7 +3,7 @@ use Rattle.std.proofs.Common.{◌≡◌, ℕ, ◌+◌, ◌++◌, ◌∙◌, List
 use Rattle.world_face.specs.Tells.{Makes}
 use Rattle.world_face.proofs.Telling.{brings_none, brings_then, makes_then}
 use Rattle.std.specs.Prelude.{false, true}
-use Rattle.flows_follow.specs.FlowsHold.{FlowsState}
+use Rattle.sim_flows.specs.FlowsHold.{FlowsState}
 use Rattle.flow_splice.specs.Splice.{Splice}
 use Rattle.tcp_flows.specs.Kept.{Kept}
 use Rattle.tcp_flows.specs.Settled.{IsInTime, OwesNoAck}

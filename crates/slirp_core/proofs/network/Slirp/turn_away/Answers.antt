@@ -1,7 +1,7 @@
 use Rattle.std.proofs.Common.{◌≡◌, ℕ, List, [], ◌∷◌, ◌∙◌, ap}
 use Rattle.tcp_segment.specs.Tcp.{tcp_of}
-use Rattle.record_flows.specs.Segments.{segment_of}
-use Rattle.slirp_laws.specs.Answers.{frames_of, reset_for}
+use Rattle.spec_flows.specs.Segments.{segment_of}
+use Rattle.spec_run.specs.Answers.{frames_of, reset_for}
 use Rattle.slirp_core.specs.Segments.{coming_of}
 use Rattle.slirp_core.specs.State.{SlirpState}
 use Rattle.slirp_core.proofs.Taking.{reset_frames, reset_small}

@@ -3,8 +3,8 @@ use Rattle.world_face.specs.Journal.{Close}
 use Rattle.world_face.proofs.Telling.{makes_none, makes_one}
 use Rattle.arp_table.specs.Table.{mac_of as learnt_for}
 use Rattle.udp_assoc.proofs.Below.{below_up}
-use Rattle.flows_follow.specs.Seats.{in_use_slots}
-use Rattle.record_flows.specs.Book.{book, is_refused, tuple_for}
+use Rattle.sim_flows.specs.Seats.{in_use_slots}
+use Rattle.spec_flows.specs.Book.{book, is_refused, tuple_for}
 use Rattle.tcp_flows.specs.Reading.{NoneUses}
 use Rattle.tcp_flows.specs.Runs.{Welcomes}
 use Rattle.slirp_core.specs.State.{SlirpState}

@@ -1,7 +1,7 @@
 use Rattle.std.proofs.Common.{◌≡◌, ◌++◌, Bool, map, sym, ◌∙◌, subst}
 use Rattle.std.proofs.lemmas.List.{append-nil}
 use Rattle.slirp_core.specs.Carrying.{sockets_of}
-use Rattle.waiting_flows.specs.Wants.{link_want, listener_want, socket_wants}
+use Rattle.sim_flows.specs.Wants.{link_want, listener_want, socket_wants}
 use Rattle.slirp_core.proofs.wants.TurnWants.fill_before.Goals as goal
 
 pub returns-then-read-clause-items : goal.returns-then-read-clause-items

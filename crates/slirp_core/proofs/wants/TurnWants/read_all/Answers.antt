@@ -4,7 +4,7 @@ use Rattle.poll_list.specs.Listing.{AreWants}
 use Rattle.poll_list.specs.declared.Want.{Want}
 use Rattle.slirp_core.specs.Carrying.{sockets_of}
 use Rattle.slirp_core.specs.Pumps.{merged}
-use Rattle.waiting_flows.specs.Wants.{link_want, listener_want, udp_want}
+use Rattle.sim_flows.specs.Wants.{link_want, listener_want, udp_want}
 use Rattle.slirp_core.proofs.Dividing.{begun_in_parts, cut_in_parts}
 use Rattle.slirp_core.proofs.Filling.{are_front, few_read, same_rows}
 use Rattle.slirp_core.proofs.wants.TurnWants.read_all.Goals as goal

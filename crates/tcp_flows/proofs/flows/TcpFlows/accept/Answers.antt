@@ -1,9 +1,9 @@
 use Rattle.std.proofs.Common.{◌≡◌, ◌+◌, ◌-◌, ◌<◌, [], inl, inr, length, ap, sym, ◌∙◌, subst}
-use Rattle.flows_follow.specs.Seats.{in_use_slots}
+use Rattle.sim_flows.specs.Seats.{in_use_slots}
 use Rattle.sock_buffers.specs.Downward.{downward}
 use Rattle.sock_buffers.specs.Upward.{empty}
 use Rattle.tcp_connection.specs.Connection.{HasBuffers, to_guest}
-use Rattle.flow_laws.specs.Flow.{first_number}
+use Rattle.spec_flow.specs.Flow.{first_number}
 use Rattle.slirp_settings.specs.Addresses.{Config}
 use Rattle.tcp_flows.specs.Kept.{IsFor, Kept}
 use Rattle.tcp_flows.specs.Runs.{Welcomes}

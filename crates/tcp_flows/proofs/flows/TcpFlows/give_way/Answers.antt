@@ -4,15 +4,15 @@ use Rattle.std.proofs.lemmas.Option.{slice_get_within}
 use Rattle.std.specs.List.{list_any}
 use Rattle.world_face.specs.Journal.{Close, Entry}
 use Rattle.slirp_settings.specs.Addresses.{Config}
-use Rattle.slirp_laws.specs.Agenda.{agenda}
+use Rattle.spec_run.specs.Agenda.{agenda}
 use Rattle.tcp_flows.specs.Runs.{Between, Leaves}
 use Rattle.world_face.proofs.Telling.{makes_as, makes_none}
-use Rattle.flow_laws.specs.Event.{At, Closes, Story}
-use Rattle.flow_laws.specs.Close.{follows_reset, may_give_way}
-use Rattle.record_flows.specs.Laws.{flow_settings}
+use Rattle.spec_flow.specs.Event.{At, Closes, Story}
+use Rattle.spec_flow.specs.Close.{follows_reset, may_give_way}
+use Rattle.spec_flows.specs.Laws.{flow_settings}
 use Rattle.flow_splice.specs.Splice.{Splice, is_open}
 use Rattle.tcp_transmit.specs.Transmission.{octets_read}
-use Rattle.flows_follow.specs.Core.{Following, ends_of}
+use Rattle.sim_flows.specs.Core.{Following, ends_of}
 use Rattle.tcp_flows.specs.Kept.{Kept, flows_of}
 use Rattle.tcp_flows.specs.Way.{AreFirst, IsFirstQuiet, owes}
 use Rattle.tcp_flows.proofs.Following.{has_tuple}

@@ -1,9 +1,9 @@
 use Rattle.std.proofs.Common.{◌≡◌, ◌&&◌, length, map, nat_lt, ap, sym, subst, ◌∙◌}
 use Rattle.std.proofs.lemmas.List.{length-map}
-use Rattle.flow_rules.specs.Choices.{most_for_peers}
-use Rattle.flows_follow.specs.Peers.{fits_peer, peer_slots}
-use Rattle.flows_follow.specs.Seats.{in_use_slots}
-use Rattle.flows_follow.proofs.Peers.{room_recorded}
+use Rattle.rules_flow.specs.Choices.{most_for_peers}
+use Rattle.sim_flows.specs.Peers.{fits_peer, peer_slots}
+use Rattle.sim_flows.specs.Seats.{in_use_slots}
+use Rattle.sim_flows.proofs.Peers.{room_recorded}
 use Rattle.tcp_flows.specs.Kept.{Kept, part_of, slot_of}
 use Rattle.tcp_flows.specs.declared.rows.Used.{Used}
 use Rattle.tcp_flows.proofs.Looking.{peers_counted}

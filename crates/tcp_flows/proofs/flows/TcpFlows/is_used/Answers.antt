@@ -3,9 +3,9 @@ use Rattle.std.proofs.lemmas.List.{length-map}
 use Rattle.std.proofs.lemmas.Option.{slice_get_within}
 use Rattle.flow_table.specs.Slots.{NoneHas}
 use Rattle.flow_table.specs.declared.Slot.TheVariants.{InUse as SlotInUse}
-use Rattle.record_flows.specs.declared.Tuple.{Tuple}
+use Rattle.spec_flows.specs.declared.Tuple.{Tuple}
 use Rattle.flow_splice.specs.Splice.{Splice, is_in_use}
-use Rattle.flows_follow.specs.Stands.{slot_at}
+use Rattle.sim_flows.specs.Stands.{slot_at}
 use Rattle.tcp_flows.specs.Kept.{Kept, part_of, slot_of}
 use Rattle.tcp_flows.specs.Reading.{NoneUses}
 use Rattle.tcp_flows.proofs.Hearing.{tuple_back}

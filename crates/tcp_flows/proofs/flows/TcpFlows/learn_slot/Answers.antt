@@ -3,13 +3,13 @@ use Rattle.std.proofs.lemmas.List.{length-set, map-set}
 use Rattle.std.proofs.lemmas.Option.{slice_get_within}
 use Rattle.tcp_transmit.specs.Transmission.{octets_read}
 use Rattle.flow_splice.specs.Splice.{Splice}
-use Rattle.flows_follow.specs.Core.{ends_of}
-use Rattle.flows_follow.proofs.Options.{some_same}
-use Rattle.row_lists.proofs.Places.{set_same}
+use Rattle.sim_flows.specs.Core.{ends_of}
+use Rattle.sim_flows.proofs.Options.{some_same}
+use Rattle.ordered_rows.proofs.Places.{set_same}
 use Rattle.tcp_flows.specs.Kept.{Kept, part_of}
 use Rattle.tcp_flows.specs.Reading.{learnt_from}
 use Rattle.tcp_flows.specs.Rows.{table_at}
-use Rattle.flow_rules.specs.declared.Waits.{Waits}
+use Rattle.rules_flow.specs.declared.Waits.{Waits}
 use Rattle.tcp_flows.proofs.Changing.{in_waits, waits_here, waits_seen}
 use Rattle.tcp_flows.proofs.Following.{has_tuple}
 use Rattle.tcp_flows.proofs.Keeping.{flows_as, ours_then, served_same, settings_as, slot_raw, table_is}

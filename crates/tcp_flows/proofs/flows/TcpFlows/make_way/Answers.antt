@@ -1,10 +1,10 @@
 use Rattle.std.proofs.Common.{refl, ℕ, inl, inr, ap, length, sym, ◌∙◌, subst}
 use Rattle.std.proofs.lemmas.List.{length-set}
-use Rattle.flows_follow.specs.Seats.{in_use_slots}
-use Rattle.flows_follow.proofs.Waking.{used_woken}
+use Rattle.sim_flows.specs.Seats.{in_use_slots}
+use Rattle.sim_flows.proofs.Waking.{used_woken}
 use Rattle.flow_table.specs.Slots.{AreKept, Flows, HasTuple, NoneHas}
 use Rattle.flow_table.specs.declared.Slot.TheVariants.{Free}
-use Rattle.flows_follow.proofs.Accepted.{none_left}
+use Rattle.sim_flows.proofs.Accepted.{none_left}
 use Rattle.tcp_flows.specs.Kept.{Kept}
 use Rattle.tcp_flows.proofs.Hearing.{tuple_back}
 use Rattle.tcp_flows.proofs.Keeping.{seen_here}

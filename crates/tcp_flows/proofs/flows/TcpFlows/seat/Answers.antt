@@ -8,10 +8,10 @@ use Rattle.tcp_transmit.specs.Transmission.{octets_read}
 use Rattle.flow_table.specs.Slots.{AreKept, MayBeTaken, NoneHas, with_slot}
 use Rattle.flow_table.specs.declared.Slot.{Slot}
 use Rattle.flow_table.specs.declared.Slot.TheVariants.{InUse as SlotInUse}
-use Rattle.record_flows.specs.Laws.{flow_settings}
-use Rattle.flows_follow.specs.Seats.{in_use_slots}
+use Rattle.spec_flows.specs.Laws.{flow_settings}
+use Rattle.sim_flows.specs.Seats.{in_use_slots}
 use Rattle.flow_splice.specs.Splice.{Splice, is_open}
-use Rattle.flows_follow.specs.Core.{ends_of, number_of}
+use Rattle.sim_flows.specs.Core.{ends_of, number_of}
 use Rattle.tcp_flows.specs.Kept.{IsFor, Kept, part_at, part_of, slot_of}
 use Rattle.tcp_flows.specs.Rows.{count, is_used}
 use Rattle.tcp_flows.specs.declared.rows.Used.{Used}

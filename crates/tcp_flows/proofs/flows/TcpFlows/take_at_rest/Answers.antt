@@ -7,7 +7,7 @@ use Rattle.flow_table.specs.Slots.{Flows, NoneHas}
 use Rattle.flow_splice.specs.Guests.{renews}
 use Rattle.flow_splice.specs.Hosts.{IsAsOld}
 use Rattle.flow_splice.specs.Splice.{Splice, is_at_rest, is_open}
-use Rattle.flows_follow.specs.Core.{ends_of}
+use Rattle.sim_flows.specs.Core.{ends_of}
 use Rattle.tcp_flows.specs.Kept.{Kept}
 use Rattle.tcp_flows.proofs.Hearing.{alone_left, hears_rested, makes_quiet, none_after}
 use Rattle.tcp_flows.proofs.Keeping.{flows_as, may_take, ours_as_old, raw_here, raw_placed, read_here, rest_shut, served_same, settings_as}

@@ -7,7 +7,7 @@ use Rattle.tcp_transmit.specs.Transmission.{octets_read}
 use Rattle.flow_splice.specs.Guests.{Hears as HearsOne, turns_away}
 use Rattle.flow_splice.specs.Hosts.{IsAsOld}
 use Rattle.flow_splice.specs.Splice.{Splice, is_in_use, is_open}
-use Rattle.flows_follow.specs.Core.{ends_of}
+use Rattle.sim_flows.specs.Core.{ends_of}
 use Rattle.tcp_flows.specs.Kept.{Kept}
 use Rattle.tcp_flows.specs.declared.guest.Heard.TheVariants.{Strange, Taken}
 use Rattle.tcp_flows.proofs.Following.{has_tuple}

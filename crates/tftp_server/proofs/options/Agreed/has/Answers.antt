@@ -1,5 +1,5 @@
 use Rattle.std.proofs.Common.{sym, ◌∙◌, ap}
-use Rattle.tftp_rules.specs.Packets.{Terms, has_answered}
+use Rattle.rules_tftp.specs.Packets.{Terms, has_answered}
 use Rattle.tftp_server.specs.Options.{is_among, name_of}
 use Rattle.tftp_server.proofs.Agreeing.{among_map}
 use Rattle.tftp_server.proofs.options.Agreed.has.Goals as goal

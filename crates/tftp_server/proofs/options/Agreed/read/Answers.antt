@@ -1,7 +1,7 @@
 -- An option less is left.
 use Rattle.std.proofs.Common.{sym, ◌∙◌, ap}
 use Rattle.std.specs.Option.{option_map}
-use Rattle.tftp_rules.specs.Packets.{terms_from}
+use Rattle.rules_tftp.specs.Packets.{terms_from}
 use Rattle.tftp_server.specs.Reading.{options_of, pair_of}
 use Rattle.tftp_server.proofs.Cutting.{options_end, options_more, pairs_more}
 use Rattle.tftp_server.proofs.Knowing.{goes_on, stops}

@@ -1,5 +1,5 @@
 use Rattle.std.proofs.Common.{◌≡◌, length, true}
-use Rattle.tftp_rules.specs.Packets.{terms_from, terms_of}
+use Rattle.rules_tftp.specs.Packets.{terms_from, terms_of}
 use Rattle.tftp_server.specs.Reading.{are_pairs, options_of}
 use Rattle.tftp_server.proofs.options.Agreed.read.Given as goal
 

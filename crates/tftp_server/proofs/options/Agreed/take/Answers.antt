@@ -1,6 +1,6 @@
 -- By the name of the option.
 use Rattle.std.proofs.Common.{Bool, not, cond, Option, Some, None, sym, ◌∙◌, ap}
-use Rattle.tftp_rules.specs.Packets.{Terms}
+use Rattle.rules_tftp.specs.Packets.{Terms}
 use Rattle.tftp_server.specs.Options.{with_known}
 use Rattle.tftp_server.proofs.Knowing.{known_is}
 use Rattle.tftp_server.proofs.options.Agreed.take.Goals as goal

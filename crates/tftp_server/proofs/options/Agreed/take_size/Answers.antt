@@ -2,7 +2,7 @@
 use Rattle.std.proofs.Common.{arith}
 use Rattle.tftp_server.specs.declared.options.Known.TheVariants.{BlockSize}
 use Rattle.tftp_server.proofs.Agreeing.{not_among, once_push, room_for, sized}
-use Rattle.tftp_rules.proofs.Naming.{in_its_range}
+use Rattle.rules_tftp.proofs.Naming.{in_its_range}
 use Rattle.tftp_server.proofs.options.Agreed.take_size.Goals as goal
 
 pub push-requires : goal.push-requires

@@ -1,7 +1,7 @@
 use Rattle.std.proofs.Common.{Bool, cond, None, refl, sym, ◌∙◌, ap, subst}
 use Rattle.world_face.specs.Tells.{Makes}
-use Rattle.tftp_rules.specs.Transfers.{Outcome, leaves, seeks_next, without}
-use Rattle.tftp_rules.specs.Asking.{IsServed}
+use Rattle.rules_tftp.specs.Transfers.{Outcome, leaves, seeks_next, without}
+use Rattle.rules_tftp.specs.Asking.{IsServed}
 use Rattle.tftp_server.specs.Serving.{Serving}
 use Rattle.tftp_server.specs.Rows.{transfer_of}
 use Rattle.tftp_server.proofs.Serving.{makes_at_once}

@@ -3,12 +3,12 @@ use Rattle.std.proofs.Common.{◌≡◌, ℕ, nat_eq, true, false, List, [], len
 use Rattle.std.proofs.lemmas.List.{length-map}
 use Rattle.world_face.specs.Tells.{Makes}
 use Rattle.world_face.proofs.Telling.{makes_none}
-use Rattle.tftp_rules.specs.Packets.{options_octets, terms_of}
-use Rattle.tftp_rules.specs.Transfers.{Outcome, Transfer, measured, seeks_next, sends, with_room}
-use Rattle.tftp_rules.specs.Asking.{IsServed}
+use Rattle.rules_tftp.specs.Packets.{options_octets, terms_of}
+use Rattle.rules_tftp.specs.Transfers.{Outcome, Transfer, measured, seeks_next, sends, with_room}
+use Rattle.rules_tftp.specs.Asking.{IsServed}
 use Rattle.tftp_server.specs.Options.{answered_pair}
 use Rattle.tftp_server.specs.Serving.{Serving}
-use Rattle.tftp_rules.specs.Saying.{said_by}
+use Rattle.rules_tftp.specs.Saying.{said_by}
 use Rattle.tftp_server.specs.Rows.{sought, transfer_of}
 use Rattle.tftp_server.proofs.Beginning.{begins_next, begins_options}
 use Rattle.tftp_server.proofs.transfers.Tftp.begin.Goals as goal

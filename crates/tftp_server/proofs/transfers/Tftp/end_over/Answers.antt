@@ -2,12 +2,12 @@
 use Rattle.std.proofs.Common.{◌≡◌, ◌||◌, not, nat_le, nat_lt, List, map, filter, sym, ◌∙◌, ap, subst, rules, arith}
 use Rattle.std.specs.Option.{option_map}
 use Rattle.std.proofs.lemmas.Fn.{filter_same}
-use Rattle.tftp_rules.specs.Transfers.{Transfer, are_left, is_due}
+use Rattle.rules_tftp.specs.Transfers.{Transfer, are_left, is_due}
 use Rattle.tftp_server.specs.Serving.{Serving}
 use Rattle.tftp_server.specs.Rows.{transfer_of, transfers_of}
-use Rattle.tftp_rules.specs.Soundness.{AreApart, AreSound}
+use Rattle.rules_tftp.specs.Soundness.{AreApart, AreSound}
 use Rattle.tftp_server.specs.declared.row.Row.{Row}
-use Rattle.tftp_rules.proofs.Listing.{apart_filter, filter_map_is}
+use Rattle.rules_tftp.proofs.Listing.{apart_filter, filter_map_is}
 use Rattle.tftp_server.proofs.Waiting.{rows_sound}
 use Rattle.tftp_server.proofs.transfers.Tftp.end_over.Goals as goal
 

@@ -3,12 +3,12 @@ use Rattle.std.proofs.Common.{◌≡◌, not, List, find, map, filter, sym, ◌�
 use Rattle.std.specs.Option.{option_map}
 use Rattle.std.proofs.lemmas.Fn.{filter_same}
 use Rattle.slirp_settings.specs.Classes.{same_endpoint}
-use Rattle.tftp_rules.specs.Transfers.{Transfer, is_for, without}
+use Rattle.rules_tftp.specs.Transfers.{Transfer, is_for, without}
 use Rattle.tftp_server.specs.Serving.{Serving}
 use Rattle.tftp_server.specs.Rows.{transfer_of, transfers_of}
-use Rattle.tftp_rules.specs.Soundness.{AreApart}
+use Rattle.rules_tftp.specs.Soundness.{AreApart}
 use Rattle.tftp_server.specs.declared.row.Row.{Row}
-use Rattle.tftp_rules.proofs.Listing.{apart_filter, filter_map_is, none_without}
+use Rattle.rules_tftp.proofs.Listing.{apart_filter, filter_map_is, none_without}
 use Rattle.tftp_server.proofs.transfers.Tftp.forget.Goals as goal
 
 -- the rows that are left, as transfers

@@ -3,8 +3,8 @@ use Rattle.std.proofs.Common.{◌≡◌, List, ℕ, refl, ◌∙◌, subst}
 use Rattle.world_face.specs.Journal.{FileLen}
 use Rattle.world_face.specs.Tells.{Answers}
 use Rattle.world_face.specs.declared.FileSize.TheVariants.{Length, Missing, Failed}
-use Rattle.tftp_rules.specs.Packets.{terms_of}
-use Rattle.tftp_rules.specs.Transfers.{measured, refuses}
+use Rattle.rules_tftp.specs.Packets.{terms_of}
+use Rattle.rules_tftp.specs.Transfers.{measured, refuses}
 use Rattle.tftp_server.specs.Rows.{seeking_length, sought}
 use Rattle.tftp_server.proofs.Serving.{makes_asked, makes_at_once}
 use Rattle.tftp_server.proofs.transfers.Tftp.measure.Goals as goal

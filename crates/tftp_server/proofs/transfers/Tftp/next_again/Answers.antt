@@ -2,15 +2,15 @@
 use Rattle.std.proofs.Common.{◌≡◌, ℕ, ◌<◌, ◌++◌, List, length, find, position, take, drop, get_or, set, Some, true, sym, ◌∙◌, ap, subst, arith}
 use Rattle.std.specs.Option.{option_map}
 use Rattle.std.proofs.lemmas.List.{get_or-map, get_or-set_same, length-map}
-use Rattle.tftp_rules.specs.Transfers.{Said, Transfer, are_left, goes_again, said_again, sent_again, ticked}
+use Rattle.rules_tftp.specs.Transfers.{Said, Transfer, are_left, goes_again, said_again, sent_again, ticked}
 use Rattle.tftp_server.specs.Serving.{Serving}
 use Rattle.tftp_server.specs.Rows.{transfer_of, transfers_of}
-use Rattle.tftp_rules.specs.Soundness.{AreApart}
+use Rattle.rules_tftp.specs.Soundness.{AreApart}
 use Rattle.tftp_server.specs.declared.row.Row.{Row}
 use Rattle.tftp_server.proofs.Keeping.{due_none, due_some, is_due_row}
-use Rattle.tftp_rules.proofs.Listing.{position_some}
+use Rattle.rules_tftp.proofs.Listing.{position_some}
 use Rattle.tftp_server.proofs.Timing.{whole_new}
-use Rattle.tftp_rules.proofs.Ticking.{apart_set, says_none, says_some, tick_none, tick_some}
+use Rattle.rules_tftp.proofs.Ticking.{apart_set, says_none, says_some, tick_none, tick_some}
 use Rattle.tftp_server.proofs.transfers.Tftp.next_again.Goals as goal
 
 pub returns-in_default-clause-list : goal.returns-in_default-clause-list

@@ -3,7 +3,7 @@ use Rattle.std.proofs.Common.{List, subst, arith}
 use Rattle.std.specs.Option.{option_map}
 use Rattle.tftp_server.specs.Serving.{IsNextDue, Serving}
 use Rattle.tftp_server.specs.Rows.{transfers_of}
-use Rattle.tftp_rules.specs.Soundness.{AreSound}
+use Rattle.rules_tftp.specs.Soundness.{AreSound}
 use Rattle.tftp_server.specs.declared.row.Row.{Row}
 use Rattle.tftp_server.proofs.Waiting.{rows_sound}
 use Rattle.tftp_server.proofs.transfers.Tftp.next_due.Goals as goal

@@ -1,7 +1,7 @@
 -- What holds of the transfers then.
 use Rattle.std.proofs.Common.{subst, arith}
 use Rattle.std.specs.Option.{option_map}
-use Rattle.tftp_rules.specs.Soundness.{AreSound}
+use Rattle.rules_tftp.specs.Soundness.{AreSound}
 use Rattle.tftp_server.specs.Serving.{Serving}
 use Rattle.tftp_server.proofs.Waiting.{rows_sound}
 use Rattle.tftp_server.proofs.transfers.Tftp.packet.Goals as goal

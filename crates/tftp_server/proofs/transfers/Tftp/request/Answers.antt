@@ -1,12 +1,12 @@
 -- Requests that are refused.
 use Rattle.std.proofs.Common.{◌≡◌, None, refl, sym, ◌∙◌, ap, subst}
 use Rattle.world_face.specs.Tells.{Makes}
-use Rattle.tftp_rules.specs.Packets.{request_in}
-use Rattle.tftp_rules.specs.Transfers.{Outcome, refuses, requested_file}
-use Rattle.tftp_rules.specs.Asking.{IsServed}
+use Rattle.rules_tftp.specs.Packets.{request_in}
+use Rattle.rules_tftp.specs.Transfers.{Outcome, refuses, requested_file}
+use Rattle.rules_tftp.specs.Asking.{IsServed}
 use Rattle.tftp_server.specs.Reading.{request_of_view}
 use Rattle.tftp_server.specs.Serving.{Serving}
-use Rattle.tftp_rules.specs.Saying.{said_by}
+use Rattle.rules_tftp.specs.Saying.{said_by}
 use Rattle.tftp_server.proofs.Beginning.{no_folder, not_taken, served_mode, unnamed}
 use Rattle.tftp_server.proofs.Serving.{makes_at_once}
 use Rattle.tftp_server.proofs.transfers.Tftp.request.Goals as goal

@@ -3,7 +3,7 @@ use Rattle.std.proofs.Common.{◌≡◌, ℕ, ◌+◌, ◌<◌, ◌≤◌, lengt
 use Rattle.std.specs.Option.{option_map}
 use Rattle.std.specs.Vec.{vec_len, vec_capacity}
 use Rattle.std.proofs.lemmas.List.{length-map}
-use Rattle.tftp_rules.specs.Transfers.{is_for}
+use Rattle.rules_tftp.specs.Transfers.{is_for}
 use Rattle.tftp_server.specs.Serving.{Serving}
 use Rattle.tftp_server.specs.Rows.{transfer_of, transfers_of}
 use Rattle.tftp_server.proofs.Keeping.{apart_pushed}

@@ -1,9 +1,9 @@
 -- The block's packet is the last of all.
 use Rattle.std.proofs.Common.{◌≡◌, ℕ, ◌+◌, ◌-◌, ◌*◌, ◌≤◌, ◌%◌, ◌^◌, min, nat_lt, List, [], ◌∷◌, ◌++◌, length, take, sym, ◌∙◌, ap, arith}
 use Rattle.std.proofs.lemmas.List.{length-take-le}
-use Rattle.tftp_rules.specs.Packets.{block_octets}
-use Rattle.tftp_rules.specs.Saying.{most_packet}
-use Rattle.tftp_rules.specs.Transfers.{sending}
+use Rattle.rules_tftp.specs.Packets.{block_octets}
+use Rattle.rules_tftp.specs.Saying.{most_packet}
+use Rattle.rules_tftp.specs.Transfers.{sending}
 use Rattle.tftp_server.specs.Serving.{Serving}
 use Rattle.tftp_server.specs.Rows.{next_of}
 use Rattle.tftp_server.proofs.transfers.Tftp.send_block.Goals as goal

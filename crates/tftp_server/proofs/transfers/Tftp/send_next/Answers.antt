@@ -2,11 +2,11 @@
 use Rattle.std.proofs.Common.{◌≡◌, ℕ, ◌+◌, ◌-◌, ◌*◌, ◌≤◌, min, Bool, List, ◌++◌, length, take, drop, sym, ◌∙◌, ap, subst, arith}
 use Rattle.std.proofs.lemmas.List.{length-take-le, take_at}
 use Rattle.world_face.specs.Tells.{Makes}
-use Rattle.tftp_rules.specs.Packets.{file_in}
-use Rattle.tftp_rules.specs.Transfers.{Transfer, octets_of, sends_block}
-use Rattle.tftp_rules.specs.Blocks.{ReadsBlock}
+use Rattle.rules_tftp.specs.Packets.{file_in}
+use Rattle.rules_tftp.specs.Transfers.{Transfer, octets_of, sends_block}
+use Rattle.rules_tftp.specs.Blocks.{ReadsBlock}
 use Rattle.tftp_server.specs.Serving.{Serving}
-use Rattle.tftp_rules.specs.Saying.{most_packet, said_by}
+use Rattle.rules_tftp.specs.Saying.{most_packet, said_by}
 use Rattle.tftp_server.specs.Rows.{folder_octets, next_of}
 use Rattle.tftp_server.proofs.Serving.{makes_block, makes_no_block}
 use Rattle.tftp_server.proofs.transfers.Tftp.send_next.Goals as goal

@@ -2,12 +2,12 @@
 use Rattle.std.proofs.Common.{◌≡◌, ℕ, ◌%◌, ◌<◌, not, Bool, List, length, find, get_or, position, Option, Some, None, refl, sym, ◌∙◌, ap, subst, arith}
 use Rattle.std.specs.Option.{option_map}
 use Rattle.std.proofs.lemmas.List.{length-map}
-use Rattle.tftp_rules.specs.Transfers.{Transfer, acknowledged, is_for, leaves, without}
+use Rattle.rules_tftp.specs.Transfers.{Transfer, acknowledged, is_for, leaves, without}
 use Rattle.tftp_server.specs.Serving.{Serving}
 use Rattle.tftp_server.specs.Rows.{IsTakenOut, TakesAcknowledged, transfer_of, transfers_of}
-use Rattle.tftp_rules.specs.Soundness.{AreApart}
+use Rattle.rules_tftp.specs.Soundness.{AreApart}
 use Rattle.tftp_server.specs.declared.row.Row.{Row}
-use Rattle.tftp_rules.proofs.Listing.{any_past, apart_filter, none_without, position_some}
+use Rattle.rules_tftp.proofs.Listing.{any_past, apart_filter, none_without, position_some}
 use Rattle.tftp_server.proofs.Keeping.{awaited, guest_of, is_row_of, not_awaited, rows_none, rows_some, taken_out}
 use Rattle.tftp_server.proofs.transfers.Tftp.take_acknowledged.Goals as goal
 

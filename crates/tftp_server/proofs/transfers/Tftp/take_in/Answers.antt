@@ -1,8 +1,8 @@
 use Rattle.std.proofs.Common.{None, refl, ap, subst}
 use Rattle.world_face.specs.Tells.{Makes}
-use Rattle.tftp_rules.specs.Packets.{Packet}
-use Rattle.tftp_rules.specs.Transfers.{Outcome, leaves, taken_in, without}
-use Rattle.tftp_rules.specs.Asking.{IsServed}
+use Rattle.rules_tftp.specs.Packets.{Packet}
+use Rattle.rules_tftp.specs.Transfers.{Outcome, leaves, taken_in, without}
+use Rattle.rules_tftp.specs.Asking.{IsServed}
 use Rattle.tftp_server.specs.Serving.{Serving}
 use Rattle.tftp_server.proofs.Serving.{makes_at_once}
 use Rattle.tftp_server.proofs.transfers.Tftp.take_in.Goals as goal

@@ -6,7 +6,7 @@ use Rattle.idle_sockets.proofs.Mapping.{closes_mapped, length_mapped}
 use Rattle.udp_assoc.specs.Kept.{as_association, associations, is_only}
 use Rattle.udp_assoc.specs.Relays.{ClosesLeast}
 use Rattle.udp_assoc.specs.State.{AssocsState}
-use Rattle.udp_rules.specs.declared.Association.{Association}
+use Rattle.rules_udp.specs.declared.Association.{Association}
 use Rattle.udp_assoc.proofs.sockets.Assocs.close_first.Goals as goal
 
 pub invariant_of-self : goal.invariant_of-self

@@ -1,10 +1,10 @@
 use Rattle.std.proofs.Common.{List, refl, sym, ◌∙◌, ap, subst}
 use Rattle.idle_sockets.specs.Sockets.{heard_at as socket_heard}
-use Rattle.udp_rules.specs.Associations.{heard_at}
+use Rattle.rules_udp.specs.Associations.{heard_at}
 use Rattle.udp_assoc.specs.Kept.{associations, AreOnly}
 use Rattle.udp_assoc.specs.Relays.{with_reply}
 use Rattle.udp_assoc.specs.State.{AssocsState}
-use Rattle.udp_rules.specs.declared.Association.{Association}
+use Rattle.rules_udp.specs.declared.Association.{Association}
 use Rattle.udp_assoc.proofs.Keeping.{moved, moved_only}
 use Rattle.udp_assoc.proofs.sockets.Assocs.mark.Goals as goal
 

@@ -1,10 +1,10 @@
 use Rattle.std.proofs.Common.{◌+◌, ◌^◌, ◌-◌, min, slice_get, option_map, refl, sym, ◌∙◌, ap}
 use Rattle.idle_sockets.specs.declared.IdleSocket.{IdleSocket}
 use Rattle.idle_sockets.proofs.Mapping.{first_mapped}
-use Rattle.udp_rules.specs.Associations.{idle_life}
+use Rattle.rules_udp.specs.Associations.{idle_life}
 use Rattle.udp_assoc.specs.Kept.{as_association}
 use Rattle.udp_assoc.specs.State.{AssocsState}
-use Rattle.udp_rules.specs.declared.Association.{Association}
+use Rattle.rules_udp.specs.declared.Association.{Association}
 use Rattle.udp_assoc.proofs.sockets.Assocs.next_due.Goals as goal
 
 pub returns : goal.returns

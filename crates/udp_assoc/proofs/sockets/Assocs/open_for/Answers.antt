@@ -1,14 +1,14 @@
 use Rattle.std.proofs.Common.{◌≡◌, ℕ, ◌<◌, All, List, ◌++◌, ◌∷◌, [], length, refl, sym, ◌∙◌, ap, subst, arith}
 use Rattle.std.proofs.lemmas.List.{map-append}
 use Rattle.slirp_settings.specs.Addresses.{endpoint}
-use Rattle.udp_rules.specs.declared.Reply.TheVariants.{Unreachable}
+use Rattle.rules_udp.specs.declared.Reply.TheVariants.{Unreachable}
 use Rattle.world_face.specs.Journal.{Entry, UdpOpen, UdpSend}
 use Rattle.world_face.specs.Tells.{Makes}
 use Rattle.world_face.specs.declared.Made.TheVariants.{Done, Failed}
 use Rattle.world_face.proofs.Telling.{makes_one, makes_then}
 use Rattle.idle_sockets.specs.declared.IdleSocket.{IdleSocket}
 use Rattle.idle_sockets.proofs.Mapping.{length_mapped}
-use Rattle.udp_rules.specs.Associations.{moved_last, numbers, sent_from, socket_of}
+use Rattle.rules_udp.specs.Associations.{moved_last, numbers, sent_from, socket_of}
 use Rattle.udp_assoc.specs.Kept.{as_association, associations, only, AreOnly}
 use Rattle.udp_assoc.specs.Relays.{Opens, OpensFor, OpensNone, no_network}
 use Rattle.udp_assoc.specs.Sending.{outbound_of}

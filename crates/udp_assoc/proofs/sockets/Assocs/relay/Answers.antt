@@ -3,12 +3,12 @@ use Rattle.world_face.specs.Journal.{Entry}
 use Rattle.world_face.proofs.Telling.{makes_as, makes_then}
 use Rattle.idle_sockets.proofs.Mapping.{length_mapped}
 use Rattle.idle_sockets.proofs.Yielding.{of_room}
-use Rattle.udp_rules.specs.Associations.{most_associations, socket_of}
+use Rattle.rules_udp.specs.Associations.{most_associations, socket_of}
 use Rattle.udp_assoc.specs.Kept.{as_association, associations}
 use Rattle.udp_assoc.specs.Relays.{BySocket, ByNewSocket, OpensFor}
 use Rattle.udp_assoc.specs.Sending.{outbound_of}
 use Rattle.udp_assoc.specs.State.{AssocsState}
-use Rattle.udp_rules.specs.declared.Association.{Association}
+use Rattle.rules_udp.specs.declared.Association.{Association}
 use Rattle.udp_assoc.proofs.Below.{AreBelow, below_without}
 use Rattle.udp_assoc.proofs.Keeping.{calls_are, left, port_is, room_only}
 use Rattle.udp_assoc.proofs.Yielding.{still_none}

@@ -1,6 +1,6 @@
 use Rattle.std.proofs.Common.{ℕ, List, ◌∙◌, ap, subst}
 use Rattle.std.specs.List.Sorted.{IsPermutation}
-use Rattle.udp_rules.specs.Associations.{numbers}
+use Rattle.rules_udp.specs.Associations.{numbers}
 use Rattle.udp_assoc.specs.State.{AssocsState}
 use Rattle.udp_assoc.proofs.Keeping.{numbers_are}
 use Rattle.udp_assoc.proofs.sockets.Assocs.rising.Goals as goal

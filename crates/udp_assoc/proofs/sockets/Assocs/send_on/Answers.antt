@@ -1,9 +1,9 @@
 use Rattle.std.proofs.Common.{List, refl, sym, ◌∙◌, ap, subst}
 use Rattle.idle_sockets.specs.Sockets.{sent_from as socket_sent}
-use Rattle.udp_rules.specs.Associations.{moved_last, sent_from}
+use Rattle.rules_udp.specs.Associations.{moved_last, sent_from}
 use Rattle.udp_assoc.specs.Kept.{associations, AreOnly}
 use Rattle.udp_assoc.specs.State.{AssocsState}
-use Rattle.udp_rules.specs.declared.Association.{Association}
+use Rattle.rules_udp.specs.declared.Association.{Association}
 use Rattle.udp_assoc.proofs.Keeping.{moved, moved_only}
 use Rattle.udp_assoc.proofs.sockets.Assocs.send_on.Goals as goal
 

@@ -3,7 +3,7 @@ use Rattle.std.proofs.lemmas.Bool.Decides.{nat_tests}
 use Rattle.std.proofs.lemmas.Option.{slice_get_past, slice_get_read}
 use Rattle.std.specs.List.Sorted.{IsPermutation}
 use Rattle.std.specs.Option.{option_copied}
-use Rattle.udp_rules.specs.Associations.{numbers}
+use Rattle.rules_udp.specs.Associations.{numbers}
 use Rattle.udp_assoc.specs.State.{AssocsState}
 use Rattle.udp_assoc.proofs.Keeping.{numbers_are}
 use Rattle.udp_assoc.proofs.sockets.Assocs.socket.Goals as goal

@@ -2,11 +2,11 @@ use Rattle.std.proofs.Common.{◌≡◌, false, refl, subst}
 use Rattle.world_face.proofs.Telling.{makes_as}
 use Rattle.idle_sockets.specs.Sockets.{is_over as is_over_socket, number_of}
 use Rattle.idle_sockets.proofs.Mapping.{all_closed_mapped, all_mapped}
-use Rattle.udp_rules.specs.Associations.{idle_life, is_over}
+use Rattle.rules_udp.specs.Associations.{idle_life, is_over}
 use Rattle.udp_assoc.specs.Kept.{as_association, associations, is_only}
 use Rattle.udp_assoc.specs.Relays.{Ticks}
 use Rattle.udp_assoc.specs.State.{AssocsState}
-use Rattle.udp_rules.specs.declared.Association.{Association}
+use Rattle.rules_udp.specs.declared.Association.{Association}
 use Rattle.udp_assoc.proofs.sockets.Assocs.tick.Goals as goal
 
 pub invariant_of-self : goal.invariant_of-self

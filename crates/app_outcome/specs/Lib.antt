@@ -1,2 +1,0 @@
-pub mod Mistakes
-pub mod Statuses

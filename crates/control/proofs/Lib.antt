@@ -1,0 +1,10 @@
+pub mod Apartness
+mod Passing
+mod Putting
+pub mod Reporting
+pub mod Stretching
+mod Talking
+mod Windows
+pub mod Reading
+pub mod Spelling
+mod Rows

@@ -1,5 +1,0 @@
-pub mod Apartness
-mod Passing
-mod Putting
-pub mod Reporting
-pub mod Stretching

@@ -1,6 +1,0 @@
-use Rattle.std.proofs.Common.{refl}
-use Rattle.control_aside.proofs.Passing.{kept_on}
-use Rattle.control_aside.proofs.aside.AsideWorld.udp_send.Goals as goal
-
-pub invariant_of-self : goal.invariant_of-self
-invariant_of-self g c = kept_on c.self.invariant c.udp_send-answer.ensures c.then-self-inside.ensures refl refl (λ made. refl)

@@ -1,5 +1,0 @@
-use Rattle.control_laws.proofs.Staying.{desk_stays}
-use Rattle.control_laws.proofs.the_calls_of_the_network_leave_the_desk_as_it_is.Goals as goal
-
-pub returns : goal.returns
-returns c = desk_stays

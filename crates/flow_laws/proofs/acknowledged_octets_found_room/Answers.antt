@@ -1,5 +1,0 @@
-use Rattle.flow_laws.proofs.FoundRoom.{acknowledged_has_room}
-use Rattle.flow_laws.proofs.acknowledged_octets_found_room.Goals as goal
-
-pub returns : goal.returns
-returns c = acknowledged_has_room

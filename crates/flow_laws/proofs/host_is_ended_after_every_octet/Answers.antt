@@ -1,9 +1,0 @@
-use Rattle.flow_laws.proofs.GuestLaws.{end_comes_after_all}
-use Rattle.flow_laws.proofs.AllCame.{host_has_all}
-use Rattle.flow_laws.proofs.host_is_ended_after_every_octet.Goals as goal
-
-pub returns-clause-end : goal.returns-clause-end
-returns-clause-end c = λ s story lawful honest ended. end_comes_after_all s story lawful ended honest
-
-pub returns-clause-all : goal.returns-clause-all
-returns-clause-all c = λ s story lawful honest ended. host_has_all s story lawful ended honest

@@ -1,5 +1,0 @@
-use Rattle.flow_laws.proofs.Laws.{must_is_may}
-use Rattle.flow_laws.proofs.what_must_be_waited_for_may_be.Goals as goal
-
-pub returns : goal.returns
-returns c = must_is_may

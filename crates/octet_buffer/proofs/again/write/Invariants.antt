@@ -1,5 +1,0 @@
-use Rattle.std.specs.Io.KnownBytes.{Keeps}
-use Rattle.octet_buffer.proofs.again.write.Given as goal
-
-abbrev pub invariant-tries : goal.invariant-tries
-invariant-tries g l = Keeps (g.T.Write.contents l.initial.sink) (g.T.Write.contents l.sink)

@@ -1,4 +1,0 @@
-pub mod Buffered
-pub mod Datagrams
-pub mod Ends
-pub mod Streams

@@ -1,5 +1,0 @@
-use Rattle.record_flows.proofs.Laws.{closed_for_cause}
-use Rattle.record_flows.proofs.flows_are_closed_for_a_cause.Goals as goal
-
-pub returns : goal.returns
-returns c = closed_for_cause

@@ -1,5 +1,0 @@
-use Rattle.record_flows.proofs.Apart.{story_apart}
-use Rattle.record_flows.proofs.other_flows_change_nothing.Goals as goal
-
-pub returns : goal.returns
-returns c = story_apart

@@ -1,5 +1,0 @@
-use Rattle.record_flows.proofs.Laws.{read_asks}
-use Rattle.record_flows.proofs.reads_ask_for_all_that_there_is_room_for.Goals as goal
-
-pub returns : goal.returns
-returns c = read_asks

@@ -1,8 +1,0 @@
-use Rattle.flow_laws.proofs.GuestLaws.{acknowledged_came}
-use Rattle.record_flows.specs.Book.{story}
-use Rattle.record_flows.specs.Laws.{flow_settings}
-use Rattle.record_flows.proofs.Laws.{is_lawful}
-use Rattle.record_flows.proofs.what_is_acknowledged_came.Goals as goal
-
-pub returns : goal.returns
-returns c = λ config past socket keeps honest. acknowledged_came (flow_settings config) (story config past socket) (is_lawful config past socket keeps) honest

@@ -1,5 +1,0 @@
-use Rattle.replay_laws.proofs.Lines.{one_to_one}
-use Rattle.replay_laws.proofs.text_is_one_to_one.Goals as goal
-
-pub returns : goal.returns
-returns c = one_to_one

@@ -1,0 +1,77 @@
+-- The slots of the core, against the flows of the record.
+use Rattle.std.specs.Prelude.{◌≡◌, ℕ, suc, ◌≤◌, true, false, List, [], ◌∷◌, map, Contains, slice_get, Option, Some, None, option_map, filter_map}
+use Rattle.flow_table.specs.Slots.{Flows}
+use Rattle.flow_table.specs.declared.Slot.{Slot}
+use Rattle.flow_table.specs.declared.Slot.TheVariants.{Free, InUse, Resting}
+use Rattle.spec_flows.specs.declared.Tuple.{Tuple}
+use Rattle.spec_flow.specs.Event.{Story}
+use Rattle.spec_flow.specs.Close.{is_in_use}
+use Rattle.spec_flows.specs.Flows.{Flow, Rest, owner, flow_of, uses, used}
+use Rattle.spec_trace.specs.Sockets.{is_among}
+use Rattle.spec_flows.specs.Said.{Differ}
+
+-- a slot and the flow that has it: in use, or resting since the moment of the book
+abbrev pub IsSlotOf : List Rest → Flow → Slot → Type 0
+IsSlotOf rests f Free = ⊥
+IsSlotOf rests f (InUse t) = (f.tuple ≡ t) × (is_in_use f.story ≡ true)
+IsSlotOf rests f (Resting t since) = (f.tuple ≡ t) × Contains rests (record { number = f.number; since = since }) × (is_in_use f.story ≡ false)
+
+abbrev pub number_in : {P : Type 0} → (P → ℕ) → Option (Option P) → Option ℕ
+number_in number (Some (Some p)) = Some (number p)
+number_in number (Some None) = None
+number_in number None = None
+
+abbrev pub number_at : {P : Type 0} → (P → ℕ) → List (Option P) → ℕ → Option ℕ
+number_at number parts k = number_in number (slice_get parts k)
+
+abbrev pub count_used : Slot → ℕ → ℕ
+count_used (InUse t) n = suc n
+count_used _ n = n
+
+abbrev pub in_use_slots : List Slot → ℕ
+in_use_slots [] = 0
+in_use_slots (s ∷ slots) = count_used s (in_use_slots slots)
+
+-- the numbers of the flows that rest, in the order in which their slots came to rest
+abbrev pub rests_at : Option Slot → Option ℕ → Option ℕ
+rests_at (Some (Resting t since)) n = n
+rests_at _ n = None
+
+abbrev pub resting_numbers : {P : Type 0} → (P → ℕ) → Flows → List (Option P) → List ℕ
+resting_numbers number table parts = filter_map (λ k. rests_at (slice_get table.slots k) (number_at number parts k)) table.rest_order
+
+-- no number stands twice
+abbrev pub Once : List ℕ → Type 0
+Once [] = Unit {0}
+Once (n ∷ ns) = (is_among n ns ≡ false) × Once ns
+
+-- P is what the core has of a flow, number its socket, and Follows its relation to the flow's story.
+pub record Seats {P : Type 0} (number : P → ℕ) (Follows : P → Story → Type 0) (table : Flows) (parts : List (Option P)) (next : ℕ) (flows : List Flow) (rests : List Rest) : Type 0 where
+  -- each part has its flow, whose story it follows, and its slot
+  pub seated : (k : ℕ) (p : P) → slice_get parts k ≡ Some (Some p)
+      → (f : Flow) × (s : Slot) × (flow_of (number p) flows ≡ Some f) × (f.number ≡ number p) × Follows p f.story × (slice_get table.slots k ≡ Some s) × IsSlotOf rests f s
+  -- a slot without a part is free
+  pub empty : (k : ℕ) → slice_get parts k ≡ Some None → slice_get table.slots k ≡ Some Free
+  -- no flow has two slots
+  pub numbers : (k j n : ℕ) → number_at number parts k ≡ Some n → number_at number parts j ≡ Some n → k ≡ j
+  -- the flow of a slot is the one that was opened last on its tuple
+  pub owned : (k n : ℕ) (t : Tuple) → number_at number parts k ≡ Some n → option_map (λ (f : Flow). f.tuple) (flow_of n flows) ≡ Some t
+      → option_map (λ (f : Flow). f.number) (owner t flows) ≡ Some n
+  -- each flow in use has a slot
+  pub found : (n : ℕ) → uses (flow_of n flows) ≡ true → (k : ℕ) × (number_at number parts k ≡ Some n)
+  -- those that rest, in their order
+  pub order : map (λ (r : Rest). r.number) rests ≡ resting_numbers number table parts
+  -- as many tuples are in use as slots
+  pub counted : used flows ≡ in_use_slots table.slots
+  pub differ : Differ flows
+  -- the next numbers are no flow's
+  pub fresh : (n : ℕ) → next ≤ n → flow_of n flows ≡ None
+
+-- none of these rests since an earlier moment; and each rests at least as long as those behind it
+abbrev pub AreFrom : ℕ → List Rest → Type 0
+AreFrom m [] = Unit {0}
+AreFrom m (r ∷ rests) = (m ≤ r.since) × AreFrom m rests
+
+abbrev pub Rise : List Rest → Type 0
+Rise [] = Unit {0}
+Rise (r ∷ rests) = AreFrom r.since rests × Rise rests

@@ -1,5 +1,0 @@
-use Rattle.slirp_laws.proofs.FileLaws.{block_told}
-use Rattle.slirp_laws.proofs.files.blocks_have_the_octets_that_were_read.Goals as goal
-
-pub returns : goal.returns
-returns c = block_told

@@ -1,6 +1,0 @@
-use Rattle.record_flows.proofs.Laws.{found_room}
-use Rattle.slirp_laws.proofs.KeepingFlows.{keeps_flows}
-use Rattle.slirp_laws.proofs.flows.acknowledged_octets_found_room.Goals as goal
-
-pub returns : goal.returns
-returns c = λ config past socket lawful honest a acked. found_room config past socket (keeps_flows config past lawful) honest a acked

@@ -1,5 +1,0 @@
-use Rattle.slirp_laws.proofs.Peers.{peers_reach}
-use Rattle.slirp_laws.proofs.flows.peers_reach_the_guest_that_the_settings_name.Goals as goal
-
-pub returns : goal.returns
-returns c = λ config past socket f lawful found accepted. peers_reach config past socket f found accepted

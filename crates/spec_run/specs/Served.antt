@@ -1,0 +1,9 @@
+-- What the main call says of a World that told of its calls.
+use Rattle.std.specs.Prelude.{◌≡◌, true}
+use Rattle.world_face.specs.Tells.{Telling}
+use Rattle.world_face.specs.Heard.{Heard}
+use Rattle.slirp_settings.specs.Addresses.{Config}
+use Rattle.spec_run.specs.Laws.{Finished, May}
+
+abbrev pub Served : Config → Telling → Telling → Type 0
+Served config old new = old.live ≡ true → Heard (May config) (Finished config) old new

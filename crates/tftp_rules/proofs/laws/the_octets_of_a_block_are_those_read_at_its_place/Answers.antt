@@ -1,5 +1,0 @@
-use Rattle.tftp_rules.proofs.Bringing.{is_read}
-use Rattle.tftp_rules.proofs.laws.the_octets_of_a_block_are_those_read_at_its_place.Goals as goal
-
-pub returns : goal.returns
-returns c = is_read
