@@ -32,7 +32,7 @@ use Rattle.spec_run.specs.Leasing.{lease_reply, leases_by_fate, sending_of}
 use Rattle.slirp_core.specs.Fragments.{after_frame}
 use Rattle.slirp_core.specs.Holds.{as_given}
 use Rattle.slirp_core.specs.Packets.{is_message_to_us, is_segment, leases_with, owed_at_once, owed_at_once_by, owed_for, owed_for_arrived, owed_for_ether, owed_for_frame, owed_for_ip, request_by, request_for_udp}
-use Rattle.slirp_core.specs.Packets.{Request, udp_in, udp_of, with_arp, with_ether, with_ip}
+use Rattle.slirp_core.specs.Packets.{udp_in, udp_of, with_arp, with_ether, with_ip}
 use Rattle.slirp_core.specs.State.{SlirpState, serving_of}
 
 module _ (config : Config) where

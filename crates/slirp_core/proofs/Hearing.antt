@@ -11,14 +11,10 @@ use Rattle.world_face.specs.declared.Made.{Made}
 use Rattle.world_face.specs.declared.Made.TheVariants.{Done as MadeDone, Failed as MadeFailed}
 use Rattle.world_face.proofs.Telling.{allowed_then}
 use Rattle.slirp_settings.specs.Addresses.{Config}
-use Rattle.host_policy.specs.Targets.{target}
-use Rattle.slirp_settings.specs.declared.Proto.TheVariants.{Tcp as OverTcp}
-use Rattle.host_policy.specs.declared.Verdict.{Verdict}
-use Rattle.host_policy.specs.declared.Verdict.TheVariants.{Go, Denied}
 use Rattle.spec_flows.specs.Book.{book, scene, turned}
 use Rattle.spec_flows.specs.Doings.{Comes as ComesOn}
 use Rattle.spec_flows.specs.Flows.{Book, owner, Flow}
-use Rattle.spec_flows.specs.Lots.{Lot, Dropped, AsksFor, GetsReset, asked_for, due_by, due_for_flows, is_mistaken, is_opening, is_to_many, lot_by, is_reset, is_reset_by, lot, NeedsRoom, giving_way, needs_room, quietest}
+use Rattle.spec_flows.specs.Lots.{Lot, Dropped, AsksFor, GetsReset, asked_for, due_by, due_for_flows, is_mistaken, is_reset, is_reset_by, lot, NeedsRoom, giving_way, needs_room, quietest}
 use Rattle.spec_flows.specs.Segments.{OnTuple}
 use Rattle.spec_flows.specs.Taught.{taught}
 use Rattle.spec_trace.specs.Sockets.{Flow as FlowKind, is_among, kind_of, next_number, open_sockets, with_made}
@@ -71,26 +67,6 @@ kinds_joined number to answer past kinds n among = by (number == n) refl
     by : (b : Bool) → (number == n) ≡ b → is_ours (if b then Some FlowKind else kind_of n past) ≡ true
     by true is = refl
     by false is = kinds n (before answer (turned_round is) among)
-
--- a segment asks for a connect only where there is room for a flow more
-pub asks_for_room : (config : Config) (used slots : ℕ) (on : OnTuple) (to : Endpoint) → lot_without config (nat_lt used slots) on ≡ AsksFor to → used < slots
-asks_for_room config used slots on to is = by (nat_lt used slots) refl is
-  where
-    by_verdict : (v : Verdict) → lot_by v false ≡ AsksFor to → ⊥
-    by_verdict (Go at) is = cc
-    by_verdict (Denied rule) is = cc
-
-    by_opening : (b : Bool) → (if b then lot_by (target config OverTcp on.tuple.other) false else GetsReset) ≡ AsksFor to → ⊥
-    by_opening true is = by_verdict (target config OverTcp on.tuple.other) is
-    by_opening false is = cc
-
-    by_dropped : (b : Bool) → (if b then Dropped else (if is_opening on.segment then lot_by (target config OverTcp on.tuple.other) false else GetsReset)) ≡ AsksFor to → ⊥
-    by_dropped true is = cc
-    by_dropped false is = by_opening (is_opening on.segment) is
-
-    by : (room : Bool) → nat_lt used slots ≡ room → lot_without config room on ≡ AsksFor to → used < slots
-    by true has is = grind (arith, nat_tests, has)
-    by false has is = absurd (by_dropped (on.segment.rst || is_to_many config on.tuple.other) is)
 
 module _ (config : Config) (at : Standing) (slirp : SlirpState) (kept : Kept) (link : LinkState) (c : Coming) (past : List Entry) (comes : Comes config at slirp kept link c past) where
   -- ---- what the record says of the segment

@@ -43,6 +43,7 @@ pub mod Waiting
 pub mod Reading
 pub mod Called
 pub mod Hearing
+pub mod Receiving
 pub mod Starting
 pub mod Telling
 pub mod Drawn

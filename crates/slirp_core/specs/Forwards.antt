@@ -1,12 +1,11 @@
 -- Ports of the host that are given to guests: which forwards are in force by the record. Those of the settings have the first numbers, since they are opened before all other sockets.
-use Rattle.std.specs.Prelude.{◌≡◌, ℕ, ◌+◌, ◌||◌, Bool, true, false, List, [], ◌∷◌, ◌++◌, All, filter, map, slice_get, Option, Some}
+use Rattle.std.specs.Prelude.{◌≡◌, ℕ, ◌+◌, ◌||◌, Bool, true, false, List, [], ◌∷◌, ◌++◌, All, slice_get, Option, Some}
 use Rattle.std.specs.Option.{option_and_then}
 use Rattle.net_octets.specs.declared.Endpoint.{Endpoint}
 use Rattle.world_face.specs.Journal.{Close, Entry}
 use Rattle.world_face.specs.declared.Made.TheVariants.{Done, Failed}
 use Rattle.slirp_settings.specs.Addresses.{Config, forward_on}
 use Rattle.slirp_settings.specs.declared.Forward.{Forward}
-use Rattle.slirp_settings.specs.Ranges.{same_proto}
 use Rattle.slirp_settings.specs.declared.Proto.{Proto}
 use Rattle.slirp_settings.specs.declared.Proto.TheVariants.{Tcp, Udp}
 use Rattle.rules_forward.specs.Adding.{opening_of}

@@ -7,14 +7,12 @@ use Rattle.ether_frame.specs.Ether.{Ether, read_ether}
 use Rattle.ipv4_head.specs.Ip.{Ip, read_ip}
 use Rattle.ipv4_head.specs.Sets.{PartSet}
 use Rattle.tcp_segment.specs.Tcp.{Tcp, read_tcp, tcp_of}
-use Rattle.spec_flows.specs.Lots.{Lot, Dropped, AsksFor, GetsReset, NeedsRoom}
-use Rattle.spec_flows.specs.Segments.{OnTuple, from_guest, segment_of}
+use Rattle.spec_flows.specs.Segments.{OnTuple, from_guest}
 use Rattle.spec_trace.specs.Fragments.{arrived}
 use Rattle.spec_trace.specs.Packets.{Packet, Segment}
 use Rattle.slirp_core.specs.Packets.{is_segment}
-use Rattle.slirp_core.specs.declared.tcp.SegmentView.{SegmentView}
-use Rattle.slirp_core.specs.declared.tcp.StrayLot.{StrayLot}
-use Rattle.slirp_core.specs.declared.tcp.StrayLot.TheVariants.{Dropped as SeenDropped, Reset, Connects, Crowded}
+use Rattle.tcp_flows.specs.Receiving.{on_of}
+use Rattle.tcp_flows.specs.declared.receiving.SegmentView.{SegmentView}
 
 -- a guest's segment: between which ends it goes, from which hardware address its frame came, and what it holds
 pub record Coming : Type 0 where
@@ -25,7 +23,7 @@ abbrev pub coming : List ℕ → Ip → Tcp → Coming
 coming mac ip tcp = record { on = from_guest mac ip tcp; tcp = tcp }
 
 abbrev pub coming_of : SegmentView → Coming
-coming_of s = record { on = record { mac = s.mac.0; tuple = s.ends; segment = segment_of (tcp_of s.segment) }; tcp = tcp_of s.segment }
+coming_of s = record { on = on_of s; tcp = tcp_of s.segment }
 
 -- the segment of a packet, and that which a whole datagram holds
 abbrev pub coming_by : Packet → Option Coming
@@ -44,10 +42,3 @@ segment_of_ether config now waiting ether = if ether.kind == ipv4_kind then opti
 
 abbrev pub segment_in : Config → ℕ → List PartSet → List ℕ → Option Coming
 segment_in config now waiting frame = option_and_then (segment_of_ether config now waiting) (read_ether frame)
-
--- what becomes of a segment without a flow
-abbrev pub lot_of : StrayLot → Lot
-lot_of SeenDropped = Dropped
-lot_of Reset = GetsReset
-lot_of (Connects to) = AsksFor to
-lot_of Crowded = NeedsRoom

@@ -1,50 +1,24 @@
-// Segments of TCP: each to its flow, and reports of their sockets; what is no flow's is answered by a reset, or the host connects for it (RFC 9293, 3.10.7).
+// Segments of TCP go to the flows, and reports of their sockets; what is turned away there is answered by a reset (RFC 9293, 3.10.7).
 ghost use Rattle.std.specs.Prelude.{[], ◌≡◌, ◌≤◌, ◌+◌, ◌<◌, ◌%◌, ◌^◌, ◌∷◌, List, ℕ, length, nat_lt, true, false, Some, None, IfSome};
 ghost use Rattle.std.specs.Option.{option_map};
 ghost use Rattle.ipv4_head.specs.Ip.{Ip, ip_of};
 ghost use Rattle.tcp_segment.specs.Tcp.{numbers_of, read_tcp, tcp_of};
-ghost use Rattle.sim_flows.specs.Seats.{in_use_slots};
-ghost use Rattle.spec_flows.specs.Lots.{is_opening, lot_by, reset_to};
-ghost use Rattle.slirp_settings.specs.declared.Proto.TheVariants.{Tcp as OverTcp};
+ghost use Rattle.spec_flows.specs.Lots.{reset_to};
 ghost use Rattle.spec_flows.specs.Segments.{segment_of};
 ghost use Rattle.slirp_settings.specs.Addresses.{Config};
-ghost use Rattle.host_policy.specs.Targets.{target};
-ghost use Rattle.sim_flows.specs.Stands.{lot_without};
 ghost use Rattle.slirp_core.specs.Packets.{is_segment};
-ghost use Rattle.slirp_core.specs.Segments.{coming, coming_of, lot_of};
+ghost use Rattle.slirp_core.specs.Segments.{coming, coming_of};
 ghost use Rattle.net_octets.specs.Sizes.{most_carried};
 
 use crate::network::Slirp;
-use host_policy::{Policy, Verdict};
+use host_policy::Policy;
 use ipv4_head::IpView;
 use net_octets::{Endpoint, Mac, TCP_PROTO};
 use seq_space::Seq;
-use slirp_settings::Proto;
 use spec_flows::Tuple;
-use tcp_flows::Heard;
+use tcp_flows::{Received, SegmentView};
 use tcp_segment::{ACK, RST, TcpView};
-use world_face::{Made, World};
-
-/// A segment of a guest: the hardware address from which its frame came, the two ends between which it goes, and the segment.
-#[derive(Clone, Copy)]
-pub struct SegmentView<'a> {
-    pub mac: Mac,
-    pub ends: Tuple,
-    pub segment: TcpView<'a>,
-}
-
-/// What becomes of a segment without a flow.
-#[derive(Clone, Copy)]
-pub enum StrayLot {
-    /// Nothing.
-    Dropped,
-    /// It is answered by a reset.
-    Reset,
-    /// The host is to connect to this endpoint.
-    Connects(Endpoint),
-    /// The host would connect, but each place for a flow is in use.
-    Crowded,
-}
+use world_face::World;
 
 impl Slirp {
     ghost use Rattle.spec_run.specs.Answers.{frames_of, reset_for};
@@ -80,27 +54,18 @@ impl Slirp {
         ensures turn { self.new.flows.turn ≡ self.old.flows.turn }
         ensures marks { KeepsMarks self.old.number self.old.flows self.new.flows }
     {
+        let number = self.number;
         match self
             .flows
-            .take_segment(world, self.moment, &came.ends, &came.segment)
+            .receive(world, &self.policy, self.moment, came, number)
         {
-            Heard::Taken => {}
-            Heard::Strange => self.turn_away(came),
-            Heard::Alone => match self.lot(came) {
-                StrayLot::Dropped => {}
-                StrayLot::Crowded => self.flows.give_way(world, self.moment),
-                StrayLot::Reset => self.turn_away(came),
-                StrayLot::Connects(to) => {
-                    let number = self.number;
-                    self.number += 1;
-                    match world.connect(number, to) {
-                        Made::Done => self
-                            .flows
-                            .begin(self.moment, &came.ends, number, came.mac, &came.segment),
-                        Made::Failed => self.turn_away(came),
-                    }
-                }
-            },
+            Received::Settled => {}
+            Received::TurnedAway => self.turn_away(came),
+            Received::Opened => self.number += 1,
+            Received::Refused => {
+                self.number += 1;
+                self.turn_away(came);
+            }
         }
     }
 
@@ -160,32 +125,6 @@ impl Slirp {
         let reset = reset_for(&came.ends, &came.segment);
         self.outgoing.put_segment(&course, &reset);
     }
-
-    // What becomes of a segment that is no flow's: one with RST or to many is ignored; a SYN connects where the policy allows it and there is room.
-    fn lot(&self, came: &SegmentView<'_>) -> StrayLot
-        ensures { lot_of result ≡ lot_without self.now.config (nat_lt (in_use_slots self.now.flows.flows.table.slots)
-            (length self.now.flows.flows.table.slots)) (coming_of came.now).on }
-    {
-        if came.segment.is_rst() || self.policy.is_of_many(came.ends.other.addr) {
-            StrayLot::Dropped
-        } else if is_opening(&came.segment) {
-            self.lot_of_opening(came.ends.other)
-        } else {
-            StrayLot::Reset
-        }
-    }
-
-    // What becomes of a SYN to this endpoint.
-    fn lot_of_opening(&self, to: Endpoint) -> StrayLot
-        ensures { lot_of result ≡ lot_by (target self.now.config OverTcp to)
-            (nat_lt (in_use_slots self.now.flows.flows.table.slots) (length self.now.flows.flows.table.slots)) }
-    {
-        match self.policy.target(Proto::Tcp, to) {
-            Verdict::Go(to) if self.flows.has_room() => StrayLot::Connects(to),
-            Verdict::Go(_) => StrayLot::Crowded,
-            Verdict::Denied(_) => StrayLot::Reset,
-        }
-    }
 }
 
 // Whether a datagram is a guest's, with a segment.
@@ -218,13 +157,6 @@ pub(crate) fn segment_in<'a>(mac: Mac, datagram: &IpView<'a>) -> Option<SegmentV
         ends: Tuple { guest, other },
         segment,
     })
-}
-
-// SYN, and none of ACK, RST and FIN.
-fn is_opening(segment: &TcpView<'_>) -> bool
-    ensures { result ≡ is_opening (segment_of (tcp_of segment.now)) }
-{
-    segment.is_syn() && !segment.is_ack() && !segment.is_rst() && !segment.is_fin()
 }
 
 // The reset that answers a segment between these ends: it has the number that was acknowledged; where none was it acknowledges all that came (RFC 9293, 3.10.7.1).

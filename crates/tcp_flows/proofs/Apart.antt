@@ -5,20 +5,19 @@ use Rattle.std.proofs.lemmas.Bool.Decides.{nat_tests}
 use Rattle.net_octets.specs.declared.Endpoint.{Endpoint}
 use Rattle.world_face.specs.Journal.{Entry}
 use Rattle.slirp_settings.specs.Addresses.{Config}
-use Rattle.spec_flow.specs.Event.{Accepts, Connects, Segment, Story}
+use Rattle.spec_flow.specs.Event.{Accepts, Segment}
 use Rattle.spec_flow.specs.Close.{ends_rest, owes_reset, renews, rests_since}
-use Rattle.spec_flow.specs.Flow.{first_number, is_closed}
+use Rattle.spec_flow.specs.Flow.{first_number}
 use Rattle.spec_flow.specs.Lawful.{IsLawful}
 use Rattle.spec_flows.specs.Book.{after_close, after_segment, book, doom, is_refused, is_young, joins_for, make_room, opens, port_of, rest, scene, story_in, tuple_for, turned}
 use Rattle.spec_flows.specs.Book.{visits_for, with_room, without}
 use Rattle.spec_flows.specs.Doings.{Doing, Nothing, Comes, Goes, Seeks, Pauses, Joins, Visits, Calls, Shuts, doing}
-use Rattle.spec_flows.specs.Flows.{Book, Flow, Rest, Scene, flow_of, is_numbered, owner, rests_among, shuts, tell, used}
+use Rattle.spec_flows.specs.Flows.{Book, Flow, Rest, Scene, flow_of, owner, rests_among, shuts, used}
 use Rattle.spec_flows.specs.Laws.{flow_settings}
 use Rattle.spec_flows.specs.Segments.{OnTuple}
 use Rattle.spec_flows.proofs.Apart.{found_told}
 use Rattle.spec_flows.proofs.Keeping.{are_kept}
 use Rattle.spec_flows.proofs.Laws.{is_lawful}
-use Rattle.spec_trace.specs.Moments.{moment}
 use Rattle.spec_trace.specs.Sockets.{is_among}
 use Rattle.spec_run.specs.Laws.{Lawful}
 use Rattle.spec_run.proofs.KeepingFlows.{keeps_flows}

@@ -1,5 +1,5 @@
 -- When a flow is to be looked at.
-use Rattle.std.proofs.Common.{refl, ◌≡◌, ℕ, ◌<◌, ◌&&◌, not, min, Bool, true, false, Some, None, Option, ap, sym, ◌∙◌, subst, arith, if◌then◌else◌}
+use Rattle.std.proofs.Common.{refl, ◌≡◌, ℕ, ◌<◌, ◌&&◌, not, Bool, true, false, Some, None, Option, ap, sym, ◌∙◌, subst, arith, if◌then◌else◌}
 use Rattle.sim_connection.specs.Holding.{is_connects}
 use Rattle.tcp_connection.specs.Timing.{due_of as conn_due}
 use Rattle.tcp_connection.specs.Connection.{is_opening}

@@ -1,11 +1,11 @@
 -- Of the flows that may give way the one that goes before all others, one flow after another.
-use Rattle.std.proofs.Common.{◌≡◌, ℕ, zero, suc, ◌+◌, ◌<◌, ◌==◌, ◌&&◌, ◌||◌, nat_lt, Bool, true, false, List, [], ◌∷◌, ◌++◌, length, take, get_or, slice_get, Option, Some, None, ◌⊎◌}
-use Rattle.std.proofs.Common.{inl, inr, if◌then◌else◌, refl, sym, ◌∙◌, ap, subst, arith}
+use Rattle.std.proofs.Common.{◌≡◌, ℕ, ◌+◌, ◌<◌, ◌==◌, ◌&&◌, ◌||◌, nat_lt, Bool, true, false, List, [], ◌∷◌, ◌++◌, length, take, get_or, slice_get, Option, Some, None}
+use Rattle.std.proofs.Common.{inl, inr, if◌then◌else◌, refl, sym, ◌∙◌, ap, arith}
 use Rattle.std.proofs.lemmas.Bool.Decides.{nat_tests}
 use Rattle.std.proofs.lemmas.List.{take_more}
 use Rattle.flow_splice.specs.Splice.{Splice}
 use Rattle.rules_flow.specs.Choices.{earlier_quiet, is_before}
-use Rattle.tcp_flows.specs.Way.{AreFirst, IsFirstQuiet, gives, quiet_at, quiet_of}
+use Rattle.tcp_flows.specs.Way.{AreFirst, gives, quiet_at, quiet_of}
 use Rattle.rules_flow.specs.declared.Quiet.{Quiet}
 use Rattle.tcp_flows.proofs.Later.{push_cases, push_new, push_old}
 

@@ -1,12 +1,9 @@
 -- One open socket after another, by rising number, and how many are left without one.
-use Rattle.std.proofs.Common.{refl, ◌≡◌, ℕ, ◌+◌, ◌<◌, ◌≤◌, ◌==◌, nat_lt, Bool, true, false, List, [], ◌∷◌, length, Some, None, ap, sym, ◌∙◌, subst, arith, zero, suc}
-use Rattle.std.specs.Prelude.{slice_get}
-use Rattle.std.proofs.lemmas.Option.{same_Some}
+use Rattle.std.proofs.Common.{refl, ◌≡◌, ℕ, ◌+◌, ◌<◌, ◌≤◌, ◌==◌, nat_lt, Bool, true, false, List, [], ◌∷◌, length, Some, None, ap, sym, ◌∙◌, subst, arith}
 use Rattle.std.proofs.lemmas.Bool.Decides.{nat_tests}
 use Rattle.tcp_flows.specs.declared.sockets.Numbered.{Numbered}
 use Rattle.tcp_flows.specs.Sockets.{AreAbove, Rise, after, slot_of, without}
 use Rattle.tcp_flows.proofs.Finding.{differ, equal, first_or, kept_or, next_or, none_above}
-use Rattle.tcp_flows.proofs.Rising.{above_there}
 
 -- numbers that pass a test for the same are
 pub same_number : (a b : ℕ) → (a == b) ≡ true → a ≡ b

@@ -1,5 +1,5 @@
 -- A flow gives way to a guest's SYN, or none does: by the slots and in the record.
-use Rattle.std.proofs.Common.{◌≡◌, ℕ, zero, suc, ◌+◌, ◌<◌, ◌≤◌, ◌==◌, ◌^◌, ◌&&◌, ◌||◌, not, nat_le, nat_lt, Bool, true, false, List, [], ◌∷◌, ◌++◌, get_or, map, set, slice_get, Option, Some, None, option_and_then, option_map}
+use Rattle.std.proofs.Common.{◌≡◌, ℕ, zero, suc, ◌≤◌, ◌==◌, ◌^◌, ◌&&◌, ◌||◌, not, nat_le, nat_lt, Bool, true, false, List, [], ◌∷◌, get_or, map, set, slice_get, Option, Some, None, option_and_then, option_map}
 use Rattle.std.proofs.Common.{if◌then◌else◌, refl, sym, ◌∙◌, ap, subst, arith}
 use Rattle.std.proofs.lemmas.Bool.Decides.{nat_tests}
 use Rattle.std.specs.List.{list_any}
@@ -9,7 +9,7 @@ use Rattle.net_octets.specs.declared.Mac.{Mac}
 use Rattle.world_face.specs.Journal.{Call, CallClose, Close, Entry}
 use Rattle.slirp_settings.specs.Addresses.{Config}
 use Rattle.flow_table.specs.Slots.{AreKept, Flows}
-use Rattle.spec_flow.specs.Event.{At, Closes, Segment, Story}
+use Rattle.spec_flow.specs.Event.{At, Closes, Story}
 use Rattle.spec_flow.specs.Close.{before, follows_reset, last_at, may_give_way, newest_rst, owes_reset, is_fatal}
 use Rattle.spec_flow.specs.Flow.{is_closed}
 use Rattle.spec_flows.specs.Book.{book, scene}
@@ -21,7 +21,7 @@ use Rattle.spec_flows.specs.Taught.{taught}
 use Rattle.spec_trace.specs.Sockets.{next_number}
 use Rattle.sim_connection.specs.Over.{is_resets}
 use Rattle.sim_connection.proofs.Settling.{open_owes_none}
-use Rattle.flow_splice.specs.Follows.{Follows, FollowsAt}
+use Rattle.flow_splice.specs.Follows.{FollowsAt}
 use Rattle.flow_splice.specs.Hosts.{IsAsOld}
 use Rattle.flow_splice.specs.Splice.{Face, Splice, is_in_use, is_open}
 use Rattle.flow_splice.specs.Wants.{gives_way_at}
@@ -36,10 +36,10 @@ use Rattle.sim_flows.specs.Asked.{AreAsked}
 use Rattle.sim_flows.specs.Seats.{Once}
 use Rattle.sim_flows.specs.Stands.{lot_without, slot_at}
 use Rattle.sim_flows.proofs.Only.{number_of_found}
-use Rattle.sim_flows.proofs.Parting.{apart, called, core_parted, its_close, may_part, still_works}
+use Rattle.sim_flows.proofs.Parting.{apart, called, core_parted, still_works}
 use Rattle.sim_flows.proofs.Pumped.{Called, state_at}
 use Rattle.rules_flow.specs.Choices.{is_before}
-use Rattle.tcp_flows.specs.Way.{AreFirst, GivesWay, IsCrowded, IsFirstQuiet, gives, owes, quiet_of}
+use Rattle.tcp_flows.specs.Way.{AreFirst, IsCrowded, IsFirstQuiet, gives, owes, quiet_of}
 use Rattle.tcp_flows.specs.Kept.{IsFor, Kept, flows_of, part_of, slot_of}
 use Rattle.tcp_flows.specs.Rows.{Moves, table_at}
 use Rattle.tcp_flows.specs.Runs.{Between, Leaves}

@@ -1,5 +1,5 @@
 -- Which flow gives way to a guest's SYN.
-use Rattle.std.specs.Prelude.{◌≡◌, ℕ, ◌==◌, ◌&&◌, ◌||◌, ◌⊎◌, ◌++◌, not, nat_le, nat_lt, Bool, true, false, List, [], ◌∷◌, Option, Some, None, slice_get, if◌then◌else◌}
+use Rattle.std.specs.Prelude.{◌≡◌, ℕ, ◌&&◌, ◌++◌, not, nat_le, Bool, true, false, List, Option, Some, None, slice_get, if◌then◌else◌}
 use Rattle.world_face.specs.Journal.{Entry}
 use Rattle.slirp_settings.specs.Addresses.{Config}
 use Rattle.rules_flow.specs.Choices.{is_before}

@@ -18,7 +18,7 @@ impl TcpFlows {
 
     /// A guest's SYN asks for a connection, and all slots are in use. Of the flows that may give way the one is closed whose last sign of life is the earliest,
     /// of several the one with the least number, and its guest is owed a reset; none is where a flow that was closed still owes its own. No other call is made.
-    pub fn give_way<W: World>(&mut self, world: &mut W, now: u64)
+    pub(crate) fn give_way<W: World>(&mut self, world: &mut W, now: u64)
         requires now { now ≤ 2 ^ 62 }
         ensures makes { Makes (W.tells world.old) (W.tells world.new) (GivesWay now self.old self.new) }
         ensures stays { Stays self.old self.new }

@@ -1,4 +1,4 @@
-use Rattle.std.proofs.Common.{refl, ◌≡◌, Bool, List, [], ◌∷◌, ◌++◌, set, Some, None, true, false, ap, sym, ◌∙◌, subst, arith}
+use Rattle.std.proofs.Common.{refl, ◌≡◌, Bool, List, [], ◌∷◌, ◌++◌, set, None, true, false, ap, sym, ◌∙◌, subst, arith}
 use Rattle.std.proofs.lemmas.List.{length-set}
 use Rattle.std.proofs.lemmas.Option.{slice_get_within}
 use Rattle.std.specs.List.{list_any}
