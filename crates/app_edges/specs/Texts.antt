@@ -91,45 +91,64 @@ Got words forwards old new faults faults_new outcome = ¬ Rose faults faults_new
 abbrev pub end_line : ℕ → List ℕ
 end_line status = codes "end " ++ decimal status ++ 10 ∷ []
 
--- how the words are written: the line of usage, and a line for each option
+-- lines, each with a line feed
 abbrev pub lines_text : List (List ℕ) → List ℕ
 lines_text [] = []
 lines_text (line ∷ lines) = line ++ 10 ∷ lines_text lines
 
-abbrev pub option_lines : List (List ℕ)
-option_lines =
-    codes "  --link AT             serve: where to listen, unix:PATH or tcp:A:PORT"
-    ∷ codes "  --record              serve: put each call with its answer, a schedule for replay"
+-- how the words are written: the commands, each option by its group, and the forms of a RULE
+abbrev pub help_lines : List (List ℕ)
+help_lines =
+    codes "usage: slirpd serve --link AT [OPTIONS] [RULE]..."
+    ∷ codes "       slirpd replay FILE [OPTIONS] [RULE]..."
+    ∷ codes "       slirpd drive NUMBER OCTETS"
+    ∷ codes "An option is --name VALUE or --name=VALUE; in parentheses stands what is usual."
+    ∷ codes "A is an IPv4 address, N a number, T a text of at most 127 octets."
+    ∷ codes "Link:"
+    ∷ codes "  --link AT             serve: where to listen, unix:PATH or tcp:A:PORT"
+    ∷ codes "  --record              serve: put each call with its answer, for replay"
     ∷ codes "  --capture             serve: put the frames of the link, classic pcap"
-    ∷ codes "  --net A/N             the network, 10.0.2.0/24"
-    ∷ codes "  --host A              the host's address in it, .2"
-    ∷ codes "  --dns A               the name server's address in it, .3"
-    ∷ codes "  --dhcpstart A         the first of 16 addresses for DHCP, .15"
+    ∷ codes "  --mtu N               the longest datagram to the guest, 576 to 1500 (1500)"
+    ∷ codes "  --mru N               the longest datagram from it, 576 to 9216 (1500)"
+    ∷ codes "Network:"
+    ∷ codes "  --net A/N             the network, N from 8 to 27 (10.0.2.0/24)"
+    ∷ codes "  --host A              the host's address in it (.2)"
+    ∷ codes "  --dns A               the name server's address in it (.3)"
+    ∷ codes "  --dhcpstart A         the first of 16 addresses for DHCP (.15)"
     ∷ codes "  --restrict            nothing leaves the network"
-    ∷ codes "  --deny A/N            guests don't reach this network, up to 8 times"
     ∷ codes "  --no-loopback         nothing reaches the host's loopback"
+    ∷ codes "  --deny A/N            guests don't reach this network, up to 8 times (none)"
+    ∷ codes "  --outbound A          the host's address from which datagrams go out (any)"
+    ∷ codes "Services:"
+    ∷ codes "  --resolver A:PORT     who answers questions to the name server (none)"
+    ∷ codes "  --no-dns              nothing goes to the name server"
+    ∷ codes "  --no-dhcp             answer nothing at the port of DHCP"
     ∷ codes "  --hostname T          the guest's name, told by DHCP"
     ∷ codes "  --domainname T        the guest's domain, told by DHCP"
+    ∷ codes "  --tftp FOLDER         the folder whose files a guest may fetch (none)"
     ∷ codes "  --tftp-server-name T  the name of the server to boot from, told by DHCP"
     ∷ codes "  --bootfile T          the file to boot, told by DHCP"
-    ∷ codes "  --mtu N               the longest datagram to the guest, 1500"
-    ∷ codes "  --mru N               the longest datagram from the guest, 1500"
-    ∷ codes "  --flows N             connections at once, 256"
-    ∷ codes "  --ring N              octets of a connection's buffer in each direction, 65535"
-    ∷ codes "  --turns N             how often the run may wait, 2^44"
-    ∷ codes "  --congestion          bound what is under way by a congestion window"
-    ∷ codes "  --no-dhcp             answer nothing at the port of DHCP"
-    ∷ codes "  --resolver A:PORT     who answers questions to the name server"
-    ∷ codes "  --no-dns              nothing goes to the name server"
-    ∷ codes "  --outbound A          the host's address from which datagrams go out"
+    ∷ codes "Forwards:"
+    ∷ codes "  RULE, up to 32        [hostfwd=][tcp|udp]:[A]:PORT-[A]:PORT"
+    ∷ codes "                        a port of the host leads to a port of a guest, as"
+    ∷ codes "                        tcp:127.0.0.1:2222-:22"
+    ∷ codes "  RULE, up to 16        guestfwd=[tcp]:A:PORT-A:PORT"
+    ∷ codes "                        a port of the network leads to one the host reaches, as"
+    ∷ codes "                        guestfwd=:10.0.2.100:8000-127.0.0.1:8000"
     ∷ codes "  --control A:PORT      where to take commands that add and remove forwards"
-    ∷ codes "  --tftp FOLDER         the folder whose files a guest may fetch"
-    ∷ codes "  --help, help          this, alone"
-    ∷ codes "  --version             the version, alone"
+    ∷ codes "Limits:"
+    ∷ codes "  --flows N             connections at once, 1 to 4096 (256)"
+    ∷ codes "  --ring N              octets of a connection's buffer in each direction,"
+    ∷ codes "                        65535 to 1048576 (65535)"
+    ∷ codes "  --turns N             how often the run may wait, 1 to 17592186044416 (2^44)"
+    ∷ codes "  --congestion          bound what is under way by a congestion window"
+    ∷ codes "Alone:"
+    ∷ codes "  --help, help          this"
+    ∷ codes "  --version             the version"
     ∷ []
 
 abbrev pub help_text : List ℕ
-help_text = lines_text (usage_text ∷ option_lines)
+help_text = lines_text help_lines
 
 abbrev pub version_text : List ℕ
 version_text = codes "slirpd 0.9.0" ++ 10 ∷ []

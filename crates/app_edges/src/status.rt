@@ -68,8 +68,8 @@ pub fn out_of_memory<E: Sink>(err: &mut E) -> u8
     Outcome::NoMemory.code()
 }
 
-/// The line that says how the words of the command line are written.
-pub(crate) const USAGE: &[u8] =
+/// The line that says how the words of the command line are written, where they have no reading.
+const USAGE: &[u8] =
     b"usage: slirpd serve --link AT [OPTIONS] [RULE]... | replay FILE [OPTIONS] [RULE]... | drive NUMBER OCTETS\n";
 
 // The word that has no reading, and how words are written.
