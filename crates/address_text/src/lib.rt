@@ -1,5 +1,10 @@
-//! Numbers, addresses and endpoints as they are written, on a command line and in a record of calls: each has one text, and
-//! a reader refuses a text exactly where it is none.
+//! Numbers, addresses and endpoints as they are written, on a command line and in a trace of calls: each has one text, and a reader refuses a text exactly where it is
+//! none.
+//!
+//! Proved: a number of 64 bits (`read_number`) or of 16 (`read_short`), an address (`read_address`) and an endpoint (`read_endpoint`) are read exactly from a text that
+//! is theirs: what was read has that text (`number`, `address`, `endpoint`), and a text that is refused is none's (`refused`). Each has one text (`same_address`,
+//! `same_endpoint`, lemmas). `split_at` parts a text at the first octet of a kind, and refuses it exactly where there is none (`parts`, `first`, `refused`).
+//! `endpoint_string` is an endpoint's text.
 #![tactic(auto)]
 
 ghost use Rattle.std.specs.Prelude.{◌≡◌, ◌==◌, ◌++◌, ◌∷◌, ◌&&◌, ◌<◌, ℕ, true, IfOk, IfSome, IfNone, OnErr, length, nat_lt, position, slice_index};

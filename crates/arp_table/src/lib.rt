@@ -1,5 +1,11 @@
-//! The protocol that asks for the hardware address of an IPv4 address (RFC 826), and a table of
-//! the answers.
+//! The protocol that asks for the hardware address of an IPv4 address (RFC 826), and a table of the answers.
+//!
+//! Proved: `decode` answers Ok exactly where the grammar holds, with the fields that the octets encode, else the first fault with its place (`packet`, `fields`,
+//! `fault`). `encode` writes octets of the grammar, NoRoom exactly where the slice is too short (`written`, `room`, `unchanged`), and `write` the same where it isn't;
+//! `asking` is the request for an address. The grammar is what is read (`grammar_is_what_is_read`), and the same fields have the same octets
+//! (`same_fields_same_octets`). The table, of 64 addresses, is a fold over what was learnt: `ArpTable::new`, `learn`, `find`.
+//!
+//! Let through (rt plant): nothing.
 #![tactic(auto)]
 
 ghost use Rattle.std.specs.Prelude.{◌≡◌, ℕ, List, [], None, ◌+◌, ◌≤◌, ◌↔◌, ◌++◌, length, take, drop, IsOk, IfOk, OnErr, MatchResult, Some, if◌then◌else◌};

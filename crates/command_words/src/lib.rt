@@ -2,8 +2,8 @@
 //!
 //! `replay FILE [OPTIONS] [RULE]...`, `serve --link AT [OPTIONS] [RULE]...` and `drive NUMBER OCTETS` have a reading; FILE has 1 to 1,280 octets. An option is written
 //! `--name value` or `--name=value`, a flag `--name`, each but `--deny` once, and anywhere behind the command. Behind the word `--` no word is an option. No name is
-//! shortened and no value is empty; numbers are decimal digits without a needless zero in front. Of the words that stand by themselves
-//! the first of `replay` is FILE, and each other is a RULE.
+//! shortened and no value is empty; numbers are decimal digits without a needless zero in front. Of the words that stand by themselves the first of `replay` is FILE,
+//! and each other is a RULE.
 //!
 //! | Option | Value | Without it |
 //! |---|---|---|
@@ -20,16 +20,29 @@
 //! | `--tftp` | a folder: a text | none |
 //! | `--deny`, up to 8 times | a network as in `--net`: guests don't reach it | none |
 //!
-//! RULE is `[hostfwd=][tcp|udp]:[hostaddr]:hostport-[guestaddr]:guestport`, with addresses and numbers up to 65,535: this port of the host leads to that one
-//! of a guest, of TCP where no type is said. Without an address it is every one of the host's, 0.0.0.0, and the first that is lent to guests, whether
-//! `--dhcpstart` stands before the RULE or behind it. Or it is `guestfwd=[tcp]:ADDRESS:PORT-ENDPOINT`: connections to this port of the network lead to that
-//! endpoint.
+//! RULE is `[hostfwd=][tcp|udp]:[hostaddr]:hostport-[guestaddr]:guestport`, with addresses and numbers up to 65,535: this port of the host leads to that one of a
+//! guest, of TCP where no type is said. Without an address it is every one of the host's, 0.0.0.0, and the first that is leased to guests, whether `--dhcpstart` stands
+//! before the RULE or behind it. Or it is `guestfwd=[tcp]:ADDRESS:PORT-ENDPOINT`: connections to this port of the network lead to that endpoint.
 //!
-//! `drive` has neither options nor RULEs: NUMBER and OCTETS are numbers up to 2^64 - 1, and its settings are the usual ones. OCTETS over 10,000,000 is out of its range.
+//! `drive` has neither options nor RULEs: NUMBER and OCTETS are numbers up to 2^64 - 1, and its settings are the usual ones. OCTETS over 10,000,000 is out of its
+//! range.
 //!
-//! A setting out of its range is named, the first in the order of `slirp_settings`: a text of over 127 octets too, a folder of over 1,024, more than 32 RULEs of
-//! the first kind or 16 of the second, and more than 8 denied networks.
-//! With `--no-dhcp`, `--no-dns`, `--outbound`, `--control`, `--deny` or a RULE of the second kind the settings are of version 2.
+//! A setting out of its range is named, the first in the order of `slirp_settings`: a text of over 127 octets too, a folder of over 1,024, more than 32 RULEs of the
+//! first kind or 16 of the second, and more than 8 denied networks. With `--no-dhcp`, `--no-dns`, `--outbound`, `--control`, `--deny` or a RULE of the second kind the
+//! settings are of version 2.
+//!
+//! Proved:
+//! - `read_words` answers what the words of the command line mean, options and RULEs: a command exactly where they mean one whose settings are in range (`meant`,
+//!   `sound`, `only`), with a place for the link (`place`); the first field out of range exactly where there is one (`bad_config`, `only`); usage exactly where they
+//!   mean nothing, with the first word at which reading stops, or the end (`usage`, by `StopsAt`; `only`, `stopped_words_mean_nothing`).
+//! - What each option and each RULE makes of the settings, of connections or of datagrams, is a sentence of its own (`AreSettings`, `IsForward`, `IsGuestForward`,
+//!   `IsDenial`). They mean one thing at most (`words_mean_one_thing`). `--record` and `--capture` are of `serve` alone, and one of them at most stands (`meant`, by
+//!   `IsTap`). Of `drive` two numbers (`broken_in`).
+//! - `read_rule` reads a RULE for a port of the host, and refuses exactly what is none (`rule`, `refused`); `Setting::name` is a setting's name as it is printed.
+//!
+//! Cases of words are run by `worked_words`.
+//!
+//! Let through (rt plant): nothing but values that fill a list before it has any (`Default`).
 #![tactic(auto)]
 
 mod denied;

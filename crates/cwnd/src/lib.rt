@@ -1,5 +1,8 @@
-//! The congestion window of a connection (RFC 5681): how much may be under way before an acknowledgement comes, and when
-//! an acknowledgement that moves nothing says that a segment was lost.
+//! The congestion window of a connection (RFC 5681): how much may be under way before an acknowledgement comes, and when an acknowledgement that moves nothing says
+//! that a segment was lost.
+//!
+//! Proved: the congestion window is the fold of RFC 5681 over octets acknowledged, duplicates and expiries: `Cwnd::new`, `acked`, `duplicate` (true exactly at the
+//! third: `third`), `expired` (each `step`, `fold`), `window` (a segment at least, 2^30 at most: `least`, `greatest`), `mss`.
 #![tactic(auto)]
 
 ghost use Rattle.std.specs.Prelude.{◌≡◌, ℕ, ◌*◌, ◌^◌, ◌≤◌, List, [], ◌∷◌, Bool, IsTrue, ◌↔◌};

@@ -1,11 +1,41 @@
 //! One flow: a connection with a guest (`tcp_connection`) and a socket of the host, over any World.
 //!
-//! What the guest sends goes to the socket, and what is read from the socket goes to the guest. A flow connects, where the guest's SYN came and a
-//! socket of the host began to connect, or it was accepted, where a peer came to a listener and its guest is called. Its calls are one socket's alone,
-//! and writes of its own frames on the link. It stands in a place that another flow takes once this one is over.
+//! What the guest sends goes to the socket, and what is read from the socket goes to the guest. A flow connects, where the guest's SYN came and a socket of the host
+//! began to connect, or it was accepted, where a peer came to a listener and its guest is called. Its calls are one socket's alone, and writes of its own frames on the
+//! link. It stands in a place that another flow takes once this one is over.
 //!
-//! What a call makes is said over every story: where the flow followed the story so far, the entries made are events of its story, and the flow follows
-//! it with these (`Follows`, `Serves`). Each event was allowed by the laws of one flow, and was as it must be. Moments are in milliseconds, at most 2^62.
+//! What a call makes is said over every story: where the flow followed the story so far, the entries made are events of it, and the flow follows it with these
+//! (`Follows`, `Serves`). Each event was allowed by the laws of one flow, and was as it must be. Moments are in milliseconds, at most 2^62.
+//!
+//! Proved:
+//! - After every story that the flow follows (`Follows`), `Spliced::host_ready`, `guest_segment`, `tick` and `pump` make calls that are events of this flow and no
+//!   others, each allowed and as it must be after what was before it, and the flow follows the story with these (`makes` of each; of `tick` where the guest's hardware
+//!   address isn't known unless the flow has it, and also directly after a segment of the flow).
+//! - They say which calls: of `guest_segment` and `tick` at most a close; of `host_ready` those for writing, then those for reading, each only where that was
+//!   reported, and where it is waited for, unless a call for writing closed the socket (`ServesReport`); of `pump` only writes on the link and closes, of which the
+//!   last failed exactly where it answers Failed.
+//! - After a report for writing a host that had connected was told the guest's end, where the flow is open, that was taken and no octet is held (`passes_end`).
+//! - `guest_segment` answers true exactly where the connection has no place for the segment (`unfit`). Of a closed flow only `pump` calls something (`closed`,
+//!   `rests`, `quiet`).
+//! - `tick` closes a socket that didn't connect in 75,000 ms, and that of a deserted flow past its patience; after it, and a `pump`, time closes the flow no more
+//!   (`in_time`, `HasTime`). What the connection's timer makes owed is owed (`again`), as is a request for the guest's hardware address whose wait is over (`waits`),
+//!   and none of the two is due after it, unless an acknowledgement is owed (`ahead`).
+//! - `pump` writes each segment in its frame, with the guest's hardware address and identifications that count up, or where the address isn't known one request for
+//!   it, which it counts once the link took something of it, or nothing (`makes`, with `AsksOnce`). It answers what the link is then (`blocked`, `free`, `failed`), and
+//!   Clear only where nothing is owed (`clear`). A timer that wasn't due isn't after it (`ahead`).
+//! - A flow in TIME-WAIT only acknowledges, once, and stays so since the same moment (`rests`); `renews` is whether a segment begins TIME-WAIT anew. `start` begins
+//!   the story of a flow that a guest opened or that a peer did (`connects`, `accepts`, `begins`), in a place that `open` made; after `leave` no flow has the place.
+//! - `want` waits for octets exactly where the law says so, and to write where it must be and only where it may be (`wants`, `reads`, `must`, `may`). `due`, `place`,
+//!   `other`, `held`, `last` and `left_at` are exact, as are `is_open`, `number`, `is_accepted`, `guest`, `mac`, and what `learn` tells it. `due` is within the two
+//!   bounds on a wait (`by_connect`, `by_resend`, `from`).
+//! - `last` is the moment of the flow's last sign of life. It may give way to a SYN exactly from `gives_way_at` on (`may`). `give_way` makes the close alone; where
+//!   the flow may give way, and no fatal reset came directly before, it follows its story with it, also once the run is over (`makes`, `follows`).
+//! - What `held` copies is, of a conforming guest, what came from where the host stopped (`front`).
+//! - Laws of each flow that follows its story: what it did was lawful and dutiful (`what_a_flow_did_was_lawful`); after Clear it is settled, and in time where no
+//!   timer of it is due (`a_flow_that_is_clear_is_settled`). It may be waited (`a_flow_may_be_waited_for`), held octets go on with what the host took
+//!   (`held_octets_go_on_with_what_was_written`), and `a_place_is_in_use_as_long_as_its_flow_has_its_tuple`.
+//!
+//! Neither: of what `Scratch::open` gives, the memory that the calls share, no clause says anything.
 #![tactic(auto)]
 
 mod frames;

@@ -1,4 +1,12 @@
 //! Headers of IPv4 datagrams (RFC 791, 3.1).
+//!
+//! Proved: `decode` answers Ok exactly where the grammar holds, with the fields that the octets encode, else the first fault with its place (`packet`, `fields`,
+//! `life`, `fault`). `encode` writes octets of the grammar, NoRoom exactly where the slice is too short (`written`, `room`, `unchanged`), and `write` the same where it
+//! isn't; `header` is the header that it writes. The grammar is what is read (`grammar_is_what_is_read`), and the same fields have the same octets
+//! (`same_fields_same_octets`). Of a hole between the parts of a datagram: whether a part lies in it, and what is left of it before the part and behind (`Hole::takes`,
+//! `before`, `behind`).
+//!
+//! Let through (rt plant): nothing.
 #![tactic(auto)]
 
 mod holes;

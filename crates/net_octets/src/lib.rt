@@ -1,4 +1,13 @@
 //! Addresses of the Internet protocol and of Ethernet, faults of packets, and want of memory or room.
+//!
+//! Proved:
+//! - Internet checksums by 32-bit words equal the one's complement sum of 16-bit words (RFC 1071): `sum_ok`, `checksum`, `pseudo`, `checksum_after`. Laws: the sum
+//!   with its carries is that of adding them again (`carries_are_added_again`), what stands before a datagram for its checksum has 12 octets
+//!   (`pseudo_header_is_twelve_octets`), and a checksum that is written where a 0 stood holds when it is read (`written_checksum_holds`).
+//! - Prefixes: `Prefix::holds`. Our hardware addresses (`Mac::of_ours`), the one in six octets (`Mac::at`), and what a packet's header and body are at the front of a
+//!   slice (`write_packet`: `written`, `length`).
+//!
+//! Let through (rt plant): nothing but values that fill a list before it has any (`Default`).
 #![tactic(auto)]
 
 ghost use Rattle.std.specs.Prelude.{ℕ, true, ◌<◌, ◌%◌, ◌/◌, ◌^◌, ◌↔◌, ◌∷◌, ◌++◌, drop, IsOk, IfOk, OnErr, ◌≡◌, ◌+◌, ◌*◌, ◌≤◌, ◌==◌, length};

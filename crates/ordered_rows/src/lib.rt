@@ -1,8 +1,13 @@
-//! Rows that stand in order. A queue of slots by their numbers, the least first: a moment, or the number of what stands in a slot. Each slot has one
-//! number at most, and is found by it and by itself.
+//! Rows that stand in order. A queue of slots by their numbers, the least first: a moment, or the number of what stands in a slot. Each slot has one number at most,
+//! and is found by it and by itself.
 //!
 //! Beside it, in proofs/, lemmas over any type of items: what a row has, place by place, after one is written, taken out or put in; and how many numbers a row has that
 //! differ and are below a bound.
+//!
+//! Proved:
+//! - A number for each slot: `SlotQueue::open`, `set`, `clear`, `least`, `first_up_to` (`first`, `none`), each exactly.
+//! - Lemmas alone: what a row has, place by place, after a write, a removal or an insert; and that items whose numbers differ and are below a bound are no more than
+//!   the bound.
 #![tactic(auto)]
 
 ghost use Rattle.std.specs.Prelude.{◌≡◌, ℕ, ◌<◌, ◌≤◌, List, length, replicate, slice_get, slice_set, vec_len, IfOk, IfSome, IfNone, IsTrue, ◌↔◌, Option, None, Some};

@@ -1,4 +1,9 @@
 //! Lists of what a program waits for, and of what became ready.
+//!
+//! Proved: `Wants` and `ReadyList` are lists: `open`, `clear`, `add`, `add_all`, `truncate`, `items`. How many of the wants are for writing is counted as they come and
+//! go (`writes`). `is_among` says exactly whether something is among them in a direction.
+//!
+//! Let through (rt plant): nothing.
 #![tactic(auto)]
 
 mod among;

@@ -1,7 +1,36 @@
-//! The forwards: ports of the host whose traffic goes to ports of guests, in the order in which they were added, each with the socket that was opened for it.
+//! The forwards: ports of the host whose traffic goes to ports of guests, connections for TCP, datagrams for UDP, in the order in which they were added, each with the
+//! socket that was opened for it. What becomes of them is defined in `specs/` of `rules_forward`: Opened, Adding.
 //!
-//! A port of the host is forwarded once for each protocol, and 32 forwards are open at most. All memory is taken when the list is opened, and no other call
-//! takes any: a forward that is removed leaves its room to the next.
+//! A port of the host is forwarded once for each protocol, and 32 forwards are open at most. All memory is taken when the list is opened, and no other call takes any:
+//! a forward that is removed leaves its room to the next. Beginning with no forward, where 10.0.2.2 is the virtual host:
+//!
+//! | What is asked | Call | Answer | Open then |
+//! |---|---|---|---|
+//! | TCP 127.0.0.1:2222 to 10.0.2.15:22, as socket 1 | `listen` of 1 at 127.0.0.1:2222 | added | 1 |
+//! | UDP 127.0.0.1:2222 to 10.0.2.15:5353, as socket 2 | `udp_open` of 2 at 127.0.0.1:2222 | added: another protocol | 1, 2 |
+//! | TCP 127.0.0.1:2222 to 10.0.2.16:80, as socket 3 | none | `Taken` | 1, 2 |
+//! | TCP 127.0.0.1:80 to 10.0.2.2:80, as socket 3 | none | `BadGuest` | 1, 2 |
+//! | TCP 127.0.0.1:80 to 10.0.2.15:80, as socket 3 | `listen` of 3 at 127.0.0.1:80, fails | `Refused`; the count of socket faults rose | 1, 2 |
+//! | UDP 0.0.0.0:53 to 10.0.2.15:5353, as socket 4 | `udp_open` of 4 at 0.0.0.0:53 | added | 1, 2, 4 |
+//! | which socket a datagram of 10.0.2.15:5353 goes out on | none | 2, the first that leads there | 1, 2, 4 |
+//! | TCP 127.0.0.1:2222 is removed | `close` of 1 | removed | 2, 4 |
+//! | the same again | none | `NotThere` | 2, 4 |
+//!
+//! Two that differ in the protocol, the address or the port of the host are at different ports (`is_at`): so 0.0.0.0:53 and 127.0.0.1:53 may both be asked for, and
+//! whether both can be had says the host.
+//!
+//! Proved:
+//! - `Forwards::add_hostfwd`: over every World why a forward isn't added, the one call that opens its socket, or none where the cause is known before, and one more
+//!   at the list's end exactly where that call was Done (`adds`). Where the host refused, the count of socket faults rose, or stands at its last value (`counted`).
+//! - `remove_hostfwd` closes the socket of the forward at that port of the host with that protocol, and calls nothing else (`there`); that one alone is gone, the
+//!   others stay in order (`list`, `one`). Where there is none it calls nothing (`not_there`).
+//! - `at`, `len` (`count`, `few`), `with_socket` and `socket_for` exactly; `Ports`, the same list with the sockets of each protocol by themselves (`over`), keeps
+//!   each of these promises. `closes_before`: sockets are closed by rising number. `open`: no forward (`empty`). There is always room for 32 forwards, whatever was
+//!   removed before (the type's invariant).
+//!
+//! Neither: that an insertion which finds room takes no memory is `indexmap`'s word.
+//!
+//! Let through (rt plant): nothing but values that fill a list before it has any (`Default`).
 #![tactic(auto)]
 
 mod by_proto;

@@ -1,4 +1,15 @@
-//! Records of host calls as text, and a World that answers by such a text.
+//! Traces of host calls as text, and a World that answers by such a text.
+//!
+//! Proved:
+//! - `ScriptWorld::read`: the schedule's text is that of its lines (`text`), each of which has a reading (`readable`), and their stars take at most 1 GiB (`room`). A
+//!   line that is named is the first that has no reading (`first`), and it is named wherever there is one (`only`, with `IsFirstUnread`); it is too large exactly where
+//!   each line has a reading and the stars take over 1 GiB (`large`, `only_large`), both unless memory runs out.
+//! - `ScriptWorld` as a World: once it ceased every call that can fail does, and the clock stays at the last moment (`ceased`). `print` puts the text of what was
+//!   told, without a star. `divergence`.
+//! - `put_line` puts the text of a line, with the call's name (`CallName::name`). That no two allowed traces are one text, and each line of one has a reading, are
+//!   laws of `spec_replay`.
+//!
+//! Let through (rt plant): readers that take no memory and answer that there is none (`split_at`, `read_number`, `read_endpoint`, `read_timeout`, `read_name`).
 #![tactic(auto)]
 
 mod allowing;

@@ -1,5 +1,11 @@
-//! When to send again: the retransmission timeout of a connection (RFC 6298), and the timer of what wasn't acknowledged with
-//! the count of how often it went again. Moments and times are in milliseconds.
+//! When to send again: the retransmission timeout of a connection (RFC 6298), and the timer of what wasn't acknowledged with the count of how often it went again.
+//! Moments and times are in milliseconds.
+//!
+//! Proved:
+//! - The retransmission timeout of RFC 6298: `Rto::new`, `sample`, `expired`, `wait`, each by its step and the fold of all (`step`, `fold`; `shortest`, `longest`).
+//! - The timer of what wasn't acknowledged: `Resend::new`, `sent`, `expired`, `moved`, `answered`, `start`, `stop`, `due`, `timer`, `has_expired`, `wait`. It is
+//!   given up exactly after eight resendings (`given_up`), 243,000 ms at least after it first went or the last acceptable acknowledgement came (`begins`, `waited`,
+//!   `late`).
 #![tactic(auto)]
 
 mod estimate;

@@ -1,4 +1,9 @@
-//! What the lines of a control connection ask for, what is kept of it, and what the network sees of a record: what is said of these is in `specs/`.
+//! What the lines of a control connection ask for, what is kept of it, and what the network sees of a trace: what is said of these is in `specs/`.
+//!
+//! Proved, each exactly: whether a forward has the control's own port of the host (`is_its_own`), whether a socket is its own (`is_of_control`), whether its item can
+//! be put among what a wait is for (`takes_item`), and what it learns from what was reported of that (`reports_of`: `peer`, `lines`, `room`). All else is definitions.
+//!
+//! Let through (rt plant): nothing.
 #![tactic(auto)]
 
 mod waits;

@@ -1,4 +1,11 @@
-//! Which addresses are lent to whom, and how a client's message is answered (RFC 2131). What is said of them is in `specs/`; the laws of a history of messages are in `history`.
+//! Which addresses are leased to whom, and how a client's message is answered (RFC 2131): the definitions, in `specs/`, and laws of every history of messages. There is
+//! no code to run: each function of `history` is a law.
+//!
+//! Proved, over every history of messages:
+//! - An OFFER is sent only for a DISCOVER, an ACK only for a REQUEST of its address or an INFORM (`each_answer_has_its_reason`: `offers`, `lends`, `informs`, `all`).
+//! - A NAK is sent exactly where the rules have one (`a_refusal_is_sent_where_the_rules_have_one`: `only`, `always`).
+//! - An address that was leased stays its client's for 86,400 s, unless that gives it up: no other is offered or leased it
+//!   (`an_address_that_was_lent_stays_its_clients`).
 #![tactic(auto)]
 
 mod history;

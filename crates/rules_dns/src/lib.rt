@@ -1,4 +1,4 @@
-//! Which questions to the name server wait for their answer, and how long (RFC 1035): what is said of them is in `specs/Questions`.
+//! Which questions to the name server wait for their answer, and how long (RFC 1035): definitions alone, in `specs/Questions`. No call is public.
 #![tactic(auto)]
 
 use net_octets::{Endpoint, Mac};

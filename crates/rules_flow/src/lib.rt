@@ -1,5 +1,16 @@
 //! What is decided of a flow: how many may be those of peers, which gives way, how often its guest's hardware address is asked for, and what a socket that can be
 //! written is for. What is said of it is in `specs/`.
+//!
+//! Proved: each function answers exactly what its definition says (`specs/Choices`), in one clause:
+//! - how many of so many flows may be those of peers (`most_for_peers`), and which of two flows that may give way goes first, by the last sign of life and then the
+//!   number (`is_before`, `earlier_quiet`);
+//! - whether a guest's hardware address is asked for once more, nine times at most (`may_ask`);
+//! - what a socket that can be written is for: whether it connected, then octets of the guest, then its end, and so no end before the octets (`host_work`);
+//! - whether a want changed (`same_ways`), and whether a moment is still to come (`if_after`).
+//!
+//! Only tested: no test is of these; whole runs (`worked_runs`) go by each of them.
+//!
+//! Let through (rt plant): nothing.
 #![tactic(auto)]
 
 ghost use Rattle.std.specs.Prelude.{◌≡◌, nat_lt};

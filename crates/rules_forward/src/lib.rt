@@ -1,4 +1,4 @@
-//! Which ports of the host lead to guests, and what adding one does: what is said of them is in `specs/`.
+//! Which ports of the host lead to guests, and what adding one does: definitions alone, in `specs/`. No call is public.
 #![tactic(auto)]
 
 /// Why a forward isn't added, in the order in which the causes are asked.

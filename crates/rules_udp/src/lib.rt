@@ -1,4 +1,8 @@
 //! What a server answers a datagram, which sockets may be open for datagrams of guests, and how long: what is said of these is in `specs/`.
+//!
+//! Proved: `is_life_over` says exactly whether the idle life of a socket is over. All else is definitions.
+//!
+//! Let through (rt plant): nothing.
 #![tactic(auto)]
 
 ghost use Rattle.std.specs.Prelude.{◌≡◌};

@@ -1,4 +1,9 @@
 //! Sequence numbers of 32 bits (RFC 9293, 3.4), and the places in a stream for which they stand.
+//!
+//! Proved: `ahead`, `number_at` and `nearest` are exactly what they say of numbers and places; a place is unique. `is_ahead` says of two numbers what `ahead` tells of
+//! them (`way`).
+//!
+//! Let through (rt plant): nothing.
 #![tactic(auto)]
 
 ghost use Rattle.std.specs.Prelude.{◌≡◌, ◌≤◌, ◌^◌, ◌↔◌, ℤ, pos, ◌<ℤ◌, IsTrue};

@@ -1,11 +1,18 @@
-//! How a connection with a guest follows the story of its flow: one relation between a `Conn` with its two buffers and what
-//! has happened to the flow (`Holds`), and a step for each event. There is no code to run.
+//! How a connection with a guest follows the story of its flow: one simulation relation between a `Conn` with its two buffers and what has happened to the flow
+//! (`Holds`), and a step for each event. There is no code to run.
 //!
-//! A connection is kept by whoever makes the calls: it asks a socket whether it connected, reads from it and writes to it,
-//! sends what is owed, and closes it. Each of these is an event of the flow's story, and lawful by the laws of one flow where
-//! the connection follows the story so far; and the connection follows the longer story then. The steps stand in `proofs/`,
-//! a file for each kind of event. The functions here are those of them that are said in plain words, and their contracts are
-//! proved though their bodies are empty.
+//! A connection is kept by whoever makes the calls: it asks a socket whether it connected, reads from it and writes to it, sends what is owed, and closes it. Each of
+//! these is an event of the flow's story, and lawful by the laws of one flow where the connection follows the story so far; and the connection follows the longer story
+//! then. The steps stand in `proofs/`, a file for each kind of event. The functions here are those of them that are said in plain words, and their contracts are proved
+//! though their bodies are empty.
+//!
+//! Proved:
+//! - A connection with its buffers goes on to follow the flow's story (`Holds`), for each event while it is open (lemmas).
+//! - What is owed may be sent, and as it must be (`what_is_owed_may_be_sent`: `lawful`, `dutiful`, `follows`). Held octets may be offered, however many the host
+//!   takes (`octets_that_are_held_may_be_written`). A flow that is owed nothing, once both SYNs were acknowledged, is settled, and in time where its timer isn't due
+//!   (`a_flow_that_is_owed_nothing_is_settled`).
+//! - Lemmas alone: causes of a close and the reset owed then (`Causes`, `Closing`, `Owing`), TIME-WAIT (`Resting`), what a wait names (`Wanting`), and that the timer
+//!   is within both bounds on a wait (`Bounds`).
 #![tactic(auto)]
 
 ghost use Rattle.std.specs.Prelude.{◌≡◌, ℕ, ◌^◌, ◌<◌, ◌≤◌, List, ◌∷◌, length, take, min, Bool, true, false, Some, None};

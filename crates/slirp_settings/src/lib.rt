@@ -1,4 +1,14 @@
 //! The settings of the virtual network: their fields, and the range of each.
+//!
+//! Proved:
+//! - `SlirpConfig::check` is Ok exactly where each field is in its range (`ok`, `err`), else the first field in the order of checks that isn't (`first`), for
+//!   versions 1 and 2. The usual settings are in range (`SlirpConfig::usual`: `usual`, `sound`). `copied` is the same settings, `Field::name` a field's name as it is
+//!   printed.
+//! - Of an address, exactly: whether it is in the network (`is_inside`), of one host there (`is_of_one_host`), the host's or the name server's (`is_ours`), a guest's
+//!   (`is_guest`); how many the network has (`network_size`); its first octet (`first_octet`), whether it is in 224/4 or 240/4 (`is_group_or_reserved`), or in 127/8
+//!   (`is_loopback`). Whether two endpoints are one (`is_same`).
+//!
+//! Let through (rt plant): nothing but values that fill a list before it has any (`Default`).
 #![tactic(auto)]
 
 mod classes;

@@ -1,4 +1,6 @@
 //! The program: its words, the sockets, files and clock of the system, and the runtime's output.
+//!
+//! Proved: without memory for its words it tells so and answers 13 (`out_of_memory` of `app_edges`: `status`, `told`). Only tested: the stored run.
 #![tactic(auto)]
 
 use net_octets::NoMemory;

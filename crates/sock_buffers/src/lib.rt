@@ -1,5 +1,19 @@
-//! The octets of a TCP connection on their way between a guest and a host socket, in both directions.
-//! A buffer takes all its room when it is opened, and no other call takes memory.
+//! The octets of a TCP connection on their way between a guest and a host socket, in both directions. A buffer takes all its room when it is opened, and no other call
+//! takes memory.
+//!
+//! `Up` is a list of held octets with a size and a count, and past them the kept octets with the ranges of their places; `Down` a list with a place.
+//!
+//! Proved:
+//! - `Up::take` holds what comes next and fits (`taken`, `alone`); `keep` puts octets past a gap where none is kept, within the size and in at most 32 ranges, and
+//!   counts the new ones (`kept`, `count`); `join` holds those that come next and leaves none there (`joined`, `next`); `ranges` (they rise, lie apart and cover
+//!   exactly the kept places: `apart`, `kept`), `room` and `held` without the kept ones.
+//! - `Down::give`, `Up::written`, `Down::acked` and `reset` of both append and drop exactly, `front_piece` and `copy_at` copy exactly; what `front` hands out are the
+//!   oldest octets that are held. `open` of both is empty; `Up::count` is how many octets the host took, `Down::first` the first place that isn't acknowledged, `room`
+//!   and `held` of both exactly.
+//!
+//! Neither: that `front` hands octets out wherever they stand in one piece.
+//!
+//! Let through (rt plant): a `front` that hands out nothing, since no contract sees where octets stand in the ring; they are copied then.
 #![tactic(auto)]
 
 ghost use Rattle.std.specs.Prelude.{◌≡◌, ℕ, ◌+◌, ◌-◌, ◌^◌, ◌<◌, ◌≤◌, [], ◌++◌, length, take, drop, min, None, IfOk, IfSome, IsSome, IsTrue, ◌↔◌, true};

@@ -1,4 +1,10 @@
-//! What a run with a control is: definitions over the record of calls, and laws. There is no code to run.
+//! What a run with a control is: definitions over the trace of calls (`RunsBy`, `Refuses`), with rows, and laws. There is no code to run: each function here is a law.
+//!
+//! Proved: the calls of the network, on sockets that aren't the control's, leave the control server as it is where none of them is awaited
+//! (`the_calls_of_the_network_leave_the_desk_as_it_is`); a port of the host that is named, and that the settings don't have for the number of its socket, is opened
+//! before the first wait alone (`named_ports_are_opened_at_first`: `listens`, `opens`); while the run goes on ports change for commands alone, each by the call that
+//! comes next (`ports_change_for_commands_alone`); each whole line of an open connection is answered (`each_whole_line_is_answered`; `answered`: where no reply is left
+//! and no call is awaited no whole line is kept; `waits`: where one is kept at a wait, the connection is waited for to write).
 #![tactic(auto)]
 
 ghost use Rattle.std.specs.Prelude.{◌≡◌, ◌≢◌, ℕ, ◌==◌, List, [], ◌∷◌, ◌++◌, None, Option, Some, false, true};

@@ -1,8 +1,33 @@
 //! What a run of the network must do, beside what it may: it waits only where nothing that can be done is left.
 //!
-//! There is no code to run. The definitions stand in `specs/`, over the record of calls, newest entry first; each function
-//! here is a law of every run that does what it must, and its contract is proved though its body is empty. Nothing is claimed
-//! of what has to go out while the link is blocked.
+//! There is no code to run. The definitions stand in `specs/`, over the trace of calls, newest entry first; each function here is a law of every run that does what it
+//! must, as those of the network do, and its contract is proved though its body is empty.
+//!
+//! Proved, at a wait:
+//! - It waits for the link to take more exactly where that is blocked (`link`), for frames and datagrams where it isn't (`frames`, `datagrams`), for peers while
+//!   there is room for one (`peers`), for a host's octets exactly where the ring has room (`takes`, `full`), for a host to take octets where something was acknowledged
+//!   that it hasn't (`gives`), and for nothing else (`nothing_else_read`, `nothing_else_written`): `a_run_waits_for_all_that_it_can_take`.
+//! - Unless the link is blocked, all is out that *Out* and *Settled* in docs/DEFINITIONS.md ask for: the answer to what came last (`answer`), packets of files that
+//!   go again (`files`), what was read, as far as the guest takes it (`octets`), acknowledgements (`acknowledged`, of a conforming guest; `answered`), resets
+//!   (`reset`), our SYN or a request for the guest's hardware address (`opens`, `calls`), news of the room (`told`), and in TIME-WAIT the last end's acknowledgement
+//!   (`rests`): `a_run_waits_only_where_all_is_out`.
+//! - Unless the link is blocked, the oldest number under way of a flow went out, or the one before it was acknowledged, less than 60,000 ms ago
+//!   (`what_is_under_way_goes_again_within_a_minute`); within that time a guest that a peer calls was asked for its hardware address, if that isn't known
+//!   (`a_guest_is_asked_again_within_a_minute`), and something happened to a flow whose guest's window is closed (`a_closed_window_is_asked_about_within_a_minute`). A
+//!   guest that says nothing was called nine times at most (`a_guest_that_says_nothing_is_called_nine_times`).
+//! - No socket for datagrams is open past its idle life (`no_socket_is_kept_past_its_life`: `associations`, `questions`), no host has been connecting for 75,000 ms,
+//!   no deserted flow is past its patience, unless a segment of its guest stands unanswered, and flows of conforming guests of which both ends passed are closed
+//!   (`no_flow_is_kept_that_is_done`: `connects`, `deserted`, `done`).
+//! - A wait ends by each of the `deadlines` (`until`), isn't cut short but for one of the `alarms` (`from`), both in docs/DEFINITIONS.md, and is never of no time
+//!   (`some_time`): `a_wait_ends_in_time`. One for a guest's hardware address may be cut short from a second after the accept on.
+//!
+//! From wait to wait:
+//! - What a wait wanted and reported is served before the next, if it is waited for all the while: a frame is read to its end, or nothing comes of it; a peer, octets
+//!   or a datagram are asked for; a host is asked whether it has connected, gets octets, or is told the end (`each_report_is_served`: `reading`, `writing`).
+//! - A trace goes on to be dutiful by calls that don't wait, and a wait that is as it must be (`duties_are_kept_from_wait_to_wait`).
+//! - The test passes nothing else (`tests_are_sound`). Wrong calls are refuted in proofs/Rows and on.
+//!
+//! Neither: when what has to go out while the link is blocked goes out.
 #![tactic(auto)]
 
 ghost use Rattle.std.specs.Prelude.{◌≡◌, ℕ, ◌+◌, ◌≤◌, ◌<◌, ◌&&◌, ◌||◌, not, nat_lt, Bool, List, ◌∷◌, ◌++◌, true, false, length, min, Contains, Option, Some, None, IsTrue};

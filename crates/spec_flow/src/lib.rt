@@ -1,13 +1,24 @@
 //! What one flow of TCP may do, and must (RFC 9293), said of its story: what happened to it, the newest event first.
 //!
-//! There is no code to run. The definitions stand in `specs/`; each function here is a law that follows from them, said in
-//! the words of the two streams, and its contract is proved though its body is empty. A *flow* carries a guest's stream to a
-//! host's socket and the host's stream to the guest. Its story is *lawful* where each thing that was done for it was allowed
-//! by what had happened before. Every beginning of a lawful story is one, so each law holds at every moment.
+//! There is no code to run. The definitions stand in `specs/`; each function here is a law that follows from them, said in the words of the two streams, and its
+//! contract is proved though its body is empty. A *flow* carries a guest's stream to a host's socket and the host's stream to the guest. Its story is *lawful* where
+//! each thing that was done for it was allowed by what had happened before. Every beginning of a lawful story is one, so each law holds at every moment.
 //!
-//! A guest is *honest* where it gives one octet to each number of its stream and has one end with nothing past it, and where
-//! no segment reaches more than 2^31 past what was acknowledged. A law with this premise holds up to the first segment that
-//! breaks it; one without holds whatever the guest does.
+//! A guest *conforms* where it gives one octet to each number of its stream and has one end with nothing past it, and where no segment reaches more than 2^31 past what
+//! was acknowledged. A law with this premise holds up to the first segment that breaks it; one without holds whatever the guest does.
+//!
+//! Proved:
+//! - What the host took is a prefix of what a conforming guest sent (`written_octets_begin_what_the_guest_sent`), and each octet of it came at its number, whatever
+//!   the guest does (`written_octets_came_at_their_numbers`). What the guest sent is the longest list that its segments gave to their places
+//!   (`front_is_the_longest_that_came`).
+//! - What was sent to the guest is a prefix of what was read from the host (`sent_octets_begin_what_was_read`).
+//! - Each end passes after every octet (`host_is_ended_after_every_octet`, `guest_is_ended_after_every_octet`).
+//! - Acknowledged octets came (`acknowledged_octets_came`) and found room (`acknowledged_octets_found_room`).
+//! - Nothing is sent before the host connected, and our SYN first (`nothing_is_sent_before_the_host_connected`).
+//! - A reset has a cause, and goes once (`resets_have_a_cause`).
+//! - Windows are scaled where both SYNs say so, and tell the room (`windows_are_scaled_where_both_syns_say_so`, `windows_tell_the_room`).
+//! - What must be waited for may be (`what_must_be_waited_for_may_be`).
+//! - The tests beside the sentences are sound, and of a conforming guest exact (`tests_are_sound`, `tests_are_exact_for_an_honest_guest`).
 #![tactic(auto)]
 
 ghost use Rattle.std.specs.Prelude.{◌≡◌, ℕ, ◌+◌, ◌/◌, ◌^◌, ◌<◌, ◌≤◌, ◌||◌, ◌⊎◌};

@@ -1,14 +1,24 @@
 //! The flows of TCP in a run: which there are, what happened to each, and what a run may do with them.
 //!
-//! There is no code to run. The definitions stand in `specs/`, over the record of calls, newest entry first: `Doings` says what
-//! an entry is to flows, `Book` which flows there are and which of them rest (one fold over the record), `Lots` what a segment
-//! asks for, `Laws` which call may come next. A flow is opened by a connect, or by a peer that is accepted; a segment is one of
-//! the flow that was opened last on its two ends. The story of a flow is that of `spec_flow`, so each law of one flow holds of
-//! each flow of a run.
+//! There is no code to run. The definitions stand in `specs/`, over the trace of calls, newest entry first: `Doings` says what an entry is to flows, `Book` which flows
+//! there are and which of them are in TIME-WAIT (one fold over the trace), `Lots` what a segment asks for, `Laws` which call may come next. A flow is opened by a
+//! connect, or by a peer that is accepted; a segment is one of the flow that was opened last on its two ends. The story of a flow is that of `spec_flow`, so each law
+//! of one flow holds of each flow of a run.
 //!
-//! Each function here is a law of every run in which each call was one that may follow its past, and its contract is proved
-//! though its body is empty. Every beginning of such a run is one, so each law holds at every moment. A guest is *honest* where
-//! it gives one octet to each number of its stream and has one end with nothing past it.
+//! Each function here is a law of every run in which each call was one that may follow its past, and its contract is proved though its body is empty. Every beginning
+//! of such a run is one, so each law holds at every moment. A guest *conforms* where it gives one octet to each number of its stream and has one end with nothing past
+//! it.
+//!
+//! Proved, of the flows of every trace whose calls flows allow, each after its past (`KeepsFlows`), as of each lawful run:
+//! - Each flow keeps the law of one flow and is dutiful, and no two have one socket (`each_flow_keeps_the_law_of_one`). What happens to other flows leaves a flow as
+//!   it is (`other_flows_change_nothing`).
+//! - So the laws of one flow hold by the calls of the trace: `hosts_get_what_their_guests_sent`, `hosts_are_ended_after_every_octet`,
+//!   `guests_get_what_was_read_for_them`, `guests_are_ended_after_every_octet`, `what_is_acknowledged_came`, `acknowledged_octets_found_room`,
+//!   `nothing_goes_out_before_the_host_connected`, `reads_ask_for_all_that_there_is_room_for`, `flows_are_closed_for_a_cause`, `flows_reset_their_guest_for_a_cause`,
+//!   `connects_follow_their_syn_to_the_policys_target`.
+//! - A guest's SYN is answered by a reset at once only where the policy denies its destination, and ignored only where that is of many or there is no room
+//!   (`syns_are_denied_or_ignored_for_a_reason`). Only then the quietest flow that may gives way, and is closed by the next call (`the_quietest_gives_way_to_a_syn`,
+//!   `MayFlow`).
 #![tactic(auto)]
 
 ghost use Rattle.std.specs.Prelude.{◌≡◌, ℕ, ◌+◌, ◌<◌, ◌≤◌, ◌++◌, ◌||◌, ◌⊎◌, List, ◌∷◌, length, true, false, Bool, IsTrue, Some, slice_get};

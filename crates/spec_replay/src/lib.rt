@@ -1,4 +1,6 @@
-//! What holds of the text of records of calls.
+//! What holds of the text of traces of calls: laws alone, over `replay`. There is no code to run.
+//!
+//! Proved: no two allowed traces are one text (`text_is_one_to_one`), and each line of one has a reading (`allowed_entries_are_read`).
 #![tactic(auto)]
 
 ghost use Rattle.std.specs.Prelude.{◌≡◌, ℕ, List};

@@ -1,8 +1,53 @@
 //! What a lawful run of the network is: definitions, and laws that follow from them.
 //!
-//! There is no code to run. The definitions stand in `specs/`, over the record of calls, newest entry first; each function
-//! here is a law, said of guests, their ports, their datagrams and the sockets that were opened for them, and its contract is
-//! proved though its body is empty. Every beginning of a lawful run is one, so each law holds at every moment.
+//! There is no code to run. The definitions stand in `specs/`, over the trace of calls, newest entry first; each function here is a law, said of guests, their ports,
+//! their datagrams and the sockets that were opened for them, and its contract is proved though its body is empty. Every beginning of a lawful run is one, so each law
+//! holds at every moment.
+//!
+//! Proved, of datagrams and sockets:
+//! - What a peer sends reaches only the port of the guest that asked; any other frame of UDP to a guest answers its question or is a server of ours'
+//!   (`replies_reach_only_the_port_that_asked`).
+//! - A port of the host that is given to a guest leads where the settings say (`forwards_lead_where_the_settings_say`). It is opened there, or where a forward that
+//!   was asked for says, and closed where it is taken back or at the end (`ports_are_opened_where_the_settings_say`: `listens`, `opens`, `closes`).
+//! - What is sent is the whole payload of what a guest sent, on the socket of its port, to the target (`datagrams_sent_came_from_their_port`).
+//! - No call on a socket leaves the policy, connects and accepts among them (`no_socket_leaves_the_policy`).
+//! - The longest unused socket of a guest's port gives way, and no sooner (`the_longest_unused_gives_way`). That list in the order of use is that of the trace
+//!   (`the_list_in_order_of_use_is_that_of_the_record`).
+//! - No socket is used before it is open or after it was closed, and no number twice (`calls_are_on_open_sockets`).
+//!
+//! Of frames:
+//! - Each frame that goes out is the next part of the answer to what came last, and those behind it stay, or nothing is left of it and the frame is a flow's own,
+//!   asks for a guest's hardware address, or begins a file's packet that goes again (`each_frame_out_answers_the_last_arrival`).
+//! - A flow's own frame is that of its segment, octet for octet, with no other option or flag (`flows_write_nothing_but_their_segment`), goes to the hardware address
+//!   that was learnt last for its guest (`is_well_sent`), and holds no datagram longer than the MTU (`no_segment_of_a_flow_is_longer_than_the_mtu`).
+//! - Identifications count up by datagrams, all parts of one have the same (`identifications_count_up`, `what_is_left_first_has_the_next_identification`).
+//!
+//! Of services:
+//! - No client has two of the addresses that are leased, whatever was done (`no_client_has_two_addresses`). The answer that DHCP owes is the definition's function of
+//!   the leases of the trace (`left`, `serving`). They are those of the messages that came, in order (`leases_are_those_of_the_messages_that_came`), so what
+//!   `rules_dhcp` says of histories holds of runs.
+//! - A file's length is asked for, and octets of it are read, only in the folder, by a name without a part that is empty, `.` or `..`, for which the datagram that
+//!   came last asks, or of a transfer of which it acknowledges the block that was sent last (`files_are_read_as_guests_ask`: `lengths`, `octets`). A block that a guest
+//!   is told has the octets that were read for it, each at its place (`blocks_have_the_octets_that_were_read`). A packet goes again as it was told, at most five times,
+//!   each no earlier than its timeout after the one before, and each time once (`packets_go_again_as_they_were`: `as_told`, `once`). What comes from port 69 of the
+//!   virtual host answers what came last, is made by what was read last, goes again, or is what a peer of the host sent from its own port 69
+//!   (`the_server_of_files_answers_or_goes_again`).
+//! - What is sent on the socket of a question is one, whole, and goes to the resolver alone (`questions_go_to_the_resolver_alone`). A datagram that a guest gets from
+//!   port 53 of the name server is, whole, what came last from the resolver on the socket of a question of that very port, and has the identifier of a question that
+//!   was sent from that port on that socket before (`answers_reach_only_the_port_that_asked`). After it the next call closes the socket
+//!   (`an_answered_question_is_closed_next`). Each question has one open socket, and each of these one question (`each_question_has_a_socket_of_its_own`); before the
+//!   end it is closed only for its answer, after 10,000 ms without use, or as the longest unused of 512 (`questions_wait_for_their_answer`).
+//!
+//! Of flows: all that `spec_flows` says holds of every lawful run (`lawful_runs_keep_the_law_of_flows`); most of it stands again in `flows`:
+//! `hosts_get_what_their_guests_sent`, `hosts_are_ended_after_every_octet`, `guests_get_what_was_read_for_them`, `guests_are_ended_after_every_octet`,
+//! `what_is_acknowledged_came`, `acknowledged_octets_found_room`, `nothing_goes_out_before_the_host_connected`, `connects_follow_their_syn_to_the_policys_target`,
+//! `flows_are_closed_for_a_cause`, `flows_reset_their_guest_for_a_cause`, `reads_ask_for_all_that_there_is_room_for`, `each_flow_keeps_the_law_of_one`. Beside it a
+//! connection that a peer opens is with the guest to which the settings give the port, and that guest sees the peer as the policy shows it
+//! (`peers_reach_the_guest_that_the_settings_name`).
+//!
+//! Settings of which the check answers Ok are in the ranges that laws ask for (`sound_settings_meet_the_premises_of_the_laws`, `ports_of_settings_have_16_bits`).
+//!
+//! The test of lawfulness is sound, and written runs pass it; broken ones are refuted by the laws (proofs/FlowRows, LeaseRows, NameRows, ForwardRows, FileRows).
 #![tactic(auto)]
 
 pub mod files;

@@ -1,7 +1,11 @@
 //! How many calls a turn of the network makes.
 //!
-//! There is no code to run. The definitions stand in `specs/`, over the record of calls, newest entry first; the function here
-//! is a law of every run in which each call was one that may follow its past, and its contract is proved though its body is empty.
+//! There is no code to run. The definitions stand in `specs/`, over the trace of calls, newest entry first; the function here is a law of every run in which each call
+//! was one that may follow its past, and its contract is proved though its body is empty.
+//!
+//! Proved: in every lawful run with allowed answers since the last wait at most three calls were made for each item that it reported, one for each socket that was
+//! closed, port that was given, octet that came on the link or from a file and frame that began to go out, and three beside; before the first wait three for each port
+//! that the settings open (`a_turn_makes_few_calls`).
 #![tactic(auto)]
 
 ghost use Rattle.std.specs.Prelude.{◌≤◌, List};

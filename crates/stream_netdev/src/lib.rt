@@ -1,9 +1,15 @@
 //! The link to the guest: frames after their lengths on a stream, in whatever pieces its octets come and go (QEMU's stream netdev).
 //!
-//! A frame stands behind its length, four octets with the most significant first. `read_frame` asks for what is missing of the length, then for what is
-//! missing of the frame, and keeps what came until it is whole; it is called only where a wait reported the link. `offer` writes a length and a frame,
-//! which `spell` put behind one another, by one call. What isn't taken of them is the tail, which `flush` offers first the next time; the link is blocked from a write that took less than it was
+//! A frame stands behind its length, four octets with the most significant first. `read_frame` asks for what is missing of the length, then for what is missing of the
+//! frame, and keeps what came until it is whole; it is called only where a wait reported the link. `offer` writes a length and a frame, which `spell` put behind one
+//! another, by one call. What isn't taken of them is the tail, which `flush` offers first the next time; the link is blocked from a write that took less than it was
 //! offered until a wait reports it ready for writing, and nothing is offered meanwhile.
+//!
+//! Proved: framing over any World: `Link::read_frame` answers exactly as the last answer in that call, or the length, says (`makes`), and where it, `flush` or `offer`
+//! fails the count of the link's faults rose (`failed`). `Link::open`, `frame`, `blocked`, `tail`, `unblock`, and `outcome`, what an offer comes to. `offer` writes
+//! these octets, which are a frame behind its length (`spelt`), as `spell` leaves them.
+//!
+//! Let through (rt plant): nothing.
 #![tactic(auto)]
 
 ghost use Rattle.std.specs.Prelude.{◌≡◌, ℕ, ◌+◌, ◌-◌, ◌^◌, ◌<◌, ◌≤◌, List, [], ◌++◌, length, take, drop, nat_lt, true, false, IfOk, if◌then◌else◌};

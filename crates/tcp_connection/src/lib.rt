@@ -1,15 +1,34 @@
 //! One connection with a guest: the state machine of TCP over its two halves (RFC 9293, 3.10).
 //!
-//! A guest talks to a socket of the host. Its octets are taken by a `Receive` and go to the socket, and what the socket
-//! says is sent to it by a `Transmit`. Between them stands a `Conn`: what a segment of the guest is, what news of the socket
-//! mean, what is to be sent next, and when.
+//! A guest talks to a socket of the host. Its octets are taken by a `Receive` and go to the socket, and what the socket says is sent to it by a `Transmit`. Between
+//! them stands a `Conn`: what a segment of the guest is, what news of the socket mean, what is to be sent next, and when.
 //!
-//! A connection is opened by the guest, and its SYN is answered once the socket has connected; or it is opened by us, for a
-//! socket that was accepted. Moments are in milliseconds, at most 2^62.
+//! A connection is opened by the guest, and its SYN is answered once the socket has connected; or it is opened by us, for a socket that was accepted. Moments are in
+//! milliseconds, at most 2^62.
 //!
-//! The octets lie in an `Up` and a `Down` that the calls are passed. They are to be the connection's own: empty at first,
-//! and changed by the calls here alone, but that the socket takes octets of `Up`. Each call says that it stays so
-//! (`HasBuffers`).
+//! The octets lie in an `Up` and a `Down` that the calls are passed. They are to be the connection's own: empty at first, and changed by the calls here alone, but that
+//! the socket takes octets of `Up`. Each call says that it stays so (`HasBuffers`).
+//!
+//! A contract sees a `Connection` (`specs/`): the number of our SYN; its `Stage`; the two halves; the timer of our SYN and how often that went out; what is owed (SYN
+//! or SYN-ACK, an acknowledgement); the number acknowledged last and the right edge told last; which ends were acknowledged, and whether the host was told the guest's;
+//! the guest's window scale; the size of the ring; whether there is a congestion window. The states of RFC 9293, 3.3.2 are told by it (`state_of`): where both SYNs
+//! were acknowledged, by the two ends (`state_between`). What a segment is, by the order of checks (Checks: `verdict_of`, one table by stage; RFC 9293, 3.10.7); what
+//! it changes (Segments); news of the host (Hosts); what is owed and what goes out (Owing); windows (Windows; RFC 7323, 2); timers (Timing; RFC 6298). Our end was the
+//! first (`closes_first`) where our FIN was out before the number that is acknowledged next, or before the last one where the next is the same.
+//!
+//! Proved: each rule of RFC 9293 is a small change of a `Connection`.
+//! - `Conn::from_guest` and `to_guest` begin it (`first`).
+//! - `on_segment` changes the connection, and the octets of both directions, exactly as the order of checks says (`connection`, `up`, `down`), and answers
+//!   `GuestReset`, `Unfit` and `Finished` exactly by their causes (`change`): a reset is taken at exactly the next expected number, and elsewhere in the window it is
+//!   challenged (`verdict_synchronized`).
+//! - `on_host` (`connection`, `change`), `more` (`count`, `given`, `timer`), `sent` (`connection`, `change`) and `tick` (`connection`, `change`) change it exactly by
+//!   the rule.
+//! - `owed` names the one thing that goes next, None exactly where nothing is owed (`owed`), `head` its numbers, window field and scale, `due` the moment of its
+//!   timer, `state` the state of RFC 9293. Exactly too: `connecting`, `opening`, `owes_ack`, `end_acked`, `guest_ended`, `time_wait`, `host_is_open`.
+//! - Every call keeps that the buffers are the connection's (`HasBuffers`, by `buffers`): what was taken is written or held, what was sent was read, and no number of
+//!   octets passes 2^62, also while the host takes octets (`buffers_stay_while_octets_are_written`).
+//!
+//! Cases of one connection are run by `worked_segments`.
 #![tactic(auto)]
 
 ghost use Rattle.std.specs.Prelude.{◌≡◌, ℕ, ◌+◌, ◌-◌, ◌^◌, ◌<◌, ◌≤◌, ◌↔◌, ◌++◌, [], length, take, drop, min, IsTrue, IfSome};

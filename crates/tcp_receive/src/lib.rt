@@ -1,5 +1,13 @@
-//! The receiving half of a TCP connection: which octets of a segment come next, whether its FIN is
-//! the end of the stream, and whether an acknowledgement is owed (RFC 9293, 3.10.7.4).
+//! The receiving half of a TCP connection: which octets of a segment come next, whether its FIN is the end of the stream, and whether an acknowledgement is owed (RFC
+//! 9293, 3.10.7.4).
+//!
+//! Proved:
+//! - `Receive::arrive` takes what comes next and fits, keeps what comes past a gap, then takes the kept octets that come next (`up`), by places and past every wrap,
+//!   and nothing once the end was taken. Each octet that is newly held or kept is the segment's at its number or was kept there (`held`, `kept`).
+//! - Its `fin` comes exactly where every octet before it is taken then, and `ack_owed` exactly by its rule.
+//! - What was taken is written or held, and nothing is kept that comes next (`fills`). `Receive::new`, `taken`, `expected`, `ended` exactly.
+//! - Laws: a segment's next octets are those at the places from the next on (`next_octets_stand_at_their_places`); a buffer stays that of its stream while the host
+//!   takes octets (`a_buffer_stays_that_of_its_stream`).
 #![tactic(auto)]
 
 ghost use Rattle.std.specs.Prelude.{◌≡◌, ℕ, List, slice_get, ◌+◌, ◌-◌, ◌^◌, ◌<◌, ◌≤◌, ◌++◌, length, drop, take, min, pos, ◌+ℤ◌, ◌<ℤ◌, ◌≤ℤ◌, IsTrue, ◌↔◌, ◌⊎◌, ◌||◌, None, false};

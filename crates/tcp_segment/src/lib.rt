@@ -1,4 +1,14 @@
 //! Segments of TCP (RFC 9293, 3.1).
+//!
+//! Proved:
+//! - `decode` answers Ok exactly where the grammar holds, with the fields that the octets encode, else the first fault with its place (`packet`, `fields`, `fault`).
+//!   `encode` writes octets of the grammar, NoRoom exactly where the slice is too short (`written`, `room`, `unchanged`), and `write` the same where it isn't. The
+//!   grammar is what is read (`grammar_is_what_is_read`).
+//! - What a SYN's MSS counts (`mss_of`: 536 without one, 64 at least). The window scale is read and written as it stands, 0 to 255, on any segment (`TcpView::scale`,
+//!   `decode`, `encode`). `is_syn`, `is_ack`, `is_rst`, `is_fin`, and the numbers that a segment takes (`numbers`, SEG.LEN). A header alone with its options, 0 in the
+//!   place of the sum (`put_head`, `head_size`).
+//!
+//! Let through (rt plant): nothing.
 #![tactic(auto)]
 
 ghost use Rattle.std.specs.Prelude.{◌≡◌, ℕ, List, [], None, Some, Ok, Err, ◌+◌, ◌-◌, ◌*◌, ◌/◌, ◌≤◌, ◌<◌, ◌^◌, ◌↔◌, ◌++◌, ◌∷◌, length, take, drop, IsOk, IfOk, IfSome, OnErr, MatchResult};

@@ -1,11 +1,26 @@
-//! The sending half of a TCP connection: what of the host's stream goes to the guest, when it goes again, and what an
-//! acknowledgement changes (RFC 9293, 3.8 and 3.10.7.4; RFC 6298).
+//! The sending half of a TCP connection: what of the host's stream goes to the guest, when it goes again, and what an acknowledgement changes (RFC 9293, 3.8 and
+//! 3.10.7.4; RFC 6298).
 //!
-//! A place is one of the host's stream: its octets have the places from 0 on, and its end, our FIN, has the place after
-//! the last octet. The octet at place 0 has the number after our SYN's. Moments are in milliseconds, at most 2^62.
+//! A place is one of the host's stream: its octets have the places from 0 on, and its end, our FIN, has the place after the last octet. The octet at place 0 has the
+//! number after our SYN's. Moments are in milliseconds, at most 2^62.
 //!
-//! The octets lie in a `Down` that each call is passed. It is to be the connection's own: empty at first, changed by the
-//! calls here alone, and with under 2^62 octets of the stream in all. Each call says that it stays so (`Feeds`).
+//! The octets lie in a `Down` that each call is passed. It is to be the connection's own: empty at first, changed by the calls here alone, and with under 2^62 octets
+//! of the stream in all. Each call says that it stays so (`Feeds`).
+//!
+//! Proved, by places of the host's stream:
+//! - `Transmit::next_piece` gives the piece that is owed by RFC 9293 and RFC 6298 (`piece`), None exactly where nothing is (`none`, `some`): octets of the stream at
+//!   their place with no gap, and FIN only after the last (`stream`), no more than the MSS, 64 to 1,460 (`mss`), inside the guest's window unless something is owed
+//!   again (`window`), and past the greatest end sent inside the congestion window, where there is one (`congestion`). What goes again begins at the first
+//!   unacknowledged place and ends within what was sent (`again`), a probe is one number (`probes`).
+//! - `more`, `ended`, `limit`, `congest`, `sent`, `acked` and `expired` change exactly what the rules say. `acked` tells by the number alone what was acknowledged
+//!   (`seen`; `AckSeen::is_acceptable`) and loses no octet (`read`), moves the congestion window by its step, and makes the oldest piece owed again at the third
+//!   duplicate, where it moves and is below what was sent when a loss was noticed last (`change`, by `owes_again`), and where the window opens for a probe that wasn't
+//!   taken.
+//! - `expired` is true exactly after eight resendings (`given_up`, `late`). Where numbers are under way a loss is noticed with it (`change`). A timer that runs keeps
+//!   its base while the same place is acknowledged (`steady`).
+//! - `due` runs exactly where numbers are under way or something waits for a closed window, and the timer has not expired (`runs`, `rests`). Every call keeps that
+//!   the buffer is that of the connection (`feeds`). `Transmit::new`, `mss`, `end`, `next_number` (SND.NXT) and `number` exactly.
+//! - Without a congestion window the guest's alone bounds what goes for the first time, and nothing brings one (`without_a_congestion_window`).
 #![tactic(auto)]
 
 ghost use Rattle.std.specs.Prelude.{◌≡◌, ℕ, [], ◌+◌, ◌-◌, ◌^◌, ◌<◌, ◌≤◌, ◌++◌, length, take, min, IsSome, None, Some, true, nat_lt};

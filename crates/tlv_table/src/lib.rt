@@ -1,5 +1,11 @@
-//! Lists of options, each a code, a length and a body, read by a table of the codes that are known,
-//! as in TCP (RFC 9293, 3.1) and DHCP (RFC 2132, 2). Nothing is allocated.
+//! Lists of options, each a code, a length and a body, read by a table of the codes that are known, as in TCP (RFC 9293, 3.1) and DHCP (RFC 2132, 2). Nothing is
+//! allocated.
+//!
+//! Proved:
+//! - `Table::new` exactly by its three conditions, `Table::of` where they hold; `Table::read` by the grammar of the list with the first fault (`found`, `only`,
+//!   `fault`, `only_fault`); `Fields::first`.
+//! - `Table::put` writes exactly an option's octets, None exactly where there is no room (`written`, `length`, `room`, `unchanged`); `Table::write` the same where
+//!   there is room. Options that were put are read again (`Table::put_options_are_read_again`).
 #![tactic(auto)]
 
 ghost use Rattle.std.specs.Prelude.{◌≡◌, ℕ, ◌+◌, ◌≤◌, ◌==◌, ◌↔◌, ◌++◌, true, false, List, length, drop, IsSome, IfNone, replicate, Option, Ok, Err, is_ok, is_some, option_copied};

@@ -1,11 +1,13 @@
-//! Runs of the network on a World that is made from a number. Each word names a file of cases in the folder where this runs, each a line; a line that begins with `#` is a
-//! remark, an empty one nothing.
+//! Runs of the network on a World that is made from a number. Each word names a file of cases in the folder where this runs, each a line; a line that begins with `#`
+//! is a remark, an empty one nothing.
 //!
 //! `drill NUMBER OCTETS`: the guest sends OCTETS octets. What the World counted is printed, before the run and behind it.
 //!
 //! `fail NUMBER OCTETS = KIND END UP DOWN, ..`: the same, once for each call of the run that can fail, which then does; likewise `short` and `not_yet`. KIND is `link`,
-//! `wait`, `socket` or `file`: where a call of this kind got the fault the run has to end so, UP octets at least have to come to the host and DOWN to the guest, and none
-//! may be wrong. A line tells whether each run came to that.
+//! `wait`, `socket` or `file`: where a call of this kind got the fault the run has to end so, UP octets at least have to come to the host and DOWN to the guest, and
+//! none may be wrong. A line tells whether each run came to that.
+//!
+//! Proved: nothing but that it is safe and returns. It tests the service over a `DriveWorld`, and with a fault in each of its calls.
 #![tactic(auto)]
 
 mod case;

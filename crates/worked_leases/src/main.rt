@@ -1,6 +1,8 @@
-//! Messages of clients of DHCP, and what the server answers to each, worked out by hand. Each word of the command line names a file of cases in the folder where
-//! this runs; each case is a server of its own that gets its messages in turn, and a line tells whether each was answered as it was to be. How a file of cases is
-//! written stands at `Case`.
+//! Messages of clients of DHCP, and what the server answers to each, worked out by hand. Each word of the command line names a file of cases in the folder where this
+//! runs; each case is a server of its own that gets its messages in turn, and a line tells whether each was answered as it was to be. How a file of cases is written
+//! stands at `Case`.
+//!
+//! Proved: nothing but that it is safe and returns. It tests replies of `dhcp_server` octet for octet.
 #![tactic(auto)]
 
 mod cases;

@@ -1,5 +1,8 @@
-//! Cases of whole runs: files of cases are read, each case is run by a program that is lent, over any World, and what it came to is judged. How a file of cases is written
-//! stands at `Cases`.
+//! Cases of whole runs: files of cases are read, each case is run by a program that is handed in, over any World, and what it came to is judged. How a file of cases is
+//! written stands at `Cases`.
+//!
+//! Proved: nothing but that each call is safe and returns: `run_files`, which runs the cases of files by a `Program` (`run`); `Cases::read`, `all`; what a case has and
+//! what it came to, as text: `put_outside`, `put_words`, `put_verdict`.
 #![tactic(auto)]
 
 mod cases;

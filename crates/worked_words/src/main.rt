@@ -1,5 +1,7 @@
 //! What words of the command line mean. Each word names a file in the folder where this runs, each line of which has the words of a command line; for each what they
 //! mean is printed, with all settings that an option or a RULE can name; a drill has none. A line that begins with `#` is a remark, an empty one nothing.
+//!
+//! Proved: nothing but that it is safe and returns. It tests the settings that words mean, and words that mean none.
 #![tactic(auto)]
 
 use command_words::{Command, Stop, Tap, WordFault, read_words};

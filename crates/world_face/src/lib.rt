@@ -1,4 +1,13 @@
 //! The outside as the network stack sees it: one call at a time, each with its answer.
+//!
+//! Proved: what each call on a World tells, which is what it adds to the trace, as the contracts of `World` that each keeps: `now`, `wait`; `link_open`, `link_read`,
+//! `link_write`; `connect`, `connected`, `listen`, `accept`, `tcp_read`, `tcp_write`, `tcp_end`, `close`; `udp_open`, `udp_send`, `udp_recv`; `file_len`, `file_read`.
+//! What a sink gets: `Sink::put`, and of one in memory `VecSink::open`, `put`, `octets`. The octets that an answer moved (`Io::count`), and the sooner of two moments
+//! (`sooner`).
+//!
+//! Neither: what a real World answers.
+//!
+//! Let through (rt plant): nothing.
 #![tactic(auto)]
 
 mod sink;
