@@ -24,6 +24,7 @@ held_forwards forwards = if nat_le (length forwards) 32 then forwards else portl
 abbrev pub guest_portless : GuestFwd
 guest_portless = record { guest = anywhere; host = anywhere }
 
+-- of more than 16 none is held, and one of port 0 stands in their place
 abbrev pub held_guests : List GuestFwd → List GuestFwd
 held_guests forwards = if nat_le (length forwards) 16 then forwards else guest_portless ∷ []
 

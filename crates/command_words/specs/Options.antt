@@ -27,6 +27,7 @@ of_all name kind = record { name = name; kind = kind; serve_alone = false }
 abbrev pub of_serve : Word → Kind → Row
 of_serve name kind = record { name = name; kind = kind; serve_alone = true }
 
+-- the options: the name, what its value is, and whether `serve` alone has it
 abbrev pub rows : List Row
 rows =
     of_serve (codes "--link") Link

@@ -21,6 +21,7 @@ StopsBy Read in_front words AtEnd = BeginsOne Read words × ¬ Read words
 abbrev pub AreMeant : List Word → Type 0
 AreMeant words = (meaning : Meaning) × Means words meaning
 
+-- where the reading of words stops: the words before begin a reading, those up to it none; or all begin one, and a word is missing
 abbrev pub StopsAt : List Word → Stop → Type 0
 StopsAt words stop = StopsBy AreMeant 0 words stop
 

@@ -38,8 +38,10 @@ IsFile word = (0 < length word) × (length word ≤ 1280)
 abbrev pub held : (room : ℕ) → List ℕ → List ℕ
 held room text = if nat_le (length text) room then text else 0 ∷ []
 
+-- a text of the settings has 127 octets at most; ours
 abbrev pub held_text : List ℕ → List ℕ
 held_text text = held 127 text
 
+-- and the name of a folder 1,024
 abbrev pub held_folder : List ℕ → List ℕ
 held_folder text = held 1024 text

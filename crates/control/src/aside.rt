@@ -131,6 +131,7 @@ impl<W: World> World for Aside<W> {
         moment
     }
 
+    // Where the network itself wants a socket of the control's the wait is passed on as it is: a World may report twice what is wanted twice.
     fn wait(&mut self, wants: &Wants, timeout: Option<u64>, ready: &mut ReadyList) -> Waited {
         gather(wants, self.item, &mut self.wants);
         let answer = self.world.wait(&self.wants, timeout, &mut self.ready);

@@ -22,12 +22,13 @@ fresh number = record { number = number; up = 0; down = 0; wrong = 0; waits = 0 
 abbrev pub line : List ℕ → ℕ → List ℕ
 line name number = name ++ decimal number ++ codes "\n"
 
+-- what is put of a run: a name and a number on each line
 abbrev pub summary_text : Run → List ℕ
 summary_text run =
     line (codes "number ") run.number ++ line (codes "flows ") 8 ++ line (codes "up ") run.up
     ++ line (codes "down ") run.down ++ line (codes "wrong ") run.wrong ++ line (codes "waits ") run.waits
 
--- at this wait a run is stopped
+-- at this wait a run is stopped; ours
 abbrev pub last_wait : ℕ
 last_wait = 20000000
 

@@ -37,6 +37,7 @@ impl Draws {
 }
 
 /// What a draw does to a frame before which `lost` frames in a row were lost.
+/// A frame that is held back comes after the next one that comes, of several the last one held first.
 pub fn fate_by(drawn: u64, lost: u8) -> Fate
     ensures { result ≡ fate_of drawn lost }
 {

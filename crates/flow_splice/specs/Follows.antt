@@ -54,10 +54,12 @@ pub record IsAtRest (s : Settings) (f : Splice) (past : Story) (now since : ℕ)
   pub mru : f.mru ≡ s.mru
   pub known : f.mac ≡ None → ⊥
 
+-- in use: its socket is open; or it is closed, and a reset is owed
 abbrev pub FollowsInUse : Bool → Settings → Splice → Story → ℕ → Type 0
 FollowsInUse false s f past now = IsOpen s f past now
 FollowsInUse true s f past now = IsOwing s f past now
 
+-- by where the flow stands: free, in use, or in TIME-WAIT since a moment
 abbrev pub FollowsAt : Place → Bool → Settings → Splice → Story → ℕ → Type 0
 FollowsAt Empty shut s f past now = IsFree s f past now
 FollowsAt InUse shut s f past now = FollowsInUse shut s f past now

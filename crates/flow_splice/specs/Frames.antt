@@ -47,6 +47,7 @@ segment_frame face mac ident seg =
 abbrev pub request : Face → Arp
 request face = asking face.vhost.0 face.guest.addr.0
 
+-- its frame
 abbrev pub request_frame : Face → List ℕ
 request_frame face = ether_octets everyone (our_mac face.vhost.0) arp_kind (arp_octets (request face))
 

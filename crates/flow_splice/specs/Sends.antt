@@ -55,6 +55,7 @@ abbrev pub GoesOut : Bool → Owed → Splice → Splice → ℕ → List Entry 
 GoesOut true what old new now made = (made ≡ []) × (new ≡ record (went_out old what now) { place = Empty })
 GoesOut false what old new now made = Sees (ends (change_gone what old.conn old.up now)) (went_out old what now) new now made
 
+-- what was offered counts as sent only where the link took something of it
 abbrev pub Marks : Offered → Owed → Splice → Splice → ℕ → List Entry → Type 0
 Marks Taken what old new now made = GoesOut (is_rst what) what old new now made
 Marks Blocked what old new now made = (made ≡ []) × (new ≡ old)
@@ -88,6 +89,7 @@ abbrev pub IsClearBy : Option Mac → Splice → Type 0
 IsClearBy None f = asks_now f ≡ false
 IsClearBy (Some mac) f = takes_part f (owed_of f.conn f.up f.down) ≡ None
 
+-- a flow that owes no frame
 abbrev pub IsClear : Splice → Type 0
 IsClear f = IsClearBy f.mac f
 

@@ -7,7 +7,7 @@ use Rattle.tcp_connection.specs.Timing.{due_of as conn_due}
 use Rattle.sim_connection.specs.Holding.{is_connects}
 use Rattle.flow_splice.specs.Splice.{Splice, is_open}
 
--- a socket may connect for 75,000 milliseconds
+-- a socket may connect for 75,000 ms; ours
 abbrev pub connect_end : Splice → ℕ
 connect_end f = f.since + 75000
 
@@ -55,7 +55,7 @@ is_deserted f =
     f.accepted && not (is_connects f.conn.stage) && is_opening f.conn.stage && not (host_is_open f.conn.transmission.end) && reads_none f.down
     && not f.conn.ack_owed
 
--- until then its guest may answer
+-- until then its guest may answer: 1,000 ms; ours
 abbrev pub patience_end : Splice → ℕ
 patience_end f = max f.since f.called + 1000
 
@@ -63,7 +63,7 @@ patience_end f = max f.since f.called + 1000
 abbrev pub is_short : Splice → Bool
 is_short f = not (host_is_open f.conn.transmission.end) || f.told_end || (reads_none f.down && nat_eq f.up.written 0)
 
--- how long it keeps its place without a sign of life
+-- how many milliseconds it keeps its place without a sign of life (RFC 5382, REQ-5; while it connects ours)
 abbrev pub quiet_time : Splice → ℕ
 quiet_time f = if is_connects f.conn.stage then 10000 else (if is_short f then 240000 else 7440000)
 

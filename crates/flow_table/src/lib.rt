@@ -204,6 +204,7 @@ impl FlowTable {
     /// Gives a slot to the tuple, which no slot has: a free one, else the one that has rested
     /// longest, of those that rest since the same moment the one that came to rest first. None
     /// exactly where every slot is in use and none is at rest.
+    /// Which of several free slots is taken is left open.
     pub fn take(&mut self, t: &Tuple) -> Option<usize>
         requires { NoneHas self.old.slots t.now }
         ensures which { IfSome result (λ slot. MayBeTaken self.old slot) }
@@ -225,6 +226,7 @@ impl FlowTable {
 
     /// The flow in a slot that has one is in TIME-WAIT since this moment, in milliseconds, whether
     /// it rested before or not.
+    /// The order of rests is a list of slot numbers of fixed length, so no counter can run out.
     pub fn resting(&mut self, slot: usize, since: u64)
         requires { HasSome self.old.slots slot }
         ensures { (t : Tuple) → HasTuple self.old.slots slot t

@@ -149,6 +149,7 @@ impl Policy {
         self.config.denied.as_slice().iter().any(|d| is_in(&d.0, a))
     }
 
+    // Denied networks come last, behind the resolver and the host's own address.
     fn by_rules(&self, to: Endpoint) -> Verdict
         ensures { result ≡ by_rules self.now to }
     {

@@ -36,7 +36,7 @@ end_of p = 8 * p.place + length p.body
 abbrev pub is_uneven : Part → Bool
 is_uneven p = (length p.body == 0) || (p.more && not (length p.body % 8 == 0))
 
--- it ends past the greatest length of a body
+-- it ends past the greatest length of a body: 65,535 octets less a header of 20 (RFC 791, 3.1)
 abbrev pub is_too_long : Part → Bool
 is_too_long p = nat_lt 65515 (end_of p)
 
@@ -72,7 +72,7 @@ pub record PartSet : Type 0 where
   pub since : ℕ
   pub parts : List Part
 
--- sets whose first part is 60,000 ms old or older go
+-- sets whose first part is 60,000 ms old or older go (RFC 1122, 3.3.2: after 60 to 120 seconds)
 abbrev pub is_young : ℕ → PartSet → Bool
 is_young now s = nat_lt (now - s.since) 60000
 
@@ -134,6 +134,7 @@ abbrev pub left_by : Outcome → Key → List PartSet → List PartSet
 left_by Joined key sets = remove sets (place_of key sets)
 left_by _ key sets = sets
 
+-- the sets after a part came at this moment
 abbrev pub sets_left : ℕ → Key → Part → List PartSet → List PartSet
 sets_left now key p sets = left_by (outcome now key p sets) key (sets_after now key p sets)
 

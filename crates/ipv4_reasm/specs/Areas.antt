@@ -126,7 +126,7 @@ pub record IsRoomy (since : ℕ) (octets : List ℕ) (top head joined : ℕ) : T
 abbrev pub joined_in : Gathered → Ip
 joined_in g = record { ident = g.key.ident; more = false; place = 0; proto = g.key.proto; from = g.key.from; to = g.key.to; head = g.joined; body = take g.top g.octets }
 
--- areas whose first part is less than 60,000 ms old
+-- areas whose first part is less than 60,000 ms old (RFC 1122, 3.3.2)
 abbrev pub is_recent : ℕ → Gathered → Bool
 is_recent now g = nat_lt (now - g.since) 60000
 

@@ -63,6 +63,7 @@ impl Holes {
     }
 
     /// Whether a part lies in a hole.
+    /// It clashes with what came exactly where it lies in no hole, so one test takes the place of three.
     pub fn has_hole(&self, v: &IpView<'_>) -> bool
         requires { end_of (part_of v.now) ≤ most_carried }
         ensures { result ≡ has_hole (part_of v.now) self.now }

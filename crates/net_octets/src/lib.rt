@@ -226,6 +226,7 @@ fn sum_of_words(octets: &[u8]) -> u64
 
 /// The sum of the 32-bit words as the processor reads them, the first octet lowest, times 256; and of the 16-bit words of the last one to three octets. A block
 /// of octets is summed at a time, so that the compiler need not count within one.
+/// A block has 128 octets: 64 spare less, 256 hardly more.
 fn sum_of_blocks(octets: &[u8]) -> u64
     requires { length octets.now ≤ 65535 }
     ensures sum { result ≡ quad_sum octets.now }

@@ -80,7 +80,8 @@ AnswersInRange (UdpRecv socket asked answer octets) = ComesFrom answer × Leaves
 AnswersInRange (FileLen name answer) = MayMeasure answer
 AnswersInRange (FileRead name place asked answer octets) = IsAtOnce answer × Leaves answer octets
 
--- A line can say this entry. Whether a World may give the answer is another question.
+-- A line can say this entry. Whether a World may give the answer is another question. `done -`, a `ready` with nothing after it and an item that stands twice
+-- can be said.
 abbrev pub IsSayable : Entry → Type 0
 IsSayable e = InRange (call_of e) × AnswersInRange e
 

@@ -68,7 +68,7 @@ pub record Fits (past : List Entry) (schedule : List ℕ) : Type 0 where
   pub rest : List ℕ
   pub before : FitsBefore past schedule rest
 
--- the room that a star takes, in octets: as much as the arguments of such a call may need
+-- the room that a star takes, in octets: as much as the arguments of such a call may need; a wait's is that of its 5,155 items
 abbrev pub room_of : CallName → ℕ
 room_of Wait = 82480
 room_of LinkOpen = most_name
@@ -86,7 +86,7 @@ abbrev pub rooms : List Row → ℕ
 rooms [] = 0
 rooms (row ∷ rows) = row_room row + rooms rows
 
--- the room that all stars may take: 1 GiB
+-- the octets of room that all stars may take: 1 GiB; ours
 abbrev pub most_room : ℕ
 most_room = 1073741824
 

@@ -139,6 +139,7 @@ WaitsSince first Off resent = Unit {0}
 WaitsSince first (Since base) resent = first + least_waits resent ≤ base
 WaitsSince first (Expired at) resent = first + least_waits (resent + 1) ≤ at
 
+-- so it stands with the timer of a sending half
 abbrev pub HasWaitedSince : ℕ → Resending → Type 0
 HasWaitedSince first r = WaitsSince first r.timer r.resent
 

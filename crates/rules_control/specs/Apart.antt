@@ -56,6 +56,7 @@ abbrev pub seen : Entry → Entry
 seen (Wait wants timeout answer ready) = Wait (others wants) timeout answer (others ready)
 seen e = e
 
+-- what the network sees of a record: all but the calls on the control's sockets, and each wait without their items
 abbrev pub without_control : List Entry → List Entry
 without_control [] = []
 without_control (e ∷ past) = if is_on_control e then without_control past else seen e ∷ without_control past

@@ -28,6 +28,7 @@ pub record IsAdd (guest : ℕ) (line : List ℕ) (forward : Forward) : Type 0 wh
 abbrev pub removal : Proto → List ℕ
 removal proto = codes "remove " ++ proto_text proto ++ codes " "
 
+-- a line that takes back the forward of a port of the host
 pub record IsRemove (line : List ℕ) (proto : Proto) (host : Endpoint) : Type 0 where
   pub text : List ℕ
   pub spelt : line ≡ removal proto ++ text
@@ -39,6 +40,7 @@ pub record IsWhat (guest : ℕ) (line : List ℕ) : Type 0 where
   pub no_remove : (proto : Proto) (host : Endpoint) → ¬ IsRemove line proto host
   pub no_list : ¬ (line ≡ codes "list")
 
+-- what a line means: one of the three commands, or nothing that is known
 abbrev pub Means : (guest : ℕ) (line : List ℕ) → Command → Type 0
 Means guest line (Add forward) = IsAdd guest line forward
 Means guest line (Remove proto host) = IsRemove line proto host

@@ -15,11 +15,11 @@ use Rattle.world_face.specs.declared.Made.TheVariants.{Done as MadeDone, Failed 
 abbrev pub listener : ℕ
 listener = 2 ^ 63
 
--- a line has at most so many octets, its line feed apart
+-- a line has at most so many octets, its line feed apart; ours
 abbrev pub longest_line : ℕ
 longest_line = 128
 
--- the octets of one reply at most
+-- the octets of one reply at most; ours
 abbrev pub longest_reply : ℕ
 longest_reply = 280000
 
@@ -31,6 +31,7 @@ pub record Talk : Type 0 where
   pub kept : List ℕ
   pub left : List ℕ
 
+-- the control before it listens
 abbrev pub silent : Talk
 silent = record { listening = false; peer = None; had = 0; kept = []; left = [] }
 
@@ -85,7 +86,7 @@ with_kept kept t = record { listening = t.listening; peer = t.peer; had = t.had;
 abbrev pub after_read : Io → List ℕ → Talk → Talk
 after_read answer octets t = if is_last answer (t.kept ++ octets) then hung_up t else with_kept (t.kept ++ octets) t
 
--- what a write offers, and what is left after it; a write that fails is the last call but the close
+-- the octets that a write offers, those of one call (`most_to_flow`); and what is left after it; a write that fails is the last call but the close
 abbrev pub most_at_once : ℕ
 most_at_once = 16384
 

@@ -7,13 +7,15 @@ use Rattle.slirp_settings.specs.Addresses.{Config}
 use Rattle.rules_dhcp.specs.declared.Lease.{Lease}
 use Rattle.rules_dhcp.specs.declared.Lease.TheVariants.{Free, Reserved, Bound, Declined}
 
--- how many milliseconds an address is kept for a hardware address to which it was offered, how long one is lent, and how long one that a client declined is kept from use
+-- how many milliseconds an address is kept for a hardware address to which it was offered: a minute, ours (RFC 2131, 3.1 leaves it)
 abbrev pub offer_time : ℕ
 offer_time = 60000
 
+-- how many milliseconds an address is leased: a day, ours (RFC 2131, 4.3.1 leaves it)
 abbrev pub lease_time : ℕ
 lease_time = 86400000
 
+-- how many milliseconds an address that a client declined is kept from use: an hour, ours (RFC 2131, 4.3.3 leaves it)
 abbrev pub declined_time : ℕ
 declined_time = 3600000
 

@@ -16,7 +16,8 @@ row code least greatest repeats = record { code = code; least = least; greatest 
 abbrev pub form : Form
 form = record { end = 255; pad = 0; end_needed = true; counts_head = false }
 
--- what is read: the client's name, the address asked for, the kind of message, the server, the client's identifier
+-- What is read: the client's name, the address asked for, the kind of message, the server, the client's identifier. The identifier has to be of two octets or
+-- more, and isn't used.
 abbrev pub rows_read : List Row
 rows_read = row 12 1 255 true ∷ row 50 4 4 false ∷ row 53 1 1 false ∷ row 54 4 4 false ∷ row 61 2 255 true ∷ []
 

@@ -106,7 +106,7 @@ network_options config =
     ++ text_option 66 config.tftp_server_name
     ++ text_option 67 config.bootfile
 
--- how long the address is lent, in seconds: 86,400
+-- how long the address is leased, in seconds: 86,400, as `lease_time`
 abbrev pub lease_option : List (ℕ × List ℕ)
 lease_option = (51, four 86400) ∷ []
 

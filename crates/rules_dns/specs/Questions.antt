@@ -8,10 +8,11 @@ use Rattle.net_octets.specs.declared.Mac.{Mac}
 use Rattle.slirp_settings.specs.Classes.{same_endpoint}
 use Rattle.rules_dns.specs.declared.Question.{Question}
 
--- so many wait at once, and each so many milliseconds after its last use
+-- so many questions wait at once; ours
 abbrev pub most_questions : ℕ
 most_questions = 512
 
+-- each so many milliseconds after its last use; ours
 abbrev pub question_life : ℕ
 question_life = 10000
 

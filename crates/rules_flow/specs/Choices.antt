@@ -9,7 +9,7 @@ use Rattle.rules_flow.specs.declared.HostWork.TheVariants.{Join, Octets, End, No
 abbrev pub most_for_peers : ℕ → ℕ
 most_for_peers flows = flows - flows / 4
 
--- so many requests for a guest's hardware address are made at most
+-- so many requests for a guest's hardware address are made at most; ours
 abbrev pub most_requests : ℕ
 most_requests = 9
 

@@ -8,7 +8,7 @@ use Rattle.slirp_settings.specs.declared.Proto.TheVariants.{Udp}
 use Rattle.slirp_settings.specs.Ranges.{same_proto}
 use Rattle.slirp_settings.specs.Classes.{same_endpoint}
 
--- so many are open at once at most
+-- so many are open at once at most; ours
 abbrev pub most_forwards : ℕ
 most_forwards = 32
 

@@ -11,10 +11,11 @@ use Rattle.rules_tftp.specs.Packets.{Packet, Asks, AsksToWrite, Acknowledges, Gi
 use Rattle.rules_tftp.specs.Packets.{request_in, says, terms_of}
 use Rattle.std.specs.Prelude.{codes}
 
--- so many transfers are open at once, and a packet that isn't acknowledged goes again so often
+-- so many transfers are open at once; ours
 abbrev pub most_transfers : ℕ
 most_transfers = 20
 
+-- a packet that isn't acknowledged goes again so often; ours
 abbrev pub most_again : ℕ
 most_again = 5
 
@@ -227,6 +228,7 @@ abbrev pub ticked_by : ℕ → List Transfer → Option Transfer → List Transf
 ticked_by now transfers None = transfers
 ticked_by now transfers (Some t) = with_again now t.guest transfers
 
+-- the transfers as a turn leaves them; `free`: nothing else is to be sent
 abbrev pub ticked : ℕ → (free : Bool) → List Transfer → List Transfer
 ticked now free transfers = if free then ticked_by now (are_left now transfers) (next_again now transfers) else are_left now transfers
 

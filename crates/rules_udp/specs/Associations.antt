@@ -7,10 +7,11 @@ use Rattle.slirp_settings.specs.Classes.{same_endpoint}
 use Rattle.rules_udp.specs.declared.Association.{Association}
 use Rattle.rules_udp.specs.Lives.{is_life_over}
 
--- so many are open at once, and each lives so many milliseconds after its last use
+-- so many are open at once; ours
 abbrev pub most_associations : ℕ
 most_associations = 512
 
+-- each lives so many milliseconds after its last use: four minutes, ours; RFC 4787, 4.3 asks for two at least
 abbrev pub idle_life : ℕ
 idle_life = 240000
 

@@ -132,6 +132,7 @@ pub record EndedAs (config : Config) (count : ℕ) (end : End) (forwards : List 
   pub is : end ≡ end_by why
   pub drawn : next_number past ≡ number
 
+-- after a turn: the core stands for the record yet, or the run has ended
 abbrev pub AfterTurn : Turn → Config → Standing → Bool → SlirpState → LinkState → List Entry → Type 0
 AfterTurn Again config at aged slirp link past = HoldsNow config at aged slirp link past
 AfterTurn (TurnEnded end) config at aged slirp link past = EndedAs config at.count end slirp.forwards (holders_of slirp) slirp.number past
@@ -186,24 +187,31 @@ abbrev pub IsAttendedAfter : Turn → Config → List Entry → Type 0
 IsAttendedAfter Again config past = IsAttended config past
 IsAttendedAfter (TurnEnded end) config past = Dutiful config past
 
+-- between entries
 abbrev pub AttendsNow : Config → Standing → Bool → SlirpState → LinkState → List Entry → Type 0
 AttendsNow config at aged slirp link past = HoldsNow config at aged slirp link past × IsAttended config past
 
+-- before a wait: all that is still to be done has its time after it
 abbrev pub MayRest : Config → Standing → SlirpState → LinkState → List Entry → Type 0
 MayRest config at slirp link past = AttendsNow config at true slirp link past × IsInTime slirp link
 
+-- after a wait
 abbrev pub AttendsAfterSleep : Slept → Config → ℕ → List Want → List Want → SlirpState → LinkState → List Entry → Type 0
 AttendsAfterSleep slept config count wants ready slirp link past = AfterSleep slept config count wants ready slirp link past × Dutiful config past
 
+-- after a turn, or a part of one
 abbrev pub AttendsAfterTurn : Turn → Config → Standing → Bool → SlirpState → LinkState → List Entry → Type 0
 AttendsAfterTurn turn config at aged slirp link past = AfterTurn turn config at aged slirp link past × IsAttendedAfter turn config past
 
+-- after a turn whose sockets are left open where it ended the run
 abbrev pub AttendsAfterTaking : Turn → Config → ℕ → SlirpState → LinkState → List Entry → Type 0
 AttendsAfterTaking turn config count slirp link past = AfterTaking turn config count slirp link past × IsAttendedAfter turn config past
 
+-- after a whole turn
 abbrev pub AttendsAfterWholeTurn : Turn → Config → Standing → SlirpState → LinkState → List Entry → Type 0
 AttendsAfterWholeTurn turn config at slirp link past = AfterWholeTurn turn config at slirp link past × IsAttendedAfter turn config past
 
+-- a whole run with this end
 abbrev pub AttendsTo : Config → End → List Entry → Type 0
 AttendsTo config end made = RanTo config end made × Dutiful config made
 

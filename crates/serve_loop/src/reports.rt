@@ -143,6 +143,7 @@ impl Service {
     }
 
     // What counts of a report on a flow's socket: the directions that were waited for, and nothing exactly where none was.
+    // What a wait tells beyond the directions that were wanted is dropped.
     fn counted(&self, number: u64, item: &Want) -> Option<Want>
         requires { item.now.of ≡ Tcp number }
         ensures counts { IfSome result (λ w. w ≡ wanted_of self.now.wants item.now) }

@@ -132,6 +132,7 @@ pub record IsSince (past : Story) (base : ℕ) : Type 0 where
   pub acknowledged : acknowledged_at past ≤ base
   pub newest : base ≤ newest_moment past
 
+-- so counts the timer of pieces, if it runs; it is that of a closed window too
 abbrev pub CountsSince : Story → Timer → Type 0
 CountsSince past timer = (base : ℕ) → timer ≡ Since base → IsSince past base
 

@@ -72,6 +72,7 @@ abbrev pub AreFrom : ℕ → List Rest → Type 0
 AreFrom m [] = Unit {0}
 AreFrom m (r ∷ rests) = (m ≤ r.since) × AreFrom m rests
 
+-- the rests stand in the order of time
 abbrev pub Rise : List Rest → Type 0
 Rise [] = Unit {0}
 Rise (r ∷ rests) = AreFrom r.since rests × Rise rests

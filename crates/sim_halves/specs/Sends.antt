@@ -11,6 +11,7 @@ pub record Outward : Type 0 where
   pub sent : ℕ
   pub acked : ℕ
 
+-- the sending half's buffer and counts, against the host's stream
 pub record Keeps (o : Outward) (past : List Down) : Type 0 where
   pub first : o.first ≡ our_first past
   pub before : o.before ≡ min (acked past) (length (got past))

@@ -48,7 +48,7 @@ pub record Caused (config : Config) (outcome : Outcome) (made : List Entry) (old
   pub first : (line : ℕ) → outcome ≡ ScheduleLine line → IsFirstUnread (octets_read made) line
   pub misspelt : IsTrue (is_read (code_of outcome)) → (line : ℕ) → IsFirstUnread (octets_read made) line → outcome ≡ ScheduleLine line
 
--- FILE is missing, has over 64 MiB, or ended before its length
+-- FILE is missing, has over 64 MiB, 67,108,864 octets, which is ours, or ended before its length
 abbrev pub is_unfit : FileSize → Bool
 is_unfit (Length n) = nat_lt 67108864 n
 is_unfit Missing = true

@@ -43,6 +43,7 @@ abbrev pub before_waits : List Entry → List Entry
 before_waits [] = []
 before_waits (e ∷ past) = if waits (e ∷ past) == 0 then e ∷ past else before_waits past
 
+-- A run that nothing outside ended early. Sockets that fail later, and files, don't count.
 pub record Untroubled (config : Config) (journal : List Entry) : Type 0 where
   -- what came on the link are whole frames, each after its length; some of it may be left where the link didn't end
   pub frames : List (List ℕ)

@@ -12,6 +12,7 @@ use Rattle.rules_dns.specs.declared.Question.{Question}
 use Rattle.slirp_core.specs.Numbers.{open_flows}
 use Rattle.slirp_core.specs.State.{SlirpState}
 
+-- the least of these numbers
 abbrev pub IsLeastOf : ℕ → List ℕ → Type 0
 IsLeastOf n ns = (is_among n ns ≡ true) × ((m : ℕ) → is_among m ns ≡ true → n ≤ m)
 
@@ -19,6 +20,7 @@ IsLeastOf n ns = (is_among n ns ≡ true) × ((m : ℕ) → is_among m ns ≡ tr
 abbrev pub IsFlowFirst : List ℕ → List (Option Splice) → Type 0
 IsFlowFirst carriers parts = (n : ℕ) × IsFirst n parts × ((m : ℕ) → is_among m carriers ≡ true → n ≤ m)
 
+-- the least open socket is one of these, and no flow's
 pub record NoFlowFirst (carriers : List ℕ) (parts : List (Option Splice)) : Type 0 where
   pub below : (n : ℕ) → IsLeastOf n carriers → (k : ℕ) (p : Splice) → IsOpenAt parts k p → n ≤ number_of p
   pub none : carriers ≡ [] → NoneIsAbove None parts
@@ -27,6 +29,7 @@ pub record NoFlowFirst (carriers : List ℕ) (parts : List (Option Splice)) : Ty
 abbrev pub IsQuestionFirst : List Association → List Question → Type 0
 IsQuestionFirst list asked = (n : ℕ) × IsLeastAsked (λ q. true) asked (Some n) × ((m : ℕ) → is_among m (numbers list) ≡ true → n ≤ m)
 
+-- the least socket that carries datagrams is an association's, and no question's
 pub record NoQuestionFirst (list : List Association) (asked : List Question) : Type 0 where
   pub below : (n : ℕ) → IsLeast (λ a. true) list (Some n) → (m : ℕ) → is_among m (question_numbers asked) ≡ true → n ≤ m
   pub none : list ≡ [] → asked ≡ []

@@ -22,6 +22,7 @@ pub record IsHeld (areas : List Gathered) (held : List PartSet) : Type 0 where
 abbrev pub assembled_ip : Assembled → List ℕ → Ip
 assembled_ip a octets = record { ident = a.ident; more = false; place = 0; proto = a.proto; from = a.from.0; to = a.to.0; head = take a.head octets; body = part octets a.head a.body }
 
+-- a joined datagram: a header of at most 60 octets, and a body of at most 65,515 (RFC 791, 3.1)
 abbrev pub FitsAssembled : Assembled → Type 0
 FitsAssembled a = (a.head ≤ 60) × (a.body ≤ 65515)
 

@@ -132,6 +132,7 @@ pub record OfFlows (config : Config) (f : Flowing) (now : ℕ) (past : List Entr
 abbrev pub is_ours : Option Kind → Bool
 is_ours kind = is_association kind || is_flow kind || is_given kind
 
+-- the open sockets are ours, and their numbers are drawn
 pub record OfSockets (next : ℕ) (past : List Entry) : Type 0 where
   pub number : next_number past ≡ next
   pub kinds : (n : ℕ) → is_among n (open_sockets past) ≡ true → is_ours (kind_of n past) ≡ true
@@ -190,6 +191,7 @@ pub record HoldsOn (config : Config) (at : Standing) (step : Step) (heard : Opti
   pub agenda : IsLast (all_wanted at.wants at.left) (agenda past)
   pub open_yet : is_closing config past ≡ false
 
+-- no question's answer came just now; the datagram that came last still asks for this
 abbrev pub HoldsAt : Config → Standing → Step → SlirpState → Flowing → LinkState → List Entry → Type 0
 HoldsAt config at step slirp f link past = HoldsOn config at step None slirp f link past
 
@@ -283,6 +285,7 @@ pub record HoldsNothingElse (slirp : SlirpState) : Type 0 where
 abbrev pub carriers : Holders → List ℕ
 carriers o = numbers o.associations ++ question_numbers o.questions
 
+-- no socket is both an association's and a question's
 abbrev pub AreTwo : Holders → Type 0
 AreTwo o = (n : ℕ) → is_among n (numbers o.associations) ≡ true → is_among n (question_numbers o.questions) ≡ false
 
@@ -294,6 +297,7 @@ IsOf carriers parts n = (is_among n carriers ≡ true) ⊎ HasSocket n parts (λ
 abbrev pub IsForwardFirst : List ℕ → List ℕ → List (Option Splice) → Type 0
 IsForwardFirst forwards carriers parts = (n : ℕ) × (rest : List ℕ) × (forwards ≡ n ∷ rest) × ((m : ℕ) → IsOf carriers parts m → n ≤ m)
 
+-- the least open socket is of the others, whatever it is, and no forward's
 pub record NoForwardFirst (forwards carriers : List ℕ) (parts : List (Option Splice)) : Type 0 where
   pub below : (bound : ℕ) → IsRising bound forwards → (n : ℕ) → IsOf carriers parts n → ((m : ℕ) → IsOf carriers parts m → n ≤ m) → (k : ℕ) → is_among k forwards ≡ true → n ≤ k
   pub none : ((n : ℕ) → IsOf carriers parts n → ⊥) → forwards ≡ []

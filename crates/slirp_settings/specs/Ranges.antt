@@ -91,6 +91,9 @@ are_denied list = nat_le (length list) 8 && list_all (λ d. is_network d.0) list
 abbrev pub is_second : Config → Bool
 is_second config = config.version == 2
 
+-- What each field may be. Datagrams to the guest have from 576 octets (RFC 791, 3.1) to 1,500 (RFC 894), those from it up to 9,216; there are 1 to 4,096
+-- flows, a ring has 65,535 octets to 1 MiB, and all rings have 256 MiB in each direction; a run makes 2^44 waits at most. Where no RFC is named the bounds
+-- are ours.
 abbrev pub in_range : Config → Field → Bool
 in_range config Version = (config.version == 1) || (config.version == 2)
 in_range config InEnabled = config.in_enabled

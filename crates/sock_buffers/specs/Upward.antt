@@ -48,6 +48,7 @@ abbrev pub keeps_none : Upward → ℕ → List ℕ → Bool
 keeps_none u ahead octets =
     nat_eq (length (within u ahead octets)) 0 || nat_lt 32 (length (with_range u.ranges (range_of u ahead octets)))
 
+-- the octets that begin a gap past what comes next are kept at the places where none is kept, cut to the size; ranges that overlap or adjoin become one
 abbrev pub after_keep : Upward → ℕ → List ℕ → Upward
 after_keep u ahead octets = if keeps_none u ahead octets then u else record u {
   ranges = with_range u.ranges (range_of u ahead octets);

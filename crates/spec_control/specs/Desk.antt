@@ -99,6 +99,7 @@ abbrev pub answers_line : Reads → Config → (seen : List Entry) → Option (L
 answers_line read config past None d = d
 answers_line read config past (Some split) d = answers config past (read split.0) (with_talk (after_line d.talk) d)
 
+-- a line is answered, if one is whole and no reply is left
 abbrev pub serves : Reads → Config → (seen : List Entry) → Desk → Desk
 serves read config past d = if is_out d.talk && is_some d.talk.peer then answers_line read config past (first_line d.talk.kept) d else d
 

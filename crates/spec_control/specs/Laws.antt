@@ -59,6 +59,7 @@ pub record MayListen (read : Reads) (config : Config) (past : List Entry) (socke
   pub opening : (opened : ℕ) × (phase (by_control read config past) (without_control past) ≡ OpeningPorts opened [])
   pub first : list_any is_its_listen past ≡ false
 
+-- A peer is taken on the listener where none is connected, by the next number, for a report.
 pub record MayAccept (read : Reads) (config : Config) (past : List Entry) (from socket : ℕ) : Type 0 where
   pub on : from ≡ listener
   pub number : socket ≡ next_peer (desk read config past).talk
@@ -83,6 +84,7 @@ pub record MayWrite (read : Reads) (config : Config) (past : List Entry) (socket
 abbrev pub first_open : Talk → Option ℕ
 first_open t = if t.listening then Some listener else t.peer
 
+-- the listener or the connection is closed
 pub record MayClose (read : Reads) (config : Config) (past : List Entry) (socket : ℕ) : Type 0 where
   pub ended : is_ended (by_control read config past) (without_control past) ≡ true
   pub others : open_sockets (without_control past) ≡ []
@@ -94,6 +96,7 @@ pub record MayClose (read : Reads) (config : Config) (past : List Entry) (socket
 abbrev pub is_given : List Entry → ℕ → Bool
 is_given past socket = is_listener (kind_of socket (without_control past)) || is_forward (kind_of socket (without_control past))
 
+-- where no command awaits it, at the end alone
 abbrev pub MayGiveUp : Reads → Config → List Entry → ℕ → Type 0
 MayGiveUp read config past socket = is_given past socket ≡ true → is_ended (by_control read config past) (without_control past) ≡ true
 
@@ -117,6 +120,7 @@ abbrev pub Either : (controls_it : Bool) → (its other : Type 0) → Type 0
 Either true its other = its
 Either false its other = other
 
+-- a call that may come where none is awaited: on the control's own sockets by its rules, and else one of the network's
 abbrev pub MayByItself : Reads → Config → List Entry → Call → Type 0
 MayByItself read config past CallNow = MayAsk read config past
 MayByItself read config past (CallWait wants timeout) = MayWait read config past wants
@@ -139,6 +143,8 @@ MayWhere Nothing read config past call = MayByItself read config past call
 MayWhere (Opening f) read config past call = call ≡ opening_of f.proto (next_number (without_control past)) f
 MayWhere (Shutting socket) read config past call = call ≡ CallClose socket
 
+-- A call may come in a run with a control, by what the control has come to. That it may come in the network's run is said of what the network sees
+-- (`RunsBy`).
 abbrev pub MayControl : Reads → Config → List Entry → Call → Type 0
 MayControl read config past call = MayWhere (desk read config past).awaited read config past call
 

@@ -37,6 +37,7 @@ abbrev pub is_left_to_read : Config → List Entry → Who → Bool
 is_left_to_read config [] who = false
 is_left_to_read config (e ∷ past) who = read_after who e (partial past) (is_left_to_read config past who) && is_read config (e ∷ past) who
 
+-- the same of a report for writing
 abbrev pub is_left_to_write : Config → List Entry → Who → Bool
 is_left_to_write config [] who = false
 is_left_to_write config (e ∷ past) who = write_after who e (is_left_to_write config past who) && is_written config (e ∷ past) who

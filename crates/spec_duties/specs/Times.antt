@@ -26,9 +26,11 @@ of_flows moments (f ∷ flows) = moments f.story ++ of_flows moments flows
 abbrev pub association_lives : Config → List Entry → List ℕ
 association_lives config past = map (λ socket. used_at socket past + idle_life) (associations_open config past)
 
+-- of each question its socket's last use and 10,000 ms
 abbrev pub question_lives : Config → List Entry → List ℕ
 question_lives config past = map (λ socket. used_at socket past + question_life) (questions_open config past)
 
+-- the ends of all idle lives
 abbrev pub lives : Config → List Entry → List ℕ
 lives config past = association_lives config past ++ question_lives config past
 
@@ -37,10 +39,11 @@ abbrev pub unless_blocked : Bool → List ℕ → List ℕ
 unless_blocked true moments = []
 unless_blocked false moments = moments
 
--- when the first of fragments that wait are dropped, and the flows that rest are through
+-- when the first of fragments that wait are dropped: 60,000 ms after they came (RFC 1122, 3.3.2)
 abbrev pub drops : Config → List Entry → List ℕ
 drops config past = map (λ (s : PartSet). s.since + 60000) (waiting config past)
 
+-- and the flows that rest are through
 abbrev pub rest_ends : Config → List Entry → List ℕ
 rest_ends config past = map (λ (r : Rest). r.since + longest_rest) (filter (is_young (moment past)) (book config past).rests)
 

@@ -27,7 +27,8 @@ is_for_datagrams (Some AFlow) = false
 abbrev pub takes_datagrams : List Entry → ℕ → Bool
 takes_datagrams past socket = is_among socket (open_sockets past) && is_for_datagrams (kind_of socket past)
 
--- all that is owed is out: of the answer to what came last, and of a packet of a file that goes again
+-- All that is owed is out: of the answer to what came last, and of a packet of a file that goes again. The program counts such a packet as sent before the
+-- trace does, so nothing is taken in while the link is blocked and one waits.
 abbrev pub is_all_sent : Config → List Entry → Bool
 is_all_sent config past = is_all_out config past && not (is_some (may_go_again (serving config past)))
 
@@ -44,6 +45,7 @@ abbrev pub writes_flow : Option Flow → Bool
 writes_flow None = false
 writes_flow (Some f) = must_wait_to_write f.story
 
+-- of a flow's socket: that it takes octets or the end may be waited for where something came that the host hasn't
 abbrev pub MayWriteFlow : Option Flow → Type 0
 MayWriteFlow None = ⊥
 MayWriteFlow (Some f) = MayWaitToWrite f.story

@@ -74,13 +74,14 @@ abbrev pub host_failed : Story → Bool
 host_failed [] = false
 host_failed (At m e ∷ past) = is_failure e
 
--- the oldest number that isn't acknowledged went out at least nine times, first 243,000 ms ago, and eight times since anything was acknowledged
+-- the oldest number that isn't acknowledged went out at least nine times, first 243,000 ms ago, and eight times since anything was acknowledged (RFC 9293,
+-- 3.8.3; the time is ours: nine least timeouts in sum, from a second, doubled up to a minute)
 abbrev pub gives_up : ℕ → Story → Bool
 gives_up now past =
     nat_le 9 (length (oldest_sendings past)) && nat_le 8 (oldest_sent_again past)
     && nat_le (unwrap_or (oldest (oldest_sendings past)) now + 243000) now
 
--- the host didn't connect in 75,000 ms
+-- the host didn't connect in 75,000 ms; ours
 abbrev pub connects_too_long : ℕ → Story → Bool
 connects_too_long now past = is_connecting past && nat_le (opened_at past + 75000) now
 
@@ -92,7 +93,7 @@ syn_is_due past = is_some (their_number past) && not (was_acked (guest past))
 abbrev pub is_deserted : Story → Bool
 is_deserted past = is_accepted past && not (is_closed past) && not (answered (host past)) && got_end (host past) && is_empty (got (host past)) && not (syn_is_due past)
 
--- until then the guest may answer: for a second since the accept, and since our SYN went out last
+-- until then the guest may answer: for 1,000 ms since the accept, and since our SYN went out last; ours
 abbrev pub patience_end : Story → ℕ
 patience_end past = max (opened_at past) (newest_of (syn_sendings past)) + 1000
 
@@ -114,15 +115,17 @@ abbrev pub last_at : Story → ℕ
 last_at [] = 0
 last_at (At m e ∷ past) = if is_alive e then m else last_at past
 
--- the host's end was read, or it was told the guest's, or nothing was ever read and nothing ever taken
+-- The host's end was read, or it was told the guest's, or nothing was ever read and nothing ever taken. By the end that it was told and not the one
+-- acknowledged, which is known exactly of conforming guests alone.
 abbrev pub is_short : Story → Bool
 is_short past = got_end (host past) || host_was_ended past || (is_empty (got (host past)) && is_empty (written (guest past)))
 
--- how long a flow without a sign of life keeps its place from a guest that asks for one (RFC 5382, REQ-5)
+-- how many milliseconds a flow without a sign of life keeps its place from a guest that asks for one: 240,000 where it is short, and else 7,440,000 (RFC
+-- 5382, REQ-5); 10,000 while its host connects, which is ours
 abbrev pub quiet_time : Story → ℕ
 quiet_time past = if is_connecting past then 10000 else (if is_short past then 240000 else 7440000)
 
--- a flow of which not both ends passed may give way to a guest's SYN
+-- A flow of which not both ends passed may give way to a guest's SYN. One of which both ends passed is open only until its last acknowledgement goes out.
 abbrev pub may_give_way : ℕ → Story → Bool
 may_give_way now past = not (is_closed past) && not (host_was_ended past && our_fin_is_acked past) && nat_le (last_at past + quiet_time past) now
 
@@ -142,7 +145,7 @@ asked_at [] = 0
 asked_at (At m AsksAddress ∷ past) = m
 asked_at (_ ∷ past) = asked_at past
 
--- the guest's hardware address wasn't found in nine requests and 243,000 ms
+-- the guest's hardware address wasn't found in nine requests and 243,000 ms; both ours, as for a segment that nothing answers
 abbrev pub finds_no_guest : Bool → ℕ → Story → Bool
 finds_no_guest known now past =
     is_accepted past && not (syn_is_out past) && not known && nat_le 9 (times_asked past) && nat_le (opened_at past + 243000) now

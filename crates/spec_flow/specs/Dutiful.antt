@@ -52,6 +52,8 @@ fin_is_answered (At m (Departs seg) ∷ past) = (seg.ack && not seg.rst) || fin_
 fin_is_answered (At m (Arrives seg) ∷ past) = not (renews seg) && fin_is_answered past
 fin_is_answered (_ ∷ past) = fin_is_answered past
 
+-- what came is acknowledged: the SYN of a guest that we called; each segment and probe that asks for it; of a conforming guest all that was asked for; and,
+-- in TIME-WAIT, the last end (RFC 9293, 3.8.6.1, 3.8.6.3)
 pub record HasAcknowledged (s : Settings) (past : Story) (rests : Bool) : Type 0 where
   pub opening : IsTrue (is_accepted past && is_some (their_number past) && not (is_closed past)) → IsTrue (was_acked (guest past))
   pub each : is_closed past ≡ false → AckIsDue (guest past) → ⊥
@@ -60,6 +62,7 @@ pub record HasAcknowledged (s : Settings) (past : Story) (rests : Bool) : Type 0
 
 -- ---- closing
 
+-- a flow of which both ends passed is closed
 abbrev pub ClosesWhenDone : Story → Type 0
 ClosesWhenDone past = Honest (guest past) → IsTrue (is_done past) → IsTrue (is_closed past)
 
@@ -78,7 +81,7 @@ abbrev pub TellsRoom : Settings → Story → ℕ → Segment → Type 0
 TellsRoom s past now seg = IsTrue (not seg.rst) → Honest (guest past) → (a : ℕ) → IsAcknowledged (guest (At now (Departs seg) ∷ past)) a
     → (room : ℕ) × (room + a ≡ length (written (guest past)) + s.ring) × (seg.window ≡ field (our_shift s past seg.syn) room)
 
--- the guest was told of the room, but for less than two segments (RFC 9293, 3.8.6.2.2)
+-- the guest was told of the room, but for less than 2,920 octets, two segments of 1,460 (RFC 9293, 3.8.6.2.2)
 abbrev pub ToldRoom : Settings → Story → Type 0
 ToldRoom s past = Honest (guest past) → IsTrue (answered (host past) && not (is_closed past))
     → ((i : ℕ) → EndsAt (guest past) i → ackd (guest past) ≤ i)
@@ -94,7 +97,7 @@ abbrev pub moment_if : Bool → ℕ → List ℕ
 moment_if true m = m ∷ []
 moment_if false m = []
 
--- the moment at which the flow may be closed: the host's time to connect is over, or that of the guest of a peer that is gone
+-- the moment at which the flow may be closed: the host's time to connect, 75,000 ms, is over, or that of the guest of a peer that is gone
 abbrev pub closing_moments : Story → List ℕ
 closing_moments past = moment_if (is_connecting past) (opened_at past + 75000) ++ moment_if (is_deserted past) (patience_end past)
 
@@ -112,7 +115,8 @@ seeks_guest past = is_accepted past && not (syn_is_out past) && not (is_closed p
 abbrev pub waits_for_window : Story → Bool
 waits_for_window past = answered (host past) && not (is_closed past) && not (is_under_way past) && nat_lt (sent (host past)) (owned (host past))
 
--- the moment before which what is under way goes out again, a request for the guest's hardware address, or a question about a closed window
+-- the moment before which what is under way goes out again, a request for the guest's hardware address, or a question about a closed window: 60,000 ms after
+-- it did last (RFC 6298, 2.5)
 abbrev pub resend_deadline : Story → List ℕ
 resend_deadline past =
     moment_if (is_under_way past && not (is_closed past)) (waits_since past + 60000)
@@ -149,8 +153,8 @@ abbrev pub AreAhead : ℕ → List ℕ → Type 0
 AreAhead now [] = Unit {0}
 AreAhead now (m ∷ ms) = (now < m) × AreAhead now ms
 
--- the moments for which a wait may be cut short: the end of connecting or of patience, a second after the accept, and after the last sending as long
--- as so many that nothing answered ask for; the core adds the end of a rest
+-- the moments for which a wait may be cut short: the end of connecting or of patience, a second after the accept, and after the last sending as long as so
+-- many that nothing answered ask for (`back_off`); the core adds the end of a rest
 abbrev pub wakes : Story → List ℕ
 wakes past =
     closing_moments past
@@ -160,7 +164,7 @@ wakes past =
 
 -- ---- sizes
 
--- a read asks for all that there is room for, at most 16,384
+-- a read asks for all that there is room for, at most 16,384 octets, those of one call
 abbrev pub read_size : Settings → Story → ℕ
 read_size s past = min 16384 (acked (host past) + s.ring - length (got (host past)))
 
@@ -186,6 +190,7 @@ abbrev pub ClosesAfterReset : Story → Act → Type 0
 ClosesAfterReset past (Close directly ended known) = Unit {0}
 ClosesAfterReset past _ = MustClose past → ⊥
 
+-- an act is made as it must be
 pub record Must (s : Settings) (past : Story) (now : ℕ) (act : Act) : Type 0 where
   pub sends_its_room : SendsItsRoom s past now act
   pub offers_what_was_acknowledged : OffersWhatWasAcknowledged past act
@@ -195,6 +200,7 @@ pub record Must (s : Settings) (past : Story) (now : ℕ) (act : Act) : Type 0 w
 abbrev pub MustHappen : Settings → Story → Beat → Type 0
 MustHappen s past (At m e) = MatchOption (act_of e) (MustClose past → ⊥) (λ act. Must s past m act)
 
+-- whatever was done for a flow was done as it must be
 abbrev pub IsDutiful : Settings → Story → Type 0
 IsDutiful s [] = Unit {0}
 IsDutiful s (b ∷ past) = MustHappen s past b × IsDutiful s past

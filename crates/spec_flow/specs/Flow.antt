@@ -13,7 +13,8 @@ next_number n = (n + 1) % 2 ^ 32
 
 -- ---- the beginning
 
--- the number of our SYN in a flow that is opened at this moment, after so many other flows (RFC 9293, 3.4.1: a clock of four microseconds)
+-- the number of our SYN in a flow that is opened at this moment, in milliseconds, after so many other flows (RFC 9293, 3.4.1: a clock of four microseconds,
+-- 250 a millisecond; 64,000 for each flow before it is ours)
 abbrev pub first_number : ℕ → ℕ → ℕ
 first_number moment flows = (moment * 250 + 64000 * flows) % 2 ^ 32
 

@@ -38,6 +38,7 @@ act_of EndFails = Some EndHost
 act_of AsksAddress = None
 act_of (Closes directly ended known) = Some (Close directly ended known)
 
+-- the second list begins with the first
 abbrev pub IsPrefixOf : List ℕ → List ℕ → Type 0
 IsPrefixOf xs ys = (rest : List ℕ) × (xs ++ rest ≡ ys)
 
@@ -84,7 +85,7 @@ abbrev pub repeats : Story → Segment → Bool
 repeats past seg = if seg.syn then syn_is_out past
     else int_le (our_place (host past) seg.number +ℤ pos (length seg.octets + (if seg.fin then 1 else 0))) (pos (sent (host past)))
 
--- its first number was last sent a second ago
+-- its first number was last sent 1,000 ms ago (RFC 6298, 2.4)
 abbrev pub is_overdue : ℕ → Story → Segment → Bool
 is_overdue now past seg = was_long_ago now 1000 (if seg.syn then syn_sendings past else (if is_empty seg.octets && not seg.fin then [] else sendings_at (our_place (host past) seg.number)))
   where
@@ -128,6 +129,7 @@ AcknowledgesWhatCame past _ = Unit {0}
 abbrev pub HasNumberThatCame : Story → ℕ → Type 0
 HasNumberThatCame past n = MatchOption (their_number past) (n ≡ 0) (λ f. Honest (guest past) → HasCome (guest past) (ackd (Acked n ∷ guest past)))
 
+-- so does each reset that goes out
 abbrev pub ResetsAtWhatCame : Story → Act → Type 0
 ResetsAtWhatCame past (Send seg) = IsTrue seg.rst → HasNumberThatCame past seg.acknowledgement
 ResetsAtWhatCame past _ = Unit {0}
@@ -139,9 +141,11 @@ HasOwnCause directly ended known now past =
     ⊎ (IsTrue (not (follows_reset directly past) && (gives_up now past || waits_too_long now past))
     ⊎ (IsTrue directly × MatchOption (newest_rst past) ⊥ (λ seg. IsReset (before past) seg)))
 
+-- a cause of its own, or it gives way to a guest's SYN
 abbrev pub HasCause : Bool → Bool → Bool → ℕ → Story → Type 0
 HasCause directly ended known now past = HasOwnCause directly ended known now past ⊎ IsTrue (may_give_way now past)
 
+-- no flow is closed without a cause
 abbrev pub ClosesWithCause : Story → ℕ → Act → Type 0
 ClosesWithCause past now (Close directly ended known) = HasCause directly ended known now past
 ClosesWithCause past now _ = Unit {0}
@@ -161,7 +165,7 @@ abbrev pub ResetsWhereOwed : Story → Act → Type 0
 ResetsWhereOwed past (Send seg) = IsTrue seg.rst → IsTrue (owes_reset past && is_owed_reset past seg)
 ResetsWhereOwed past _ = Unit {0}
 
--- a closed flow sends nothing but the reset that it owes, or acknowledgements while it rests
+-- A closed flow sends nothing but the reset that it owes, or acknowledgements while it rests. That a rest may have ended stands in the book of `spec_flows`.
 abbrev pub SendsNothingAfterClose : Story → Act → Type 0
 SendsNothingAfterClose past (Send seg) = IsTrue (is_closed past) → (seg.octets ≡ []) × (seg.syn ≡ false) × (seg.fin ≡ false) × IsTrue (seg.rst || is_some (rests_since past))
 SendsNothingAfterClose past _ = Unit {0}
@@ -184,9 +188,11 @@ OpensWithSyn past _ = Unit {0}
 abbrev pub our_mss : Settings → Segment → Option ℕ
 our_mss s seg = if seg.syn && not seg.rst then Some (s.mru - 40) else None
 
+-- the window scale that a segment of ours has (RFC 7323, 2.2)
 abbrev pub our_scale : Settings → Story → Segment → Option ℕ
 our_scale s past seg = if s.scales && seg.syn && not seg.rst && (not seg.ack || is_scaled s past) then Some (least_shift s.ring) else None
 
+-- a segment that goes out has these options, and no others
 abbrev pub SendsItsOptions : Settings → Story → Act → Type 0
 SendsItsOptions s past (Send seg) = (seg.mss ≡ our_mss s seg) × (seg.scale ≡ our_scale s past seg)
 SendsItsOptions s past _ = Unit {0}
@@ -213,6 +219,7 @@ AlwaysAcknowledges seg = (IsTrue (not seg.rst && not seg.syn) → seg.ack ≡ tr
 abbrev pub is_ack_alone : Segment → Bool
 is_ack_alone seg = not seg.rst && not seg.syn && not seg.fin && is_empty seg.octets
 
+-- so has each acknowledgement alone that goes out (RFC 9293, 3.10.7.4)
 abbrev pub AcknowledgesAtNext : Story → Segment → Type 0
 AcknowledgesAtNext past seg = IsTrue (is_ack_alone seg) → our_place (host past) seg.number ≡ pos (sent (host past))
 
@@ -227,12 +234,14 @@ pub record HasHeaderOf (past : Story) (seg : Segment) : Type 0 where
   pub next : AcknowledgesAtNext past seg
   pub window : ResetsWithoutRoom seg
 
+-- of each segment that goes out
 abbrev pub SendsItsHeader : Story → Act → Type 0
 SendsItsHeader past (Send seg) = HasHeaderOf past seg
 SendsItsHeader past _ = Unit {0}
 
 -- ---- all sentences
 
+-- an act on a flow may be done after this past: each sentence holds of it, and none asks what it is answered
 pub record May (s : Settings) (past : Story) (now : ℕ) (act : Act) : Type 0 where
   pub writes_what_the_guest_sent : WritesWhatTheGuestSent past act
   pub writes_what_came : WritesWhatCame past act
@@ -259,6 +268,7 @@ pub record May (s : Settings) (past : Story) (now : ℕ) (act : Act) : Type 0 wh
 abbrev pub MayHappen : Settings → Story → Beat → Type 0
 MayHappen s past (At m e) = MatchOption (act_of e) (host_failed past ≡ false) (λ act. May s past m act)
 
+-- every act was one that may be done after what came before it
 abbrev pub IsLawful : Settings → Story → Type 0
 IsLawful s [] = Unit {0}
 IsLawful s (b ∷ past) = MayHappen s past b × IsLawful s past

@@ -27,11 +27,12 @@ mss s past = min (mss_of (their_mss past)) (s.mtu - 40)
 
 -- ---- our windows
 
--- the least shift, at most n, by which so much room fits a field of 16 bits
+-- the least shift, at most n, by which so much room fits a field of 16 bits, 65,535 octets at most (RFC 7323, 2.2)
 abbrev pub shift_within : ℕ → ℕ → ℕ
 shift_within zero room = 0
 shift_within (suc n) room = if nat_le room 65535 then 0 else 1 + shift_within n (room / 2)
 
+-- 14 at most (RFC 7323, 2.3)
 abbrev pub least_shift : ℕ → ℕ
 least_shift room = shift_within 14 room
 

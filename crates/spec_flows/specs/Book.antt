@@ -36,7 +36,7 @@ after_segment now segment (Some f) rests =
     else (if ends_rest f.story segment then without f.number rests
     else (if renews segment then without f.number rests ++ (rest f.number now ∷ []) else rests))
 
--- so long a flow rests, in milliseconds
+-- how many milliseconds a flow is in TIME-WAIT: 60,000; ours, where RFC 9293, 3.6.1 has twice the maximum segment lifetime
 abbrev pub longest_rest : ℕ
 longest_rest = 60000
 

@@ -15,6 +15,7 @@ use Rattle.spec_flow.specs.Event.{Event, Connected as HostConnected, ConnectsYet
 use Rattle.spec_trace.specs.Happenings.{Arrival, happens}
 use Rattle.spec_flows.specs.Segments.{OnTuple, segment_came, segment_in, asked_in}
 
+-- what an entry of the record is to flows
 pub data Doing : Type 0 where
   -- nothing to a flow
   Nothing : Doing

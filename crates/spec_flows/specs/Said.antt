@@ -46,6 +46,7 @@ pub record IsSound (s : Settings) (now next : ℕ) (b : Book) : Type 0 where
   pub below : Each (λ f. f.number < next) b.flows
   pub each : Each (Kept s now b.doomed) b.flows
 
+-- all flows of a record are sound at its moment
 abbrev pub AreKept : Config → List Entry → Type 0
 AreKept config past = IsSound (flow_settings config) (moment past) (next_number past) (book config past)
 
@@ -60,6 +61,7 @@ abbrev pub taken_by : ℕ → Entry → List ℕ → List ℕ
 taken_by socket (TcpWrite s octets answer) so_far = if s == socket then so_far ++ taken_of answer octets else so_far
 taken_by socket _ so_far = so_far
 
+-- by all calls of a record
 abbrev pub taken_on : ℕ → List Entry → List ℕ
 taken_on socket [] = []
 taken_on socket (e ∷ past) = taken_by socket e (taken_on socket past)
@@ -75,6 +77,7 @@ abbrev pub given_by : ℕ → Entry → List ℕ → List ℕ
 given_by socket (TcpRead s asked answer octets) so_far = if s == socket then so_far ++ given_of answer octets else so_far
 given_by socket _ so_far = so_far
 
+-- by all calls of a record
 abbrev pub given_on : ℕ → List Entry → List ℕ
 given_on socket [] = []
 given_on socket (e ∷ past) = given_by socket e (given_on socket past)

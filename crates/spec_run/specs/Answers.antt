@@ -61,10 +61,11 @@ owed_for_icmp mac ip _ = []
 abbrev pub is_untold : Config → Datagram → Bool
 is_untold config d = (address d.from == 0) || is_group_or_reserved (address d.to) || (address d.to == last_address config)
 
--- communication is prohibited (RFC 1122, 3.2.2.1), and the network can't be reached (RFC 792)
+-- the code of an unreachable: communication is prohibited (RFC 1122, 3.2.2.1)
 abbrev pub prohibited : ℕ
 prohibited = 10
 
+-- and: the network can't be reached (RFC 792)
 abbrev pub no_network : ℕ
 no_network = 0
 
@@ -165,11 +166,12 @@ part_frame to from ident proto source guest p = ether_octets to from ipv4_kind (
 abbrev pub datagram_frames : (mtu : ℕ) (to from : List ℕ) (ident proto source guest : ℕ) → List ℕ → List (List ℕ)
 datagram_frames mtu to from ident proto source guest body = map (part_frame to from ident proto source guest) (cuts mtu (uncut body))
 
--- a datagram carries at most 65,515 octets behind a header of 20 (RFC 791, 3.1)
+-- A datagram carries at most 65,515 octets behind a header of 20 (RFC 791, 3.1). An answer that is longer has no frames; no World gives one.
 abbrev pub fits_datagram : List ℕ → Bool
 fits_datagram body = nat_le (length body) 65515
 
--- the frames of an answer as they go out, those of a datagram with this identification
+-- The frames of an answer as they go out, those of a datagram with this identification. Nothing else can go out before them, so the identification is that of
+-- the moment at which they came to be owed.
 abbrev pub frames_for : Config → ℕ → Answer → List (List ℕ)
 frames_for config ident (ArpAnswer to arp) = ether_octets to arp.sender_mac arp_kind (arp_octets arp) ∷ []
 frames_for config ident (IpAnswer to proto from guest body) = if fits_datagram body then datagram_frames config.mtu to (our_mac config.vhost) ident proto from guest body else []
@@ -178,7 +180,7 @@ abbrev pub frames_of : Config → ℕ → List Answer → List (List ℕ)
 frames_of config ident [] = []
 frames_of config ident (answer ∷ answers) = frames_for config ident answer ++ frames_of config ident answers
 
--- a frame that carries a datagram, or the first part of one
+-- A frame that carries a datagram, or the first part of one. Its place is 0; the parts behind it aren't counted.
 abbrev pub begins_datagram : List ℕ → Bool
 begins_datagram frame = nat_le 22 (length frame) && (two_at frame 12 == ipv4_kind) && (two_at frame 20 % 2 ^ 13 == 0)
 

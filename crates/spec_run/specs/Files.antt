@@ -149,6 +149,7 @@ abbrev pub unless_on_its_way : Option Said → Option Said → Option Said
 unless_on_its_way None said = said
 unless_on_its_way (Some before) said = None
 
+-- at a wait where nothing else is to be sent the first packet that is due, else by the frame that begins it
 abbrev pub sent_again_by : Config → List Entry → Entry → Option Said
 sent_again_by config past (Wait wants timeout answer ready) = begun (serving config past).now (is_free (ledger config past)) (serving config past).files.transfers
 sent_again_by config past e = unless_on_its_way (serving config past).again (goes_by config past e)
@@ -169,6 +170,7 @@ abbrev pub or_made : ℕ → List ℕ → ℕ
 or_made made [] = made
 or_made made (now ∷ moments) = now
 
+-- so are all of these moments, the latest first
 abbrev pub AreInTime : (timeout made : ℕ) → List ℕ → Type 0
 AreInTime timeout made [] = Unit {0}
 AreInTime timeout made (now ∷ moments) = (or_made made moments + timeout ≤ now) × AreInTime timeout made moments
@@ -220,6 +222,7 @@ pub record WasTold (config : Config) (past : List Entry) (said : Said) : Type 0 
   pub record_is : past ≡ later ++ (teller ∷ before)
   pub told : told_by config before teller ≡ Some said
 
+-- a packet began to go again by an entry
 pub record HasBegun (config : Config) (past : List Entry) (said : Said) : Type 0 where
   pub later : List Entry
   pub writer : Entry

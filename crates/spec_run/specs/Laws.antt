@@ -84,6 +84,8 @@ may_leave at b socket (Some f) =
     || (not (follows_reset (comes_directly b.came f) f.story) && (gives_up at.moment f.story || waits_too_long at.moment f.story))
     || (comes_directly b.came f && is_some (newest_rst f.story))
 
+-- whether the flow of a socket may leave, by the record of calls. It is a test, in which a guest's reset that came directly before stands for its exact
+-- condition; that one is asked for by the sentence on flows.
 abbrev pub leaves : Config → List Entry → ℕ → Bool
 leaves config past socket = may_leave (scene config past) (book config past) socket (flow_of socket (book config past).flows)
 
@@ -99,6 +101,7 @@ may_part config past socket (Some Forward) = is_among socket config.removed
 may_part config past socket (Some Listener) = is_among socket config.removed
 may_part config past socket None = false
 
+-- by the kind of the socket with this number
 abbrev pub parts : Config → List Entry → ℕ → Bool
 parts config past socket = may_part config past socket (kind_for config socket past)
 
@@ -107,6 +110,7 @@ abbrev pub begins_closing : Config → List Entry → Entry → Bool
 begins_closing config past (Close socket) = not (parts config past socket)
 begins_closing config past _ = false
 
+-- a close came that only the end allows: from then on nothing comes but closes
 abbrev pub is_closing : Config → List Entry → Bool
 is_closing config [] = false
 is_closing config (e ∷ past) = if begins_closing config past e then true else is_closing config past
@@ -136,7 +140,7 @@ joins past socket = is_among socket (open_sockets past) && is_flow (kind_of sock
 abbrev pub takes_peers : Config → List Entry → ℕ → Bool
 takes_peers config past listener = is_among listener (open_sockets past) && is_listener (kind_of listener past) && has_room_for_peer config.flows (book config past).flows
 
--- the link, 32 ports of the host, 512 sockets of guests' ports, 512 of questions, and 4,096 connections
+-- the most wants of one wait of the network: the link, 32 ports of the host, 512 sockets of guests' ports, 512 of questions, and 4,096 connections
 abbrev pub most_wanted : ℕ
 most_wanted = 5153
 
@@ -156,7 +160,7 @@ has_socket config past (CallUdpSend socket to octets) = relays past socket
 has_socket config past (CallUdpRecv socket asked) = relays past socket && (asked == most_to_udp)
 has_socket config past _ = true
 
--- the newest call wrote to this connection
+-- The newest call wrote to this connection. So one report may be for octets and the end at once.
 abbrev pub has_just_written : ℕ → List Entry → Bool
 has_just_written socket [] = false
 has_just_written socket (TcpWrite s octets answer ∷ past) = s == socket
@@ -190,7 +194,7 @@ is_answered config past (CallLinkWrite octets) = may_begin config past (tail pas
 is_answered config past (CallUdpRecv socket asked) = is_all_out config past
 is_answered config past _ = true
 
--- Once the closing has begun nothing comes but that sockets are closed.
+-- Once the closing has begun nothing comes but that sockets are closed. A socket may still be closed before for a reason of its kind, also after the end.
 abbrev pub goes_on : Config → List Entry → Call → Bool
 goes_on config past (CallClose socket) = true
 goes_on config past _ = not (is_closing config past)

@@ -45,5 +45,6 @@ abbrev pub sending_of : Reply → List ℕ → List Sending
 sending_of (ADatagram count from to (Some mac)) octets = record { mac = mac.0; from = from; to = to; body = octets } ∷ []
 sending_of _ octets = []
 
+-- the reply that a message owes, by the leases before it
 abbrev pub lease_reply : Config → ℕ → List Lease → Datagram → List Sending
 lease_reply config now leases d = sending_of (reply_to config now leases (read_message d.body)) (replied_octets config now leases (read_message d.body))

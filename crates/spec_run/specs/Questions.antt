@@ -19,6 +19,7 @@ abbrev pub is_for_question : Option Kind → Bool
 is_for_question (Some DnsSocket) = true
 is_for_question _ = false
 
+-- the open sockets of questions, by rising number
 abbrev pub questions_open : Config → List Entry → List ℕ
 questions_open config past = filter (λ s. is_for_question (kind_for config s past)) (open_sockets past)
 

@@ -279,6 +279,7 @@ abbrev pub AllUsedAfter : List Entry → ℕ → List ℕ → Type 0
 AllUsedAfter past socket [] = Unit {0}
 AllUsedAfter past socket (other ∷ sockets) = (last_use socket past < last_use other past) × AllUsedAfter past socket sockets
 
+-- these sockets stand by rising last use
 abbrev pub AreByLastUse : List Entry → List ℕ → Type 0
 AreByLastUse past [] = Unit {0}
 AreByLastUse past (socket ∷ sockets) = AllUsedAfter past socket sockets × AreByLastUse past sockets

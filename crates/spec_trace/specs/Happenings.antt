@@ -13,6 +13,7 @@ pub record Arrival : Type 0 where
   pub pair : Option Pair
   pub packet : Packet
 
+-- what an entry means after a past: the frame that is whole by it, the frame that went out by it, and the call itself
 pub record Happening : Type 0 where
   -- a frame came
   pub came : Option Arrival

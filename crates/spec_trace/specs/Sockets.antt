@@ -19,6 +19,7 @@ number_after (UdpOpen socket at answer) number = number + 1
 number_after (Accept listener socket answer) number = number_for_peer answer number
 number_after _ number = number
 
+-- the number of the next socket; none is used again
 abbrev pub next_number : List Entry → ℕ
 next_number [] = 0
 next_number (e ∷ past) = number_after e (next_number past)

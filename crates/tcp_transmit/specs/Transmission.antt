@@ -81,6 +81,7 @@ abbrev pub reach_by : Option Congestion → (acked edge : ℕ) → ℕ
 reach_by None acked edge = edge
 reach_by (Some c) acked edge = min edge (acked + c.window)
 
+-- of a sending half
 abbrev pub reach : Transmission → ℕ
 reach t = reach_by t.cwnd t.acked (edge_of t.window)
 

@@ -142,6 +142,7 @@ impl Transmit {
     }
 
     /// All before a place is acknowledged.
+    /// A piece that was owed again is owed no longer; the one at the new place may be, below `recover`.
     fn move_to(&mut self, place: u64, now: u64)
         requires low { self.old.acked ≤ place }
         requires high { place ≤ self.old.sent }
@@ -183,6 +184,8 @@ impl Transmit {
     }
 
     /// A probe that wasn't taken is owed again once the window has room for it.
+    /// A probe that the guest dropped goes again at once when its window opens, and is none of the eight resendings: else the stream could stand still
+    /// for a minute.
     fn owe_probe(&mut self)
         ensures { self.new ≡ opened self.old }
     {
@@ -231,6 +234,7 @@ fn is_last_window(last: Option<Window>, window: u32) -> bool
 }
 
 /// Whether a segment is not older than the one from which a window was taken.
+/// SND.WL1 is compared as a number, SND.WL2 as a place; the segment that acknowledges our SYN gives its window whatever its number.
 fn is_newer(window: Option<Window>, seq: Seq, acked: u64) -> bool
     ensures { result ≡ newer_by window seq.0 acked }
 {

@@ -255,6 +255,8 @@ impl Transmit {
     }
 
     /// Whether the window is known and has no room.
+    /// So where no number is left before its edge, not only where the field was 0: an acknowledgement may move up to the edge by a segment whose window
+    /// isn't taken.
     fn is_closed(&self) -> bool
         ensures { result ≡ is_closed self.now }
     {

@@ -15,6 +15,7 @@ const LONGEST_ROUND_TRIP: u64 = 1 << 40;
 impl Transmit {
     /// A piece was sent: one that `next_piece` gives in this state. The timer is set where it doesn't run (RFC 6298, 5.1) or
     /// the piece goes again, and the piece is measured where none is and it went for the first time (3).
+    /// A resending is counted now, when the link takes it, and not when the timer expires: an acknowledgement between them begins the count anew.
     pub fn sent(&mut self, p: &Piece, now: u64)
         requires owed { (down : Downward) × Feeds self.old down × (piece_owed self.old down ≡ Some p.now) }
         requires now { now ≤ 2 ^ 62 }

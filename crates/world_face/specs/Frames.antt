@@ -35,6 +35,7 @@ abbrev pub partial_after : Entry → List ℕ → List ℕ
 partial_after (LinkRead asked answer octets) so_far = if is_whole (so_far ++ octets) then [] else so_far ++ octets
 partial_after _ so_far = so_far
 
+-- those read so far
 abbrev pub partial : List Entry → List ℕ
 partial [] = []
 partial (e ∷ past) = partial_after e (partial past)
@@ -44,6 +45,7 @@ abbrev pub completes : Entry → List ℕ → Option (List ℕ)
 completes (LinkRead asked answer octets) so_far = if is_whole (so_far ++ octets) then Some (drop 4 (so_far ++ octets)) else None
 completes _ so_far = None
 
+-- the frame that arrives by an entry after this past: the read that makes it whole
 abbrev pub arrives : Entry → List Entry → Option (List ℕ)
 arrives e past = completes e (partial past)
 
@@ -95,6 +97,7 @@ abbrev pub tail_after : Entry → List ℕ → List ℕ
 tail_after (LinkWrite octets answer) rest = rest_after answer octets rest
 tail_after _ rest = rest
 
+-- what is left of the frame that went out last, which the next write offers exactly
 abbrev pub tail : List Entry → List ℕ
 tail [] = []
 tail (e ∷ past) = tail_after e (tail past)

@@ -160,11 +160,13 @@ abbrev pub IsTimeout : Option ℕ → Type 0
 IsTimeout None = Unit {0}
 IsTimeout (Some timeout) = IsNumber timeout
 
+-- a peer has an endpoint
 abbrev pub MayAccept : Accepted → Type 0
 MayAccept (FromPeer peer) = IsEndpoint peer
 MayAccept NoPeer = Unit {0}
 MayAccept AcceptFailed = Unit {0}
 
+-- the length of a file has 64 bits
 abbrev pub MayMeasure : FileSize → Type 0
 MayMeasure (Length n) = IsNumber n
 MayMeasure Missing = Unit {0}
