@@ -40,9 +40,9 @@ address_parts text one after_one two after_two three four a b c d s1 s2 s3 e1 e2
     let eb : n / 2 ^ 16 % 2 ^ 8 ≡ b = omega arith in
     let ec : n / 2 ^ 8 % 2 ^ 8 ≡ c = omega arith in
     let ed : n % 2 ^ 8 ≡ d = omega arith in
-    let spelt : text ≡ decimal a ++ 46 ∷ (decimal b ++ 46 ∷ (decimal c ++ 46 ∷ decimal d)) = cc in
+    let encoded : text ≡ decimal a ++ 46 ∷ (decimal b ++ 46 ∷ (decimal c ++ 46 ∷ decimal d)) = cc in
     let same : address n ≡ decimal a ++ 46 ∷ (decimal b ++ 46 ∷ (decimal c ++ 46 ∷ decimal d)) = rw (ea, eb, ec, ed) refl in
-    spelt ∙ sym same ∙ sym (address_form n)
+    encoded ∙ sym same ∙ sym (address_form n)
 
 -- an address and a port that were read
 abbrev pub made_of : ℕ → ℕ → Endpoint

@@ -59,4 +59,4 @@ number_parsed text n small is none =
     grind (arith, read, numeral, plain, small)
 
 pub number_over : (n m : ℕ) (text : List ℕ) → n < 2 ^ 64 → text ≡ decimal n → m < n → (k : ℕ) → k ≤ m → text ≡ decimal k → ⊥
-number_over n m text small is over k under spelt = let same = decimal_injective n k small (omega arith) (sym is ∙ spelt) in omega (arith, same)
+number_over n m text small is over k under encoded = let same = decimal_injective n k small (omega arith) (sym is ∙ encoded) in omega (arith, same)

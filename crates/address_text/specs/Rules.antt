@@ -16,7 +16,7 @@ IsAddressOr usual (c ∷ cs) a = IsAddress (c ∷ cs) a
 pub record IsPortAt (usual : ℕ) (text : List ℕ) (at : Endpoint) : Type 0 where
   pub before : List ℕ
   pub behind : List ℕ
-  pub spelt : text ≡ before ++ codes ":" ++ behind
+  pub encoded : text ≡ before ++ codes ":" ++ behind
   pub address : IsAddressOr usual before at.addr.0
   pub port : IsNumber 16 behind at.port
 
@@ -30,7 +30,7 @@ pub record IsForward (text : List ℕ) (dhcp_start : ℕ) (forward : Forward) : 
   pub kind : List ℕ
   pub outside : List ℕ
   pub inside : List ℕ
-  pub spelt : text ≡ kind ++ codes ":" ++ outside ++ codes "-" ++ inside
+  pub encoded : text ≡ kind ++ codes ":" ++ outside ++ codes "-" ++ inside
   pub type : IsType kind forward.proto
   pub host : IsPortAt 0 outside forward.host
   pub guest : IsPortAt dhcp_start inside forward.guest
@@ -52,7 +52,7 @@ pub record IsGuestForward (text : List ℕ) (forward : GuestFwd) : Type 0 where
   pub kind : List ℕ
   pub inside : List ℕ
   pub outside : List ℕ
-  pub spelt : text ≡ kind ++ codes ":" ++ inside ++ codes "-" ++ outside
+  pub encoded : text ≡ kind ++ codes ":" ++ inside ++ codes "-" ++ outside
   pub type : IsType kind Tcp
   pub guest : IsEndpointText inside forward.guest
   pub host : IsEndpointText outside forward.host

@@ -1,4 +1,4 @@
--- How numbers, addresses, endpoints and the place of the link are written, on a command line and in a record of calls.
+-- How numbers, addresses, endpoints and the place of the link are written, on a command line and in a trace of calls.
 use Rattle.std.specs.Prelude.{◌≡◌, ℕ, ◌/◌, ◌%◌, ◌^◌, ◌==◌, ◌<◌, not, Bool, List, ◌++◌, codes, decimal, Option}
 use Rattle.std.specs.Option.{SomeIff}
 use Rattle.std.specs.Str.Parse.{IsNumeral, digits_value, without_leading_plus}

@@ -26,6 +26,6 @@ code_of ControlRefused = 14
 abbrev pub is_unrun : ℕ → Bool
 is_unrun status = (status == 1) || (status == 2) || (status == 3) || (status == 4) || (status == 13)
 
--- a run was made and its record put
+-- a run was made and its trace put
 abbrev pub is_run : ℕ → Bool
 is_run status = not (is_unrun status || (status == 12))

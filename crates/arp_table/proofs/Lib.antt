@@ -1,2 +1,2 @@
 pub mod Learning
-pub mod Spelling
+pub mod Encoding

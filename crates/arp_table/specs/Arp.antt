@@ -44,14 +44,14 @@ is_arp octets =
     nat_le 28 (length octets) && (two_at octets 0 == 1) && (two_at octets 2 == ipv4_kind) && (one_at octets 4 == 6) && (one_at octets 5 == 4)
     && ((two_at octets 6 == 1) || (two_at octets 6 == 2))
 
--- the fields that octets spell
+-- the fields that octets encode
 abbrev pub read_arp : List ℕ → Option Arp
 read_arp octets =
     if is_arp octets
     then Some (record { is_reply = two_at octets 6 == 2; sender_mac = part octets 8 6; sender = four_at octets 14; target_mac = part octets 18 6; target = four_at octets 24 })
     else None
 
--- the first fault of octets that spell none
+-- the first fault of octets that encode none
 abbrev pub arp_fault : List ℕ → Option Fault
 arp_fault octets =
     if nat_lt (length octets) 28 then Some (record { kind = Short; at = length octets })

@@ -94,7 +94,7 @@ another_network = (
   ),
 )
 
--- a RULE without an address of a guest leads to the first that is lent, also where `--dhcpstart` stands behind it
+-- a RULE without an address of a guest leads to the first that is leased, also where `--dhcpstart` stands behind it
 first_guest : Means
     (codes "serve" ∷ codes "--link=unix:s" ∷ codes "hostfwd=tcp:127.0.0.1:2222-:22" ∷ codes "--dhcpstart=10.0.2.100" ∷ [])
     (Serves (record usual { dhcp_start = 0x0a000264; forwards = record { proto = Tcp; host = endpoint loopback 2222; guest = endpoint 0x0a000264 22 } ∷ [] }) (AtPath (codes "s")) Off)
@@ -117,10 +117,10 @@ first_guest = (
             kind = codes "tcp";
             outside = codes "127.0.0.1:2222";
             inside = codes ":22";
-            spelt = refl;
+            encoded = refl;
             type = inr refl;
-            host = record { before = codes "127.0.0.1"; behind = codes "2222"; spelt = refl; address = (refl, omega arith); port = (refl, omega arith) };
-            guest = record { before = []; behind = codes "22"; spelt = refl; address = refl; port = (refl, omega arith) };
+            host = record { before = codes "127.0.0.1"; behind = codes "2222"; encoded = refl; address = (refl, omega arith); port = (refl, omega arith) };
+            guest = record { before = []; behind = codes "22"; encoded = refl; address = refl; port = (refl, omega arith) };
           },
         ),
         tt,
@@ -160,10 +160,10 @@ datagrams = (
           kind = codes "udp";
           outside = codes ":53";
           inside = codes ":53";
-          spelt = refl;
+          encoded = refl;
           type = refl;
-          host = record { before = []; behind = codes "53"; spelt = refl; address = refl; port = (refl, omega arith) };
-          guest = record { before = []; behind = codes "53"; spelt = refl; address = refl; port = (refl, omega arith) };
+          host = record { before = []; behind = codes "53"; encoded = refl; address = refl; port = (refl, omega arith) };
+          guest = record { before = []; behind = codes "53"; encoded = refl; address = refl; port = (refl, omega arith) };
         }),
         tt,
       ),

@@ -26,15 +26,15 @@ no_dash text at is =
 form : (kind inside outside : List ℕ) → (((kind ++ 58 ∷ []) ++ inside) ++ 45 ∷ []) ++ outside ≡ kind ++ 58 ∷ (inside ++ 45 ∷ outside)
 form kind inside outside = simp append_assoc
 
-pub spelt_guest : (text kind rest inside outside : List ℕ) → text ≡ kind ++ 58 ∷ rest → rest ≡ inside ++ 45 ∷ outside → text ≡ (((kind ++ 58 ∷ []) ++ inside) ++ 45 ∷ []) ++ outside
-spelt_guest text kind rest inside outside one two = one ∙ ap (λ (t : List ℕ). kind ++ 58 ∷ t) two ∙ sym (form kind inside outside)
+pub encoded_guest : (text kind rest inside outside : List ℕ) → text ≡ kind ++ 58 ∷ rest → rest ≡ inside ++ 45 ∷ outside → text ≡ (((kind ++ 58 ∷ []) ++ inside) ++ 45 ∷ []) ++ outside
+encoded_guest text kind rest inside outside one two = one ∙ ap (λ (t : List ℕ). kind ++ 58 ∷ t) two ∙ sym (form kind inside outside)
 
 abbrev made_guest : Endpoint → Endpoint → GuestFwd
 made_guest guest host = record { guest = guest; host = host }
 
 module _ (text : List ℕ) where
   pub guest_form : (f : GuestFwd) (r : IsGuestForward text f) → text ≡ r.kind ++ 58 ∷ (r.inside ++ 45 ∷ r.outside)
-  guest_form f r = r.spelt ∙ form r.kind r.inside r.outside
+  guest_form f r = r.encoded ∙ form r.kind r.inside r.outside
 
   pub guest_parts : (kind rest : List ℕ) → text ≡ kind ++ 58 ∷ rest → list_all (is_other 58) kind ≡ true → (f : GuestFwd) (r : IsGuestForward text f) → (kind ≡ r.kind) ×
       (rest ≡ r.inside ++ 45 ∷ r.outside)

@@ -53,7 +53,7 @@ replay_means words file config r =
     let l = walk_read Replay words r.walk r.read in (
       l.line,
       r.rules,
-      l.spelt,
+      l.encoded,
       l.proper,
       sym l.alone ∙ r.alone,
       r.some,
@@ -116,7 +116,7 @@ pub serve_means : (words : List Word) (config : Config) (at : Place) (tap : Tap)
 serve_means words config at tap r =
     let l = walk_read Serve words r.walk r.read in (
       l.line,
-      l.spelt,
+      l.encoded,
       l.proper,
       subst (λ (o : List Given). IsLinkAt (value_in (single o) (codes "--link")) at) l.options r.link,
       subst (λ (o : List Given). IsTap (value_in (single o)) tap) l.options r.taps,

@@ -166,9 +166,9 @@ first (x ∷ xs) = x
 
 one_place : (text : Word) (p q : Place) → IsLink text p → IsLink text q → p ≡ q
 unfolding first
-one_place text (AtPath path) (AtPath name) h g = let same : path ≡ name = (let spelt : codes "unix:" ++ path ≡ codes "unix:" ++ name = sym h.0 ∙ g.0 in cc) in ap AtPath same
+one_place text (AtPath path) (AtPath name) h g = let same : path ≡ name = (let encoded : codes "unix:" ++ path ≡ codes "unix:" ++ name = sym h.0 ∙ g.0 in cc) in ap AtPath same
 one_place text (AtEndpoint at) (AtEndpoint to) h g =
-    let spelt : codes "tcp:" ++ endpoint_text at ≡ codes "tcp:" ++ endpoint_text to = sym h.0 ∙ g.0 in
+    let encoded : codes "tcp:" ++ endpoint_text at ≡ codes "tcp:" ++ endpoint_text to = sym h.0 ∙ g.0 in
     let tail : endpoint_text at ≡ endpoint_text to = cc in
     ap AtEndpoint (same_endpoint at to h.1 g.1 tail)
 one_place text (AtPath path) (AtEndpoint at) h g = absurd (omega (arith, ap first (sym h.0 ∙ g.0)))

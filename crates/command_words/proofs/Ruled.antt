@@ -29,7 +29,7 @@ same_address_or usual (c ∷ cs) a b h g = same_address a b h.1 g.1 (sym h.0 ∙
 -- a port at an address that may be left out
 module _ (usual : ℕ) (text : List ℕ) where
   pub port_form : (at : Endpoint) (p : IsPortAt usual text at) → text ≡ p.before ++ 58 ∷ p.behind
-  port_form at p = p.spelt ∙ append_assoc p.before (58 ∷ []) p.behind
+  port_form at p = p.encoded ∙ append_assoc p.before (58 ∷ []) p.behind
 
   no_colon : (at : Endpoint) (p : IsPortAt usual text at) → list_all (is_other 58) p.before ≡ true
   no_colon at p = address_or_fits (is_other 58) digit_is_no_colon refl usual p.before at.addr.0 p.address
@@ -76,15 +76,15 @@ same_type kind Udp Tcp h g = absurd (two_types kind g h)
 form : (kind outside inside : List ℕ) → (((kind ++ 58 ∷ []) ++ outside) ++ 45 ∷ []) ++ inside ≡ kind ++ 58 ∷ (outside ++ 45 ∷ inside)
 form kind outside inside = simp append_assoc
 
-pub spelt_forward : (text kind rest outside inside : List ℕ) → text ≡ kind ++ 58 ∷ rest → rest ≡ outside ++ 45 ∷ inside → text ≡ (((kind ++ 58 ∷ []) ++ outside) ++ 45 ∷ []) ++ inside
-spelt_forward text kind rest outside inside one two = one ∙ ap (λ (t : List ℕ). kind ++ 58 ∷ t) two ∙ sym (form kind outside inside)
+pub encoded_forward : (text kind rest outside inside : List ℕ) → text ≡ kind ++ 58 ∷ rest → rest ≡ outside ++ 45 ∷ inside → text ≡ (((kind ++ 58 ∷ []) ++ outside) ++ 45 ∷ []) ++ inside
+encoded_forward text kind rest outside inside one two = one ∙ ap (λ (t : List ℕ). kind ++ 58 ∷ t) two ∙ sym (form kind outside inside)
 
 abbrev made_forward : Proto → Endpoint → Endpoint → Forward
 made_forward proto host guest = record { proto = proto; host = host; guest = guest }
 
 module _ (text : List ℕ) (dhcp_start : ℕ) where
   pub forward_form : (f : Forward) (r : IsForward text dhcp_start f) → text ≡ r.kind ++ 58 ∷ (r.outside ++ 45 ∷ r.inside)
-  forward_form f r = r.spelt ∙ form r.kind r.outside r.inside
+  forward_form f r = r.encoded ∙ form r.kind r.outside r.inside
 
   pub forward_parts : (kind rest : List ℕ) → text ≡ kind ++ 58 ∷ rest → list_all (is_other 58) kind ≡ true → (f : Forward) (r : IsForward text dhcp_start f) → (kind ≡ r.kind) ×
       (rest ≡ r.outside ++ 45 ∷ r.inside)
@@ -106,9 +106,9 @@ module _ (text : List ℕ) (dhcp_start : ℕ) where
 -- what begins with `hostfwd=` begins with no type
 no_type : (kind rest behind : List ℕ) (proto : Proto) → IsType kind proto → codes "hostfwd=" ++ behind ≡ kind ++ 58 ∷ rest → ⊥
 unfolding first
-no_type kind rest behind Tcp (inl is) spelt = omega (arith, ap first (spelt ∙ ap (λ (t : List ℕ). t ++ 58 ∷ rest) is))
-no_type kind rest behind Tcp (inr is) spelt = omega (arith, ap first (spelt ∙ ap (λ (t : List ℕ). t ++ 58 ∷ rest) is))
-no_type kind rest behind Udp is spelt = omega (arith, ap first (spelt ∙ ap (λ (t : List ℕ). t ++ 58 ∷ rest) is))
+no_type kind rest behind Tcp (inl is) encoded = omega (arith, ap first (encoded ∙ ap (λ (t : List ℕ). t ++ 58 ∷ rest) is))
+no_type kind rest behind Tcp (inr is) encoded = omega (arith, ap first (encoded ∙ ap (λ (t : List ℕ). t ++ 58 ∷ rest) is))
+no_type kind rest behind Udp is encoded = omega (arith, ap first (encoded ∙ ap (λ (t : List ℕ). t ++ 58 ∷ rest) is))
 
 not_bare : (text behind : List ℕ) (dhcp_start : ℕ) (f : Forward) → text ≡ codes "hostfwd=" ++ behind → IsForward text dhcp_start f → ⊥
 not_bare text behind dhcp_start f is r = no_type r.kind (r.outside ++ 45 ∷ r.inside) behind f.proto r.type (sym is ∙ forward_form text dhcp_start f r)

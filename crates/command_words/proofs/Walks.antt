@@ -72,7 +72,7 @@ next_some f (Some s) w h = (s, refl, h)
 pub record Split (verb : Verb) (words : List Word) (o : List Given) (a : List Word) (w : Walk) : Type 0 where
   pub pieces : List Piece
   pub behind : Option (List Word)
-  pub spelt : words ≡ pieces_words pieces ++ words_behind behind
+  pub encoded : words ≡ pieces_words pieces ++ words_behind behind
   pub proper : ArePieces verb pieces
   pub options : w.options ≡ o ++ options_of pieces
   pub once : none_twice same_name (single w.options) ≡ true
@@ -116,7 +116,7 @@ module _ (verb : Verb) (w : Walk) (done : w.waits ≡ None) where
       record {
         pieces = Apart name value ∷ r.pieces;
         behind = r.behind;
-        spelt = ap (λ (t : List Word). name ∷ value ∷ t) r.spelt;
+        encoded = ap (λ (t : List Word). name ∷ value ∷ t) r.encoded;
         proper = ((takes, v.some, v.plain), r.proper);
         options = r.options ∙ append_assoc o (g ∷ []) (options_of r.pieces);
         once = r.once;
@@ -130,7 +130,7 @@ module _ (verb : Verb) (w : Walk) (done : w.waits ≡ None) where
       record {
         pieces = [];
         behind = Some words;
-        spelt = ap (λ (t : Word). t ∷ words) is;
+        encoded = ap (λ (t : Word). t ∷ words) is;
         proper = tt;
         options = e.options ∙ sym (append-nil o);
         once = subst (λ (x : List Given). none_twice same_name (single x) ≡ true) (sym e.options) once;
@@ -141,7 +141,7 @@ module _ (verb : Verb) (w : Walk) (done : w.waits ≡ None) where
       record {
         pieces = Plain word ∷ r.pieces;
         behind = r.behind;
-        spelt = ap (λ (t : List Word). word ∷ t) r.spelt;
+        encoded = ap (λ (t : List Word). word ∷ t) r.encoded;
         proper = (plain, r.proper);
         options = r.options;
         once = r.once;
@@ -153,7 +153,7 @@ module _ (verb : Verb) (w : Walk) (done : w.waits ≡ None) where
       record {
         pieces = Joined name value ∷ r.pieces;
         behind = r.behind;
-        spelt = ap (λ (t : Word). t ∷ words) (is ∙ sym (append_assoc name (61 ∷ []) value)) ∙ ap (λ (t : List Word). (name ++ codes "=" ++ value) ∷ t) r.spelt;
+        encoded = ap (λ (t : Word). t ∷ words) (is ∙ sym (append_assoc name (61 ∷ []) value)) ∙ ap (λ (t : List Word). (name ++ codes "=" ++ value) ∷ t) r.encoded;
         proper = ((takes, some), r.proper);
         options = r.options ∙ append_assoc o (g ∷ []) (options_of r.pieces);
         once = r.once;
@@ -166,7 +166,7 @@ module _ (verb : Verb) (w : Walk) (done : w.waits ≡ None) where
       record {
         pieces = Flag word ∷ r.pieces;
         behind = r.behind;
-        spelt = ap (λ (t : List Word). word ∷ t) r.spelt;
+        encoded = ap (λ (t : List Word). word ∷ t) r.encoded;
         proper = (takes, r.proper);
         options = r.options ∙ append_assoc o (g ∷ []) (options_of r.pieces);
         once = r.once;
@@ -184,7 +184,7 @@ module _ (verb : Verb) (w : Walk) (done : w.waits ≡ None) where
       record {
         pieces = [];
         behind = None;
-        spelt = refl;
+        encoded = refl;
         proper = tt;
         options = sym (ap (λ (x : Walk). x.options) e) ∙ sym (append-nil o);
         once = subst (λ (x : Walk). none_twice same_name (single x.options) ≡ true) e once;
@@ -196,7 +196,7 @@ module _ (verb : Verb) (w : Walk) (done : w.waits ≡ None) where
 -- the line that was read
 pub record IsRead (verb : Verb) (words : List Word) (w : Walk) : Type 0 where
   pub line : Line
-  pub spelt : words ≡ line_words line
+  pub encoded : words ≡ line_words line
   pub proper : IsLine verb line
   pub options : w.options ≡ options_of line.pieces
   pub alone : w.alone ≡ words_alone line
@@ -215,7 +215,7 @@ walk_read verb words w is =
     let r = split verb w e.1 words [] [] refl (n.1 ∙ ap (λ (x : Walk). Some x) e.0) in
     record {
       line = record { pieces = r.pieces; behind = r.behind };
-      spelt = r.spelt;
+      encoded = r.encoded;
       proper = (r.proper, subst (λ (x : List Given). none_twice same_name (single x) ≡ true) r.options r.once);
       options = r.options;
       alone = r.alone;

@@ -13,7 +13,7 @@ use Rattle.slirp_settings.specs.declared.GuestFwd.{GuestFwd}
 use Rattle.address_text.proofs.Addresses.{made_of}
 use Rattle.command_words.proofs.Ruled.{held_none, same_forwards}
 
--- a RULE is one whichever the first address that is lent
+-- a RULE is one whichever the first address that is leased
 module _ (s t : ℕ) where
   address_anywhere : (text : List ℕ) (a : ℕ) → IsAddressOr s text a → (b : ℕ) × IsAddressOr t text b
   address_anywhere [] a is = (t, refl)
@@ -23,14 +23,14 @@ module _ (s t : ℕ) where
   port_anywhere text at is =
       let address = address_anywhere is.before at.addr.0 is.address in (
         made_of address.0 at.port,
-        record { before = is.before; behind = is.behind; spelt = is.spelt; address = address.1; port = is.port },
+        record { before = is.before; behind = is.behind; encoded = is.encoded; address = address.1; port = is.port },
       )
 
   forward_anywhere : (text : List ℕ) (f : Forward) → IsForward text s f → (g : Forward) × IsForward text t g
   forward_anywhere text f is =
       let guest = port_anywhere is.inside f.guest is.guest in (
         record { proto = f.proto; host = f.host; guest = guest.0 },
-        record { kind = is.kind; outside = is.outside; inside = is.inside; spelt = is.spelt; type = is.type; host = is.host; guest = guest.1 },
+        record { kind = is.kind; outside = is.outside; inside = is.inside; encoded = is.encoded; type = is.type; host = is.host; guest = guest.1 },
       )
 
   rule_anywhere : (text : List ℕ) (f : Forward) → IsRule text s f → (g : Forward) × IsRule text t g

@@ -294,7 +294,7 @@ fn alone(behind: &[String], command: Command) -> Result<Command, Stop>
 }
 
 // What the words behind `replay` ask for.
-// The first word by itself is FILE, whatever it spells: `replay ::80-:80` replays the file of this name.
+// The first word by itself is FILE, whatever it encodes: `replay ::80-:80` replays the file of this name.
 fn replay_of(words: &[String]) -> Result<Command, Stop>
     ensures meant { IfOk result (λ command. (file : List ℕ) × (config : Config) × MeansReplay (map string_bytes words.now) file config
         × (said command ≡ Replays file (narrowed_settings config))) }

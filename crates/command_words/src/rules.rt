@@ -89,7 +89,7 @@ fn is_host_rule(word: &str) -> bool
     }
 }
 
-/// A RULE for a port of the host, with `hostfwd=` in front or without. Without an address of a guest it leads to the first that is lent.
+/// A RULE for a port of the host, with `hostfwd=` in front or without. Without an address of a guest it leads to the first that is leased.
 ///
 /// # Errors
 /// `NoReading` where the octets aren't one; a RULE of guests (`guestfwd=`) is none.

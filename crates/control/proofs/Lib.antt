@@ -6,5 +6,5 @@ pub mod Stretching
 mod Talking
 mod Windows
 pub mod Reading
-pub mod Spelling
+pub mod Encoding
 mod Rows

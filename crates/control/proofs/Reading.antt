@@ -8,11 +8,11 @@ use Rattle.slirp_settings.specs.declared.Proto.TheVariants.{Tcp, Udp}
 use Rattle.address_text.specs.Texts.{IsAddress, IsEndpointText, IsNumber, address_text, endpoint_text}
 use Rattle.address_text.proofs.Addresses.{made_of}
 use Rattle.address_text.specs.Rules.{IsAddressOr, IsForward, IsPortAt, IsRule, IsType}
-use Rattle.command_words.proofs.Ruled.{bare_refused, behind_refused, spelt_forward}
+use Rattle.command_words.proofs.Ruled.{bare_refused, behind_refused, encoded_forward}
 use Rattle.rules_control.specs.Commands.{IsAdd, IsRemove, Means, has_no_port, removal}
 use Rattle.rules_control.specs.declared.Command.{Command}
 use Rattle.rules_control.specs.declared.Command.TheVariants.{Add, Remove, List as Lists, What}
-use Rattle.control.proofs.Spelling.{endpoint_of, no_removal, portless, rule_of}
+use Rattle.control.proofs.Encoding.{endpoint_of, no_removal, portless, rule_of}
 
 -- it is so, or it isn't
 abbrev Told : Type 0 → Type 0
@@ -107,7 +107,7 @@ endpoint text = by (endpoint_under text (2 ^ 32) (2 ^ 16))
 record Split (octet : ℕ) (text : List ℕ) (Q : List ℕ → List ℕ → Type 0) : Type 0 where
   before : List ℕ
   behind : List ℕ
-  spelt : text ≡ before ++ octet ∷ behind
+  encoded : text ≡ before ++ octet ∷ behind
   parts : Q before behind
 
 no_octet : (octet : ℕ) (before behind : List ℕ) → [] ≡ before ++ octet ∷ behind → ⊥
@@ -115,7 +115,7 @@ no_octet octet [] behind is = cc
 no_octet octet (y ∷ before) behind is = cc
 
 split : (octet : ℕ) (text : List ℕ) (Q : List ℕ → List ℕ → Type 0) → ((a b : List ℕ) → Told (Q a b)) → Told (Split octet text Q)
-split octet [] Q told = inr (λ s. no_octet octet s.before s.behind s.spelt)
+split octet [] Q told = inr (λ s. no_octet octet s.before s.behind s.encoded)
 split octet (x ∷ text) Q told = by (both_told (same_number x octet) (told [] text)) (split octet text (λ a b. Q (x ∷ a) b) (λ a b. told (x ∷ a) b))
   where
     nowhere : ¬ ((x ≡ octet) × Q [] text) → ¬ Split octet text (λ a b. Q (x ∷ a) b) → (before behind : List ℕ) → x ∷ text ≡ before ++ octet ∷ behind → Q before behind → ⊥
@@ -126,12 +126,12 @@ split octet (x ∷ text) Q told = by (both_told (same_number x octet) (told [] t
     nowhere not_here not_later (y ∷ before) behind is parts =
         let one : x ≡ y = cc in
         let rest : text ≡ before ++ octet ∷ behind = cc in
-        not_later (record { before = before; behind = behind; spelt = rest; parts = subst (λ o. Q (o ∷ before) behind) (sym one) parts })
+        not_later (record { before = before; behind = behind; encoded = rest; parts = subst (λ o. Q (o ∷ before) behind) (sym one) parts })
 
     by : Told ((x ≡ octet) × Q [] text) → Told (Split octet text (λ a b. Q (x ∷ a) b)) → Told (Split octet (x ∷ text) Q)
-    by (inl here) later = inl (record { before = []; behind = text; spelt = ap (λ o. o ∷ text) here.0; parts = here.1 })
-    by (inr not_here) (inl s) = inl (record { before = x ∷ s.before; behind = s.behind; spelt = ap (λ l. x ∷ l) s.spelt; parts = s.parts })
-    by (inr not_here) (inr not_later) = inr (λ s. nowhere not_here not_later s.before s.behind s.spelt s.parts)
+    by (inl here) later = inl (record { before = []; behind = text; encoded = ap (λ o. o ∷ text) here.0; parts = here.1 })
+    by (inr not_here) (inl s) = inl (record { before = x ∷ s.before; behind = s.behind; encoded = ap (λ l. x ∷ l) s.encoded; parts = s.parts })
+    by (inr not_here) (inr not_later) = inr (λ s. nowhere not_here not_later s.before s.behind s.encoded s.parts)
 
 abbrev AsPort : ℕ → List ℕ → Type 0
 AsPort usual text = (at : Endpoint) × IsPortAt usual text at
@@ -145,12 +145,12 @@ port_at usual text = by (split 58 text (PortParts usual) (λ a b. both_told (add
     by : Told (Split 58 text (PortParts usual)) → Told (AsPort usual text)
     by (inl s) = inl (
       made_of s.parts.0.0 s.parts.1.0,
-      record { before = s.before; behind = s.behind; spelt = s.spelt ∙ sym (append_assoc s.before (58 ∷ []) s.behind); address = s.parts.0.1; port = s.parts.1.1 },
+      record { before = s.before; behind = s.behind; encoded = s.encoded ∙ sym (append_assoc s.before (58 ∷ []) s.behind); address = s.parts.0.1; port = s.parts.1.1 },
     )
     by (inr none) = inr (λ it. none (record {
       before = it.1.before;
       behind = it.1.behind;
-      spelt = it.1.spelt ∙ append_assoc it.1.before (58 ∷ []) it.1.behind;
+      encoded = it.1.encoded ∙ append_assoc it.1.before (58 ∷ []) it.1.behind;
       parts = ((it.0.addr.0, it.1.address), (it.0.port, it.1.port));
     }))
 
@@ -193,7 +193,7 @@ forward_of guest text =
             kind = s.before;
             outside = ends.before;
             inside = ends.behind;
-            spelt = spelt_forward text s.before s.behind ends.before ends.behind s.spelt ends.spelt;
+            encoded = encoded_forward text s.before s.behind ends.before ends.behind s.encoded ends.encoded;
             type = s.parts.0.1;
             host = ends.parts.0.1;
             guest = ends.parts.1.1;
@@ -205,8 +205,8 @@ forward_of guest text =
         none (record {
           before = is.kind;
           behind = rest;
-          spelt = is.spelt ∙ sym (spelt_forward (is.kind ++ 58 ∷ rest) is.kind rest is.outside is.inside refl refl);
-          parts = ((it.0.proto, is.type), record { before = is.outside; behind = is.inside; spelt = refl; parts = ((it.0.host, is.host), (it.0.guest, is.guest)) });
+          encoded = is.encoded ∙ sym (encoded_forward (is.kind ++ 58 ∷ rest) is.kind rest is.outside is.inside refl refl);
+          parts = ((it.0.proto, is.type), record { before = is.outside; behind = is.inside; encoded = refl; parts = ((it.0.host, is.host), (it.0.guest, is.guest)) });
         }))
 
 -- what stands behind a front
@@ -230,8 +230,8 @@ rule : (guest : ℕ) (text : List ℕ) → Told (AsRule guest text)
 rule guest text = by (behind (codes "hostfwd=") text)
   where
     fronted : (rest : List ℕ) → text ≡ codes "hostfwd=" ++ rest → Told (AsForward guest rest) → Told (AsRule guest text)
-    fronted rest spelt (inl it) = inl (it.0, inr (rest, spelt, it.1))
-    fronted rest spelt (inr none) = inr (λ it. behind_refused text rest guest spelt (λ f is. none (f, is)) it.0 it.1)
+    fronted rest encoded (inl it) = inl (it.0, inr (rest, encoded, it.1))
+    fronted rest encoded (inr none) = inr (λ it. behind_refused text rest guest encoded (λ f is. none (f, is)) it.0 it.1)
 
     bare : ¬ Behind (codes "hostfwd=") text → Told (AsForward guest text) → Told (AsRule guest text)
     bare no_front (inl it) = inl (it.0, inl it.1)
@@ -248,16 +248,16 @@ add : (guest : ℕ) (line : List ℕ) → Told (AsAdd guest line)
 add guest line = by (behind (codes "add ") line)
   where
     ported : (text : List ℕ) (f : Forward) → line ≡ codes "add " ++ text → IsRule text guest f → (b : Bool) → has_no_port f ≡ b → Told (AsAdd guest line)
-    ported text f spelt is true none = inr (λ it. portless guest line text f spelt is none it.0 it.1)
-    ported text f spelt is false some = inl (f, record { rule = text; spelt = spelt; is = is; ports = some })
+    ported text f encoded is true none = inr (λ it. portless guest line text f encoded is none it.0 it.1)
+    ported text f encoded is false some = inl (f, record { rule = text; encoded = encoded; is = is; ports = some })
 
     ruled : (text : List ℕ) → line ≡ codes "add " ++ text → Told (AsRule guest text) → Told (AsAdd guest line)
-    ruled text spelt (inl it) = ported text it.0 spelt it.1 (has_no_port it.0) refl
-    ruled text spelt (inr none) = inr (λ it. none (it.0, rule_of guest line text it.0 spelt it.1))
+    ruled text encoded (inl it) = ported text it.0 encoded it.1 (has_no_port it.0) refl
+    ruled text encoded (inr none) = inr (λ it. none (it.0, rule_of guest line text it.0 encoded it.1))
 
     by : Told (Behind (codes "add ") line) → Told (AsAdd guest line)
     by (inl it) = ruled it.0 it.1 (rule guest it.0)
-    by (inr none) = inr (λ it. none (it.1.rule, it.1.spelt))
+    by (inr none) = inr (λ it. none (it.1.rule, it.1.encoded))
 
 abbrev AsRemove : Proto → List ℕ → Type 0
 AsRemove proto line = (host : Endpoint) × IsRemove line proto host
@@ -266,12 +266,12 @@ remove : (proto : Proto) (line : List ℕ) → Told (AsRemove proto line)
 remove proto line = by (behind (removal proto) line)
   where
     ended : (text : List ℕ) → line ≡ removal proto ++ text → Told (AsEndpoint text) → Told (AsRemove proto line)
-    ended text spelt (inl it) = inl (it.0, record { text = text; spelt = spelt; is = it.1 })
-    ended text spelt (inr none) = inr (λ it. none (it.0, endpoint_of line text proto it.0 spelt it.1))
+    ended text encoded (inl it) = inl (it.0, record { text = text; encoded = encoded; is = it.1 })
+    ended text encoded (inr none) = inr (λ it. none (it.0, endpoint_of line text proto it.0 encoded it.1))
 
     by : Told (Behind (removal proto) line) → Told (AsRemove proto line)
     by (inl it) = ended it.0 it.1 (endpoint it.0)
-    by (inr none) = inr (λ it. none (it.1.text, it.1.spelt))
+    by (inr none) = inr (λ it. none (it.1.text, it.1.encoded))
 
 command_of : (guest : ℕ) (line : List ℕ) → (command : Command) × Means guest line command
 command_of guest line = by (same_text line (codes "list")) (add guest line) (remove Tcp line) (remove Udp line)

@@ -11,9 +11,9 @@ use Rattle.address_text.specs.Rules.{IsRule, IsType}
 use Rattle.command_words.proofs.Ruled.{forward_parts}
 use Rattle.rules_control.specs.Commands.{IsAdd, IsRemove, IsWhat, Means}
 use Rattle.rules_control.specs.declared.Command.TheVariants.{Add, Remove, List as Lists, What}
-use Rattle.control.proofs.Spelling.{add_or_list, add_or_remove, portless, rule_of}
+use Rattle.control.proofs.Encoding.{add_or_list, add_or_remove, portless, rule_of}
 
--- the first address that is lent
+-- the first address that is leased
 abbrev guest : ℕ
 guest = 0x0a00020f
 
@@ -25,26 +25,26 @@ added : Means guest (codes "add :127.0.0.1:5555-:22") (Add ssh)
 unfolding address_text digits
 added = record {
   rule = codes ":127.0.0.1:5555-:22";
-  spelt = refl;
+  encoded = refl;
   is = inl (record {
     kind = [];
     outside = codes "127.0.0.1:5555";
     inside = codes ":22";
-    spelt = refl;
+    encoded = refl;
     type = inl refl;
-    host = record { before = codes "127.0.0.1"; behind = codes "5555"; spelt = refl; address = (refl, omega arith); port = (refl, omega arith) };
-    guest = record { before = []; behind = codes "22"; spelt = refl; address = refl; port = (refl, omega arith) };
+    host = record { before = codes "127.0.0.1"; behind = codes "5555"; encoded = refl; address = (refl, omega arith); port = (refl, omega arith) };
+    guest = record { before = []; behind = codes "22"; encoded = refl; address = refl; port = (refl, omega arith) };
   });
   ports = refl;
 }
 
 taken_back : Means guest (codes "remove tcp 127.0.0.1:5555") (Remove Tcp ssh.host)
 unfolding address_text endpoint_text digits
-taken_back = record { text = codes "127.0.0.1:5555"; spelt = refl; is = (refl, (omega arith, omega arith)) }
+taken_back = record { text = codes "127.0.0.1:5555"; encoded = refl; is = (refl, (omega arith, omega arith)) }
 
 datagrams : Means guest (codes "remove udp 0.0.0.0:53") (Remove Udp (endpoint 0 53))
 unfolding address_text endpoint_text digits
-datagrams = record { text = codes "0.0.0.0:53"; spelt = refl; is = (refl, (omega arith, omega arith)) }
+datagrams = record { text = codes "0.0.0.0:53"; encoded = refl; is = (refl, (omega arith, omega arith)) }
 
 listed : Means guest (codes "list") Lists
 listed = refl
@@ -56,24 +56,24 @@ head (x ∷ xs) = x
 
 removal_head : (line text : List ℕ) (proto : Proto) (host : Endpoint) → IsRemove line proto host → head line ≡ 114
 unfolding head
-removal_head line text Tcp host is = ap head is.spelt
-removal_head line text Udp host is = ap head is.spelt
+removal_head line text Tcp host is = ap head is.encoded
+removal_head line text Udp host is = ap head is.encoded
 
 -- a carriage return more
 returned : Means guest (codes "list" ++ 13 ∷ []) What
 unfolding head
 returned = record {
-  no_add = λ f is. omega (arith, ap head is.spelt);
+  no_add = λ f is. omega (arith, ap head is.encoded);
   no_remove = λ proto host is. omega (arith, removal_head _ [] proto host is);
   no_list = λ is. omega (arith, ap length is);
 }
 
 -- what begins with `add ` is no other command
 add_alone : (line rule : List ℕ) → line ≡ codes "add " ++ rule → ((f : Forward) → ¬ IsAdd guest line f) → IsWhat guest line
-add_alone line rule spelt none = record {
+add_alone line rule encoded none = record {
   no_add = none;
-  no_remove = λ proto host is. add_or_remove line rule is.text proto spelt is.spelt;
-  no_list = λ is. add_or_list line rule spelt is;
+  no_remove = λ proto host is. add_or_remove line rule is.text proto encoded is.encoded;
+  no_list = λ is. add_or_list line rule encoded is;
 }
 
 -- a RULE has two parts
@@ -81,7 +81,7 @@ short_is_none : (text : List ℕ) (f : Forward) → length text ≡ 1 → ¬ IsR
 short_is_none text f short (inl is) = omega (
   arith,
   short,
-  ap length is.spelt,
+  ap length is.encoded,
   length-append is.kind (codes ":"),
   length-append (is.kind ++ codes ":") is.outside,
   length-append ((is.kind ++ codes ":") ++ is.outside) (codes "-"),
@@ -100,10 +100,10 @@ portless_rule = add_alone _ (codes "::0-:22") refl (portless guest _ (codes "::0
       kind = [];
       outside = codes ":0";
       inside = codes ":22";
-      spelt = refl;
+      encoded = refl;
       type = inl refl;
-      host = record { before = []; behind = codes "0"; spelt = refl; address = refl; port = (refl, omega arith) };
-      guest = record { before = []; behind = codes "22"; spelt = refl; address = refl; port = (refl, omega arith) };
+      host = record { before = []; behind = codes "0"; encoded = refl; address = refl; port = (refl, omega arith) };
+      guest = record { before = []; behind = codes "22"; encoded = refl; address = refl; port = (refl, omega arith) };
     }))
     refl)
 

@@ -1,4 +1,4 @@
--- A line is answered: what the desk comes to is what the connection and the network have afterwards.
+-- A line is answered: what the control server comes to is what the connection and the network have afterwards.
 use Rattle.std.proofs.Common.{◌≡◌, ℕ, ◌+◌, ◌<◌, ◌≤◌, ◌==◌, ◌&&◌, ◌||◌, nat_le, not, Bool, true, false, cond, List, [], ◌∷◌, ◌++◌, Option, Some, None, refl, sym, ◌∙◌, ap, subst, arith}
 use Rattle.std.proofs.lemmas.Bool.Decides.{nat_tests}
 use Rattle.net_octets.specs.declared.Endpoint.{Endpoint}
@@ -25,7 +25,7 @@ use Rattle.slirp_core.specs.State.{SlirpState}
 use Rattle.serve_loop.specs.Turns.{AttendsNow}
 use Rattle.rules_control.specs.Apart.{is_controls, is_on_control, seen as seen_of, without_control}
 use Rattle.rules_control.specs.Talk.{Talk, after_listen, deaf, hung_up, listener, with_left}
-use Rattle.spec_control.specs.Desk.{Awaited, Desk, Nothing, Opening, Shutting, Reads, after_entry, awaits, desk, is_peer, opened, removes, says, shut, with_changes, with_talk}
+use Rattle.spec_control.specs.ControlServer.{Awaited, ControlServer, Nothing, Opening, Shutting, Reads, after_entry, awaits, control_server, is_peer, opened, removes, says, shut, with_changes, with_talk}
 use Rattle.spec_control.specs.Laws.{MayControl, MayWhere, reported}
 use Rattle.spec_control.specs.Replies.{added_text, removed_text, reply_line}
 use Rattle.spec_control.proofs.Staying.{OwnPeer, no_peer, own_peer}
@@ -36,7 +36,7 @@ use Rattle.control_loop.proofs.Added.{added_new, and_one, has_closed, has_fewer,
 
 module _ (config : Config) (count : ℕ) (talk : Talk) (slirp : SlirpState) (link : LinkState) (seen : List Entry) where
   -- another word is said
-  pub agrees_with : (d : Desk) (new : Talk) → Agrees config d count talk slirp link seen → Agrees config (with_talk new d) count new slirp link seen
+  pub agrees_with : (d : ControlServer) (new : Talk) → Agrees config d count talk slirp link seen → Agrees config (with_talk new d) count new slirp link seen
   agrees_with d new agrees = record {
     calm = agrees.calm;
     talk = refl;
@@ -46,18 +46,18 @@ module _ (config : Config) (count : ℕ) (talk : Talk) (slirp : SlirpState) (lin
     gone = agrees.gone;
   }
 
-pub stands_as : {items : List Want} {talk : Talk} {slirp : SlirpState} {link : LinkState} (read : Reads) (config : Config) (count : ℕ) (past : List Entry) (d : Desk)
-    → Follows (MayControl read config) past → reported past ≡ items → desk read config past ≡ d → Agrees config d count talk slirp link (without_control past)
+pub stands_as : {items : List Want} {talk : Talk} {slirp : SlirpState} {link : LinkState} (read : Reads) (config : Config) (count : ℕ) (past : List Entry) (d : ControlServer)
+    → Follows (MayControl read config) past → reported past ≡ items → control_server read config past ≡ d → Agrees config d count talk slirp link (without_control past)
     → Stands items talk slirp link read config count past
 stands_as {items} {talk} {slirp} {link} read config count past d control left is agrees = record {
   control = control;
   reported = left;
-  agrees = subst (λ (x : Desk). Agrees config x count talk slirp link (without_control past)) (sym is) agrees;
+  agrees = subst (λ (x : ControlServer). Agrees config x count talk slirp link (without_control past)) (sym is) agrees;
 }
 
 -- so it stands where something is said and nothing is called
-pub said : {talk : Talk} {slirp : SlirpState} {link : LinkState} (read : Reads) (config : Config) (count : ℕ) (past : List Entry) (d : Desk) (text : List ℕ)
-    → Follows (MayControl read config) past → reported past ≡ [] → desk read config past ≡ says text d → Agrees config d count talk slirp link (without_control past)
+pub said : {talk : Talk} {slirp : SlirpState} {link : LinkState} (read : Reads) (config : Config) (count : ℕ) (past : List Entry) (d : ControlServer) (text : List ℕ)
+    → Follows (MayControl read config) past → reported past ≡ [] → control_server read config past ≡ says text d → Agrees config d count talk slirp link (without_control past)
     → Stands [] (with_left text talk) slirp link read config count past
 said {talk} {slirp} {link} read config count past d text control none is agrees =
     stands_as read config count past (says text d) control none is
@@ -67,14 +67,14 @@ said {talk} {slirp} {link} read config count past d text control none is agrees 
 -- ---- a port of the host is opened
 
 -- a call that is awaited comes
-pub awaited_may : (read : Reads) (config : Config) (past : List Entry) (call : Call) (a : Awaited) → (desk read config past).awaited ≡ a → MayWhere a read config past call → MayControl read config past call
+pub awaited_may : (read : Reads) (config : Config) (past : List Entry) (call : Call) (a : Awaited) → (control_server read config past).awaited ≡ a → MayWhere a read config past call → MayControl read config past call
 awaited_may read config past call a is may = subst (λ x. MayWhere x read config past call) (sym is) may
 
--- the desk after the entry that opens it
-opened_desk : (read : Reads) (config : Config) (seen : List Entry) (proto : Proto) (n : ℕ) (host : Endpoint) (answer : Made) (f : Forward) (d : Desk) → is_controls n ≡ false
+-- the control server after the entry that opens it
+opened_control_server : (read : Reads) (config : Config) (seen : List Entry) (proto : Proto) (n : ℕ) (host : Endpoint) (answer : Made) (f : Forward) (d : ControlServer) → is_controls n ≡ false
     → after_entry read config seen (opening_of proto n host answer) (awaits (Opening f) d) ≡ opened answer f n (awaits (Opening f) d)
-opened_desk read config seen Tcp n host answer f d off = ap (λ b. cond b (with_talk (after_listen answer d.talk) (awaits (Opening f) d)) (opened answer f n (awaits (Opening f) d))) off
-opened_desk read config seen Udp n host answer f d off = refl
+opened_control_server read config seen Tcp n host answer f d off = ap (λ b. cond b (with_talk (after_listen answer d.talk) (awaits (Opening f) d)) (opened answer f n (awaits (Opening f) d))) off
+opened_control_server read config seen Udp n host answer f d off = refl
 
 opening_off : (proto : Proto) (n : ℕ) (host : Endpoint) (answer : Made) → is_controls n ≡ false → is_on_control (opening_of proto n host answer) ≡ false
 opening_off Tcp n host answer off = off
@@ -110,7 +110,7 @@ gone_then settings socket seen lawful = (
   among_without socket socket (open_sockets seen) ∙ ap (λ b. not b && is_among socket (open_sockets seen)) (same socket),
 )
 
-module _ {talk : Talk} {slirp : SlirpState} {link : LinkState} (read : Reads) (config : Config) (count : ℕ) (past : List Entry) (d : Desk) (given : config ≡ as_given config)
+module _ {talk : Talk} {slirp : SlirpState} {link : LinkState} (read : Reads) (config : Config) (count : ℕ) (past : List Entry) (d : ControlServer) (given : config ≡ as_given config)
     (control : Follows (MayControl read config) past) (none : reported past ≡ []) (agrees : Agrees config d count talk slirp link (without_control past)) where
   abbrev saw : List Entry
   saw = without_control past
@@ -122,7 +122,7 @@ module _ {talk : Talk} {slirp : SlirpState} {link : LinkState} (read : Reads) (c
   pub next_is : next_number saw ≡ slirp.number
   next_is = attends.0.sockets.number
 
-  module _ (f : Forward) (answer : Made) (new : SlirpState) (is : desk read config past ≡ awaits (Opening f) d) (off : is_controls slirp.number ≡ false)
+  module _ (f : Forward) (answer : Made) (new : SlirpState) (is : control_server read config past ≡ awaits (Opening f) d) (off : is_controls slirp.number ≡ false)
       (brings : (settings : Config) → forward_on settings slirp.number ≡ Some f → AttendsNow settings (after count) false slirp link saw
       → AttendsNow settings (after count) false new link (opening_of f.proto slirp.number f.host answer ∷ saw))
       (number : new.number ≡ slirp.number + 1) where
@@ -166,15 +166,15 @@ module _ {talk : Talk} {slirp : SlirpState} {link : LinkState} (read : Reads) (c
         → Stands [] (with_left (reply_line (added_text fault)) talk) new link read config count (opens ∷ past)
     added fault adds =
         stands_as read config count (opens ∷ past) (opened answer f slirp.number (awaits (Opening f) d))
-        (awaited_may read config past (call_of opens) (Opening f) (ap (λ (x : Desk). x.awaited) is) (call_opens f f.proto slirp.number answer ∙ ap (λ n. opening_call f.proto n f) (sym next_is)), control)
+        (awaited_may read config past (call_of opens) (Opening f) (ap (λ (x : ControlServer). x.awaited) is) (call_opens f f.proto slirp.number answer ∙ ap (λ n. opening_call f.proto n f) (sym next_is)), control)
         (no_wait_opens f.proto slirp.number f.host answer past ∙ none)
-        (ap (λ x. after_entry read (with_changes config x) saw opens x) is ∙ opened_desk read (with_changes config (awaits (Opening f) d)) saw f.proto slirp.number f.host answer f d off)
+        (ap (λ x. after_entry read (with_changes config x) saw opens x) is ∙ opened_control_server read (with_changes config (awaits (Opening f) d)) saw f.proto slirp.number f.host answer f d off)
         (subst (λ l. Agrees config (opened answer f slirp.number (awaits (Opening f) d)) count (with_left (reply_line (added_text fault)) talk) new link l)
         (sym (seen_next opens past (opening_off f.proto slirp.number f.host answer off) (opening_seen f.proto slirp.number f.host answer))) (agrees_by answer fault refl adds))
 
   -- ---- one is taken back
 
-  module _ (proto : Proto) (host : Endpoint) (socket : ℕ) (new : SlirpState) (is : desk read config past ≡ removes (Some socket) proto host d) (off : is_controls socket ≡ false)
+  module _ (proto : Proto) (host : Endpoint) (socket : ℕ) (new : SlirpState) (is : control_server read config past ≡ removes (Some socket) proto host d) (off : is_controls socket ≡ false)
       (brings : (settings : Config) → is_among socket settings.removed ≡ true → AttendsNow settings (after count) false slirp link saw
       → AttendsNow settings (after count) false new link (Close socket ∷ saw))
       (forwards : new.forwards ≡ without proto host slirp.forwards) (number : new.number ≡ slirp.number) where
@@ -199,12 +199,12 @@ module _ {talk : Talk} {slirp : SlirpState} {link : LinkState} (read : Reads) (c
             (subst (λ m. m < next_number (Close socket ∷ saw)) is_it it.0, subst (λ m. is_among m (open_sockets (Close socket ∷ saw)) ≡ false) is_it it.1)
         by false false old here some = cc
 
-    -- the desk after the close
-    abbrev waits_for_close : Desk
+    -- the control server after the close
+    abbrev waits_for_close : ControlServer
     waits_for_close = removes (Some socket) proto host d
 
-    shut_desk : shut socket waits_for_close ≡ awaits Nothing waits_for_close
-    shut_desk =
+    shut_control_server : shut socket waits_for_close ≡ awaits Nothing waits_for_close
+    shut_control_server =
         ap (λ b. cond b (awaits Nothing (with_talk (deaf waits_for_close.talk) waits_for_close)) (cond (is_peer socket d.talk.peer) (awaits Nothing (with_talk (hung_up waits_for_close.talk) waits_for_close)) (awaits Nothing waits_for_close)))
         (not_the_listener listener socket off)
         ∙ ap (λ b. cond b (awaits Nothing (with_talk (hung_up waits_for_close.talk) waits_for_close)) (awaits Nothing waits_for_close)) (no_peer socket d.talk.peer own off)
@@ -213,14 +213,14 @@ module _ {talk : Talk} {slirp : SlirpState} {link : LinkState} (read : Reads) (c
         not_the_listener l n less = grind (arith, nat_tests, less)
 
         own : OwnPeer d.talk.peer
-        own = subst (λ (x : Desk). OwnPeer x.talk.peer) is (own_peer read config past)
+        own = subst (λ (x : ControlServer). OwnPeer x.talk.peer) is (own_peer read config past)
 
     pub removed : Stands [] (with_left (reply_line (removed_text true)) talk) new link read config count (Close socket ∷ past)
     removed =
         stands_as read config count (Close socket ∷ past) (awaits Nothing waits_for_close)
-        (awaited_may read config past (CallClose socket) (Shutting socket) (ap (λ (x : Desk). x.awaited) is) refl, control)
+        (awaited_may read config past (CallClose socket) (Shutting socket) (ap (λ (x : ControlServer). x.awaited) is) refl, control)
         none
-        (ap (λ x. shut socket x) is ∙ shut_desk)
+        (ap (λ x. shut socket x) is ∙ shut_control_server)
         (subst (λ l. Agrees config (awaits Nothing waits_for_close) count (with_left (reply_line (removed_text true)) talk) new link l) (sym (seen_next (Close socket) past off refl))
         (record {
           calm = refl;

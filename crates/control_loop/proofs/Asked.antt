@@ -12,15 +12,15 @@ use Rattle.rules_control.specs.Talk.{Talk, after_line, first_line, is_out, is_to
 use Rattle.rules_control.specs.Commands.{Means}
 use Rattle.rules_control.specs.declared.Command.{Command}
 use Rattle.rules_control.specs.declared.Command.TheVariants.{List as Lists, What}
-use Rattle.control.proofs.Spelling.{one_command}
-use Rattle.spec_control.specs.Desk.{Desk, Reads, answers, answers_line, flows_in_use, says, serves, with_changes, with_talk}
+use Rattle.control.proofs.Encoding.{one_command}
+use Rattle.spec_control.specs.ControlServer.{ControlServer, Reads, answers, answers_line, flows_in_use, says, serves, with_changes, with_talk}
 use Rattle.spec_control.specs.Laws.{IsReading}
 use Rattle.spec_control.specs.Replies.{list_reply, reply_line}
 use Rattle.control_loop.specs.Standing.{Agrees, Asks, Owes, Stands, with_lists}
 use Rattle.control_loop.proofs.Answering.{agrees_with, attends, said, stands_as}
 
 -- nothing is answered where no line is whole, no connection is open, or a reply is left
-serves_none : (read : Reads) (config : Config) (seen : List Entry) (d : Desk) → is_to_answer d.talk ≡ false → serves read config seen d ≡ d
+serves_none : (read : Reads) (config : Config) (seen : List Entry) (d : ControlServer) → is_to_answer d.talk ≡ false → serves read config seen d ≡ d
 serves_none read config seen d quiet = by (is_out d.talk) (is_some d.talk.peer) (line_end d.talk.kept) quiet
   where
     by : (out open_yet : Bool) (end : Option ℕ) → (out && open_yet && is_some end) ≡ false
@@ -30,7 +30,7 @@ serves_none read config seen d quiet = by (is_out d.talk) (is_some d.talk.peer) 
     by true false end quiet = refl
     by false open_yet end quiet = refl
 
-serves_line : (read : Reads) (config : Config) (seen : List Entry) (d : Desk) (split : List ℕ × List ℕ) → is_out d.talk ≡ true → is_some d.talk.peer ≡ true → first_line d.talk.kept ≡ Some split
+serves_line : (read : Reads) (config : Config) (seen : List Entry) (d : ControlServer) (split : List ℕ × List ℕ) → is_out d.talk ≡ true → is_some d.talk.peer ≡ true → first_line d.talk.kept ≡ Some split
     → serves read config seen d ≡ answers config seen (read split.0) (with_talk (after_line d.talk) d)
 serves_line read config seen d split out open_yet whole =
     ap (λ b. cond (b && is_some d.talk.peer) (answers_line read config seen (first_line d.talk.kept) d) d) out
@@ -45,7 +45,7 @@ module _ {talk : Talk} {slirp : SlirpState} {link : LinkState} (read : Reads) (c
 
   pub asked : (guest : ℕ) (split : List ℕ × List ℕ) (command : Command) → guest ≡ config.dhcp_start → IsReading config read → is_out talk ≡ true → is_some talk.peer ≡ true
       → first_line talk.kept ≡ Some split → Means guest split.0 command → Owes talk slirp link read config count past → Asks command (after_line talk) slirp link read config count past
-  asked guest split command lent reading out open_yet whole means owes =
+  asked guest split command leased reading out open_yet whole means owes =
       let d = owes.before in
       let talks = owes.agrees.talk in
       record {
@@ -56,7 +56,7 @@ module _ {talk : Talk} {slirp : SlirpState} {link : LinkState} (read : Reads) (c
             ∙ serves_line read (with_changes config d) (without_control past) d split (ap is_out talks ∙ out) (ap (λ (t : Talk). is_some t.peer) talks ∙ open_yet)
             (ap (λ (t : Talk). first_line t.kept) talks ∙ whole)
             ∙ ap (λ k. answers (with_changes config d) (without_control past) k (with_talk (after_line d.talk) d))
-            (one_command config.dhcp_start split.0 (read split.0) command (reading split.0) (subst (λ n. Means n split.0 command) lent means));
+            (one_command config.dhcp_start split.0 (read split.0) command (reading split.0) (subst (λ n. Means n split.0 command) leased means));
         agrees = subst (λ t. Agrees config (with_talk (after_line d.talk) d) count (after_line t) slirp link (without_control past)) talks
             (agrees_with config count talk slirp link (without_control past) d (after_line d.talk) owes.agrees);
       }

@@ -1,4 +1,4 @@
--- A command is followed: what was called for it, and what is said, is what the desk comes to.
+-- A command is followed: what was called for it, and what is said, is what the control server comes to.
 use Rattle.std.proofs.Common.{◌≡◌, ℕ, ◌+◌, ◌<◌, ◌&&◌, nat_le, not, Bool, true, false, cond, is_some, List, [], ◌∷◌, ◌++◌, find, length, Option, Some, None, option_map, refl, sym, ◌∙◌, ap, subst, if◌then◌else◌}
 use Rattle.net_octets.specs.declared.Endpoint.{Endpoint}
 use Rattle.std.specs.Option.{option_map_or}
@@ -25,7 +25,7 @@ use Rattle.serve_loop.specs.Served.{ServiceState}
 use Rattle.serve_loop.specs.Turns.{AttendsNow}
 use Rattle.rules_control.specs.Apart.{is_controls, without_control}
 use Rattle.rules_control.specs.Talk.{Talk, with_left}
-use Rattle.spec_control.specs.Desk.{Desk, Reads, adds_unless, desk, is_its_own, removes, with_changes}
+use Rattle.spec_control.specs.ControlServer.{ControlServer, Reads, adds_unless, control_server, is_its_own, removes, with_changes}
 use Rattle.spec_control.specs.Replies.{added_text, removed_text, reply_line}
 use Rattle.rules_control.specs.declared.Command.TheVariants.{Add, Remove}
 use Rattle.control_loop.specs.Standing.{Asks, AttendsOn, Stands, cause_against, with_lists}
@@ -67,16 +67,16 @@ module _ (talk : Talk) (old new : ServiceState) (read : Reads) (config : Config)
   -- ---- an add
 
   module _ (at : Endpoint) (f : Forward) (own_port : config.control ≡ Some at) (asks : Asks (Add f) talk old.slirp old.link read config count past) (off : is_controls old.slirp.number ≡ false) (link : new.link ≡ old.link) where
-    abbrev d : Desk
+    abbrev d : ControlServer
     d = asks.before
 
-    -- by the desk's settings and list the same speaks against it
+    -- by the control server's settings and list the same speaks against it
     same_cause : (if is_its_own (with_changes config d) f then Some Taken else fault_of (with_changes config d) f d.forwards) ≡ cause_against old.slirp.config at f old.slirp.forwards
     same_cause =
         ap (λ o. if same_proto f.proto Tcp && option_map_or (same_endpoint f.host) o false then Some Taken else fault_of (with_changes config d) f d.forwards) own_port
         ∙ ap (λ l. cause_against config at f l) asks.agrees.forwards ∙ ap (λ k. cause_against k at f old.slirp.forwards) (sym its)
 
-    is_by : (cause : Option FwdFault) → cause_against old.slirp.config at f old.slirp.forwards ≡ cause → desk read config past ≡ adds_unless cause f d
+    is_by : (cause : Option FwdFault) → cause_against old.slirp.config at f old.slirp.forwards ≡ cause → control_server read config past ≡ adds_unless cause f d
     is_by cause is = asks.is ∙ ap (λ o. adds_unless o f d) (same_cause ∙ is)
 
     pub add_led : (fault : Option FwdFault) (made : List Entry) → new.slirp ≡ record old.slirp { number = number_after fault old.slirp.number; forwards = new.slirp.forwards }
@@ -118,8 +118,8 @@ module _ (talk : Talk) (old new : ServiceState) (read : Reads) (config : Config)
 
   module _ (proto : Proto) (host : Endpoint) (asks : Asks (Remove proto host) talk old.slirp old.link read config count past) (off : (n : ℕ) → is_among n (open_sockets (without_control past)) ≡ true → is_controls n ≡ false)
       (slirp : new.slirp ≡ record old.slirp { forwards = without proto host old.slirp.forwards }) (link : new.link ≡ old.link) where
-    its_desk : desk read config past ≡ removes (socket_at proto host old.slirp.forwards) proto host asks.before
-    its_desk = asks.is ∙ ap (λ l. removes (socket_at proto host l) proto host asks.before) asks.agrees.forwards
+    its_control_server : control_server read config past ≡ removes (socket_at proto host old.slirp.forwards) proto host asks.before
+    its_control_server = asks.is ∙ ap (λ l. removes (socket_at proto host l) proto host asks.before) asks.agrees.forwards
 
     pub remove_led : (made : List Entry) → made ≡ closed_at (socket_at proto host old.slirp.forwards) → AttendsOn (λ settings. MayRemove settings old.slirp proto host) old new made
         → Stands [] (with_left (reply_line (removed_text (is_some (socket_at proto host old.slirp.forwards)))) talk) new.slirp new.link read config count (made ++ past)
@@ -148,9 +148,9 @@ module _ (talk : Talk) (old new : ServiceState) (read : Reads) (config : Config)
             let kept : new.slirp ≡ old.slirp = slirp ∙ ap (λ l. record old.slirp { forwards = l }) (none_there proto host old.slirp.forwards (not_found (find (is_at proto host) old.slirp.forwards) none)) in
             subst (λ (s : SlirpState). Stands [] (with_left (reply_line (removed_text false)) talk) s new.link read config count past) (sym kept)
             (subst (λ (l : LinkState). Stands [] (with_left (reply_line (removed_text false)) talk) old.slirp l read config count past) (sym link)
-            (said read config count past asks.before (reply_line (removed_text false)) asks.control asks.reported (its_desk ∙ ap (λ o. removes o proto host asks.before) none) asks.agrees))
+            (said read config count past asks.before (reply_line (removed_text false)) asks.control asks.reported (its_control_server ∙ ap (λ o. removes o proto host asks.before) none) asks.agrees))
         by (Some socket) there =
             subst (λ (l : LinkState). Stands [] (with_left (reply_line (removed_text true)) talk) new.slirp l read config count (Close socket ∷ past)) (sym link)
-            (removed read config count past asks.before given asks.control asks.reported asks.agrees proto host socket new.slirp (its_desk ∙ ap (λ o. removes o proto host asks.before) there)
+            (removed read config count past asks.before given asks.control asks.reported asks.agrees proto host socket new.slirp (its_control_server ∙ ap (λ o. removes o proto host asks.before) there)
             (off socket (closes_it socket there))
             (brings_it socket there) (ap (λ (s : SlirpState). s.forwards) slirp) (ap (λ (s : SlirpState). s.number) slirp))

@@ -22,7 +22,7 @@ use Rattle.serve_loop.specs.declared.service.End.TheVariants.{ListenRefused, Tur
 use Rattle.rules_control.specs.Apart.{reported_of, without_control}
 use Rattle.rules_control.specs.Talk.{Talk, listener, want_of}
 use Rattle.control.specs.Stretches.{AreSeen, IsItem, IsSeen, last_reported}
-use Rattle.spec_control.specs.Desk.{Reads, desk}
+use Rattle.spec_control.specs.ControlServer.{Reads, control_server}
 use Rattle.control_loop.specs.Runs.{RunsWith}
 use Rattle.control_loop.specs.Standing.{Closes, Stands, with_lists}
 use Rattle.control_loop.proofs.Added.{has_just}
@@ -64,7 +64,7 @@ module _ (talk : Talk) (service : ServiceState) (read : Reads) (config : Config)
   pub spent_all : (item : Option Want) → IsItem item → want_of talk ≡ item → (turns : ℕ) → turns ≡ config.turns → 1 ≤ config.turns → config.turns ≤ count → service.slirp.number ≤ listener → (made : List Entry)
       → ClosesAll service.slirp.forwards (holders_of service.slirp) made → AreCloses made → AreAllowed made → Closes (TurnsSpent turns) talk read config (made ++ past)
   spent_all item own is_want turns is some all few made closes_all closes allowed =
-      let d = desk read config past in
+      let d = control_server read config past in
       let before = without_control past in
       let just = with_lists config d.added d.removed in
       let attended = stands.agrees.network just (has_just config d.added d.removed given) in

@@ -4,7 +4,7 @@ use Rattle.world_face.specs.Journal.{Entry}
 use Rattle.world_face.specs.Tells.{Makes, Telling}
 use Rattle.world_face.proofs.Telling.{makes_none, makes_then}
 use Rattle.slirp_settings.specs.Addresses.{Config}
-use Rattle.spec_control.specs.Desk.{Reads}
+use Rattle.spec_control.specs.ControlServer.{Reads}
 use Rattle.control_loop.specs.Standing.{Leads}
 
 -- with no call

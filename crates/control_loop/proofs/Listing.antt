@@ -9,7 +9,7 @@ use Rattle.world_face.specs.declared.Accepted.TheVariants.{From, NotYet as NoPee
 use Rattle.world_face.specs.declared.Made.TheVariants.{Done, Failed}
 use Rattle.slirp_settings.specs.Addresses.{Config}
 use Rattle.flow_table.specs.declared.Slot.{Slot}
-use Rattle.flow_table.specs.declared.Slot.TheVariants.{Free, InUse, Resting}
+use Rattle.flow_table.specs.declared.Slot.TheVariants.{Free, InUse, InTimeWait}
 use Rattle.spec_flows.specs.declared.Tuple.{Tuple}
 use Rattle.spec_flow.specs.Close.{is_in_use}
 use Rattle.spec_flow.specs.Event.{Accepts, Arrives}
@@ -17,11 +17,11 @@ use Rattle.spec_flow.specs.Flow.{first_number}
 use Rattle.spec_trace.specs.Happenings.{Arrival, happens}
 use Rattle.spec_trace.specs.Sockets.{next_number}
 use Rattle.spec_flows.specs.Book.{book, doom, is_refused, joins_for, opens, port_of, scene, tuple_for, turned, visits_for}
-use Rattle.spec_flows.specs.Doings.{Doing, Nothing, Comes, Goes, Seeks, Pauses, Joins, Visits, Calls, Shuts, by_call, comes, doing, doing_by, goes}
-use Rattle.spec_flows.specs.Flows.{Book, Flow, Scene, flow_of, is_numbered, is_on, seeks_for, sends, shuts, tell, uses, with_event}
+use Rattle.spec_flows.specs.Doings.{Doing, Nothing, Comes, Goes, Resolves, Pauses, Joins, Visits, Calls, Shuts, by_call, comes, doing, doing_by, goes}
+use Rattle.spec_flows.specs.Flows.{Book, Flow, Scene, flow_of, is_numbered, is_on, resolves_for, sends, shuts, tell, uses, with_event}
 use Rattle.spec_flows.specs.Said.{Each}
 use Rattle.spec_flows.specs.Segments.{OnTuple, asked_in, segment_came, segment_in}
-use Rattle.spec_flows.proofs.Apart.{seeks_number, sends_number}
+use Rattle.spec_flows.proofs.Apart.{resolves_number, sends_number}
 use Rattle.spec_flows.proofs.Keeping.{are_kept}
 use Rattle.spec_flows.proofs.Lists.{each_found, each_map, each_told, fresh, found_number}
 use Rattle.spec_run.specs.Laws.{Lawful, May}
@@ -34,11 +34,11 @@ use Rattle.slirp_core.specs.NextFlow.{IsNextFlow, IsNextInUse}
 use Rattle.slirp_core.specs.State.{SlirpState}
 use Rattle.stream_netdev.specs.State.{LinkState}
 use Rattle.serve_loop.specs.Turns.{AttendsNow}
-use Rattle.spec_control.specs.Desk.{flow_entry, flows_in_use}
+use Rattle.spec_control.specs.ControlServer.{flow_entry, flows_in_use}
 use Rattle.spec_control.specs.Replies.{flow_lines, flow_text, forward_lines, forward_text, reply_line}
 use Rattle.rules_forward.specs.Opened.{Opened}
 
--- ---- the flows of a record stand by falling number
+-- ---- the flows of a trace stand by falling number
 
 -- the socket of the flow that is opened, where one is
 abbrev new_socket : Doing → Option ℕ
@@ -88,7 +88,7 @@ module _ (config : Config) (sc : Scene) (b : Book) (fall : Fall b.flows) where
   fall_by Nothing new = fall
   fall_by (Comes on) new = fall_told (with_event sc.moment (Arrives on.segment)) (λ f. refl) (is_on on.tuple) b.flows fall
   fall_by (Goes on) new = fall_told (sends sc.moment on.segment) (sends_number sc.moment on.segment) (is_on on.tuple) b.flows fall
-  fall_by (Seeks guest) new = fall_map (seeks_for sc.moment guest) (seeks_number sc.moment guest) b.flows fall
+  fall_by (Resolves guest) new = fall_map (resolves_for sc.moment guest) (resolves_number sc.moment guest) b.flows fall
   fall_by Pauses new = fall
   fall_by (Joins socket) new = joined socket (new socket refl) b.came
   fall_by (Visits listener socket peer) new = visited socket peer (new socket refl) (port_of config listener)
@@ -288,7 +288,7 @@ used_few : (slots : List Slot) → in_use_slots slots ≤ length slots
 used_few [] = omega arith
 used_few (Free ∷ slots) = omega (arith, used_few slots)
 used_few (InUse t ∷ slots) = omega (arith, used_few slots)
-used_few (Resting t since ∷ slots) = omega (arith, used_few slots)
+used_few (InTimeWait t since ∷ slots) = omega (arith, used_few slots)
 
 pub listed_few : {slirp : SlirpState} {link : LinkState} (settings : Config) (count : ℕ) (past : List Entry) → AttendsNow settings (after count) false slirp link past → slirp.config.flows ≤ 4096
     → length (flows_in_use (book settings past).flows) ≤ 4096

@@ -10,7 +10,7 @@ use Rattle.serve_loop.specs.Ends.{end_of}
 use Rattle.serve_loop.specs.declared.service.End.{End}
 use Rattle.rules_control.specs.Apart.{is_controls, without_control}
 use Rattle.rules_control.specs.Talk.{Talk, all_closed, closed_if, deaf, hung_up, listener, peer_closed}
-use Rattle.spec_control.specs.Desk.{Desk, Nothing, Reads, awaits, by_control, desk, is_peer, shut, with_changes, with_talk}
+use Rattle.spec_control.specs.ControlServer.{ControlServer, Nothing, Reads, awaits, by_control, control_server, is_peer, shut, with_changes, with_talk}
 use Rattle.spec_control.specs.Laws.{Either, MayClose, MayControl, MayGiveUp, first_open}
 use Rattle.control_loop.specs.Runs.{RunsWith, Serves}
 use Rattle.control_loop.specs.Standing.{Closes}
@@ -28,13 +28,13 @@ module _ {end : End} {talk : Talk} (read : Reads) (config : Config) (past : List
     hidden : without_control (Close socket ∷ past) ≡ without_control past
     hidden = hides (Close socket) past (is_controls socket) own
 
-    pub closed_one : (t : Talk) → shut socket (desk read config past) ≡ awaits Nothing (with_talk t (desk read config past)) → Closes end t read config (Close socket ∷ past)
+    pub closed_one : (t : Talk) → shut socket (control_server read config past) ≡ awaits Nothing (with_talk t (control_server read config past)) → Closes end t read config (Close socket ∷ past)
     closed_one t is =
         let same : by_control read config (Close socket ∷ past) ≡ by_control read config past = ap (with_changes config) is in
         record {
           control = (may_close, closes.control);
-          calm = ap (λ (x : Desk). x.awaited) is;
-          talk = ap (λ (x : Desk). x.talk) is;
+          calm = ap (λ (x : ControlServer). x.awaited) is;
+          talk = ap (λ (x : ControlServer). x.talk) is;
           lawful = subst (λ k. Lawful k (without_control (Close socket ∷ past))) (sym same) (subst (Lawful (by_control read config past)) (sym hidden) closes.lawful);
           dutiful = subst (λ k. Dutiful k (without_control (Close socket ∷ past))) (sym same) (subst (Dutiful (by_control read config past)) (sym hidden) closes.dutiful);
           finished = subst (λ k. Finished k (without_control (Close socket ∷ past))) (sym same) (subst (Finished (by_control read config past)) (sym hidden) closes.finished);
@@ -59,7 +59,7 @@ listener_own = refl
 -- the listener first
 without_listener : {end : End} {talk : Talk} (read : Reads) (config : Config) (past : List Entry) → talk.listening ≡ true → Closes end talk read config past → Closes end (deaf talk) read config (Close listener ∷ past)
 without_listener {end} {talk} read config past listens closes =
-    closed_one read config past closes listener listener_own (ap (λ b. cond b (Some listener) talk.peer) listens) (deaf talk) (ap (λ (t : Talk). awaits Nothing (with_talk (deaf t) (desk read config past))) closes.talk)
+    closed_one read config past closes listener listener_own (ap (λ b. cond b (Some listener) talk.peer) listens) (deaf talk) (ap (λ (t : Talk). awaits Nothing (with_talk (deaf t) (control_server read config past))) closes.talk)
 
 -- and then the connection
 without_peer : {end : End} {talk : Talk} (read : Reads) (config : Config) (past : List Entry) (socket : ℕ) → listener < socket → talk.listening ≡ false → talk.peer ≡ Some socket
@@ -71,8 +71,8 @@ without_peer {end} {talk} read config past socket above deaf_now open_yet closes
     ∙ ap (λ b. cond b (awaits Nothing (with_talk (hung_up its.talk) its)) (awaits Nothing its)) itself
     ∙ ap (λ (t : Talk). awaits Nothing (with_talk (hung_up t) its)) closes.talk)
   where
-    its : Desk
-    its = desk read config past
+    its : ControlServer
+    its = control_server read config past
 
     itself : (socket == socket) ≡ true
     itself = grind (arith, nat_tests)

@@ -30,7 +30,7 @@ use Rattle.rules_control.specs.Apart.{without_control}
 use Rattle.rules_control.specs.Talk.{after_listen, listener, silent}
 use Rattle.control.specs.Stretches.{AreSeen, IsItem, last_reported}
 use Rattle.control.proofs.Apartness.{is_wait, passed_as_they_are}
-use Rattle.spec_control.specs.Desk.{AreOffControl, Desk, Nothing, Reads, at_first, by_control, desk, numbered_from, with_changes, with_talk}
+use Rattle.spec_control.specs.ControlServer.{AreOffControl, ControlServer, Nothing, Reads, at_first, by_control, control_server, numbered_from, with_changes, with_talk}
 use Rattle.spec_control.specs.Laws.{MayControl, is_its_listen, reported, wants_of}
 use Rattle.control_loop.specs.Runs.{IsRefused, RunsWith, Serves}
 use Rattle.control_loop.specs.Standing.{Agrees, Stands, with_lists}
@@ -74,8 +74,8 @@ module _ (read : Reads) (config : Config) (given : config ≡ as_given config) (
   pub control_first : Follows (MayControl read config) made
   control_first = subst (Follows (MayControl read config)) made_same first_led.control
 
-  pub desk_first : desk read config made ≡ at_first config
-  desk_first = ap (desk read config) (sym made_same) ∙ first_led.stays
+  pub control_server_first : control_server read config made ≡ at_first config
+  control_server_first = ap (control_server read config) (sym made_same) ∙ first_led.stays
 
   pub seen_first : without_control made ≡ seen
   seen_first = ap without_control (sym made_same) ∙ first_led.saw ∙ same
@@ -103,7 +103,7 @@ pub port_refused : (read : Reads) (config : Config) → config ≡ as_given conf
 port_refused read config given place made seen are allowed ran few =
     let early = subst IsEarly ran.2 tt in
     let none = refused_unwaited (plain config) seen place ran.0 (sym ran.2) in
-    let its = desk_first read config given made seen are allowed ran.0 early none few in
+    let its = control_server_first read config given made seen are allowed ran.0 early none few in
     let saw = seen_first read config given made seen are allowed ran.0 early none few in
     let same_settings : by_control read config made ≡ plain config = ap (with_changes config) its in
     Serves (record {
@@ -111,9 +111,9 @@ port_refused read config given place made seen are allowed ran few =
       lawful = subst (λ k. Lawful k (without_control made)) (sym same_settings) (subst (Lawful (plain config)) (sym saw) ran.0);
       dutiful = subst (λ k. Dutiful k (without_control made)) (sym same_settings) (subst (Dutiful (plain config)) (sym saw) (dutiful_unwaited (plain config) seen none));
       finished = subst (λ k. Finished k (without_control made)) (sym same_settings) (subst (Finished (plain config)) (sym saw) ran.1);
-      unawaited = ap (λ (x : Desk). x.awaited) its;
-      deaf = ap (λ (x : Desk). x.talk.listening) its;
-      alone = ap (λ (x : Desk). x.talk.peer) its;
+      unawaited = ap (λ (x : ControlServer). x.awaited) its;
+      deaf = ap (λ (x : ControlServer). x.talk.listening) its;
+      alone = ap (λ (x : ControlServer). x.talk.peer) its;
     })
     (ap (end_of config) (ran.2 ∙ phase_as config [] [] seen) ∙ ap (λ l. end_of config (phase config l)) (sym saw))
 
@@ -163,8 +163,8 @@ module _ (read : Reads) (config : Config) (at : Endpoint) (given : config ≡ as
   drawn : next_number seen ≤ listener
   drawn = let is = now_open.sockets.number in omega (arith, is, few)
 
-  its_desk : desk read config made ≡ at_first config
-  its_desk = desk_first read config given made seen are allowed now_open.lawful early unwaited drawn
+  its_control_server : control_server read config made ≡ at_first config
+  its_control_server = control_server_first read config given made seen are allowed now_open.lawful early unwaited drawn
 
   saw : without_control made ≡ seen
   saw = seen_first read config given made seen are allowed now_open.lawful early unwaited drawn
@@ -173,11 +173,11 @@ module _ (read : Reads) (config : Config) (at : Endpoint) (given : config ≡ as
   listens answer = Listen listener at answer
 
   may_listen : MayControl read config made (CallListen listener at)
-  may_listen = awaited_may read config made (CallListen listener at) Nothing (ap (λ (x : Desk). x.awaited) its_desk)
+  may_listen = awaited_may read config made (CallListen listener at) Nothing (ap (λ (x : ControlServer). x.awaited) its_control_server)
       (record {
         number = refl;
         configured = own_place;
-        opening = (length config.forwards, ap (λ x. phase (with_changes config x) (without_control made)) its_desk ∙ ap (phase (plain config)) saw ∙ its_phase);
+        opening = (length config.forwards, ap (λ x. phase (with_changes config x) (without_control made)) its_control_server ∙ ap (phase (plain config)) saw ∙ its_phase);
         first = no_listen made (off_first read config given made seen are allowed now_open.lawful early unwaited drawn);
       })
 
@@ -200,14 +200,14 @@ module _ (read : Reads) (config : Config) (at : Endpoint) (given : config ≡ as
   module _ (new : SlirpState) (new_link : LinkState) (item : Option Want) (own : IsItem item) (wanted : as_list item ≡ wants_of (after_listen Done silent)) (more later : List Entry) (are_more : AreSeen item more later)
       (allowed_more : AreAllowed later) (attends : (settings : Config) → config ≡ as_given settings → AttendsNow settings (after 0) false new new_link (later ++ seen)) (few_yet : new.number ≤ 32)
       (forwards : new.forwards ≡ slirp.forwards) where
-    abbrev d : Desk
+    abbrev d : ControlServer
     d = with_talk (after_listen Done silent) (at_first config)
 
     abbrev so_far : List Entry
     so_far = listens Done ∷ made
 
-    desk_so_far : desk read config so_far ≡ d
-    desk_so_far = ap (λ (x : Desk). with_talk (after_listen Done x.talk) x) its_desk
+    control_server_so_far : control_server read config so_far ≡ d
+    control_server_so_far = ap (λ (x : ControlServer). with_talk (after_listen Done x.talk) x) its_control_server
 
     none_later : (n : ℕ) → length config.forwards ≤ n → forward_on (plain config) n ≡ None
     none_later n above = ap (λ o. option_or o None) (past_end config.forwards n above)
@@ -224,9 +224,9 @@ module _ (read : Reads) (config : Config) (at : Endpoint) (given : config ≡ as
     reported_so : reported so_far ≡ []
     reported_so = reported_first read config given made seen are allowed now_open.lawful early unwaited drawn
 
-    its_led : IsLed read config d item so_far own wanted refl desk_so_far reported_so more later
+    its_led : IsLed read config d item so_far own wanted refl control_server_so_far reported_so more later
     its_led =
-        led_by read config d item so_far own wanted refl desk_so_far reported_so (may_listen, control_first read config given made seen are allowed now_open.lawful early unwaited drawn) (sym (ap is_some own_place)) settled_at_first
+        led_by read config d item so_far own wanted refl control_server_so_far reported_so (may_listen, control_first read config given made seen are allowed now_open.lawful early unwaited drawn) (sym (ap is_some own_place)) settled_at_first
         more later are_more allowed_more (subst (λ l. Lawful (plain config) (later ++ l)) (sym saw) just_attends.0.lawful) (subst (λ l. Dutiful (plain config) (later ++ l)) (sym saw) just_attends.1.0)
         (let none = just_attends.0.clock.counted in let same_seen = ap (λ l. waits (later ++ l)) saw in omega (arith, none, same_seen))
         (let is = just_attends.0.sockets.number in let same_seen = ap (λ l. next_number (later ++ l)) saw in omega (arith, is, same_seen, few_yet))

@@ -1,4 +1,4 @@
--- A stretch of the network's calls, on the World below: each is one that may come where there is a control, and the desk stays as it is.
+-- A stretch of the network's calls, on the World below: each is one that may come where there is a control, and the control server stays as it is.
 use Rattle.std.proofs.Common.{◌≡◌, ℕ, ◌+◌, ◌≤◌, ◌==◌, ◌&&◌, ◌||◌, Bool, true, false, cond, is_some, List, [], ◌∷◌, ◌++◌, Option, Some, None, refl, sym, ◌∙◌, ap, subst, arith}
 use Rattle.std.proofs.lemmas.Bool.{true≢false}
 use Rattle.std.specs.List.{cons_option}
@@ -15,9 +15,9 @@ use Rattle.spec_trace.specs.Moments.{waits}
 use Rattle.spec_trace.specs.Shape.{is_ended, is_opening, phase}
 use Rattle.spec_trace.specs.Sockets.{is_forward, is_listener, kind_of}
 use Rattle.rules_control.specs.Apart.{is_controls, is_of_control, is_on_control, reported_of, seen as seen_of, without_control}
-use Rattle.spec_control.specs.Desk.{AreOffControl, Desk, Nothing, Reads, desk, with_changes}
+use Rattle.spec_control.specs.ControlServer.{AreOffControl, ControlServer, Nothing, Reads, control_server, with_changes}
 use Rattle.spec_control.specs.Laws.{Either, MayByItself, MayControl, MayGiveUp, MayOpen, MayWhere, reported, wants_of, without_read, without_write}
-use Rattle.spec_control.proofs.Staying.{desk_stays}
+use Rattle.spec_control.proofs.Staying.{control_server_stays}
 use Rattle.control.proofs.Apartness.{AreFew, AreForItem, AreOff, IsFew, IsForItem, IsOff, all_for_item, apart_as_seen, seen_off}
 use Rattle.control.specs.Stretches.{AreSeen, IsItem, IsSeen, last_reported}
 
@@ -123,12 +123,12 @@ none_yet item (e ∷ made) (s ∷ seen) past are few = ap (λ x. last_reported i
 
 -- ---- one call
 
--- the desk is this one, and the network saw this
-record IsAt (read : Reads) (config : Config) (d : Desk) (seen past : List Entry) : Type 0 where
-  so : desk read config past ≡ d
+-- the control server is this one, and the network saw this
+record IsAt (read : Reads) (config : Config) (d : ControlServer) (seen past : List Entry) : Type 0 where
+  so : control_server read config past ≡ d
   saw : without_control past ≡ seen
 
-module _ (read : Reads) (config : Config) (d : Desk) where
+module _ (read : Reads) (config : Config) (d : ControlServer) where
   may_open : (seen past : List Entry) (at : Endpoint) → IsAt read config d seen past → MayOpenNow (with_changes config d) seen at → MayOpen read config past at
   may_open seen past at here may named =
       ap (λ x. is_opening (phase (with_changes config x) (without_control past))) here.so ∙ ap (λ l. is_opening (phase (with_changes config d) l)) here.saw ∙ may named
@@ -150,7 +150,7 @@ module _ (read : Reads) (config : Config) (d : Desk) where
   may_by : (seen past : List Entry) (e : Entry) → IsOther e → IsAt read config d seen past → IsOff e → KeepsTo d.talk.listening (is_some config.control) (with_changes config d) seen e
       → MayByItself read config past (call_of e)
   may_by seen past (Wait wants timeout answer ready) never here off keeps = absurd never
-  may_by seen past (Now told) never here off keeps = ap (λ (x : Desk). x.talk.listening) here.so ∙ keeps
+  may_by seen past (Now told) never here off keeps = ap (λ (x : ControlServer). x.talk.listening) here.so ∙ keeps
   may_by seen past (Listen socket at answer) never here off keeps = other _ _ (is_controls socket) off (may_open seen past at here keeps)
   may_by seen past (UdpOpen socket at answer) never here off keeps = (off, may_open seen past at here keeps)
   may_by seen past (Accept from socket answer) never here off keeps = other _ _ (is_controls from) off tt
@@ -164,7 +164,7 @@ module _ (read : Reads) (config : Config) (d : Desk) where
   may_by seen past (UdpRecv socket asked answer octets) never here off keeps = off
   may_by seen past _ never here off keeps = tt
 
--- what is seen of a longer record
+-- what is seen of a longer trace
 pub apart_then : (made past : List Entry) → without_control (made ++ past) ≡ without_control made ++ without_control past
 apart_then [] past = refl
 apart_then (e ∷ made) past = by (is_on_control e) (apart_then made past)
@@ -176,17 +176,17 @@ apart_then (e ∷ made) past = by (is_on_control e) (apart_then made past)
 
 -- ---- all of them
 
-module _ (read : Reads) (config : Config) (d : Desk) (item : Option Want) (past : List Entry) (own : IsItem item) (wanted : as_list item ≡ wants_of d.talk) (calm : d.awaited ≡ Nothing)
-    (here : desk read config past ≡ d) (none : reported past ≡ []) where
-  unawaited : (desk read config past).awaited ≡ Nothing
-  unawaited = ap (λ (x : Desk). x.awaited) here ∙ calm
+module _ (read : Reads) (config : Config) (d : ControlServer) (item : Option Want) (past : List Entry) (own : IsItem item) (wanted : as_list item ≡ wants_of d.talk) (calm : d.awaited ≡ Nothing)
+    (here : control_server read config past ≡ d) (none : reported past ≡ []) where
+  unawaited : (control_server read config past).awaited ≡ Nothing
+  unawaited = ap (λ (x : ControlServer). x.awaited) here ∙ calm
 
   abbrev before : List Entry
   before = without_control past
 
   is_at : (made seen : List Entry) → AreSeen item made seen → AreOff seen → IsAt read config d (seen ++ before) (made ++ past)
   is_at made seen are off = record {
-    so = desk_stays read config made past (all_off item made seen own are off) unawaited ∙ here;
+    so = control_server_stays read config made past (all_off item made seen own are off) unawaited ∙ here;
     saw = apart_then made past ∙ ap (λ l. l ++ before) (apart_as_seen item made seen own are off);
   }
 
@@ -200,14 +200,14 @@ module _ (read : Reads) (config : Config) (d : Desk) (item : Option Want) (past 
       subst (λ x. MayByItself read config (made ++ past) (call_of x)) (sym is.1)
       (record {
         own = subst (IsForItem item) is.1 (all_for_item item (e ∷ made) (Wait wants timeout answer shown ∷ seen) own (is, are) (off, all_off_yet) (few, all_few)).0
-            ∙ wanted ∙ ap (λ (x : Desk). wants_of x.talk) (sym at.so);
+            ∙ wanted ∙ ap (λ (x : ControlServer). wants_of x.talk) (sym at.so);
         served = reports_so made seen are all_off_yet all_few ∙ none_yet item made seen before are (let one : waits (seen ++ before) + 1 ≤ waits before + 1 = once in omega (arith, one));
       })
   by_itself e s made seen is are off all_off_yet few all_few keeps once =
       subst (λ x. MayByItself read config (made ++ past) (call_of x)) (sym is) (may_by read config d (seen ++ before) (made ++ past) s tt (is_at made seen are all_off_yet) off keeps)
 
   may : (made seen : List Entry) (call : Call) → AreSeen item made seen → AreOff seen → MayByItself read config (made ++ past) call → MayControl read config (made ++ past) call
-  may made seen call are off by_it = subst (λ a. MayWhere a read config (made ++ past) call) (sym (ap (λ (x : Desk). x.awaited) (is_at made seen are off).so ∙ calm)) by_it
+  may made seen call are off by_it = subst (λ a. MayWhere a read config (made ++ past) call) (sym (ap (λ (x : ControlServer). x.awaited) (is_at made seen are off).so ∙ calm)) by_it
 
   all_may : (made seen : List Entry) → AreSeen item made seen → AreOff seen → AreFew seen → AllKeepTo d.talk.listening (is_some config.control) (with_changes config d) seen before
       → waits (seen ++ before) ≤ waits before + 1 → Follows (MayControl read config) past → Follows (MayControl read config) (made ++ past)
@@ -222,7 +222,7 @@ module _ (read : Reads) (config : Config) (d : Desk) (item : Option Want) (past 
   -- the stretch
   pub record IsLed (made seen : List Entry) : Type 0 where
     pub control : Follows (MayControl read config) (made ++ past)
-    pub stays : desk read config (made ++ past) ≡ d
+    pub stays : control_server read config (made ++ past) ≡ d
     pub saw : without_control (made ++ past) ≡ seen ++ without_control past
     pub reports : reported (made ++ past) ≡ last_reported item made
 

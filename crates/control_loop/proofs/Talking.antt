@@ -1,4 +1,4 @@
--- A call on the control's own sockets: what the desk comes to is what the connection has afterwards.
+-- A call on the control's own sockets: what the control server comes to is what the connection has afterwards.
 use Rattle.std.proofs.Common.{◌≡◌, ℕ, ◌<◌, ◌==◌, ◌&&◌, nat_le, Bool, true, false, cond, is_some, List, [], ◌∷◌, ◌++◌, take, Option, Some, None, refl, sym, ◌∙◌, ap, subst, arith}
 use Rattle.std.proofs.lemmas.Bool.Decides.{nat_tests}
 use Rattle.poll_list.specs.Listing.{reads, writes}
@@ -13,7 +13,7 @@ use Rattle.stream_netdev.specs.State.{LinkState}
 use Rattle.slirp_core.specs.State.{SlirpState}
 use Rattle.rules_control.specs.Apart.{is_controls, seen as seen_of, without_control}
 use Rattle.rules_control.specs.Talk.{Talk, after_accept, after_read, after_write, closed_if, deaf, fails, first_line, free, hung_up, is_last, is_out, listener, most_at_once, next_peer, with_kept}
-use Rattle.spec_control.specs.Desk.{Desk, Nothing, Shutting, Reads, after_call, answers_line, awaits, desk, is_peer, serves, shut, with_changes, with_talk}
+use Rattle.spec_control.specs.ControlServer.{ControlServer, Nothing, Shutting, Reads, after_call, answers_line, awaits, control_server, is_peer, serves, shut, with_changes, with_talk}
 use Rattle.spec_control.specs.Laws.{Either, MayControl, MayRead, MayWhere, MayWrite, reported, without_read, without_write}
 use Rattle.control_loop.specs.Standing.{Agrees, Owes, Stands}
 use Rattle.control_loop.proofs.Answering.{agrees_with, awaited_may, stands_as}
@@ -30,8 +30,8 @@ hides e past b own = ap (λ x. cond x (without_control past) (seen_of e ∷ with
 
 module _ {items : List Want} {talk : Talk} {slirp : SlirpState} {link : LinkState} (read : Reads) (config : Config) (count : ℕ) (past : List Entry)
     (stands : Stands items talk slirp link read config count past) where
-  abbrev d : Desk
-  d = desk read config past
+  abbrev d : ControlServer
+  d = control_server read config past
 
   talks : d.talk ≡ talk
   talks = stands.agrees.talk
@@ -66,7 +66,7 @@ module _ {items : List Want} {talk : Talk} {slirp : SlirpState} {link : LinkStat
 
     -- it goes on: a line may be whole now
     goes_on : (e : Entry) (t : Talk) (left : List Want) → MayControl read config past (call_of e) → reported (e ∷ past) ≡ left → left ≡ [] → without_control (e ∷ past) ≡ without_control past
-        → desk read config (e ∷ past) ≡ serves read (with_changes config d) (without_control past) (with_talk t d) → Owes t slirp link read config count (e ∷ past)
+        → control_server read config (e ∷ past) ≡ serves read (with_changes config d) (without_control past) (with_talk t d) → Owes t slirp link read config count (e ∷ past)
     goes_on e t left may reports none hidden is = record {
       control = (may, stands.control);
       reported = reports ∙ none;
@@ -76,7 +76,7 @@ module _ {items : List Want} {talk : Talk} {slirp : SlirpState} {link : LinkStat
     }
 
     -- it was the last one, and the close follows
-    abbrev over_at : Talk → Desk
+    abbrev over_at : Talk → ControlServer
     over_at t = awaits (Shutting socket) (with_talk t d)
 
     shut_it : (t : Talk) → t.peer ≡ None → shut socket (over_at t) ≡ awaits Nothing (with_talk t d)
@@ -86,7 +86,7 @@ module _ {items : List Want} {talk : Talk} {slirp : SlirpState} {link : LinkStat
         ∙ ap (λ o. cond (is_peer socket o) (awaits Nothing (with_talk (hung_up t) (over_at t))) (awaits Nothing (over_at t))) gone
 
     -- nothing is answered where no connection is open
-    serves_none : (c : Config) (seen : List Entry) (b : Desk) → b.talk.peer ≡ None → serves read c seen b ≡ b
+    serves_none : (c : Config) (seen : List Entry) (b : ControlServer) → b.talk.peer ≡ None → serves read c seen b ≡ b
     serves_none c seen b none = by b.talk.peer none (is_out b.talk)
       where
         by : (o : Option ℕ) → o ≡ None → (out : Bool) → cond (out && is_some o) (answers_line read c seen (first_line b.talk.kept) b) b ≡ b
@@ -95,11 +95,11 @@ module _ {items : List Want} {talk : Talk} {slirp : SlirpState} {link : LinkStat
         by (Some n) is out = cc
 
     ends : (e : Entry) (t : Talk) → t.peer ≡ None → MayControl read config past (call_of e) → reported (e ∷ past) ≡ [] → without_control (e ∷ past) ≡ without_control past
-        → desk read config (e ∷ past) ≡ over_at t → Owes t slirp link read config count (Close socket ∷ e ∷ past)
+        → control_server read config (e ∷ past) ≡ over_at t → Owes t slirp link read config count (Close socket ∷ e ∷ past)
     ends e t gone may none hidden is =
         let hidden_both = hides (Close socket) (e ∷ past) (is_controls socket) own ∙ hidden in
         record {
-          control = (awaited_may read config (e ∷ past) (CallClose socket) (Shutting socket) (ap (λ (x : Desk). x.awaited) is) refl, (may, stands.control));
+          control = (awaited_may read config (e ∷ past) (CallClose socket) (Shutting socket) (ap (λ (x : ControlServer). x.awaited) is) refl, (may, stands.control));
           reported = none;
           before = awaits Nothing (with_talk t d);
           is = ap (λ x. shut socket x) is ∙ shut_it t gone ∙ sym (serves_none (with_changes config d) (without_control (Close socket ∷ e ∷ past)) (awaits Nothing (with_talk t d)) gone);
@@ -127,9 +127,9 @@ module _ {items : List Want} {talk : Talk} {slirp : SlirpState} {link : LinkStat
       reported = ap (reads (Tcp socket)) stands.reported ∙ waits;
     }))
 
-    read_desk : (answer : Io) (octets : List ℕ) (last : Bool) → is_last answer (talk.kept ++ octets) ≡ last
-        → desk read config (asked answer octets ∷ past) ≡ after_call read (with_changes config d) (without_control past) last socket (with_talk (after_read answer octets talk) d)
-    read_desk answer octets last is =
+    read_control_server : (answer : Io) (octets : List ℕ) (last : Bool) → is_last answer (talk.kept ++ octets) ≡ last
+        → control_server read config (asked answer octets ∷ past) ≡ after_call read (with_changes config d) (without_control past) last socket (with_talk (after_read answer octets talk) d)
+    read_control_server answer octets last is =
         ap (λ b. cond b (after_call read (with_changes config d) (without_control past) (is_last answer (d.talk.kept ++ octets)) socket (with_talk (after_read answer octets d.talk) d)) d) own
         ∙ ap (λ (t : Talk). after_call read (with_changes config d) (without_control past) (is_last answer (t.kept ++ octets)) socket (with_talk (after_read answer octets t) d)) talks
         ∙ ap (λ b. after_call read (with_changes config d) (without_control past) b socket (with_talk (after_read answer octets talk) d)) is
@@ -144,10 +144,10 @@ module _ {items : List Want} {talk : Talk} {slirp : SlirpState} {link : LinkStat
         → Owes (after_read answer octets talk) slirp link read config count ((closed_if last socket ++ (asked answer octets ∷ [])) ++ past)
     came answer octets out waits served false is =
         goes_on (asked answer octets) (after_read answer octets talk) (without_read (Tcp socket) (reported past)) (may_read out waits) refl
-        (ap (without_read (Tcp socket)) stands.reported ∙ served) (hidden_read answer octets) (read_desk answer octets false is)
+        (ap (without_read (Tcp socket)) stands.reported ∙ served) (hidden_read answer octets) (read_control_server answer octets false is)
     came answer octets out waits served true is =
         ends (asked answer octets) (after_read answer octets talk) (over_read answer octets is) (may_read out waits)
-        (ap (without_read (Tcp socket)) stands.reported ∙ served) (hidden_read answer octets) (read_desk answer octets true is)
+        (ap (without_read (Tcp socket)) stands.reported ∙ served) (hidden_read answer octets) (read_control_server answer octets true is)
 
     -- ---- the front of the reply was offered
 
@@ -162,9 +162,9 @@ module _ {items : List Want} {talk : Talk} {slirp : SlirpState} {link : LinkStat
       reported = ap (writes (Tcp socket)) stands.reported ∙ waits;
     }))
 
-    write_desk : (answer : Io) (last : Bool) → fails answer ≡ last
-        → desk read config (offered answer ∷ past) ≡ after_call read (with_changes config d) (without_control past) last socket (with_talk (after_write answer talk) d)
-    write_desk answer last is =
+    write_control_server : (answer : Io) (last : Bool) → fails answer ≡ last
+        → control_server read config (offered answer ∷ past) ≡ after_call read (with_changes config d) (without_control past) last socket (with_talk (after_write answer talk) d)
+    write_control_server answer last is =
         ap (λ b. cond b (after_call read (with_changes config d) (without_control past) (fails answer) socket (with_talk (after_write answer d.talk) d)) d) own
         ∙ ap (λ (t : Talk). after_call read (with_changes config d) (without_control past) (fails answer) socket (with_talk (after_write answer t) d)) talks
         ∙ ap (λ b. after_call read (with_changes config d) (without_control past) b socket (with_talk (after_write answer talk) d)) is
@@ -182,7 +182,7 @@ module _ {items : List Want} {talk : Talk} {slirp : SlirpState} {link : LinkStat
         → Owes (after_write answer talk) slirp link read config count ((closed_if last socket ++ (offered answer ∷ [])) ++ past)
     went answer left waits served false is =
         goes_on (offered answer) (after_write answer talk) (without_write (Tcp socket) (reported past)) (may_write left waits) refl
-        (ap (without_write (Tcp socket)) stands.reported ∙ served) (hidden_write answer) (write_desk answer false is)
+        (ap (without_write (Tcp socket)) stands.reported ∙ served) (hidden_write answer) (write_control_server answer false is)
     went answer left waits served true is =
         ends (offered answer) (after_write answer talk) (over_write answer is) (may_write left waits)
-        (ap (without_write (Tcp socket)) stands.reported ∙ served) (hidden_write answer) (write_desk answer true is)
+        (ap (without_write (Tcp socket)) stands.reported ∙ served) (hidden_write answer) (write_control_server answer true is)

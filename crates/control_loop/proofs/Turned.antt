@@ -1,4 +1,4 @@
--- A turn of the network, and what closes its sockets: what the desk has come to stays, and each call may come where there is a control.
+-- A turn of the network, and what closes its sockets: what the control server has come to stays, and each call may come where there is a control.
 use Rattle.std.proofs.Common.{◌≡◌, ℕ, ◌+◌, ◌≤◌, true, false, is_some, List, [], ◌∷◌, ◌++◌, Option, Some, None, refl, sym, ◌∙◌, ap, subst, arith}
 use Rattle.std.specs.Option.{option_map_or}
 use Rattle.poll_list.specs.Picks.{as_list}
@@ -22,7 +22,7 @@ use Rattle.serve_loop.specs.declared.service.End.{End}
 use Rattle.rules_control.specs.Apart.{without_control}
 use Rattle.rules_control.specs.Talk.{Talk, listener, want_of}
 use Rattle.control.specs.Stretches.{AreSeen, IsItem, last_reported}
-use Rattle.spec_control.specs.Desk.{Desk, Nothing, Reads, by_control, desk, with_changes}
+use Rattle.spec_control.specs.ControlServer.{ControlServer, Nothing, Reads, by_control, control_server, with_changes}
 use Rattle.spec_control.specs.Laws.{MayControl, reported, wants_of}
 use Rattle.control_loop.specs.Standing.{Agrees, Closes, HasAll, Stands, with_lists}
 use Rattle.control_loop.proofs.Added.{has_just}
@@ -41,8 +41,8 @@ pub phase_as : (config : Config) (added : List (ℕ × Forward)) (removed : List
 phase_as config added removed [] = refl
 phase_as config added removed (e ∷ past) = ap (phase_after e (ending e (partial past))) (phase_as config added removed past)
 
-module _ (read : Reads) (config : Config) (d : Desk) (item : Option Want) (past : List Entry) (own : IsItem item) (wanted : as_list item ≡ wants_of d.talk) (calm : d.awaited ≡ Nothing)
-    (here : desk read config past ≡ d) (none : reported past ≡ []) (control : Follows (MayControl read config) past) (listens : d.talk.listening ≡ is_some config.control)
+module _ (read : Reads) (config : Config) (d : ControlServer) (item : Option Want) (past : List Entry) (own : IsItem item) (wanted : as_list item ≡ wants_of d.talk) (calm : d.awaited ≡ Nothing)
+    (here : control_server read config past ≡ d) (none : reported past ≡ []) (control : Follows (MayControl read config) past) (listens : d.talk.listening ≡ is_some config.control)
     (settled : Settled (with_lists config d.added d.removed) (without_control past)) where
   -- some calls of the network that are lawful and as they must be by the settings with just what was added and taken back, and draw few numbers
   pub led_by : (made seen : List Entry) → AreSeen item made seen → AreAllowed seen → Lawful (with_lists config d.added d.removed) (seen ++ without_control past)
@@ -57,8 +57,8 @@ module _ (read : Reads) (config : Config) (d : Desk) (item : Option Want) (past 
 
 module _ {talk : Talk} {slirp : SlirpState} {link : LinkState} (read : Reads) (config : Config) (at : Endpoint) (count : ℕ) (past : List Entry) (given : config ≡ as_given config) (own_place : config.control ≡ Some at)
     (listening : talk.listening ≡ true) (stands : Stands [] talk slirp link read config count past) where
-  abbrev d : Desk
-  d = desk read config past
+  abbrev d : ControlServer
+  d = control_server read config past
 
   abbrev before : List Entry
   before = without_control past
@@ -123,8 +123,8 @@ module _ {talk : Talk} {slirp : SlirpState} {link : LinkState} (read : Reads) (c
         let same : by_control read config (made ++ past) ≡ just = ap (λ x. with_changes config x) it.stays in
         record {
           control = it.control;
-          calm = ap (λ (x : Desk). x.awaited) it.stays ∙ stands.agrees.calm;
-          talk = ap (λ (x : Desk). x.talk) it.stays ∙ stands.agrees.talk;
+          calm = ap (λ (x : ControlServer). x.awaited) it.stays ∙ stands.agrees.calm;
+          talk = ap (λ (x : ControlServer). x.talk) it.stays ∙ stands.agrees.talk;
           lawful = subst (λ k. Lawful k (without_control (made ++ past))) (sym same) (subst (Lawful just) (sym it.saw) lawful);
           dutiful = subst (λ k. Dutiful k (without_control (made ++ past))) (sym same) (subst (Dutiful just) (sym it.saw) dutiful);
           finished = subst (λ k. Finished k (without_control (made ++ past))) (sym same) (subst (Finished just) (sym it.saw) finished);

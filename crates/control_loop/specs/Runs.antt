@@ -7,7 +7,7 @@ use Rattle.spec_trace.specs.Shape.{phase}
 use Rattle.spec_run.specs.Laws.{Finished, Lawful}
 use Rattle.spec_duties.specs.Duties.{Dutiful}
 use Rattle.rules_control.specs.Apart.{without_control}
-use Rattle.spec_control.specs.Desk.{Reads}
+use Rattle.spec_control.specs.ControlServer.{Reads}
 use Rattle.spec_control.specs.Laws.{IsReading, Refuses, RunsBy}
 use Rattle.serve_loop.specs.Ends.{end_of}
 use Rattle.serve_loop.specs.declared.service.End.{End}

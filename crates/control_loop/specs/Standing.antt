@@ -1,4 +1,4 @@
--- Where a run with a control stands, by the whole record of its calls.
+-- Where a run with a control stands, by the whole trace of its calls.
 use Rattle.std.specs.Prelude.{◌≡◌, ◌≢◌, ℕ, ◌+◌, ◌*◌, ◌<◌, ◌≤◌, ◌&&◌, if◌then◌else◌, true, false, List, [], ◌++◌, length, Option, Some, None}
 use Rattle.poll_list.specs.declared.Want.{Want}
 use Rattle.world_face.specs.Journal.{Entry, Follows}
@@ -31,7 +31,7 @@ use Rattle.rules_control.specs.Apart.{without_control}
 use Rattle.rules_control.specs.Talk.{Talk, has_line, is_out, listener}
 use Rattle.rules_control.specs.declared.Command.{Command}
 use Rattle.rules_control.specs.declared.Command.TheVariants.{Add}
-use Rattle.spec_control.specs.Desk.{Desk, Nothing, Reads, answers, by_control, desk, serves, with_changes}
+use Rattle.spec_control.specs.ControlServer.{ControlServer, Nothing, Reads, answers, by_control, control_server, serves, with_changes}
 use Rattle.spec_control.specs.Laws.{IsReading, MayControl, reported}
 
 -- the settings with what was added, and taken back
@@ -44,8 +44,8 @@ pub record HasAll (config : Config) (added : List (ℕ × Forward)) (removed : L
   pub forwards : (socket : ℕ) (f : Forward) → forward_on (with_lists config added removed) socket ≡ Some f → forward_on settings socket ≡ Some f
   pub closed : (socket : ℕ) → is_among socket removed ≡ true → is_among socket settings.removed ≡ true
 
--- What the desk has come to is what the connection and the network have, whatever is added later; no number that is still to be drawn is an added one's, and what was taken back is closed.
-pub record Agrees (config : Config) (d : Desk) (count : ℕ) (session : Talk) (slirp : SlirpState) (link : LinkState) (seen : List Entry) : Type 0 where
+-- What the control server has come to is what the connection and the network have, whatever is added later; no number that is still to be drawn is an added one's, and what was taken back is closed.
+pub record Agrees (config : Config) (d : ControlServer) (count : ℕ) (session : Talk) (slirp : SlirpState) (link : LinkState) (seen : List Entry) : Type 0 where
   pub calm : d.awaited ≡ Nothing
   pub talk : d.talk ≡ session
   pub forwards : d.forwards ≡ slirp.forwards
@@ -57,29 +57,29 @@ pub record Agrees (config : Config) (d : Desk) (count : ℕ) (session : Talk) (s
 pub record Stands (items : List Want) (session : Talk) (slirp : SlirpState) (link : LinkState) (read : Reads) (config : Config) (count : ℕ) (past : List Entry) : Type 0 where
   pub control : Follows (MayControl read config) past
   pub reported : reported past ≡ items
-  pub agrees : Agrees config (desk read config past) count session slirp link (without_control past)
+  pub agrees : Agrees config (control_server read config past) count session slirp link (without_control past)
 
 -- Before the first line is answered, where it is whole.
 pub record Owes (session : Talk) (slirp : SlirpState) (link : LinkState) (read : Reads) (config : Config) (count : ℕ) (past : List Entry) : Type 0 where
   pub control : Follows (MayControl read config) past
   pub reported : reported past ≡ []
-  pub before : Desk
-  pub is : desk read config past ≡ serves read (with_changes config before) (without_control past) before
+  pub before : ControlServer
+  pub is : control_server read config past ≡ serves read (with_changes config before) (without_control past) before
   pub agrees : Agrees config before count session slirp link (without_control past)
 
 -- Before a command is followed that a line asked for; no reply is left.
 pub record Asks (command : Command) (session : Talk) (slirp : SlirpState) (link : LinkState) (read : Reads) (config : Config) (count : ℕ) (past : List Entry) : Type 0 where
   pub control : Follows (MayControl read config) past
   pub reported : reported past ≡ []
-  pub before : Desk
-  pub is : desk read config past ≡ answers (with_changes config before) (without_control past) command before
+  pub before : ControlServer
+  pub is : control_server read config past ≡ answers (with_changes config before) (without_control past) command before
   pub agrees : Agrees config before count session slirp link (without_control past)
 
 -- Where only the control's own sockets are to be closed.
 pub record Closes (end : End) (session : Talk) (read : Reads) (config : Config) (past : List Entry) : Type 0 where
   pub control : Follows (MayControl read config) past
-  pub calm : (desk read config past).awaited ≡ Nothing
-  pub talk : (desk read config past).talk ≡ session
+  pub calm : (control_server read config past).awaited ≡ Nothing
+  pub talk : (control_server read config past).talk ≡ session
   pub lawful : Lawful (by_control read config past) (without_control past)
   pub dutiful : Dutiful (by_control read config past) (without_control past)
   pub finished : Finished (by_control read config past) (without_control past)
@@ -123,7 +123,7 @@ pub record Says (old new : Talk) : Type 0 where
 pub record IsSet (config : Config) (at : Endpoint) (guest : Ip4) : Type 0 where
   pub given : config ≡ as_given config
   pub control : config.control ≡ Some at
-  pub lent : guest.0 ≡ config.dhcp_start
+  pub leased : guest.0 ≡ config.dhcp_start
   pub few : config.flows ≤ 4096
 
 -- What of a network stays as it is between two turns: all but its ports of the host, and the next number, which is one more at most.

@@ -14,7 +14,7 @@ ghost use Rattle.rules_forward.specs.Opened.{socket_at, without};
 ghost use Rattle.slirp_core.specs.Added.{MayAdd, MayRemove, closed_at, number_after};
 ghost use Rattle.control_loop.specs.Standing.{Asks, AttendsOn, HasPorts, IsHeld, IsReady, IsSet, KeepsOn, Leads, Owes, Says, Stands, cause_against};
 ghost use Rattle.rules_control.specs.Reports.{tells_lines, tells_room};
-ghost use Rattle.spec_control.specs.Desk.{flows_in_use};
+ghost use Rattle.spec_control.specs.ControlServer.{flows_in_use};
 ghost use Rattle.rules_control.specs.Apart.{reported_of};
 ghost use Rattle.poll_list.specs.Picks.{as_list};
 ghost use Rattle.poll_list.specs.declared.Want.{Want as AnItem};
@@ -22,7 +22,7 @@ ghost use Rattle.spec_flows.specs.Book.{book};
 ghost use Rattle.serve_loop.specs.Turns.{AttendsNow};
 ghost use Rattle.slirp_core.specs.Holds.{after};
 
-use crate::desk::Desk;
+use crate::control_server::ControlServer;
 use control::{Aside, added_text, flow_line, forward_line, read_command, removed_text};
 use net_octets::Endpoint;
 use rules_control::{Command, Reported, is_its_own};
@@ -35,7 +35,7 @@ const MOST_PORTS: usize = 32;
 
 const MOST_FLOWS: usize = 4096;
 
-impl Desk {
+impl ControlServer {
     // Takes a peer, where one waits.
     fn accept<W: World>(&mut self, world: &mut Aside<W>)
         requires listens { self.old.session.listening ≡ true }

@@ -16,7 +16,7 @@
 #![tactic(auto)]
 
 mod attending;
-mod desk;
+mod control_server;
 mod network;
 
 pub use network::Network;

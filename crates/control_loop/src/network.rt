@@ -6,12 +6,12 @@ ghost use Rattle.slirp_settings.specs.Ranges.{IsSound};
 ghost use Rattle.slirp_settings.specs.Settings.{settings};
 ghost use Rattle.serve_loop.specs.Ends.{IsCounted};
 ghost use Rattle.serve_loop.specs.Served.{IsNew};
-ghost use Rattle.spec_control.specs.Desk.{Reads};
+ghost use Rattle.spec_control.specs.ControlServer.{Reads};
 ghost use Rattle.spec_control.specs.Laws.{IsReading};
 ghost use Rattle.control_loop.specs.Networks.{IsControl};
 ghost use Rattle.control_loop.specs.Runs.{IsRun, RunsAlone, RunsWith};
 
-use crate::desk::Desk;
+use crate::control_server::ControlServer;
 use control::{Aside, Session};
 use core::mem::replace_with;
 use net_octets::{Endpoint, Ip4, NoMemory};
@@ -29,7 +29,7 @@ pub struct Network {
     control: Option<Control>,
 }
 
-// What a control has before the run begins: its connection, the place of the host at which that is taken, the first address that is lent, how many turns there may be, and lists for what a
+// What a control has before the run begins: its connection, the place of the host at which that is taken, the first address that is leased, how many turns there may be, and lists for what a
 // wait is for and what it reports.
 #[derive(Drop)]
 pub(crate) struct Control {
@@ -152,13 +152,13 @@ fn run_aside<W: World>(world: W, run: (Service, Control)) -> (W, End)
         ready,
     } = control;
     let mut aside = Aside::new(world, wants, ready);
-    let mut desk = Desk {
+    let mut control_server = ControlServer {
         service,
         session,
         at,
         guest,
     };
-    let end = desk.run(&mut aside, turns);
-    desk.service.let_go();
+    let end = control_server.run(&mut aside, turns);
+    control_server.service.let_go();
     (aside.into_world(), end)
 }

@@ -1,4 +1,4 @@
-//! The addresses that are lent, and who has each.
+//! The addresses that are leased, and who has each.
 ghost use Rattle.std.specs.Prelude.{◌≡◌, ℕ, ◌+◌, ◌^◌, ◌<◌, ◌≤◌, ◌++◌, length, drop, map};
 ghost use Rattle.slirp_settings.specs.Ranges.{IsSound};
 ghost use Rattle.rules_dhcp.specs.Leases.{at_moment, can_have, freed, is_free, is_of, is_reserved_for, lease_time, not_reserved, reserved};
@@ -16,7 +16,7 @@ use std::marker::Model;
 /// How many milliseconds an address is kept for whom it was offered to.
 const OFFER_TIME: u64 = 60_000;
 
-/// How many milliseconds an address is lent.
+/// How many milliseconds an address is leased.
 const LEASE_TIME: u64 = 86_400_000;
 
 /// What is left of it at a moment: it is over at its very moment.
@@ -101,7 +101,7 @@ pub(crate) fn not_reserved(lease: Lease, mac: Mac) -> Lease
     }
 }
 
-/// Whether it can be lent to the hardware address.
+/// Whether it can be leased to the hardware address.
 pub(crate) fn can_have(lease: Lease, mac: Mac) -> bool
     ensures { result ≡ can_have mac lease }
 {
@@ -158,7 +158,7 @@ impl Leases {
     ghost use Rattle.rules_dhcp.specs.Replies.{reply_to, replied_octets};
     ghost use Rattle.rules_dhcp.specs.declared.Lease.TheVariants.{Free};
 
-    /// No address is lent yet. The settings are some of which `check` answers Ok.
+    /// No address is leased yet. The settings are some of which `check` answers Ok.
     pub fn new(c: &SlirpConfig) -> Leases
         requires { IsSound (settings c.now) }
         ensures config { result.config ≡ settings c.now }

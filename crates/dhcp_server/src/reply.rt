@@ -25,7 +25,7 @@ const LEAST: usize = 300;
 /// What begins the options (RFC 2131, 3).
 const COOKIE: [u8; 4] = [99, 130, 83, 99];
 
-/// How long an address is lent, in seconds.
+/// How long an address is leased, in seconds.
 const LEASE_SECONDS: u32 = 86_400;
 
 /// Writes the reply, and says where it goes.

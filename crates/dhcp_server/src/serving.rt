@@ -52,7 +52,7 @@ fn discovered(config: &SlirpConfig, now: u64, m: &Message, leases: [Lease; POOL]
     }
 }
 
-// REQUEST: the address that the client wants is lent, where it can have it.
+// REQUEST: the address that the client wants is leased, where it can have it.
 fn requested(config: &SlirpConfig, now: u64, m: &Message, leases: [Lease; POOL]) -> Outcome
     requires { now ≤ 2 ^ 62 }
     ensures { result ≡ requested (settings config.now) now m.now leases }
@@ -177,7 +177,7 @@ fn reserve(leases: [Lease; POOL], now: u64, mac: Mac, place: usize) -> [Lease; P
     after
 }
 
-// The leases after an address was lent.
+// The leases after an address was leased.
 fn lend(leases: [Lease; POOL], now: u64, mac: Mac, place: usize) -> [Lease; POOL]
     requires moment { now ≤ 2 ^ 62 }
     requires place { place < 16 }

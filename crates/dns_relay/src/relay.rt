@@ -136,23 +136,16 @@ impl Relay {
         ensures rest { self.new ≡ record self.old { list = self.new.list } }
         ensures next { number.new ≡ number.old + 1 }
     {
-        let socket = *number;
-        *number += 1;
-        let at = Endpoint {
-            addr: self.bind,
-            port: 0,
+        let socket = IdleSocket {
+            number: *number,
+            guest: asked.from,
+            ident,
+            mac: asked.mac,
+            used: now,
         };
-        match world.udp_open(socket, at) {
-            Made::Done => {
-                self.list.open(IdleSocket {
-                    number: socket,
-                    guest: asked.from,
-                    ident,
-                    mac: asked.mac,
-                    used: now,
-                });
-                self.send_on(world, now, socket, asked)
-            }
+        *number += 1;
+        match self.list.open_at(world, self.bind, socket) {
+            Made::Done => self.send_on(world, now, socket.number, asked),
             Made::Failed => Reply::Unreachable(NO_NETWORK),
         }
     }

@@ -21,14 +21,14 @@ pub record IsEther (octets : List ℕ) (ether : Ether) : Type 0 where
   pub kind : ether.kind < 2 ^ 16
   pub is : octets ≡ ether_octets ether.to ether.from ether.kind ether.body
 
--- the fields that octets spell
+-- the fields that octets encode
 abbrev pub read_ether : List ℕ → Option Ether
 read_ether octets =
     if nat_le 14 (length octets)
     then Some (record { to = part octets 0 6; from = part octets 6 6; kind = two_at octets 12; body = drop 14 octets })
     else None
 
--- the first fault of octets that spell none
+-- the first fault of octets that encode none
 abbrev pub ether_fault : List ℕ → Option Fault
 ether_fault octets =
     if nat_lt (length octets) 14

@@ -28,16 +28,16 @@ use Rattle.stream_netdev.specs.declared.Offered.TheVariants.{Taken, Blocked, Fai
 use Rattle.spec_flow.specs.Settings.{Settings}
 use Rattle.sim_halves.proofs.Timers.{wait_low}
 use Rattle.spec_flow.specs.Event.{Story}
-use Rattle.sim_connection.specs.Holding.{is_calls, is_connects, is_live}
+use Rattle.sim_connection.specs.Holding.{is_calls, is_at_connecting, is_live}
 use Rattle.sim_connection.specs.Sending.{is_rst}
 use Rattle.flow_splice.specs.Ahead.{IsAhead, IsEarly, Waits}
 use Rattle.flow_splice.specs.Follows.{Follows, FollowsAt, IsOpen}
 use Rattle.flow_splice.specs.Hosts.{Sees, ends}
 use Rattle.flow_splice.specs.Sends.{GoesOut, Marks, went_out}
 use Rattle.flow_splice.specs.Splice.{Splice, is_in_use, is_open}
-use Rattle.flow_splice.specs.Wants.{seeks}
+use Rattle.flow_splice.specs.Wants.{resolves}
 use Rattle.flow_splice.specs.declared.Place.{Place}
-use Rattle.flow_splice.specs.declared.Place.TheVariants.{Empty, InUse, Resting}
+use Rattle.flow_splice.specs.declared.Place.TheVariants.{Empty, InUse, InTimeWait}
 use Rattle.flow_splice.proofs.Shutting.{reset_dead}
 
 abbrev Early : Option ℕ → ℕ → Type 0
@@ -49,28 +49,28 @@ none_early due now none at is = let not_it = sym none ∙ is in absurd cc
 -- ---- a connection that is over has no timer
 
 dead_none : (st : Stage) (c : Connection) → is_live st ≡ false → due_by st c ≡ None
-dead_none stage.Connects c is = absurd cc
-dead_none stage.Calls c is = absurd cc
-dead_none stage.Answers c is = absurd cc
+dead_none stage.Connecting c is = absurd cc
+dead_none stage.SynSent c is = absurd cc
+dead_none stage.SynReceived c is = absurd cc
 dead_none stage.Synchronized c is = absurd cc
-dead_none stage.Rests c is = refl
+dead_none stage.TimeWait c is = refl
 dead_none (stage.Resets seq ack) c is = refl
-dead_none stage.Gone c is = refl
+dead_none stage.Closed c is = refl
 
 pub dead_ahead : (c : Connection) (now : ℕ) → is_live c.stage ≡ false → IsAhead c now
 dead_ahead c now dead = none_early (due_of c) now (dead_none c.stage c dead)
 
-pub connects_ahead : (c : Connection) (now : ℕ) → is_connects c.stage ≡ true → IsAhead c now
+pub connects_ahead : (c : Connection) (now : ℕ) → is_at_connecting c.stage ≡ true → IsAhead c now
 connects_ahead c now connects = none_early (due_of c) now (by c.stage connects)
   where
-    by : (st : Stage) → is_connects st ≡ true → due_by st c ≡ None
-    by stage.Connects is = refl
-    by stage.Calls is = absurd cc
-    by stage.Answers is = absurd cc
+    by : (st : Stage) → is_at_connecting st ≡ true → due_by st c ≡ None
+    by stage.Connecting is = refl
+    by stage.SynSent is = absurd cc
+    by stage.SynReceived is = absurd cc
     by stage.Synchronized is = absurd cc
-    by stage.Rests is = absurd cc
+    by stage.TimeWait is = absurd cc
     by (stage.Resets seq ack) is = absurd cc
-    by stage.Gone is = absurd cc
+    by stage.Closed is = absurd cc
 
 -- ---- a tick
 
@@ -92,22 +92,22 @@ pieces_none t is =
     ap (λ (x : Transmission). resend_due x.resend) same ∙ expired_none t.resend is
 
 opening_due : (st : Stage) (c : Connection) → is_opening st ≡ true → resend_due c.syn ≡ None → due_by st c ≡ None
-opening_due stage.Connects c is none = refl
-opening_due stage.Calls c is none = none
-opening_due stage.Answers c is none = none
+opening_due stage.Connecting c is none = refl
+opening_due stage.SynSent c is none = none
+opening_due stage.SynReceived c is none = none
 opening_due stage.Synchronized c is none = absurd cc
-opening_due stage.Rests c is none = absurd cc
+opening_due stage.TimeWait c is none = absurd cc
 opening_due (stage.Resets seq ack) c is none = absurd cc
-opening_due stage.Gone c is none = absurd cc
+opening_due stage.Closed c is none = absurd cc
 
 other_due : (st : Stage) (c : Connection) → is_opening st ≡ false → resend_due c.transmission.resend ≡ None → due_by st c ≡ None
-other_due stage.Connects c is none = absurd cc
-other_due stage.Calls c is none = absurd cc
-other_due stage.Answers c is none = absurd cc
+other_due stage.Connecting c is none = absurd cc
+other_due stage.SynSent c is none = absurd cc
+other_due stage.SynReceived c is none = absurd cc
 other_due stage.Synchronized c is none = none
-other_due stage.Rests c is none = refl
+other_due stage.TimeWait c is none = refl
 other_due (stage.Resets seq ack) c is none = refl
-other_due stage.Gone c is none = refl
+other_due stage.Closed c is none = refl
 
 not_due : (due : Option ℕ) (now : ℕ) → is_due due now ≡ false → Early due now
 not_due None now is at none = absurd cc
@@ -136,9 +136,9 @@ tick_ahead c now unowed = by (is_due (due_of c) now) (is_spent c) c.ack_owed ref
     by true false d due spent owed = again_ahead spent
 
 -- while the guest's hardware address is asked for our SYN isn't out
-pub seeking_ahead : (s : Settings) (f : Splice) (past : Story) (before now : ℕ) → IsOpen s f past before → seeks f ≡ true → IsAhead f.conn now
-seeking_ahead s f past before now o seeking =
-    let two = o.unsent (none_known f.mac seeking) in
+pub resolving_ahead : (s : Settings) (f : Splice) (past : Story) (before now : ℕ) → IsOpen s f past before → resolves f ≡ true → IsAhead f.conn now
+resolving_ahead s f past before now o resolving =
+    let two = o.unsent (none_known f.mac resolving) in
     none_early (due_of f.conn) now (by f.conn.stage two.0 (unset f.conn.syn.timer f.conn.syn.estimate.wait (o.holds.gives.unset two.1)))
   where
     none_known : (mac : Option Mac) → (not (is_some mac) && nat_lt 0 f.asked) ≡ true → mac ≡ None
@@ -151,13 +151,13 @@ seeking_ahead s f past before now o seeking =
     unset (timer.Expired at) w is = absurd cc
 
     by : (st : Stage) → is_calls st ≡ true → resend_due f.conn.syn ≡ None → due_by st f.conn ≡ None
-    by stage.Connects is none = absurd cc
-    by stage.Calls is none = none
-    by stage.Answers is none = absurd cc
+    by stage.Connecting is none = absurd cc
+    by stage.SynSent is none = none
+    by stage.SynReceived is none = absurd cc
     by stage.Synchronized is none = absurd cc
-    by stage.Rests is none = absurd cc
+    by stage.TimeWait is none = absurd cc
     by (stage.Resets seq ack) is none = absurd cc
-    by stage.Gone is none = absurd cc
+    by stage.Closed is none = absurd cc
 
 -- ---- what goes out
 
@@ -171,31 +171,31 @@ sent_early r more now some early = by more r.timer early
     by false (timer.Expired x) low at is = let same : now + r.estimate.wait ≡ at = cc in omega (arith, same, some)
 
 syn_early : (st : Stage) (c : Connection) (now : ℕ) → (is_opening st ≡ true → 0 < c.syn.estimate.wait) → Early (due_by st c) now → Early (due_by st (syn_gone c now)) now
-syn_early stage.Connects c now some low = λ at is. absurd cc
-syn_early stage.Calls c now some low = sent_early c.syn (has_gone c.sendings) now (some refl) low
-syn_early stage.Answers c now some low = sent_early c.syn (has_gone c.sendings) now (some refl) low
+syn_early stage.Connecting c now some low = λ at is. absurd cc
+syn_early stage.SynSent c now some low = sent_early c.syn (has_gone c.sendings) now (some refl) low
+syn_early stage.SynReceived c now some low = sent_early c.syn (has_gone c.sendings) now (some refl) low
 syn_early stage.Synchronized c now some low = low
-syn_early stage.Rests c now some low = λ at is. absurd cc
+syn_early stage.TimeWait c now some low = λ at is. absurd cc
 syn_early (stage.Resets seq ack) c now some low = λ at is. absurd cc
-syn_early stage.Gone c now some low = λ at is. absurd cc
+syn_early stage.Closed c now some low = λ at is. absurd cc
 
 data_early : (st : Stage) (c : Connection) (p : Piece) (now : ℕ) → 0 < c.transmission.resend.estimate.wait → Early (due_by st c) now → Early (due_by st (data_gone c p now)) now
-data_early stage.Connects c p now some low = λ at is. absurd cc
-data_early stage.Calls c p now some low = low
-data_early stage.Answers c p now some low = low
+data_early stage.Connecting c p now some low = λ at is. absurd cc
+data_early stage.SynSent c p now some low = low
+data_early stage.SynReceived c p now some low = low
 data_early stage.Synchronized c p now some low = sent_early c.transmission.resend (goes_again c.transmission p) now some low
-data_early stage.Rests c p now some low = λ at is. absurd cc
+data_early stage.TimeWait c p now some low = λ at is. absurd cc
 data_early (stage.Resets seq ack) c p now some low = λ at is. absurd cc
-data_early stage.Gone c p now some low = λ at is. absurd cc
+data_early stage.Closed c p now some low = λ at is. absurd cc
 
 told_early : (st : Stage) (c : Connection) (up : Upward) (shift now : ℕ) → Early (due_by st c) now → Early (due_by st (told c up shift)) now
-told_early stage.Connects c up shift now low = low
-told_early stage.Calls c up shift now low = low
-told_early stage.Answers c up shift now low = low
+told_early stage.Connecting c up shift now low = low
+told_early stage.SynSent c up shift now low = low
+told_early stage.SynReceived c up shift now low = low
 told_early stage.Synchronized c up shift now low = low
-told_early stage.Rests c up shift now low = low
+told_early stage.TimeWait c up shift now low = low
 told_early (stage.Resets seq ack) c up shift now low = low
-told_early stage.Gone c up shift now low = low
+told_early stage.Closed c up shift now low = low
 
 steady_waits : (r : Resending) → IsSteady r → 0 < r.estimate.wait
 steady_waits r steady = let low = wait_low (doublings r.timer r.resent) in let more = steady.doubled in omega (arith, low, more)
@@ -218,9 +218,9 @@ gone_waits c up now (Reset seq ack) some = λ is. absurd cc
 settled_early : (x : Connection) (now : ℕ) → IsAhead x now × Waits x → IsAhead (settled x) now × Waits (settled x)
 settled_early x now two = by (is_done x) (closes_first x)
   where
-    by : (b d : Bool) → IsEarly now (if b then (if d then record x { stage = stage.Rests } else record x { stage = stage.Gone }) else x)
-    by true true = (dead_ahead (record x { stage = stage.Rests }) now refl, λ is. absurd cc)
-    by true false = (dead_ahead (record x { stage = stage.Gone }) now refl, λ is. absurd cc)
+    by : (b d : Bool) → IsEarly now (if b then (if d then record x { stage = stage.TimeWait } else record x { stage = stage.Closed }) else x)
+    by true true = (dead_ahead (record x { stage = stage.TimeWait }) now refl, λ is. absurd cc)
+    by true false = (dead_ahead (record x { stage = stage.Closed }) now refl, λ is. absurd cc)
     by false d = two
 
 marks_conn : (o : Offered) (what : Owed) (f new : Splice) (now : ℕ) (made : List Entry) → Marks o what f new now made → (new.conn ≡ after_gone what f.conn f.up now) ⊎ (new.conn ≡ f.conn)
@@ -249,19 +249,19 @@ pub follows_waits : (s : Settings) (f : Splice) (past : Story) (now : ℕ) → F
 follows_waits s f past now h = by f.place f.shut h
   where
     dead : (st : Stage) → is_live st ≡ false → is_opening st ≡ true → 0 < f.conn.syn.estimate.wait
-    dead stage.Connects is opening = absurd cc
-    dead stage.Calls is opening = absurd cc
-    dead stage.Answers is opening = absurd cc
+    dead stage.Connecting is opening = absurd cc
+    dead stage.SynSent is opening = absurd cc
+    dead stage.SynReceived is opening = absurd cc
     dead stage.Synchronized is opening = absurd cc
-    dead stage.Rests is opening = absurd cc
+    dead stage.TimeWait is opening = absurd cc
     dead (stage.Resets seq ack) is opening = absurd cc
-    dead stage.Gone is opening = absurd cc
+    dead stage.Closed is opening = absurd cc
 
     by : (p : Place) (b : Bool) → FollowsAt p b s f past now → Waits f.conn
     by Empty b q = dead f.conn.stage q.over.over
     by InUse true q = dead f.conn.stage q.over.over
     by InUse false q = λ opening. steady_waits f.conn.syn q.holds.gives.steady
-    by (Resting since) b q = dead f.conn.stage q.rests.over.over
+    by (InTimeWait since) b q = dead f.conn.stage q.time_waits.over.over
 
 -- a flow whose socket is closed has no timer
 pub shut_ahead : (s : Settings) (f : Splice) (past : Story) (before now : ℕ) → Follows s f past before → is_open f ≡ false → IsAhead f.conn now
@@ -271,4 +271,4 @@ shut_ahead s f past before now h shut = by f.place f.shut shut h
     by Empty b is q = dead_ahead f.conn now q.over.over
     by InUse true is q = dead_ahead f.conn now q.over.over
     by InUse false is q = absurd cc
-    by (Resting since) b is q = dead_ahead f.conn now q.rests.over.over
+    by (InTimeWait since) b is q = dead_ahead f.conn now q.time_waits.over.over

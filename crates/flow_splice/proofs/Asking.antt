@@ -3,7 +3,7 @@ use Rattle.std.proofs.Common.{refl, ◌≡◌, ℕ, zero, suc, ◌+◌, ◌<◌,
 use Rattle.std.proofs.Common.{arith, ap, subst, sym, ◌∙◌, inl, inr}
 use Rattle.std.proofs.lemmas.Bool.Decides.{nat_tests}
 use Rattle.net_octets.specs.declared.Mac.{Mac}
-use Rattle.world_face.specs.Frames.{spelling}
+use Rattle.world_face.specs.Frames.{encoding}
 use Rattle.world_face.specs.Journal.{Allowed, Entry, LinkWrite, count_of}
 use Rattle.world_face.specs.declared.Io.{Io}
 use Rattle.world_face.specs.declared.Io.TheVariants.{Done, End, NotYet, Failed as IoFailed}
@@ -14,7 +14,7 @@ use Rattle.stream_netdev.specs.declared.Offered.TheVariants.{Taken}
 use Rattle.spec_flow.specs.Settings.{Settings}
 use Rattle.spec_flow.specs.Event.{Accepts, AsksAddress, At, Connects, IsStory, Story, newest_moment}
 use Rattle.spec_flow.specs.Flow.{opened_at}
-use Rattle.sim_halves.specs.Resends.{Seeks, least_wait}
+use Rattle.sim_halves.specs.Resends.{Resolves, least_wait}
 use Rattle.sim_halves.proofs.InTime.{asks_again, asks_first}
 use Rattle.sim_connection.proofs.Asking.{asks_address}
 use Rattle.flow_splice.specs.Asks.{AsksOnce}
@@ -25,7 +25,7 @@ use Rattle.flow_splice.specs.Sends.{Sends, SendsOn, asked, asks_now, learnt, or_
 use Rattle.flow_splice.specs.Serves.{Serves}
 use Rattle.flow_splice.specs.Splice.{Splice, is_open}
 use Rattle.flow_splice.specs.declared.Place.{Place}
-use Rattle.flow_splice.specs.declared.Place.TheVariants.{Empty, InUse, Resting}
+use Rattle.flow_splice.specs.declared.Place.TheVariants.{Empty, InUse, InTimeWait}
 use Rattle.flow_splice.proofs.Opened.{follows_later, open_follows, open_is}
 
 -- ---- it is told
@@ -50,11 +50,11 @@ learn_follows s f mac past now h = by f.place f.shut h
       told = q.told;
       unfinished = q.unfinished;
       unsent = λ none. q.unsent (or_none mac f.mac none);
-      seeks = λ none some. q.seeks (or_none mac f.mac none) some;
+      resolves = λ none some. q.resolves (or_none mac f.mac none) some;
       asks = λ none. q.asks (or_none mac f.mac none);
       calm = q.calm;
     }
-    by (Resting since) b q = record { rests = q.rests; mru = q.mru; known = λ none. q.known (or_none mac f.mac none) }
+    by (InTimeWait since) b q = record { time_waits = q.time_waits; mru = q.mru; known = λ none. q.known (or_none mac f.mac none) }
 
 pub learn_then : (f new : Splice) (mac : Option Mac) (link next : LinkState) (first last now : ℕ) (made : List Entry) → SendsOn (learnt f mac) new link next first last now made →
     SendsOn f new link next first last now made
@@ -92,10 +92,10 @@ three true false d is = absurd cc
 three false b d is = absurd cc
 
 module _ (f : Splice) (now : ℕ) (unknown : f.mac ≡ None) (asks : asks_now f ≡ true) (result : Offered) (answer : Io) (result_is : result ≡ offered answer)
-    (allowed : Allowed (LinkWrite (spelling (request_frame f.face)) answer))
+    (allowed : Allowed (LinkWrite (encoding (request_frame f.face)) answer))
     (new : Splice) (new_is : new ≡ asked result f now) (first : ℕ) (small : first < 2 ^ 16) where
   abbrev octets : List ℕ
-  octets = spelling (request_frame f.face)
+  octets = encoding (request_frame f.face)
 
   parts : (is_open f ≡ true) × (nat_lt f.asked 9 ≡ true) × (f.asks ≡ true)
   parts = three (is_open f) (nat_lt f.asked 9) f.asks asks
@@ -113,14 +113,14 @@ module _ (f : Splice) (now : ℕ) (unknown : f.mac ≡ None) (asks : asks_now f 
     over : 0 < f.asked → f.ask_at ≤ now
     over some = let late = (subst (λ (b : Bool). IsAsking b f.asked f.ask_at before) parts.2 (o.asks unknown)).1 some in omega (arith, late, on)
 
-    seeks_now : (n : ℕ) → f.asked ≡ n → Seeks (At now AsksAddress ∷ past) (n + 1) (now + least_wait n)
-    seeks_now zero is = asks_first past now (least_wait 0) (let opened = first_opened past o.holds.goes.story in let moment = o.holds.goes.moment in omega
+    resolves_now : (n : ℕ) → f.asked ≡ n → Resolves (At now AsksAddress ∷ past) (n + 1) (now + least_wait n)
+    resolves_now zero is = asks_first past now (least_wait 0) (let opened = first_opened past o.holds.goes.story in let moment = o.holds.goes.moment in omega
         (arith, opened, moment, on)) (omega arith) (omega arith)
-    seeks_now (suc n) is =
+    resolves_now (suc n) is =
         let late : f.ask_at ≤ now = over (omega (arith, is)) in
         let again = asks_again past (suc n) f.ask_at now (least_wait (suc n)) late (omega arith) (omega arith)
-        (subst (λ (k : ℕ). Seeks past k f.ask_at) is (o.seeks unknown (omega (arith, is)))) in
-        subst (λ (k : ℕ). Seeks (At now AsksAddress ∷ past) k (now + least_wait (suc n))) (omega arith) again
+        (subst (λ (k : ℕ). Resolves past k f.ask_at) is (o.resolves unknown (omega (arith, is)))) in
+        subst (λ (k : ℕ). Resolves (At now AsksAddress ∷ past) k (now + least_wait (suc n))) (omega arith) again
 
     taken : nat_lt 0 (count_of answer) ≡ true → new ≡ asked Taken f now → Result
     taken some is = (
@@ -151,7 +151,7 @@ module _ (f : Splice) (now : ℕ) (unknown : f.mac ≡ None) (asks : asks_now f 
               told = o.told;
               unfinished = o.unfinished;
               unsent = o.unsent;
-              seeks = λ none more. seeks_now f.asked refl;
+              resolves = λ none more. resolves_now f.asked refl;
               asks = λ none. omega arith;
               calm = λ unowed. refl;
             }));

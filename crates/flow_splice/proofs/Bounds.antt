@@ -14,24 +14,24 @@ use Rattle.spec_flow.specs.Settings.{Settings}
 use Rattle.spec_flow.specs.Event.{Story, newest_moment}
 use Rattle.spec_flow.specs.Flow.{has_connected, is_accepted, is_closed, is_connecting, is_under_way, opened_at, syn_is_out}
 use Rattle.spec_flow.specs.Close.{asked_at, is_deserted as is_deserted_by, last_at, patience_end as patience_by, times_asked}
-use Rattle.spec_flow.specs.Dutiful.{close_deadline, closing_moments, moment_if, resend_deadline, seeks_guest, waits_for_window, waits_since, wakes}
+use Rattle.spec_flow.specs.Dutiful.{close_deadline, closing_moments, moment_if, resend_deadline, resolves_guest, waits_for_window, waits_since, wakes}
 use Rattle.spec_flow.specs.Lawful.{is_prompted}
 use Rattle.spec_flow.specs.Bounds.{IsBy, IsFrom}
-use Rattle.sim_halves.proofs.InTime.{not_before, seeks_none}
+use Rattle.sim_halves.proofs.InTime.{not_before, resolves_none}
 use Rattle.sim_halves.proofs.Moments.{by_both}
-use Rattle.sim_connection.specs.Holding.{is_calls, is_connects, is_live}
+use Rattle.sim_connection.specs.Holding.{is_calls, is_at_connecting, is_live}
 use Rattle.sim_connection.proofs.Bounds.{by_window, from_first, from_if, from_second, opening_by, opening_from, synchronized_by, synchronized_from}
 use Rattle.sim_connection.proofs.Settling.{no_window, not_expired, watched_by}
 use Rattle.sim_connection.proofs.Watching.{opening_is, syn_under_way}
 use Rattle.flow_splice.specs.Follows.{Follows, FollowsAt, IsAsking, IsOpen}
 use Rattle.flow_splice.specs.Sends.{IsClear, IsClearBy, asks_now}
 use Rattle.flow_splice.specs.Splice.{Splice, is_in_use, is_open}
-use Rattle.flow_splice.specs.Wants.{ask_due, connect_end, due_else, due_of, is_deserted, left_at, seeks, sooner}
+use Rattle.flow_splice.specs.Wants.{ask_due, connect_end, due_else, due_of, is_deserted, left_at, resolves, sooner}
 use Rattle.flow_splice.proofs.Deserted.{by_sooner, closed_deserts, connects_alone, deserted_parts, from_sooner, left_deadline, left_from}
 use Rattle.flow_splice.proofs.Opened.{open_follows}
 use Rattle.flow_splice.proofs.Stages.{calls_opens, if_none, in_use, no_connecting, resends_none, takes}
 use Rattle.flow_splice.specs.declared.Place.{Place}
-use Rattle.flow_splice.specs.declared.Place.TheVariants.{Empty, InUse, Resting}
+use Rattle.flow_splice.specs.declared.Place.TheVariants.{Empty, InUse, InTimeWait}
 
 -- ---- once its socket was closed
 
@@ -67,13 +67,13 @@ waits_yet s f past now o open_yet unknown none =
     by false is asked missed = (is, asked)
 
 module _ (s : Settings) (f : Splice) (past : Story) (now : ℕ) (o : IsOpen s f past now) (open_yet : is_open f ≡ true) where
-  due_connects : is_connects f.conn.stage ≡ true → due_else f ≡ Some (connect_end f)
-  due_connects is = ap (λ (b : Bool). if b then Some (connect_end f) else (if seeks f then ask_due f else conn_due f.conn)) is
+  due_connects : is_at_connecting f.conn.stage ≡ true → due_else f ≡ Some (connect_end f)
+  due_connects is = ap (λ (b : Bool). if b then Some (connect_end f) else (if resolves f then ask_due f else conn_due f.conn)) is
 
-  due_apart : is_connects f.conn.stage ≡ false → due_else f ≡ (if seeks f then ask_due f else conn_due f.conn)
-  due_apart is = ap (λ (b : Bool). if b then Some (connect_end f) else (if seeks f then ask_due f else conn_due f.conn)) is
+  due_apart : is_at_connecting f.conn.stage ≡ false → due_else f ≡ (if resolves f then ask_due f else conn_due f.conn)
+  due_apart is = ap (λ (b : Bool). if b then Some (connect_end f) else (if resolves f then ask_due f else conn_due f.conn)) is
 
-  due_known : is_connects f.conn.stage ≡ false → seeks f ≡ false → due_else f ≡ conn_due f.conn
+  due_known : is_at_connecting f.conn.stage ≡ false → resolves f ≡ false → due_else f ≡ conn_due f.conn
   due_known apart none = due_apart apart ∙ ap (λ (b : Bool). if b then ask_due f else conn_due f.conn) none
 
   -- by whether its peer is gone
@@ -87,7 +87,7 @@ module _ (s : Settings) (f : Splice) (past : Story) (now : ℕ) (o : IsOpen s f 
   follows_now = open_follows s f past now open_yet o
 
   -- one that connects isn't deserted
-  connects_stays : (b : Bool) → is_deserted f ≡ b → is_connects f.conn.stage ≡ true → is_deserted f ≡ false
+  connects_stays : (b : Bool) → is_deserted f ≡ b → is_at_connecting f.conn.stage ≡ true → is_deserted f ≡ false
   connects_stays false is connects = is
   connects_stays true is connects = let not_it = sym connects ∙ (deserted_parts f is).connected in absurd cc
 
@@ -103,7 +103,7 @@ module _ (s : Settings) (f : Splice) (past : Story) (now : ℕ) (o : IsOpen s f 
       by false is = subst P (sym (due_rests is)) (other is)
 
   pub open_by_connect : IsBy (due_of f) (close_deadline past)
-  open_by_connect = by (is_connects f.conn.stage) refl
+  open_by_connect = by (is_at_connecting f.conn.stage) refl
     where
       law : (d : Option ℕ) → d ≡ due_of f → IsBy d (close_deadline past) → IsBy (due_of f) (close_deadline past)
       law d is within = subst (λ (x : Option ℕ). IsBy x (close_deadline past)) is within
@@ -114,7 +114,7 @@ module _ (s : Settings) (f : Splice) (past : Story) (now : ℕ) (o : IsOpen s f 
           law (Some (sooner (left_at f) (due_else f))) (sym (due_deserted deserted))
           (subst (λ ms. IsBy (Some (sooner (left_at f) (due_else f))) ms) (sym is) (no_later (left_at f) (due_else f), tt))
 
-      by : (b : Bool) → is_connects f.conn.stage ≡ b → IsBy (due_of f) (close_deadline past)
+      by : (b : Bool) → is_at_connecting f.conn.stage ≡ b → IsBy (due_of f) (close_deadline past)
       by true is =
           law (due_else f) (sym (due_rests (connects_stays (is_deserted f) refl is)))
           (subst (λ (d : Option ℕ). IsBy d (close_deadline past)) (sym (due_connects is))
@@ -132,15 +132,15 @@ module _ (s : Settings) (f : Splice) (past : Story) (now : ℕ) (o : IsOpen s f 
       (λ waits. absurd (no_window past (o.holds.opened.answered ∙ opening_is f.conn.stage o.holds.opened.live opening) waits))
 
   -- its guest is called
-  called_by : has_gone f.conn.sendings ≡ true → seeks_guest past ≡ false
-  called_by gone = seeks_none past (λ accepted. o.holds.opened.out ∙ gone)
+  called_by : has_gone f.conn.sendings ≡ true → resolves_guest past ≡ false
+  called_by gone = resolves_none past (λ accepted. o.holds.opened.out ∙ gone)
 
-  went : (b : Bool) → has_gone f.conn.sendings ≡ b → is_connects f.conn.stage ≡ false → is_opening f.conn.stage ≡ true → f.conn.syn_owed ≡ false → has_gone f.conn.sendings ≡ true
+  went : (b : Bool) → has_gone f.conn.sendings ≡ b → is_at_connecting f.conn.stage ≡ false → is_opening f.conn.stage ≡ true → f.conn.syn_owed ≡ false → has_gone f.conn.sendings ≡ true
   went true is apart opening none = is
   went false is apart opening none = let not_it = sym (o.holds.opened.owes apart opening is) ∙ none in absurd cc
 
   -- one that connects wasn't accepted
-  connects_by : is_connects f.conn.stage ≡ true → seeks_guest past ≡ false
+  connects_by : is_at_connecting f.conn.stage ≡ true → resolves_guest past ≡ false
   connects_by is = by (is_accepted past) (has_connected past) (is_closed past) (syn_is_out past) (o.holds.opened.connects ∙ is)
     where
       by : (a b d e : Bool) → not (a || b || d) ≡ true → (a && not e && not d) ≡ false
@@ -151,17 +151,17 @@ module _ (s : Settings) (f : Splice) (past : Story) (now : ℕ) (o : IsOpen s f 
           by_two true d so = cc
           by_two false d so = cc
 
-  known_seeks : (mac : Mac) → f.mac ≡ Some mac → seeks f ≡ false
-  known_seeks mac is = ap (λ (m : Option Mac). not (is_some m) && nat_lt 0 f.asked) is
+  known_resolves : (mac : Mac) → f.mac ≡ Some mac → resolves f ≡ false
+  known_resolves mac is = ap (λ (m : Option Mac). not (is_some m) && nat_lt 0 f.asked) is
 
   -- where nothing is owed
-  known_by : seeks f ≡ false → owed_of f.conn f.up f.down ≡ None → IsBy (due_else f) (resend_deadline past)
+  known_by : resolves f ≡ false → owed_of f.conn f.up f.down ≡ None → IsBy (due_else f) (resend_deadline past)
   known_by known nothing = by f.conn.stage refl o.holds.opened.live
     where
-      of_conn : (d : Option ℕ) → is_connects f.conn.stage ≡ false → conn_due f.conn ≡ d → IsBy d (resend_deadline past) → IsBy (due_else f) (resend_deadline past)
+      of_conn : (d : Option ℕ) → is_at_connecting f.conn.stage ≡ false → conn_due f.conn ≡ d → IsBy d (resend_deadline past) → IsBy (due_else f) (resend_deadline past)
       of_conn d apart is within = subst (λ (x : Option ℕ). IsBy x (resend_deadline past)) (sym (due_known apart known ∙ is)) within
 
-      of_opening : f.conn.syn_owed ≡ false → is_connects f.conn.stage ≡ false → is_opening f.conn.stage ≡ true → conn_due f.conn ≡ resend_due f.conn.syn
+      of_opening : f.conn.syn_owed ≡ false → is_at_connecting f.conn.stage ≡ false → is_opening f.conn.stage ≡ true → conn_due f.conn ≡ resend_due f.conn.syn
           → IsBy (due_else f) (resend_deadline past)
       of_opening no_syn apart opening is = of_conn (resend_due f.conn.syn) apart is
           (opening_by s f.conn f.up f.down past now o.holds opening (λ gone. no_syn) (called_by (went (has_gone f.conn.sendings) refl apart opening no_syn)))
@@ -172,23 +172,23 @@ module _ (s : Settings) (f : Splice) (past : Story) (now : ℕ) (o : IsOpen s f 
       both false false is = refl
 
       by : (st : Stage) → f.conn.stage ≡ st → is_live st ≡ true → IsBy (due_else f) (resend_deadline past)
-      by stage.Connects at live =
+      by stage.Connecting at live =
           by_both (due_else f) (moment_if (is_under_way past && not (is_closed past)) (waits_since past + 60000)
-          ++ moment_if (seeks_guest past && nat_lt 0 (times_asked past)) (asked_at past + 60000)) _
+          ++ moment_if (resolves_guest past && nat_lt 0 (times_asked past)) (asked_at past + 60000)) _
           (by_both (due_else f) (moment_if (is_under_way past && not (is_closed past)) (waits_since past + 60000)) _
-          (none_by (ap (λ (q : Stage). is_opening q) at) (o.holds.opened.unsent (ap (λ (q : Stage). is_connects q) at)) (due_else f))
-          (rw (connects_by (ap (λ (q : Stage). is_connects q) at)) tt))
+          (none_by (ap (λ (q : Stage). is_opening q) at) (o.holds.opened.unsent (ap (λ (q : Stage). is_at_connecting q) at)) (due_else f))
+          (rw (connects_by (ap (λ (q : Stage). is_at_connecting q) at)) tt))
           (none_watched (ap (λ (q : Stage). is_opening q) at) (due_else f))
-      by stage.Calls at live =
+      by stage.SynSent at live =
           let no_syn = if_none f.conn.syn_owed Syn (sym (ap (λ (q : Stage). owed_by q f.conn f.up f.down) at) ∙ nothing) in
-          of_opening no_syn (ap (λ (q : Stage). is_connects q) at) (ap (λ (q : Stage). is_opening q) at) (ap (λ (q : Stage). conn_due_by q f.conn) at)
-      by stage.Answers at live =
+          of_opening no_syn (ap (λ (q : Stage). is_at_connecting q) at) (ap (λ (q : Stage). is_opening q) at) (ap (λ (q : Stage). conn_due_by q f.conn) at)
+      by stage.SynReceived at live =
           let no_syn = both f.conn.syn_owed f.conn.ack_owed (sym (ap (λ (q : Stage). owed_by q f.conn f.up f.down) at) ∙ nothing) in
-          of_opening no_syn (ap (λ (q : Stage). is_connects q) at) (ap (λ (q : Stage). is_opening q) at) (ap (λ (q : Stage). conn_due_by q f.conn) at)
+          of_opening no_syn (ap (λ (q : Stage). is_at_connecting q) at) (ap (λ (q : Stage). is_opening q) at) (ap (λ (q : Stage). conn_due_by q f.conn) at)
       by stage.Synchronized at live =
           let opening = ap (λ (q : Stage). is_opening q) at in
           let synchronized = ap (λ (q : Stage). is_synchronized q) at in
-          of_conn (resend_due f.conn.transmission.resend) (ap (λ (q : Stage). is_connects q) at) (ap (λ (q : Stage). conn_due_by q f.conn) at)
+          of_conn (resend_due f.conn.transmission.resend) (ap (λ (q : Stage). is_at_connecting q) at) (ap (λ (q : Stage). conn_due_by q f.conn) at)
           (synchronized_by s f.conn f.up f.down past now o.holds opening synchronized
           (not_expired s f.conn f.up f.down past now o.holds nothing true (ap (λ (q : Stage). is_calls q) at) opening synchronized
           (ap (λ (q : Stage). owed_by q f.conn f.up f.down) at, ap (λ (q : Stage). conn_due_by q f.conn) at))
@@ -196,9 +196,9 @@ module _ (s : Settings) (f : Splice) (past : Story) (now : ℕ) (o : IsOpen s f 
           let w = watched_by s f.conn f.up f.down past now o.holds nothing true (ap (λ (q : Stage). is_calls q) at) opening synchronized
           (ap (λ (q : Stage). owed_by q f.conn f.up f.down) at, ap (λ (q : Stage). conn_due_by q f.conn) at) waits in
           (w.0 + f.conn.transmission.resend.estimate.wait, ap (λ (t : Timer). due_by_timer t f.conn.transmission.resend.estimate.wait) w.1, w.2)))
-      by stage.Rests at live = absurd cc
+      by stage.TimeWait at live = absurd cc
       by (stage.Resets seq ack) at live = absurd cc
-      by stage.Gone at live = absurd cc
+      by stage.Closed at live = absurd cc
 
   else_by_resend : IsClear f → IsBy (due_else f) (resend_deadline past)
   else_by_resend clear = by f.mac refl clear
@@ -207,41 +207,41 @@ module _ (s : Settings) (f : Splice) (past : Story) (now : ℕ) (o : IsOpen s f 
       by None is none =
           let two = o.unsent is in
           let waits = waits_yet s f past now o open_yet is none in
-          let soon = (o.seeks is waits.1).soon in
-          let due : due_else f ≡ Some f.ask_at = due_apart (calls_apart f.conn.stage two.0) ∙ ap (λ (b : Bool). if b then ask_due f else conn_due f.conn) (seeking is waits.1)
+          let soon = (o.resolves is waits.1).soon in
+          let due : due_else f ≡ Some f.ask_at = due_apart (calls_apart f.conn.stage two.0) ∙ ap (λ (b : Bool). if b then ask_due f else conn_due f.conn) (resolving is waits.1)
           ∙ ap (λ (b : Bool). if not b then Some f.ask_at else None) waits.0 in
           by_both (due_else f) (moment_if (is_under_way past && not (is_closed past)) (waits_since past + 60000)
-          ++ moment_if (seeks_guest past && nat_lt 0 (times_asked past)) (asked_at past + 60000)) _
+          ++ moment_if (resolves_guest past && nat_lt 0 (times_asked past)) (asked_at past + 60000)) _
           (by_both (due_else f) (moment_if (is_under_way past && not (is_closed past)) (waits_since past + 60000)) _ (none_by (calls_opens f.conn.stage two.0).0 two.1 (due_else f))
-          (subst (λ (d : Option ℕ). IsBy d (moment_if (seeks_guest past && nat_lt 0 (times_asked past)) (asked_at past + 60000))) (sym due)
-          (by_if (seeks_guest past && nat_lt 0 (times_asked past)) f.ask_at (asked_at past + 60000) soon)))
+          (subst (λ (d : Option ℕ). IsBy d (moment_if (resolves_guest past && nat_lt 0 (times_asked past)) (asked_at past + 60000))) (sym due)
+          (by_if (resolves_guest past && nat_lt 0 (times_asked past)) f.ask_at (asked_at past + 60000) soon)))
           (none_watched (calls_opens f.conn.stage two.0).0 (due_else f))
         where
           by_if : (b : Bool) (at m : ℕ) → at ≤ m → IsBy (Some at) (moment_if b m)
           by_if true at m low = (low, tt)
           by_if false at m low = tt
 
-          calls_apart : (st : Stage) → is_calls st ≡ true → is_connects st ≡ false
-          calls_apart stage.Connects is = absurd cc
-          calls_apart stage.Calls is = refl
-          calls_apart stage.Answers is = refl
+          calls_apart : (st : Stage) → is_calls st ≡ true → is_at_connecting st ≡ false
+          calls_apart stage.Connecting is = absurd cc
+          calls_apart stage.SynSent is = refl
+          calls_apart stage.SynReceived is = refl
           calls_apart stage.Synchronized is = refl
-          calls_apart stage.Rests is = refl
+          calls_apart stage.TimeWait is = refl
           calls_apart (stage.Resets seq ack) is = refl
-          calls_apart stage.Gone is = refl
+          calls_apart stage.Closed is = refl
 
           yes : (n : ℕ) → 0 < n → nat_lt 0 n ≡ true
           yes n some = grind (arith, nat_tests)
 
-          seeking : f.mac ≡ None → 0 < f.asked → seeks f ≡ true
-          seeking is some = ap (λ (m : Option Mac). not (is_some m) && nat_lt 0 f.asked) is ∙ yes f.asked some
-      by (Some mac) is none = known_by (known_seeks mac is) (takes f.place (owed_of f.conn f.up f.down) (in_use (is_in_use f.place) f.shut open_yet) none)
+          resolving : f.mac ≡ None → 0 < f.asked → resolves f ≡ true
+          resolving is some = ap (λ (m : Option Mac). not (is_some m) && nat_lt 0 f.asked) is ∙ yes f.asked some
+      by (Some mac) is none = known_by (known_resolves mac is) (takes f.place (owed_of f.conn f.up f.down) (in_use (is_in_use f.place) f.shut open_yet) none)
 
   -- ---- at least
 
   -- it asks for its guest's hardware address
-  seeking_from : seeks f ≡ true → IsFrom (ask_due f) (wakes past)
-  seeking_from seeking = if_waits f.asks refl
+  resolving_from : resolves f ≡ true → IsFrom (ask_due f) (wakes past)
+  resolving_from resolving = if_waits f.asks refl
     where
       some : (n : ℕ) → nat_lt 0 n ≡ true → 0 < n
       some n is = grind (arith, nat_tests)
@@ -258,38 +258,38 @@ module _ (s : Settings) (f : Splice) (past : Story) (now : ℕ) (o : IsOpen s f 
           (from_second f.ask_at (closing_moments past) _
           (from_if f.ask_at (opened_at past + 1000) (is_accepted past && not (syn_is_out past) && not (is_closed past))
           (three (is_accepted past) (syn_is_out past) (is_closed past) (o.holds.opened.calls two.0) (o.holds.opened.out ∙ two.1) o.holds.goes.open_yet)
-          (not_before past f.asked f.ask_at asked (o.seeks is asked))))
+          (not_before past f.asked f.ask_at asked (o.resolves is asked))))
 
       if_waits : (b : Bool) → f.asks ≡ b → IsFrom (if not b then Some f.ask_at else None) (wakes past)
       if_waits true is = tt
-      if_waits false is = by f.mac refl seeking
+      if_waits false is = by f.mac refl resolving
 
   -- its connection's timer
-  conn_from : (st : Stage) → f.conn.stage ≡ st → is_connects st ≡ false → is_live st ≡ true → IsFrom (conn_due f.conn) (wakes past)
-  conn_from stage.Connects at apart live = absurd cc
-  conn_from stage.Calls at apart live =
+  conn_from : (st : Stage) → f.conn.stage ≡ st → is_at_connecting st ≡ false → is_live st ≡ true → IsFrom (conn_due f.conn) (wakes past)
+  conn_from stage.Connecting at apart live = absurd cc
+  conn_from stage.SynSent at apart live =
       subst (λ (d : Option ℕ). IsFrom d (wakes past)) (sym (ap (λ (q : Stage). conn_due_by q f.conn) at)) (opening_from s f.conn f.up f.down past now o.holds (ap (λ (q : Stage). is_opening q) at))
-  conn_from stage.Answers at apart live =
+  conn_from stage.SynReceived at apart live =
       subst (λ (d : Option ℕ). IsFrom d (wakes past)) (sym (ap (λ (q : Stage). conn_due_by q f.conn) at)) (opening_from s f.conn f.up f.down past now o.holds (ap (λ (q : Stage). is_opening q) at))
   conn_from stage.Synchronized at apart live =
       subst (λ (d : Option ℕ). IsFrom d (wakes past)) (sym (ap (λ (q : Stage). conn_due_by q f.conn) at))
       (synchronized_from s f.conn f.up f.down past now o.holds (ap (λ (q : Stage). is_opening q) at) (ap (λ (q : Stage). is_synchronized q) at))
-  conn_from stage.Rests at apart live = absurd cc
+  conn_from stage.TimeWait at apart live = absurd cc
   conn_from (stage.Resets seq ack) at apart live = absurd cc
-  conn_from stage.Gone at apart live = absurd cc
+  conn_from stage.Closed at apart live = absurd cc
 
   else_from : IsFrom (due_else f) (wakes past)
-  else_from = by (is_connects f.conn.stage) (seeks f) refl refl
+  else_from = by (is_at_connecting f.conn.stage) (resolves f) refl refl
     where
-      by : (a b : Bool) → is_connects f.conn.stage ≡ a → seeks f ≡ b → IsFrom (due_else f) (wakes past)
-      by true b is seeking =
+      by : (a b : Bool) → is_at_connecting f.conn.stage ≡ a → resolves f ≡ b → IsFrom (due_else f) (wakes past)
+      by true b is resolving =
           let since = o.since in
           subst (λ (d : Option ℕ). IsFrom d (wakes past)) (sym (due_connects is))
           (from_first (connect_end f) (closing_moments past ++ moment_if (is_accepted past && not (syn_is_out past) && not (is_closed past)) (opened_at past + 1000)) _
           (from_first (connect_end f) (closing_moments past) _ (from_first (connect_end f) (moment_if (is_connecting past) (opened_at past + 75000)) _
           (from_if (connect_end f) (opened_at past + 75000) (is_connecting past) (o.holds.opened.connects ∙ is) (omega (arith, since))))))
-      by false true apart seeking =
-          subst (λ (d : Option ℕ). IsFrom d (wakes past)) (sym (due_apart apart ∙ ap (λ (b : Bool). if b then ask_due f else conn_due f.conn) seeking)) (seeking_from seeking)
+      by false true apart resolving =
+          subst (λ (d : Option ℕ). IsFrom d (wakes past)) (sym (due_apart apart ∙ ap (λ (b : Bool). if b then ask_due f else conn_due f.conn) resolving)) (resolving_from resolving)
       by false false apart known = subst (λ (d : Option ℕ). IsFrom d (wakes past)) (sym (due_known apart known)) (conn_from f.conn.stage refl apart o.holds.opened.live)
 
   pub open_by_resend : IsClear f → IsBy (due_of f) (resend_deadline past)
@@ -319,7 +319,7 @@ module _ (s : Settings) (f : Splice) (past : Story) (now : ℕ) (h : Follows s f
       by Empty b at shut q = (shut_by f past q.over.closed).0
       by InUse true at shut q = (shut_by f past q.over.closed).0
       by InUse false at shut q = open_by_connect s f past now q (open_place at shut)
-      by (Resting since) b at shut q = (shut_by f past q.rests.over.closed).0
+      by (InTimeWait since) b at shut q = (shut_by f past q.time_waits.over.closed).0
 
   pub due_by_resend : IsClear f → IsBy (due_of f) (resend_deadline past)
   due_by_resend clear = by f.place f.shut refl refl h
@@ -328,7 +328,7 @@ module _ (s : Settings) (f : Splice) (past : Story) (now : ℕ) (h : Follows s f
       by Empty b at shut q = (shut_by f past q.over.closed).1
       by InUse true at shut q = (shut_by f past q.over.closed).1
       by InUse false at shut q = open_by_resend s f past now q (open_place at shut) clear
-      by (Resting since) b at shut q = (shut_by f past q.rests.over.closed).1
+      by (InTimeWait since) b at shut q = (shut_by f past q.time_waits.over.closed).1
 
   pub due_from : IsFrom (due_of f) (wakes past)
   due_from = by f.place f.shut refl refl h
@@ -337,4 +337,4 @@ module _ (s : Settings) (f : Splice) (past : Story) (now : ℕ) (h : Follows s f
       by Empty b at shut q = shut_from f past (shut_place Empty b at shut refl)
       by InUse true at shut q = shut_from f past (shut_place InUse true at shut refl)
       by InUse false at shut q = open_from s f past now q (open_place at shut)
-      by (Resting since) b at shut q = shut_from f past (shut_place (Resting since) b at shut refl)
+      by (InTimeWait since) b at shut q = shut_from f past (shut_place (InTimeWait since) b at shut refl)

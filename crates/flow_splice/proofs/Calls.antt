@@ -3,7 +3,7 @@ use Rattle.std.proofs.Common.{refl, ◌≡◌, List, [], ◌∷◌, ◌++◌, Bo
 use Rattle.world_face.specs.Journal.{Allowed, Close, Connected, Entry, TcpEnd, TcpRead, TcpWrite}
 use Rattle.world_face.specs.Tells.{Answers, Makes, Telling}
 use Rattle.world_face.proofs.Telling.{makes_next, makes_one, makes_then}
-use Rattle.sim_connection.specs.Holding.{is_connects}
+use Rattle.sim_connection.specs.Holding.{is_at_connecting}
 use Rattle.flow_splice.specs.Hosts.{ReadsOn, ServesReport, is_for_reading, is_for_writing, reads_or_shuts, serves_write, some_is}
 use Rattle.flow_splice.specs.Splice.{Splice}
 use Rattle.flow_splice.specs.Wants.{reads, writes}
@@ -84,9 +84,9 @@ reads_behind false second first so later = still_is reads_or_shuts second first 
 
 -- the calls for writing, and then those for reading
 pub serves_both : (read write : Bool) (old mid : Splice) (first second : List Entry) →
-    (write ≡ true → writes old ≡ true → some_is (serves_write (is_connects old.conn.stage)) first ≡ true) → ReadsOn old mid first
+    (write ≡ true → writes old ≡ true → some_is (serves_write (is_at_connecting old.conn.stage)) first ≡ true) → ReadsOn old mid first
     → (read ≡ true → reads mid ≡ true → some_is is_for_reading second ≡ true) → ServesReport read write old (second ++ first)
 serves_both read write old mid first second written on later = record {
-  writing = λ is waits. still_is (serves_write (is_connects old.conn.stage)) second first (written is waits);
+  writing = λ is waits. still_is (serves_write (is_at_connecting old.conn.stage)) second first (written is waits);
   reading = λ is waits. reads_behind (reads mid) second first (on waits) (later is);
 }

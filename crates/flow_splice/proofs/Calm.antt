@@ -82,13 +82,13 @@ module _ (s : Settings) (c : Connection) (up : Upward) (down : Downward) (past :
       by false rst = plain_calm past m seg rst
 
 -- a guest that is called and calls on didn't turn us away
-pub waits_unturned : (c : Connection) (up : Upward) (down : Downward) (tcp : Tcp) (now : ℕ) → c.stage ≡ stage.Calls → after_segment c up down tcp now ≡ c → is_rst tcp ≡ true →
+pub waits_unturned : (c : Connection) (up : Upward) (down : Downward) (tcp : Tcp) (now : ℕ) → c.stage ≡ stage.SynSent → after_segment c up down tcp now ≡ c → is_rst tcp ≡ true →
     acknowledges_syn c tcp ≡ false
 waits_unturned c up down tcp now at same rst = by (acknowledges_syn c tcp) refl
   where
     by : (b : Bool) → acknowledges_syn c tcp ≡ b → b ≡ false
     by true is =
         let resets : verdict_of c up tcp ≡ Resets = ap (λ (st : Stage). verdict_by st c up tcp) at ∙ rw (rst, is) refl in
-        let gone : stage.Gone ≡ stage.Calls = ap (λ (v : Verdict). (conn_by v c up down tcp now).stage) (sym resets) ∙ ap (λ (x : Connection). x.stage) same ∙ at in
+        let gone : stage.Closed ≡ stage.SynSent = ap (λ (v : Verdict). (conn_by v c up down tcp now).stage) (sym resets) ∙ ap (λ (x : Connection). x.stage) same ∙ at in
         absurd cc
     by false is = refl

@@ -5,7 +5,7 @@ use Rattle.sock_buffers.specs.Downward.{Downward}
 use Rattle.tcp_transmit.specs.Transmission.{octets_read}
 use Rattle.tcp_connection.specs.Connection.{is_opening}
 use Rattle.tcp_connection.specs.Hosts.{is_open as host_is_open}
-use Rattle.sim_connection.specs.Holding.{is_connects}
+use Rattle.sim_connection.specs.Holding.{is_at_connecting}
 use Rattle.spec_flow.specs.Settings.{Settings}
 use Rattle.spec_flow.specs.Event.{Story}
 use Rattle.spec_flow.specs.Flow.{has_connected, host, is_accepted, is_closed, opened_at}
@@ -33,7 +33,7 @@ none_is down = by down.first (length down.octets)
 
 pub record Deserts (f : Splice) : Type 0 where
   pub accepted : f.accepted ≡ true
-  pub connected : is_connects f.conn.stage ≡ false
+  pub connected : is_at_connecting f.conn.stage ≡ false
   pub opening : is_opening f.conn.stage ≡ true
   pub ended : host_is_open f.conn.transmission.end ≡ false
   pub unread : nat_eq (octets_read f.down) 0 ≡ true
@@ -41,7 +41,7 @@ pub record Deserts (f : Splice) : Type 0 where
 
 pub deserted_parts : (f : Splice) → is_deserted f ≡ true → Deserts f
 deserted_parts f is =
-    let p = six f.accepted (is_connects f.conn.stage) (is_opening f.conn.stage) (host_is_open f.conn.transmission.end) (reads_none f.down) f.conn.ack_owed is in
+    let p = six f.accepted (is_at_connecting f.conn.stage) (is_opening f.conn.stage) (host_is_open f.conn.transmission.end) (reads_none f.down) f.conn.ack_owed is in
     record { accepted = p.0; connected = p.1; opening = p.2; ended = p.3; unread = sym (none_is f.down) ∙ p.4; unowed = p.5 }
   where
     six : (a b d e g h : Bool) → (a && not b && d && not e && g && not h) ≡ true → (a ≡ true) × (b ≡ false) × (d ≡ true) × (e ≡ false) × (g ≡ true) × (h ≡ false)
@@ -55,7 +55,7 @@ deserted_parts f is =
 
 pub deserted_by : (f : Splice) → Deserts f → is_deserted f ≡ true
 deserted_by f p =
-    six f.accepted (is_connects f.conn.stage) (is_opening f.conn.stage) (host_is_open f.conn.transmission.end) (reads_none f.down) f.conn.ack_owed p.accepted p.connected p.opening p.ended
+    six f.accepted (is_at_connecting f.conn.stage) (is_opening f.conn.stage) (host_is_open f.conn.transmission.end) (reads_none f.down) f.conn.ack_owed p.accepted p.connected p.opening p.ended
     (none_is f.down ∙ p.unread) p.unowed
   where
     six : (a b d e g h : Bool) → a ≡ true → b ≡ false → d ≡ true → e ≡ false → g ≡ true → h ≡ false → (a && not b && d && not e && g && not h) ≡ true
@@ -130,7 +130,7 @@ module _ (s : Settings) (f : Splice) (past : Story) (now : ℕ) (o : IsOpen s f 
   left_is = let same = patience_is in let last = o.last in omega (arith, same, last)
 
   -- of one that connects it is the end of that time
-  open_connects : is_connects f.conn.stage ≡ true → close_deadline past ≡ connect_end f ∷ []
+  open_connects : is_at_connecting f.conn.stage ≡ true → close_deadline past ≡ connect_end f ∷ []
   open_connects connects =
       ap (λ (b : Bool). moment_if b (opened_at past + 75000) ++ moment_if (is_deserted_by past && not (is_prompted past)) (max (patience_by past) (last_at past + 1)))
       (o.holds.opened.connects ∙ connects)
@@ -155,7 +155,7 @@ module _ (s : Settings) (f : Splice) (past : Story) (now : ℕ) (o : IsOpen s f 
           first false b d e g h is = absurd cc
 
   -- of one that is deserted by the law, that of the flow
-  open_left : is_connects f.conn.stage ≡ false → (close_deadline past ≡ []) ⊎ ((is_deserted f ≡ true) × (close_deadline past ≡ left_at f ∷ []))
+  open_left : is_at_connecting f.conn.stage ≡ false → (close_deadline past ≡ []) ⊎ ((is_deserted f ≡ true) × (close_deadline past ≡ left_at f ∷ []))
   open_left apart = by (is_deserted_by past) (is_prompted past) refl refl
     where
       begins : close_deadline past ≡ moment_if (is_deserted_by past && not (is_prompted past)) (max (patience_by past) (last_at past + 1))
@@ -179,10 +179,10 @@ module _ (s : Settings) (f : Splice) (past : Story) (now : ℕ) (o : IsOpen s f 
   open_left_from : is_deserted f ≡ true → IsFrom (Some (left_at f)) (wakes past)
   open_left_from deserted = from_later (patience_by past) (left_at f) (wakes past) (let same = patience_is in omega (arith, same)) (patience_from s f.conn f.up f.down past now o.holds (deserted_law deserted))
 
-pub connects_alone : (s : Settings) (f : Splice) (past : Story) (now : ℕ) → Follows s f past now → is_open f ≡ true → is_connects f.conn.stage ≡ true → close_deadline past ≡ connect_end f ∷ []
+pub connects_alone : (s : Settings) (f : Splice) (past : Story) (now : ℕ) → Follows s f past now → is_open f ≡ true → is_at_connecting f.conn.stage ≡ true → close_deadline past ≡ connect_end f ∷ []
 connects_alone s f past now h yet connects = open_connects s f past now (open_is s f past now yet h) connects
 
-pub left_deadline : (s : Settings) (f : Splice) (past : Story) (now : ℕ) → Follows s f past now → is_open f ≡ true → is_connects f.conn.stage ≡ false →
+pub left_deadline : (s : Settings) (f : Splice) (past : Story) (now : ℕ) → Follows s f past now → is_open f ≡ true → is_at_connecting f.conn.stage ≡ false →
     (close_deadline past ≡ []) ⊎ ((is_deserted f ≡ true) × (close_deadline past ≡ left_at f ∷ []))
 left_deadline s f past now h yet apart = open_left s f past now (open_is s f past now yet h) apart
 

@@ -10,7 +10,7 @@ use Rattle.spec_flow.specs.Guest.{is_empty, written}
 use Rattle.spec_flow.specs.Host.{got, got_end}
 use Rattle.spec_flow.specs.Close.{follows_reset, host_was_ended, is_short as is_short_by, last_at, may_give_way, our_fin_is_acked, quiet_time as quiet_time_by}
 use Rattle.sim_halves.proofs.Rests.{our_fin}
-use Rattle.sim_connection.specs.Holding.{is_connects}
+use Rattle.sim_connection.specs.Holding.{is_at_connecting}
 use Rattle.sim_connection.specs.Seen.{outward_of}
 use Rattle.sim_connection.proofs.Causes.{way_closes}
 use Rattle.sim_connection.proofs.Deserting.{empty_is, end_is_got, got_is, written_is}
@@ -36,7 +36,7 @@ module _ (s : Settings) (f : Splice) (past : Story) (now : ℕ) (o : IsOpen s f 
   quiet_is : quiet_time_by past ≡ quiet_time f
   quiet_is = by (is_connecting past) (is_short_by past) o.holds.opened.connects short_is
     where
-      by : (a b : Bool) → a ≡ is_connects f.conn.stage → b ≡ is_short f → ◌≡◌ {A = ℕ} (if a then 10000 else (if b then 240000 else 7440000)) (quiet_time f)
+      by : (a b : Bool) → a ≡ is_at_connecting f.conn.stage → b ≡ is_short f → ◌≡◌ {A = ℕ} (if a then 10000 else (if b then 240000 else 7440000)) (quiet_time f)
       by a b a_is b_is = rw (a_is, b_is) refl
 
   acked_is : our_fin_is_acked past ≡ f.conn.fin_acked

@@ -4,7 +4,7 @@ use Rattle.std.proofs.Common.{sym, ◌∙◌, inl}
 use Rattle.std.proofs.lemmas.Bool.Decides.{nat_tests}
 use Rattle.net_octets.specs.declared.Mac.{Mac}
 use Rattle.seq_space.specs.declared.Seq.{Seq}
-use Rattle.world_face.specs.Frames.{spelling}
+use Rattle.world_face.specs.Frames.{encoding}
 use Rattle.world_face.specs.Journal.{Allowed, Close, Entry, LinkWrite, count_of}
 use Rattle.world_face.specs.declared.Io.{Io}
 use Rattle.world_face.specs.declared.Io.TheVariants.{Done, End, NotYet, Failed as IoFailed}
@@ -29,20 +29,20 @@ use Rattle.spec_flow.specs.Event.{At, Closes, Departs, Segment, Story}
 use Rattle.spec_flow.specs.Lawful.{HasOwnCause, IsLawful}
 use Rattle.spec_flow.specs.Dutiful.{IsDutiful}
 use Rattle.sim_connection.specs.Holding.{Holds, is_live}
-use Rattle.sim_connection.specs.Over.{IsOver, IsResting, is_resets}
+use Rattle.sim_connection.specs.Over.{IsOver, IsInTimeWait, is_resets}
 use Rattle.sim_connection.specs.Sending.{is_rst, is_syn, segment_out}
 use Rattle.sim_connection.proofs.Departing.{departs}
 use Rattle.sim_connection.proofs.Owing.{reset_goes}
-use Rattle.sim_connection.proofs.Resting.{ack_goes}
+use Rattle.sim_connection.proofs.InTimeWait.{ack_goes}
 use Rattle.flow_splice.specs.Entries.{AreEvents, ident_after, went}
-use Rattle.flow_splice.specs.Follows.{Follows, FollowsAt, IsAtRest, IsOpen, IsOwing}
+use Rattle.flow_splice.specs.Follows.{Follows, FollowsAt, FollowsInTimeWait, IsOpen, IsOwing}
 use Rattle.flow_splice.specs.Frames.{IsSized, segment_frame}
 use Rattle.flow_splice.specs.Hosts.{Sees, ends}
 use Rattle.flow_splice.specs.Sends.{GoesOut, Marks, Sends, ident_if, went_out}
 use Rattle.flow_splice.specs.Serves.{Serves}
 use Rattle.flow_splice.specs.Splice.{Splice, closed, is_in_use, is_open}
 use Rattle.flow_splice.specs.declared.Place.{Place}
-use Rattle.flow_splice.specs.declared.Place.TheVariants.{Empty, InUse, Resting}
+use Rattle.flow_splice.specs.declared.Place.TheVariants.{Empty, InUse, InTimeWait}
 use Rattle.flow_splice.proofs.Opened.{follows_later, goes_on, open_follows}
 use Rattle.flow_splice.proofs.Sending.{went_has}
 use Rattle.flow_splice.proofs.Restless.{owing_none}
@@ -56,7 +56,7 @@ module _ (f : Splice) (now first : ℕ) (what : Owed) (mac : Mac) (known_mac : f
   seg = segment_out f.mru f.conn f.up f.down what
 
   abbrev octets : List ℕ
-  octets = spelling (segment_frame f.face mac first seg)
+  octets = encoding (segment_frame f.face mac first seg)
 
   stays : first ≡ (first + 0) % 2 ^ 16
   stays = omega (arith, small)
@@ -81,7 +81,7 @@ module _ (f : Splice) (now first : ℕ) (what : Owed) (mac : Mac) (known_mac : f
             record {
               to = mac;
               known = known_mac;
-              frame = ap (λ (n : ℕ). spelling (segment_frame f.face mac n seg)) stays;
+              frame = ap (λ (n : ℕ). encoding (segment_frame f.face mac n seg)) stays;
               may = lawful.0;
               must = dutiful.0;
               sized = subst (λ (n : ℕ). IsSized f.face mac n seg) stays sized;
@@ -145,9 +145,9 @@ if_none true w what none is = let same : w ≡ what = cc in ap is_rst (sym same)
 if_none false w what none is = absurd cc
 
 live_none : (st : Stage) (c : Connection) (up : Upward) (down : Downward) (what : Owed) → is_live st ≡ true → owed_by st c up down ≡ Some what → is_rst what ≡ false
-live_none stage.Connects c up down what live owed = absurd cc
-live_none stage.Calls c up down what live owed = if_none c.syn_owed Syn what refl owed
-live_none stage.Answers c up down what live owed = by c.syn_owed owed
+live_none stage.Connecting c up down what live owed = absurd cc
+live_none stage.SynSent c up down what live owed = if_none c.syn_owed Syn what refl owed
+live_none stage.SynReceived c up down what live owed = by c.syn_owed owed
   where
     by : (b : Bool) → (if b then Some SynAck else ack_if c.ack_owed) ≡ Some what → is_rst what ≡ false
     by true is = if_none true SynAck what refl is
@@ -157,18 +157,18 @@ live_none stage.Synchronized c up down what live owed = by (piece_owed c.transmi
     by : (p : Option Piece) → piece_or_ack p (c.ack_owed || is_update_owed c up) ≡ Some what → is_rst what ≡ false
     by None is = if_none (c.ack_owed || is_update_owed c up) Ack what refl is
     by (Some p) is = if_none true (Data p) what refl is
-live_none stage.Rests c up down what live owed = absurd cc
+live_none stage.TimeWait c up down what live owed = absurd cc
 live_none (stage.Resets seq ack) c up down what live owed = absurd cc
-live_none stage.Gone c up down what live owed = absurd cc
+live_none stage.Closed c up down what live owed = absurd cc
 
 resets_stage : (st : Stage) → is_resets st ≡ true → (seq : Seq) × (ack : Seq) × (st ≡ stage.Resets seq ack)
-resets_stage stage.Connects is = absurd cc
-resets_stage stage.Calls is = absurd cc
-resets_stage stage.Answers is = absurd cc
+resets_stage stage.Connecting is = absurd cc
+resets_stage stage.SynSent is = absurd cc
+resets_stage stage.SynReceived is = absurd cc
 resets_stage stage.Synchronized is = absurd cc
-resets_stage stage.Rests is = absurd cc
+resets_stage stage.TimeWait is = absurd cc
 resets_stage (stage.Resets seq ack) is = (seq, ack, refl)
-resets_stage stage.Gone is = absurd cc
+resets_stage stage.Closed is = absurd cc
 
 ack_is : (b : Bool) (what : Owed) → ack_if b ≡ Some what → (b ≡ true) × (Ack ≡ what)
 ack_is true what is = (refl, cc)
@@ -188,13 +188,13 @@ taken_some n some = grind (arith, nat_tests)
 module _ (f : Splice) (now first : ℕ) (what : Owed) (mac : Mac) (known_mac : f.mac ≡ Some mac) (late : now ≤ 2 ^ 62) (small : first < 2 ^ 16)
     (buffers : HasBuffers f.conn f.up f.down) (owed : owed_of f.conn f.up f.down ≡ Some what) (used : f.place ≡ Empty → ⊥)
     (sized : IsSized f.face mac first (segment_out f.mru f.conn f.up f.down what)) (result : Offered) (answer : Io) (result_is : result ≡ offered answer)
-    (allowed : Allowed (LinkWrite (spelling (segment_frame f.face mac first (segment_out f.mru f.conn f.up f.down what))) answer))
+    (allowed : Allowed (LinkWrite (encoding (segment_frame f.face mac first (segment_out f.mru f.conn f.up f.down what))) answer))
     (new : Splice) (made : List Entry) (marks : Marks result what f new now made) where
   abbrev c : Connection
   c = f.conn
 
   abbrev frame : List ℕ
-  frame = spelling (segment_frame f.face mac first (segment_out f.mru f.conn f.up f.down what))
+  frame = encoding (segment_frame f.face mac first (segment_out f.mru f.conn f.up f.down what))
 
   module _ (s : Settings) (past : Story) (before : ℕ) (ended known : Bool) (on : before ≤ now) (h : Follows s f past before) where
     abbrev gone_out : Story
@@ -263,7 +263,7 @@ module _ (f : Splice) (now first : ℕ) (what : Owed) (mac : Mac) (known_mac : f
         by_answer lawful dutiful (λ some goes.
         let sent = subst (λ (w : Owed). GoesOut (is_rst w) w f new now made) (sym what_is) goes in
         taken f now first what mac known_mac late small buffers owed used sized answer allowed s past before ended known on h some lawful dutiful
-        (record f { conn = record c { stage = stage.Gone }; place = Empty; last = now }) new made refl refl sent.0 sent.1
+        (record f { conn = record c { stage = stage.Closed }; place = Empty; last = now }) new made refl refl sent.0 sent.1
         (record { over = over_now; owes_none = refl; rests_none = owing_none past (q.over.owes ∙ q.owes) }))
       where
         at : (seq : Seq) × (ack : Seq) × (c.stage ≡ stage.Resets seq ack)
@@ -272,10 +272,10 @@ module _ (f : Splice) (now first : ℕ) (what : Owed) (mac : Mac) (known_mac : f
         what_is : Reset at.0 at.1 ≡ what
         what_is = let is : Some (Reset at.0 at.1) ≡ Some what = sym (ap (λ (st : Stage). owed_by st c f.up f.down) at.2) ∙ owed in cc
 
-        over_now : IsOver s (record c { stage = stage.Gone }) gone_out now
+        over_now : IsOver s (record c { stage = stage.Closed }) gone_out now
         over_now =
-            subst (λ (w : Owed). IsOver s (record c { stage = stage.Gone }) (At now (Departs (segment_out f.mru c f.up f.down w)) ∷ past) now) what_is
-            (subst (λ (n : ℕ). IsOver s (record c { stage = stage.Gone }) (At now (Departs (segment_out n c f.up f.down (Reset at.0 at.1))) ∷ past) now) (sym q.mru)
+            subst (λ (w : Owed). IsOver s (record c { stage = stage.Closed }) (At now (Departs (segment_out f.mru c f.up f.down w)) ∷ past) now) what_is
+            (subst (λ (n : ℕ). IsOver s (record c { stage = stage.Closed }) (At now (Departs (segment_out n c f.up f.down (Reset at.0 at.1))) ∷ past) now) (sym q.mru)
             (reset_goes s c f.up f.down past before now on q.over at.0 at.1 at.2))
 
         lawful : IsLawful s gone_out
@@ -284,8 +284,8 @@ module _ (f : Splice) (now first : ℕ) (what : Owed) (mac : Mac) (known_mac : f
         dutiful : IsDutiful s gone_out
         dutiful = over_now.runs.dutiful
 
-    -- it rests
-    sends_ack : (since : ℕ) → f.place ≡ Resting since → IsAtRest s f past before since → Result (ident_if result first)
+    -- it is in TIME-WAIT
+    sends_ack : (since : ℕ) → f.place ≡ InTimeWait since → FollowsInTimeWait s f past before since → Result (ident_if result first)
     sends_ack since at q =
         by_answer rests_now.over.runs.lawful rests_now.over.runs.dutiful (λ some goes.
         let sent = subst (λ (w : Owed). GoesOut (is_rst w) w f new now made) (sym two.1) goes in
@@ -294,22 +294,22 @@ module _ (f : Splice) (now first : ℕ) (what : Owed) (mac : Mac) (known_mac : f
         rests_now.over.runs.dutiful (went_out f Ack now) new made refl refl stays.0 stays.1
         (subst (λ (p : Place). FollowsAt p f.shut s (went_out f Ack now) gone_out now) (sym at)
         (record {
-          rests = subst (λ (y : Connection). IsResting s y f.up f.down gone_out now since) (sym (settled_same (told c f.up (our_shift c)) unfinished)) rests_now;
+          time_waits = subst (λ (y : Connection). IsInTimeWait s y f.up f.down gone_out now since) (sym (settled_same (told c f.up (our_shift c)) unfinished)) rests_now;
           mru = q.mru;
           known = q.known;
         })))
       where
         two : (c.ack_owed ≡ true) × (Ack ≡ what)
-        two = ack_is c.ack_owed what (sym (ap (λ (st : Stage). owed_by st c f.up f.down) q.rests.at) ∙ owed)
+        two = ack_is c.ack_owed what (sym (ap (λ (st : Stage). owed_by st c f.up f.down) q.time_waits.at) ∙ owed)
 
         unfinished : is_done (told c f.up (our_shift c)) ≡ false
-        unfinished = ap (λ (st : Stage). is_synchronized st && c.host_ended && c.fin_acked && (c.end_acknowledged || c.received.ended)) q.rests.at
+        unfinished = ap (λ (st : Stage). is_synchronized st && c.host_ended && c.fin_acked && (c.end_acknowledged || c.received.ended)) q.time_waits.at
 
-        rests_now : IsResting s (told c f.up (our_shift c)) f.up f.down gone_out now since
+        rests_now : IsInTimeWait s (told c f.up (our_shift c)) f.up f.down gone_out now since
         rests_now =
-            subst (λ (w : Owed). IsResting s (told c f.up (our_shift c)) f.up f.down (At now (Departs (segment_out f.mru c f.up f.down w)) ∷ past) now since) two.1
-            (subst (λ (n : ℕ). IsResting s (told c f.up (our_shift c)) f.up f.down (At now (Departs (segment_out n c f.up f.down Ack)) ∷ past) now since) (sym q.mru)
-            (ack_goes s c f.up f.down past before now since on q.rests two.0))
+            subst (λ (w : Owed). IsInTimeWait s (told c f.up (our_shift c)) f.up f.down (At now (Departs (segment_out f.mru c f.up f.down w)) ∷ past) now since) two.1
+            (subst (λ (n : ℕ). IsInTimeWait s (told c f.up (our_shift c)) f.up f.down (At now (Departs (segment_out n c f.up f.down Ack)) ∷ past) now since) (sym q.mru)
+            (ack_goes s c f.up f.down past before now since on q.time_waits two.0))
 
     all : Result (ident_if result first)
     all = by f.place f.shut refl refl h
@@ -318,7 +318,7 @@ module _ (f : Splice) (now first : ℕ) (what : Owed) (mac : Mac) (known_mac : f
         by Empty b at shut q = absurd (used at)
         by InUse true at shut q = sends_reset q
         by InUse false at shut q = sends_open (ap (λ (p : Place). is_in_use p && not f.shut) at ∙ ap not shut) q
-        by (Resting since) b at shut q = sends_ack since at q
+        by (InTimeWait since) b at shut q = sends_ack since at q
 
   pub sends : Sends f new first (ident_if result first) now (made ++ (LinkWrite frame answer ∷ []))
   sends s past before ended known on h = all s past before ended known on h

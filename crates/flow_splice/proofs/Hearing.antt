@@ -12,7 +12,7 @@ use Rattle.tcp_transmit.specs.Transmission.{Feeds, Transmission}
 use Rattle.tcp_transmit.specs.declared.AckSeen.{AckSeen}
 use Rattle.tcp_transmit.specs.declared.AckSeen.TheVariants.{Old, Same, Forward, FinToo, TooFar}
 use Rattle.tcp_connection.specs.Checks.{is_ack, verdict_of}
-use Rattle.tcp_connection.specs.Connection.{Connection, HasBuffers, has_gone, is_answering, is_opening, is_synchronized}
+use Rattle.tcp_connection.specs.Connection.{Connection, HasBuffers, has_gone, is_syn_received, is_opening, is_synchronized}
 use Rattle.tcp_connection.specs.Segments.{acknowledged, after_segment, arrived, change_at, change_by, conn_by, congested, down_after_segment, down_by, established, greeted, heard as conn_heard}
 use Rattle.tcp_connection.specs.Segments.{is_bare, is_fin_too, is_done, is_past, is_too_far, opened, seen_of, settled, settling, up_after_segment, up_by}
 use Rattle.tcp_connection.specs.Windows.{window_in}
@@ -114,11 +114,11 @@ module _ (f : Splice) (now : ℕ) (tcp : Tcp) (open_yet : is_open f ≡ true) (l
           stays (as_heard (λ (g : Splice). IsOpen s g after now) (goes_on s f x u d f.told_end past before now (Arrives seg) on (λ none. none) o h o.told unfinished unsent calm))
 
     -- the connection is gone
-    gone : verdict_of c f.up tcp ≡ Resets → HasOwnCause true false known now after → Follows s (closed (record f { conn = record c { stage = stage.Gone }; last = now }) now)
+    gone : verdict_of c f.up tcp ≡ Resets → HasOwnCause true false known now after → Follows s (closed (record f { conn = record c { stage = stage.Closed }; last = now }) now)
         (At now (Closes true ended known) ∷ after) now → Result
     gone is cause h =
         shuts (ap (λ (v : Verdict). ends (change_by v c f.up f.down tcp now)) is) cause
-        (as_heard (record c { stage = stage.Gone }) f.up f.down (ap (λ (v : Verdict). conn_by v c f.up f.down tcp now) is) (ap (λ (v : Verdict). up_by v c f.up f.down tcp) is)
+        (as_heard (record c { stage = stage.Closed }) f.up f.down (ap (λ (v : Verdict). conn_by v c f.up f.down tcp now) is) (ap (λ (v : Verdict). up_by v c f.up f.down tcp) is)
         (ap (λ (v : Verdict). down_by v c f.down tcp) is)
         (λ (g : Splice). Follows s (closed g now) (At now (Closes true ended known) ∷ after) now) h)
 
@@ -140,7 +140,7 @@ module _ (f : Splice) (now : ℕ) (tcp : Tcp) (open_yet : is_open f ≡ true) (l
 
     -- ---- the acknowledgement of our SYN isn't of what was never sent
 
-    module _ (at : c.stage ≡ stage.Answers) (number : tcp.ack ≡ number_of c.ours 0) where
+    module _ (at : c.stage ≡ stage.SynReceived) (number : tcp.ack ≡ number_of c.ours 0) where
       opening : is_opening c.stage ≡ true
       opening = ap (λ (st : Stage). is_opening st) at
 
@@ -173,7 +173,7 @@ module _ (f : Splice) (now : ℕ) (tcp : Tcp) (open_yet : is_open f ≡ true) (l
 
     -- ---- the three that change the streams
 
-    greeting : verdict_of c f.up tcp ≡ Greets → (at : c.stage ≡ stage.Calls) → has_gone c.sendings ≡ true → (greets_it : greets past seg ≡ true) → seg.rst ≡ false →
+    greeting : verdict_of c f.up tcp ≡ Greets → (at : c.stage ≡ stage.SynSent) → has_gone c.sendings ≡ true → (greets_it : greets past seg ≡ true) → seg.rst ≡ false →
         seg.syn ≡ true → (seg.ack ≡ true → tcp.ack ≡ number_of c.ours 0) → Result
     greeting is at out greets_it rst syn number = by (is_ack tcp) refl
       where
@@ -210,13 +210,13 @@ module _ (f : Splice) (now : ℕ) (tcp : Tcp) (open_yet : is_open f ≡ true) (l
             (greets_alone s c f.up f.down past before now tcp on late o.holds at out greets_it rst syn ack (has (greeted c tcp) f.up f.down c_is u_is d_is))
             (unfinished (greeted c tcp) (o.holds.awaits calls).host_ended) (λ none. absurd (known_now none)) (λ unowed. plain_calm past now seg rst)
 
-    opening_now : verdict_of c f.up tcp ≡ Heeded → c.stage ≡ stage.Answers → has_gone c.sendings ≡ true → tcp.ack ≡ number_of c.ours 0 → seg.ack ≡ true → seg.rst ≡ false → seg.syn ≡ false → Result
+    opening_now : verdict_of c f.up tcp ≡ Heeded → c.stage ≡ stage.SynReceived → has_gone c.sendings ≡ true → tcp.ack ≡ number_of c.ours 0 → seg.ack ≡ true → seg.rst ≡ false → seg.syn ≡ false → Result
     opening_now is at out number ack rst syn =
         let e : Connection = established c in
         let x : Connection = arrived (acknowledged e f.down tcp (window_in c tcp) (is_bare tcp) now) f.up tcp in
         let u : Upward = up_after c.received tcp.seq tcp.body f.up in
         let d : Downward = without (octets_acked (seen_of (congested c) f.down tcp.ack)) f.down in
-        let opened_is : opened c ≡ e = ap (λ (st : Stage). if is_answering st then e else c) at in
+        let opened_is : opened c ≡ e = ap (λ (st : Stage). if is_syn_received st then e else c) at in
         let near : is_past (opened c) f.down tcp ≡ false = ap (λ (y : Connection). is_past y f.down tcp) opened_is ∙ not_far at number in
         let c_is : after_segment c f.up f.down tcp now ≡ settled x =
         ap (λ (v : Verdict). conn_by v c f.up f.down tcp now) is
@@ -248,7 +248,7 @@ module _ (f : Splice) (now : ℕ) (tcp : Tcp) (open_yet : is_open f ≡ true) (l
         sync = ap (λ (st : Stage). is_synchronized st) at
 
         opened_is : opened c ≡ c
-        opened_is = ap (λ (st : Stage). if is_answering st then established c else c) at
+        opened_is = ap (λ (st : Stage). if is_syn_received st then established c else c) at
 
         d : Downward
         d = without (octets_acked (seen_of c.transmission f.down tcp.ack)) f.down
@@ -320,12 +320,12 @@ module _ (f : Splice) (now : ℕ) (tcp : Tcp) (open_yet : is_open f ≡ true) (l
         (λ unowed. called_calm s c f.up f.down past before now o.holds seg (ap (λ (st : Stage). is_calls st) at) (λ rst. waits_unturned c f.up f.down tcp now at c_is rst))
     by_means (resets is no_call rst number) =
         gone is (next_reset_cause s c f.up f.down past before now on o.holds known false seg no_call rst number)
-        (over_follows s (record f { conn = record c { stage = stage.Gone }; last = now }) (At now (Closes true ended known) ∷ after) now
+        (over_follows s (record f { conn = record c { stage = stage.Closed }; last = now }) (At now (Closes true ended known) ∷ after) now
         (next_reset_closes s c f.up f.down past before now on o.holds known ended seg no_call rst number) (λ at. cc) o.mru (λ owes. absurd cc)
         (λ none. next_reset_none s c f.up f.down past before now known o.holds seg rst no_call number))
     by_means (turns_away is calls rst ack number) =
         gone is (called_reset_cause s c f.up f.down past before now on o.holds known false seg calls rst ack number)
-        (over_follows s (record f { conn = record c { stage = stage.Gone }; last = now }) (At now (Closes true ended known) ∷ after) now
+        (over_follows s (record f { conn = record c { stage = stage.Closed }; last = now }) (At now (Closes true ended known) ∷ after) now
         (called_reset_closes s c f.up f.down past before now on o.holds known ended seg calls rst ack number) (λ at. cc) o.mru (λ owes. absurd cc)
         (λ none. called_reset_none s c f.up f.down past before now known o.holds seg rst calls ack number))
     by_means (is_greeted is at out greets_it rst syn number) = greeting is at out greets_it rst syn number

@@ -18,7 +18,7 @@ use Rattle.spec_flow.specs.Settings.{Settings}
 use Rattle.spec_flow.specs.Event.{At, Closes, Connected as HostConnected, ConnectsYet, ConnectFails, Writes, WriteFails, Reads, ReadsEnd, ReadFails, EndsHost, EndFails, Story}
 use Rattle.spec_flow.specs.Dutiful.{read_size}
 use Rattle.spec_flow.specs.Guest.{is_empty}
-use Rattle.sim_connection.specs.Holding.{Holds, is_calls, is_connects, without}
+use Rattle.sim_connection.specs.Holding.{Holds, is_calls, is_at_connecting, without}
 use Rattle.sim_connection.proofs.Asking.{connects_now, connects_yet}
 use Rattle.sim_connection.proofs.Causes.{end_fails_closes, failed_cause, read_fails_closes, refused_closes, write_fails_closes}
 use Rattle.sim_connection.proofs.Departing.{unsettled}
@@ -34,14 +34,14 @@ use Rattle.flow_splice.proofs.Calls.{or_last}
 use Rattle.flow_splice.proofs.Opened.{goes_on, open_follows, open_is}
 use Rattle.flow_splice.proofs.Shutting.{done_follows, finished_cause, reset_follows, settled_same}
 
-connects_opens : (st : Stage) → is_connects st ≡ true → (st ≡ stage.Connects) × (is_opening st ≡ true) × (is_calls st ≡ false)
-connects_opens stage.Connects is = (refl, refl, refl)
-connects_opens stage.Calls is = absurd cc
-connects_opens stage.Answers is = absurd cc
+connects_opens : (st : Stage) → is_at_connecting st ≡ true → (st ≡ stage.Connecting) × (is_opening st ≡ true) × (is_calls st ≡ false)
+connects_opens stage.Connecting is = (refl, refl, refl)
+connects_opens stage.SynSent is = absurd cc
+connects_opens stage.SynReceived is = absurd cc
 connects_opens stage.Synchronized is = absurd cc
-connects_opens stage.Rests is = absurd cc
+connects_opens stage.TimeWait is = absurd cc
 connects_opens (stage.Resets seq ack) is = absurd cc
-connects_opens stage.Gone is = absurd cc
+connects_opens stage.Closed is = absurd cc
 
 -- a connection that isn't at its end yet isn't at its end where both SYNs aren't known
 opening_not_done : (c : Connection) → is_synchronized c.stage ≡ false → is_done c ≡ false
@@ -68,12 +68,12 @@ taken_by f n now = record f { up = without f.up n; last = if nat_lt 0 n then now
 module _ (f : Splice) (now : ℕ) (open_yet : is_open f ≡ true) where
   -- ---- it is asked whether it connected
 
-  module _ (connects : is_connects f.conn.stage ≡ true) where
+  module _ (connects : is_at_connecting f.conn.stage ≡ true) where
     pub host_connected : HasBuffers (connected_by f.conn.stage f.conn) f.up f.down → GoesOn f (record f { conn = connected_by f.conn.stage f.conn; last = now }) false now (Connected f.face.number Yes ∷ [])
     host_connected buffers s past before ident ended known on h =
         let o = open_is s f past before open_yet h in
         let at = (connects_opens f.conn.stage connects).0 in
-        let next : Connection = record f.conn { stage = stage.Answers; syn_owed = true } in
+        let next : Connection = record f.conn { stage = stage.SynReceived; syn_owed = true } in
         let is : connected_by f.conn.stage f.conn ≡ next = ap (λ (st : Stage). connected_by st f.conn) at in
         record {
           beats = At now HostConnected ∷ [];
@@ -108,7 +108,7 @@ module _ (f : Splice) (now : ℕ) (open_yet : is_open f ≡ true) where
 
   -- ---- octets are offered
 
-  module _ (owes : owes_octets f ≡ true) (joined : is_connects f.conn.stage ≡ false) where
+  module _ (owes : owes_octets f ≡ true) (joined : is_at_connecting f.conn.stage ≡ false) where
     two : (0 < length f.up.held) × (f.told_end ≡ false)
     two = both (nat_lt 0 (length f.up.held)) f.told_end refl owes
       where
@@ -181,7 +181,7 @@ module _ (f : Splice) (now : ℕ) (open_yet : is_open f ≡ true) where
 
   -- ---- the guest's end is passed on
 
-  module _ (owes_none : owes_octets f ≡ false) (ends : may_end f ≡ true) (joined : is_connects f.conn.stage ≡ false) where
+  module _ (owes_none : owes_octets f ≡ false) (ends : may_end f ≡ true) (joined : is_at_connecting f.conn.stage ≡ false) where
     both : (a b : Bool) → (a && not b) ≡ true → (a ≡ true) × (b ≡ false)
     both true false is = (refl, refl)
     both true true is = absurd cc
@@ -276,10 +276,10 @@ module _ (f : Splice) (now : ℕ) (open_yet : is_open f ≡ true) where
     three false false d is = absurd cc
 
     yet : is_host_open f.conn.transmission.end ≡ true
-    yet = (three (is_connects f.conn.stage) (is_host_open f.conn.transmission.end) (nat_lt 0 (f.down.size - length f.down.octets)) may).1
+    yet = (three (is_at_connecting f.conn.stage) (is_host_open f.conn.transmission.end) (nat_lt 0 (f.down.size - length f.down.octets)) may).1
 
-    joined_yet : is_connects f.conn.stage ≡ false
-    joined_yet = (three (is_connects f.conn.stage) (is_host_open f.conn.transmission.end) (nat_lt 0 (f.down.size - length f.down.octets)) may).0
+    joined_yet : is_at_connecting f.conn.stage ≡ false
+    joined_yet = (three (is_at_connecting f.conn.stage) (is_host_open f.conn.transmission.end) (nat_lt 0 (f.down.size - length f.down.octets)) may).0
 
     -- as many as there is room for are asked for
     asks : (s : Settings) (past : Story) (before : ℕ) → IsOpen s f past before → f.down.size ≡ f.up.size → min 16384 (f.down.size - length f.down.octets) ≡ read_size s past
@@ -361,8 +361,8 @@ told_reads false f x new now made socket answer is b sees reading =
     ap (λ (now_is : Bool). now_is || some_is reads_or_shuts (made ++ (TcpEnd socket answer ∷ []))) (ap reads_by stays ∙ reading)
 
 -- what connects isn't read
-pub connects_unread : (f : Splice) → is_connects f.conn.stage ≡ true → reads_by f ≡ true → ⊥
-connects_unread f connects reading = by (is_open f) (is_connects f.conn.stage) (is_host_open f.conn.transmission.end) (nat_lt 0 (f.down.size - length f.down.octets)) connects reading
+pub connects_unread : (f : Splice) → is_at_connecting f.conn.stage ≡ true → reads_by f ≡ true → ⊥
+connects_unread f connects reading = by (is_open f) (is_at_connecting f.conn.stage) (is_host_open f.conn.transmission.end) (nat_lt 0 (f.down.size - length f.down.octets)) connects reading
   where
     by : (a b c d : Bool) → b ≡ true → (a && (not b && c && d)) ≡ true → ⊥
     by true true c d is so = cc
@@ -384,8 +384,8 @@ full_unread f none waits = by (is_open f) (may_read f) none waits
     by false b none so = cc
 
 -- one that has connected and owes the host nothing isn't written
-pub idle_unwritten : (f : Splice) → is_connects f.conn.stage ≡ false → owes_octets f ≡ false → may_end f ≡ false → writes_by f ≡ true → ⊥
-idle_unwritten f connected none over waits = by (is_open f) (is_connects f.conn.stage) (owes_octets f) (may_end f) connected none over waits
+pub idle_unwritten : (f : Splice) → is_at_connecting f.conn.stage ≡ false → owes_octets f ≡ false → may_end f ≡ false → writes_by f ≡ true → ⊥
+idle_unwritten f connected none over waits = by (is_open f) (is_at_connecting f.conn.stage) (owes_octets f) (may_end f) connected none over waits
   where
     by : (a b c d : Bool) → b ≡ false → c ≡ false → d ≡ false → (a && (b || c || d)) ≡ true → ⊥
     by true b c d connected none over so =

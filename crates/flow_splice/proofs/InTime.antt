@@ -19,7 +19,7 @@ use Rattle.tcp_connection.specs.declared.Stage.{Stage}
 use Rattle.tcp_connection.specs.declared.Stage.TheVariants as stage
 use Rattle.world_face.specs.Journal.{Entry}
 use Rattle.spec_flow.specs.Guest.{is_empty}
-use Rattle.sim_connection.specs.Holding.{is_connects, is_live}
+use Rattle.sim_connection.specs.Holding.{is_at_connecting, is_live}
 use Rattle.sim_connection.specs.Sending.{is_rst}
 use Rattle.flow_splice.specs.Hosts.{IsRead, Sees, conn_given, down_given, ends, read_by}
 use Rattle.flow_splice.specs.Sends.{GoesOut, Marks, asked, learnt, went_out}
@@ -82,28 +82,28 @@ pub open_time : (f : Splice) (now : ℕ) → (is_open f ≡ true → HasTime f n
 open_time f now time = record { connects = λ yet connects. (time yet).connects yet connects; deserted = λ yet deserted. (time yet).deserted yet deserted }
 
 dead_opening : (st : Stage) → is_live st ≡ false → is_opening st ≡ false
-dead_opening stage.Connects is = absurd cc
-dead_opening stage.Calls is = absurd cc
-dead_opening stage.Answers is = absurd cc
+dead_opening stage.Connecting is = absurd cc
+dead_opening stage.SynSent is = absurd cc
+dead_opening stage.SynReceived is = absurd cc
 dead_opening stage.Synchronized is = absurd cc
-dead_opening stage.Rests is = refl
+dead_opening stage.TimeWait is = refl
 dead_opening (stage.Resets seq ack) is = refl
-dead_opening stage.Gone is = refl
+dead_opening stage.Closed is = refl
 
 reset_serves : (f : Splice) → is_deserted (record f { conn = reset f.conn }) ≡ true → {A : Type 0} → A
 reset_serves f is = let not_it = sym (dead_opening (reset f.conn).stage (reset_dead f.conn)) ∙ (deserted_parts (record f { conn = reset f.conn }) is).opening in absurd cc
 
 -- its socket was to connect
-pub connected_time : (old new : Splice) (now : ℕ) → is_connects old.conn.stage ≡ true → (new.conn ≡ old.conn) ⊎ (new.conn ≡ reset old.conn) → (is_open new ≡ true → now < connect_end new) → HasTime new now
+pub connected_time : (old new : Splice) (now : ℕ) → is_at_connecting old.conn.stage ≡ true → (new.conn ≡ old.conn) ⊎ (new.conn ≡ reset old.conn) → (is_open new ≡ true → now < connect_end new) → HasTime new now
 connected_time old new now connects same soon = record { connects = λ yet is. soon yet; deserted = λ yet is. absurd (by same (deserted_parts new is).connected (deserted_parts new is).opening) }
   where
-    by : (new.conn ≡ old.conn) ⊎ (new.conn ≡ reset old.conn) → is_connects new.conn.stage ≡ false → is_opening new.conn.stage ≡ true → ⊥
-    by (inl is) apart opening = let not_it = sym connects ∙ ap (λ (c : Connection). is_connects c.stage) (sym is) ∙ apart in cc
+    by : (new.conn ≡ old.conn) ⊎ (new.conn ≡ reset old.conn) → is_at_connecting new.conn.stage ≡ false → is_opening new.conn.stage ≡ true → ⊥
+    by (inl is) apart opening = let not_it = sym connects ∙ ap (λ (c : Connection). is_at_connecting c.stage) (sym is) ∙ apart in cc
     by (inr is) apart opening =
         let not_it = sym (dead_opening (reset old.conn).stage (reset_dead old.conn)) ∙ ap (λ (c : Connection). is_opening c.stage) (sym is) ∙ opening in cc
 
 -- it has connected, and isn't left for too long
-pub rest_time : (f : Splice) (now : ℕ) → is_connects f.conn.stage ≡ false → (is_deserted f && nat_le (patience_end f) now) ≡ false → HasTime f now
+pub rest_time : (f : Splice) (now : ℕ) → is_at_connecting f.conn.stage ≡ false → (is_deserted f && nat_le (patience_end f) now) ≡ false → HasTime f now
 rest_time f now apart yet_on = record {
   connects = λ yet connects. let not_it = sym apart ∙ connects in absurd cc;
   deserted = λ yet deserted. by (nat_le (patience_end f) now) refl (sym (ap (λ (b : Bool). b && nat_le (patience_end f) now) deserted) ∙ yet_on);
@@ -134,28 +134,28 @@ ticked_deserts f now is = by (is_due (conn_due f.conn) now) (is_spent f.conn) f.
         let not_it = sym e_is ∙ (deserted_parts (record f { conn = record f.conn { transmission = transmission_expired f.conn.transmission } }) is).opening in absurd cc
     by false b d e e_is is = is
 
-pub ticked_time : (f : Splice) (now : ℕ) → is_connects f.conn.stage ≡ false → (after_tick f.conn now).stage ≡ f.conn.stage → (is_deserted f && nat_le (patience_end f) now) ≡ false
+pub ticked_time : (f : Splice) (now : ℕ) → is_at_connecting f.conn.stage ≡ false → (after_tick f.conn now).stage ≡ f.conn.stage → (is_deserted f && nat_le (patience_end f) now) ≡ false
     → HasTime (record f { conn = after_tick f.conn now }) now
 ticked_time f now apart same yet_on =
     let t = rest_time f now apart yet_on in
     record {
-      connects = λ yet connects. let not_it = sym apart ∙ ap (λ (st : Stage). is_connects st) (sym same) ∙ connects in absurd cc;
+      connects = λ yet connects. let not_it = sym apart ∙ ap (λ (st : Stage). is_at_connecting st) (sym same) ∙ connects in absurd cc;
       deserted = λ yet deserted. t.deserted yet (ticked_deserts f now deserted);
     }
 
 -- ---- a pump
 
-gone_connects : (what : Owed) (c : Connection) (up : Upward) (now : ℕ) → is_connects (gone what c up now).stage ≡ true → is_connects c.stage ≡ true
+gone_connects : (what : Owed) (c : Connection) (up : Upward) (now : ℕ) → is_at_connecting (gone what c up now).stage ≡ true → is_at_connecting c.stage ≡ true
 gone_connects Syn c up now is = is
 gone_connects SynAck c up now is = is
 gone_connects (Data p) c up now is = is
 gone_connects Ack c up now is = is
 gone_connects (Reset seq ack) c up now is = absurd cc
 
-settled_connects : (x : Connection) → is_connects (settled x).stage ≡ true → is_connects x.stage ≡ true
+settled_connects : (x : Connection) → is_at_connecting (settled x).stage ≡ true → is_at_connecting x.stage ≡ true
 settled_connects x is = by (is_done x) (closes_first x) is
   where
-    by : (b d : Bool) → is_connects (if b then (if d then record x { stage = stage.Rests } else record x { stage = stage.Gone }) else x).stage ≡ true → is_connects x.stage ≡ true
+    by : (b d : Bool) → is_at_connecting (if b then (if d then record x { stage = stage.TimeWait } else record x { stage = stage.Closed }) else x).stage ≡ true → is_at_connecting x.stage ≡ true
     by true true is = absurd cc
     by true false is = absurd cc
     by false d is = is

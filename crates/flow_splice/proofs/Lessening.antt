@@ -27,24 +27,24 @@ settled_left : (x : Connection) (up : Upward) (down : Downward) → left_by (set
 settled_left x up down = by (is_done x) (closes_first x) refl
   where
     at_sync : (st : Stage) → is_synchronized st ≡ true → count_if x.ack_owed 1 ≤ left_by st x up down
-    at_sync stage.Connects is = absurd cc
-    at_sync stage.Calls is = absurd cc
-    at_sync stage.Answers is = absurd cc
+    at_sync stage.Connecting is = absurd cc
+    at_sync stage.SynSent is = absurd cc
+    at_sync stage.SynReceived is = absurd cc
     at_sync stage.Synchronized is = or_more x.ack_owed (is_update_owed x up) (4 * (octets_read down + 2 - x.transmission.sent) + count_if (is_owed_again x.transmission) 2)
       where
         or_more : (a b : Bool) (n : ℕ) → count_if a 1 ≤ n + count_if (a || b) 1
         or_more true b n = omega arith
         or_more false b n = omega arith
-    at_sync stage.Rests is = absurd cc
+    at_sync stage.TimeWait is = absurd cc
     at_sync (stage.Resets seq ack) is = absurd cc
-    at_sync stage.Gone is = absurd cc
+    at_sync stage.Closed is = absurd cc
 
     first_is : (a b d e : Bool) → (a && b && d && e) ≡ true → a ≡ true
     first_is true b d e is = refl
     first_is false b d e is = absurd cc
 
-    by : (b d : Bool) → is_done x ≡ b → left_by (if b then (if d then record x { stage = stage.Rests } else record x { stage = stage.Gone }) else x).stage
-        (if b then (if d then record x { stage = stage.Rests } else record x { stage = stage.Gone }) else x) up down ≤ left_by x.stage x up down
+    by : (b d : Bool) → is_done x ≡ b → left_by (if b then (if d then record x { stage = stage.TimeWait } else record x { stage = stage.Closed }) else x).stage
+        (if b then (if d then record x { stage = stage.TimeWait } else record x { stage = stage.Closed }) else x) up down ≤ left_by x.stage x up down
     by true true done = at_sync x.stage (first_is (is_synchronized x.stage) x.host_ended x.fin_acked x.end_acknowledged done)
     by true false done = omega arith
     by false d done = omega arith
@@ -90,22 +90,22 @@ module _ (c : Connection) (up : Upward) (down : Downward) (now : ℕ) (h : HasBu
   Less what st = left_by (gone what c up now).stage (gone what c up now) up down < left_by st c up down
 
   less_at : (st : Stage) → c.stage ≡ st → (what : Owed) → owed_by st c up down ≡ Some what → Less what st
-  less_at stage.Connects at what owed = absurd cc
-  less_at stage.Calls at what owed =
+  less_at stage.Connecting at what owed = absurd cc
+  less_at stage.SynSent at what owed =
       let two = if_some c.syn_owed Syn what owed in
-      subst (λ (w : Owed). Less w stage.Calls) two.1
+      subst (λ (w : Owed). Less w stage.SynSent) two.1
       (subst (λ (st : Stage). left_by st (gone Syn c up now) up down < count_if c.syn_owed 1) (sym at) (let one = ap (λ (b : Bool). count_if b 1) two.0 in omega (arith, one)))
-  less_at stage.Answers at what owed = by c.syn_owed refl owed
+  less_at stage.SynReceived at what owed = by c.syn_owed refl owed
     where
-      by : (b : Bool) → c.syn_owed ≡ b → (if b then Some SynAck else ack_if c.ack_owed) ≡ Some what → Less what stage.Answers
+      by : (b : Bool) → c.syn_owed ≡ b → (if b then Some SynAck else ack_if c.ack_owed) ≡ Some what → Less what stage.SynReceived
       by true syn is =
           let same : SynAck ≡ what = cc in
-          subst (λ (w : Owed). Less w stage.Answers) same
+          subst (λ (w : Owed). Less w stage.SynReceived) same
           (subst (λ (st : Stage). left_by st (gone SynAck c up now) up down < count_if c.syn_owed 2 + count_if c.ack_owed 1) (sym at)
           (let some = ap (λ (b : Bool). count_if b 2) syn in omega (arith, some)))
       by false syn is =
           let two = if_some c.ack_owed Ack what is in
-          subst (λ (w : Owed). Less w stage.Answers) two.1
+          subst (λ (w : Owed). Less w stage.SynReceived) two.1
           (subst (λ (st : Stage). left_by st (gone Ack c up now) up down < count_if c.syn_owed 2 + count_if c.ack_owed 1) (sym at)
           (let none = ap (λ (b : Bool). count_if b 2) syn in let one = ap (λ (b : Bool). count_if b 1) two.0 in omega (arith, none, one)))
   less_at stage.Synchronized at what owed = by (piece_owed c.transmission down) refl owed
@@ -126,14 +126,14 @@ module _ (c : Connection) (up : Upward) (down : Downward) (now : ℕ) (h : HasBu
           let zero_is = ap (λ (b : Bool). count_if b 1) (none_told c up) in
           subst (λ (w : Owed). Less w stage.Synchronized) same
           (subst (λ (st : Stage). left_by st (gone (Data p) c up now) up down < left_by stage.Synchronized c up down) (sym at) (omega (arith, less, again, zero_is)))
-  less_at stage.Rests at what owed =
+  less_at stage.TimeWait at what owed =
       let two = if_some c.ack_owed Ack what owed in
-      subst (λ (w : Owed). Less w stage.Rests) two.1
+      subst (λ (w : Owed). Less w stage.TimeWait) two.1
       (subst (λ (st : Stage). left_by st (gone Ack c up now) up down < count_if c.ack_owed 1) (sym at) (let one = ap (λ (b : Bool). count_if b 1) two.0 in omega (arith, one)))
   less_at (stage.Resets seq ack) at what owed =
       let same : Reset seq ack ≡ what = cc in
       subst (λ (w : Owed). Less w (stage.Resets seq ack)) same (omega arith)
-  less_at stage.Gone at what owed = absurd cc
+  less_at stage.Closed at what owed = absurd cc
 
   pub less : (what : Owed) → owed_of c up down ≡ Some what → left_by (after_gone what c up now).stage (after_gone what c up now) up down < left_by c.stage c up down
   less what owed =

@@ -9,13 +9,13 @@ use Rattle.spec_flow.specs.Event.{Accepts, At, Connects, Departs, Event, Opens, 
 use Rattle.spec_flow.specs.Flow.{add_if, is_accepted, newest_of, opened_at, syn_sendings}
 use Rattle.spec_flow.specs.Close.{follows_reset, host_was_ended, is_alive}
 use Rattle.sim_connection.specs.Holding.{Holds, is_calls}
-use Rattle.sim_connection.specs.Over.{IsOver, IsResting, Runs}
+use Rattle.sim_connection.specs.Over.{IsOver, IsInTimeWait, Runs}
 use Rattle.sim_connection.proofs.Quiet.{holds_later}
-use Rattle.sim_connection.proofs.Seeking.{asked_before, seeks_on}
+use Rattle.sim_connection.proofs.Resolving.{asked_before, resolves_on}
 use Rattle.flow_splice.specs.Follows.{Follows, FollowsAt, IsAsking, IsOpen}
 use Rattle.flow_splice.specs.Splice.{Splice, is_in_use, is_open}
 use Rattle.flow_splice.specs.declared.Place.{Place}
-use Rattle.flow_splice.specs.declared.Place.TheVariants.{Empty, InUse, Resting}
+use Rattle.flow_splice.specs.declared.Place.TheVariants.{Empty, InUse, InTimeWait}
 
 -- ---- where it stands
 
@@ -26,7 +26,7 @@ open_is s f past now is h = by f.place f.shut is h
     by Empty b is h = absurd cc
     by InUse true is h = absurd cc
     by InUse false is h = h
-    by (Resting since) b is h = absurd cc
+    by (InTimeWait since) b is h = absurd cc
 
 pub open_follows : (s : Settings) (f : Splice) (past : Story) (now : ℕ) → is_open f ≡ true → IsOpen s f past now → Follows s f past now
 open_follows s f past now is h = by f.place f.shut is
@@ -35,7 +35,7 @@ open_follows s f past now is h = by f.place f.shut is
     by Empty b is = absurd cc
     by InUse true is = absurd cc
     by InUse false is = h
-    by (Resting since) b is = absurd cc
+    by (InTimeWait since) b is = absurd cc
 
 -- ---- time passes
 
@@ -50,8 +50,8 @@ asks_later false asked at now m on is = is
 pub over_later : (s : Settings) (c : Connection) (past : Story) (now m : ℕ) → now ≤ m → IsOver s c past now → IsOver s c past m
 over_later s c past now m on h = record { runs = runs_later s past now m on h.runs; closed = h.closed; well = h.well; over = h.over; owes = h.owes; pays = h.pays; came = h.came }
 
-pub resting_later : (s : Settings) (c : Connection) (up : Upward) (down : Downward) (past : Story) (now m since : ℕ) → now ≤ m → IsResting s c up down past now since →
-    IsResting s c up down past m since
+pub resting_later : (s : Settings) (c : Connection) (up : Upward) (down : Downward) (past : Story) (now m since : ℕ) → now ≤ m → IsInTimeWait s c up down past now since →
+    IsInTimeWait s c up down past m since
 resting_later s c up down past now m since on h = record {
   over = over_later s c past now m on h.over;
   at = h.at;
@@ -82,7 +82,7 @@ open_later s f past now m on h = record {
   told = h.told;
   unfinished = h.unfinished;
   unsent = h.unsent;
-  seeks = h.seeks;
+  resolves = h.resolves;
   asks = λ unknown. asks_later f.asks f.asked f.ask_at now m on (h.asks unknown);
   calm = h.calm;
 }
@@ -94,7 +94,7 @@ follows_later s f past now m on h = by f.place f.shut h
     by Empty b h = record { over = over_later s f.conn past now m on h.over; owes_none = h.owes_none; rests_none = h.rests_none }
     by InUse true h = record { over = over_later s f.conn past now m on h.over; owes = h.owes; mru = h.mru; known = h.known }
     by InUse false h = open_later s f past now m on h
-    by (Resting since) b h = record { rests = resting_later s f.conn f.up f.down past now m since on h.rests; mru = h.mru; known = h.known }
+    by (InTimeWait since) b h = record { time_waits = resting_later s f.conn f.up f.down past now m since on h.time_waits; mru = h.mru; known = h.known }
 
 -- ---- an event
 
@@ -144,7 +144,7 @@ goes_on s f c up down told past before now e on none h holds told_is unfinished 
   told = told_is;
   unfinished = unfinished;
   unsent = unsent;
-  seeks = λ unknown some. seeks_on now e past f.asked f.ask_at none (asked_before now e past holds.goes.story) (h.seeks unknown some);
+  resolves = λ unknown some. resolves_on now e past f.asked f.ask_at none (asked_before now e past holds.goes.story) (h.resolves unknown some);
   asks = λ unknown. asks_later f.asks f.asked f.ask_at before now on (h.asks unknown);
   calm = calm;
 }

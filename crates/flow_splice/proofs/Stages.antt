@@ -7,12 +7,12 @@ use Rattle.tcp_connection.specs.declared.Stage.TheVariants as stage
 use Rattle.spec_flow.specs.Event.{Story, newest_moment}
 use Rattle.spec_flow.specs.Close.{asked_at, times_asked}
 use Rattle.spec_flow.specs.Flow.{is_accepted, is_closed, is_under_way, syn_is_out, host}
-use Rattle.spec_flow.specs.Dutiful.{moment_if, resend_deadline, seeks_guest, waits_for_window, waits_since}
-use Rattle.sim_connection.specs.Holding.{is_calls, is_connects}
+use Rattle.spec_flow.specs.Dutiful.{moment_if, resend_deadline, resolves_guest, waits_for_window, waits_since}
+use Rattle.sim_connection.specs.Holding.{is_calls, is_at_connecting}
 use Rattle.flow_splice.specs.Sends.{takes_part_at}
 use Rattle.flow_splice.specs.Splice.{is_in_use}
 use Rattle.flow_splice.specs.declared.Place.{Place}
-use Rattle.flow_splice.specs.declared.Place.TheVariants.{Empty, InUse, Resting}
+use Rattle.flow_splice.specs.declared.Place.TheVariants.{Empty, InUse, InTimeWait}
 use Rattle.spec_flow.specs.Host.{answered, owned, sent}
 
 -- of one that was closed nothing is under way, it doesn't connect, and no guest is called
@@ -24,8 +24,8 @@ pub no_connecting : (a b : Bool) → b ≡ true → not (a || b) ≡ false
 no_connecting true b is = refl
 no_connecting false b is = ap not is
 
-pub no_seeking : (past : Story) → is_closed past ≡ true → seeks_guest past ≡ false
-no_seeking past shut = by (is_accepted past) (syn_is_out past) (is_closed past) shut
+pub no_resolving : (past : Story) → is_closed past ≡ true → resolves_guest past ≡ false
+no_resolving past shut = by (is_accepted past) (syn_is_out past) (is_closed past) shut
   where
     by : (a b d : Bool) → d ≡ true → (a && not b && not d) ≡ false
     by false b d is = refl
@@ -43,9 +43,9 @@ no_window past shut = by (answered (host past)) (is_closed past) (is_under_way p
 -- so nothing of it goes out again
 pub resends_none : (past : Story) → is_closed past ≡ true → resend_deadline past ≡ []
 resends_none past shut =
-    ap (λ b. moment_if b (waits_since past + 60000) ++ moment_if (seeks_guest past && nat_lt 0 (times_asked past)) (asked_at past + 60000)
+    ap (λ b. moment_if b (waits_since past + 60000) ++ moment_if (resolves_guest past && nat_lt 0 (times_asked past)) (asked_at past + 60000)
     ++ moment_if (waits_for_window past) (newest_moment past + 60000)) (no_way (is_under_way past) (is_closed past) shut)
-    ∙ ap (λ b. moment_if (b && nat_lt 0 (times_asked past)) (asked_at past + 60000) ++ moment_if (waits_for_window past) (newest_moment past + 60000)) (no_seeking past shut)
+    ∙ ap (λ b. moment_if (b && nat_lt 0 (times_asked past)) (asked_at past + 60000) ++ moment_if (waits_for_window past) (newest_moment past + 60000)) (no_resolving past shut)
     ∙ ap (λ b. moment_if b (newest_moment past + 60000)) (no_window past shut)
 
 -- where one of these is owed if at all, and none is
@@ -61,14 +61,14 @@ in_use false b is = absurd cc
 pub takes : (p : Place) (q : Option Owed) → is_in_use p ≡ true → takes_part_at p q ≡ None → q ≡ None
 takes Empty q is none = absurd cc
 takes InUse q is none = none
-takes (Resting since) q is none = absurd cc
+takes (InTimeWait since) q is none = absurd cc
 
 -- a stage that calls a guest opens a connection, whose socket has connected
-pub calls_opens : (t : Stage) → is_calls t ≡ true → (is_opening t ≡ true) × (is_connects t ≡ false)
-calls_opens stage.Connects is = absurd cc
-calls_opens stage.Calls is = (refl, refl)
-calls_opens stage.Answers is = absurd cc
+pub calls_opens : (t : Stage) → is_calls t ≡ true → (is_opening t ≡ true) × (is_at_connecting t ≡ false)
+calls_opens stage.Connecting is = absurd cc
+calls_opens stage.SynSent is = (refl, refl)
+calls_opens stage.SynReceived is = absurd cc
 calls_opens stage.Synchronized is = absurd cc
-calls_opens stage.Rests is = absurd cc
+calls_opens stage.TimeWait is = absurd cc
 calls_opens (stage.Resets seq ack) is = absurd cc
-calls_opens stage.Gone is = absurd cc
+calls_opens stage.Closed is = absurd cc

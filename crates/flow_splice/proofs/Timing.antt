@@ -5,7 +5,7 @@ use Rattle.std.proofs.lemmas.Bool.Decides.{nat_tests}
 use Rattle.retransmit.specs.Resending.{after_expired as resend_expired, due_of as resend_due, is_given_up}
 use Rattle.net_octets.specs.declared.Mac.{Mac}
 use Rattle.tcp_transmit.specs.Timing.{after_expired as transmission_expired}
-use Rattle.sim_halves.specs.Resends.{Seeks}
+use Rattle.sim_halves.specs.Resends.{Resolves}
 use Rattle.tcp_connection.specs.Connection.{Connection, HasBuffers, has_gone, is_opening}
 use Rattle.tcp_connection.specs.Hosts.{reset}
 use Rattle.tcp_connection.specs.Segments.{is_done}
@@ -20,7 +20,7 @@ use Rattle.spec_flow.specs.Event.{At, Closes, Story}
 use Rattle.spec_flow.specs.Flow.{is_accepted, is_connecting, opened_at, syn_is_out}
 use Rattle.spec_flow.specs.Close.{connects_too_long, finds_no_guest, follows_reset, gives_up, is_deserted as is_deserted_by, patience_end as patience_by, waits_too_long}
 use Rattle.sim_halves.proofs.InTime.{not_found}
-use Rattle.sim_connection.specs.Holding.{Holds, is_calls, is_connects, is_live}
+use Rattle.sim_connection.specs.Holding.{Holds, is_calls, is_at_connecting, is_live}
 use Rattle.sim_connection.proofs.Causes.{gives_up_closes, late_cause, late_closes, unfound_cause, unfound_closes}
 use Rattle.sim_connection.proofs.Ticking.{piece_expires, piece_spent, syn_expires, syn_spent}
 use Rattle.flow_splice.specs.Entries.{AreEvents}
@@ -28,7 +28,7 @@ use Rattle.flow_splice.specs.Follows.{Follows, IsAsking, IsOpen}
 use Rattle.flow_splice.specs.Hosts.{Sees, ends}
 use Rattle.flow_splice.specs.Serves.{GoesOnYet, Serves, TicksOn}
 use Rattle.flow_splice.specs.Splice.{Splice, closed, is_open}
-use Rattle.flow_splice.specs.Wants.{asks_after, connect_end, is_deserted, patience_end, seeks}
+use Rattle.flow_splice.specs.Wants.{asks_after, connect_end, is_deserted, patience_end, resolves}
 use Rattle.sim_connection.proofs.Deserting.{deserted_is}
 use Rattle.flow_splice.proofs.Calm.{calm_either}
 use Rattle.flow_splice.proofs.Deserted.{deserted_parts}
@@ -38,14 +38,14 @@ use Rattle.flow_splice.proofs.Shutting.{reset_dead, reset_follows, shut_is}
 late_test : (m n : ℕ) → m ≤ n → nat_le m n ≡ true
 late_test m n low = grind (arith, nat_tests)
 
-connects_opening : (st : Stage) → is_connects st ≡ true → is_opening st ≡ true
-connects_opening stage.Connects is = refl
-connects_opening stage.Calls is = absurd cc
-connects_opening stage.Answers is = absurd cc
+connects_opening : (st : Stage) → is_at_connecting st ≡ true → is_opening st ≡ true
+connects_opening stage.Connecting is = refl
+connects_opening stage.SynSent is = absurd cc
+connects_opening stage.SynReceived is = absurd cc
 connects_opening stage.Synchronized is = absurd cc
-connects_opening stage.Rests is = absurd cc
+connects_opening stage.TimeWait is = absurd cc
 connects_opening (stage.Resets seq ack) is = absurd cc
-connects_opening stage.Gone is = absurd cc
+connects_opening stage.Closed is = absurd cc
 
 module _ (f : Splice) (now : ℕ) (open_yet : is_open f ≡ true) where
   or_true : (b : Bool) → (b || true) ≡ true
@@ -70,7 +70,7 @@ module _ (f : Splice) (now : ℕ) (open_yet : is_open f ≡ true) where
   shut_by s past before ident directly known o cause h = record { beats = At now (Closes directly false known) ∷ []; are = ([], refl, (refl, refl, cause)); follows = h }
 
   -- the socket didn't connect
-  pub host_late : is_connects f.conn.stage ≡ true → connect_end f ≤ now → GoesOnYet f (closed (record f { conn = reset f.conn }) now) now (Close f.face.number ∷ [])
+  pub host_late : is_at_connecting f.conn.stage ≡ true → connect_end f ≤ now → GoesOnYet f (closed (record f { conn = reset f.conn }) now) now (Close f.face.number ∷ [])
   host_late connects over s past before ident directly known on h =
       let o = open_is s f past before open_yet h in
       let late : waits_too_long now past ≡ true = or_left (connects_too_long now past) (is_deserted_by past && nat_le (patience_by past) now)
@@ -106,16 +106,16 @@ module _ (f : Splice) (now : ℕ) (open_yet : is_open f ≡ true) where
       by false b is late so = absurd cc
 
   -- the guest wasn't found
-  pub guest_missing : seeks f ≡ true → (nat_eq f.asked 9 && nat_le f.ask_at now) ≡ true → TicksOn f (closed (record f { conn = reset f.conn }) now) now (Close f.face.number ∷ [])
-  guest_missing seeking enough s past before ident directly known on unknown h =
+  pub guest_missing : resolves f ≡ true → (nat_eq f.asked 9 && nat_le f.ask_at now) ≡ true → TicksOn f (closed (record f { conn = reset f.conn }) now) now (Close f.face.number ∷ [])
+  guest_missing resolving enough s past before ident directly known on unknown h =
       let o = open_is s f past before open_yet h in
-      let none = none_known f.mac seeking in
+      let none = none_known f.mac resolving in
       let two = o.unsent none in
       let many = enough_is f.asked f.ask_at enough in
       let accepted : is_accepted past ≡ true = o.holds.opened.calls two.0 in
       let silent : syn_is_out past ≡ false = o.holds.opened.out ∙ two.1 in
       let missing : IsTrue (finds_no_guest known now past) = subst (λ (b : Bool). IsTrue (finds_no_guest b now past)) (sym (unknown none))
-      (not_found past f.ask_at now (subst (λ (n : ℕ). Seeks past n f.ask_at) many.0 (o.seeks none (let is = many.0 in omega (arith, is)))) many.1 accepted silent) in
+      (not_found past f.ask_at now (subst (λ (n : ℕ). Resolves past n f.ask_at) many.0 (o.resolves none (let is = many.0 in omega (arith, is)))) many.1 accepted silent) in
       shut_by s past before ident directly known o (unfound_cause s f.conn f.up f.down past before now on o.holds known directly missing)
       (reset_follows s f past past before now directly false known o refl
       (unfound_closes s f.conn f.up f.down past before now on o.holds known directly missing (rw (accepted, silent) refl)))
@@ -144,7 +144,7 @@ module _ (f : Splice) (now : ℕ) (open_yet : is_open f ≡ true) where
           told = o.told;
           unfinished = o.unfinished;
           unsent = o.unsent;
-          seeks = o.seeks;
+          resolves = o.resolves;
           asks = λ none. asking f.asks (nat_le f.ask_at now) refl (o.asks none);
           calm = o.calm;
         });
@@ -203,7 +203,7 @@ module _ (f : Splice) (now : ℕ) (open_yet : is_open f ≡ true) where
             follows = subst (λ (g : Splice). Follows s g past now) (sym saw.1)
                 (subst (λ (c : Connection). Follows s (record f { conn = c }) past now) (sym is)
                 (open_follows s (record f { conn = x }) past now open_yet
-                (record { holds = h; mru = o.mru; since = o.since; accepted = o.accepted; last = o.last; called = o.called; told = o.told; unfinished = unfinished; unsent = unsent; seeks = later.seeks; asks = later.asks; calm = calm })));
+                (record { holds = h; mru = o.mru; since = o.since; accepted = o.accepted; last = o.last; called = o.called; told = o.told; unfinished = unfinished; unsent = unsent; resolves = later.resolves; asks = later.asks; calm = calm })));
           }
 
       -- it is given up, while no acknowledgement is owed
@@ -246,22 +246,22 @@ module _ (f : Splice) (now : ℕ) (open_yet : is_open f ≡ true) where
 
       -- the stage tells whose timer it is
       syn_due : (st : Stage) (at : ℕ) → f.conn.stage ≡ st → is_opening st ≡ true → due_by st f.conn ≡ Some at → resend_due f.conn.syn ≡ Some at
-      syn_due stage.Connects at is opening due = absurd cc
-      syn_due stage.Calls at is opening due = due
-      syn_due stage.Answers at is opening due = due
+      syn_due stage.Connecting at is opening due = absurd cc
+      syn_due stage.SynSent at is opening due = due
+      syn_due stage.SynReceived at is opening due = due
       syn_due stage.Synchronized at is opening due = absurd cc
-      syn_due stage.Rests at is opening due = absurd cc
+      syn_due stage.TimeWait at is opening due = absurd cc
       syn_due (stage.Resets seq ack) at is opening due = absurd cc
-      syn_due stage.Gone at is opening due = absurd cc
+      syn_due stage.Closed at is opening due = absurd cc
 
       piece_due : (st : Stage) (at : ℕ) → f.conn.stage ≡ st → is_opening st ≡ false → due_by st f.conn ≡ Some at → resend_due f.conn.transmission.resend ≡ Some at
-      piece_due stage.Connects at is opening due = absurd cc
-      piece_due stage.Calls at is opening due = absurd cc
-      piece_due stage.Answers at is opening due = absurd cc
+      piece_due stage.Connecting at is opening due = absurd cc
+      piece_due stage.SynSent at is opening due = absurd cc
+      piece_due stage.SynReceived at is opening due = absurd cc
       piece_due stage.Synchronized at is opening due = due
-      piece_due stage.Rests at is opening due = absurd cc
+      piece_due stage.TimeWait at is opening due = absurd cc
       piece_due (stage.Resets seq ack) at is opening due = absurd cc
-      piece_due stage.Gone at is opening due = absurd cc
+      piece_due stage.Closed at is opening due = absurd cc
 
       spent_is : (a : Bool) → is_opening f.conn.stage ≡ a → is_spent f.conn ≡ is_given_up (if a then f.conn.syn else f.conn.transmission.resend)
       spent_is a is = ap (λ (q : Bool). is_given_up (if q then f.conn.syn else f.conn.transmission.resend)) is

@@ -3,7 +3,7 @@ use Rattle.std.specs.Prelude.{◌≡◌, ℕ, ◌<◌, false, true, Some}
 use Rattle.tcp_connection.specs.Connection.{Connection, is_opening}
 use Rattle.tcp_connection.specs.Timing.{due_of}
 use Rattle.flow_splice.specs.Splice.{Splice, is_open}
-use Rattle.flow_splice.specs.Wants.{seeks}
+use Rattle.flow_splice.specs.Wants.{resolves}
 
 -- its timer isn't due at this moment
 abbrev pub IsAhead : Connection → (now : ℕ) → Type 0
@@ -11,7 +11,7 @@ IsAhead c now = (at : ℕ) → due_of c ≡ Some at → now < at
 
 -- where it is open and no request is owed, the wait for an answer of the guest isn't over
 abbrev pub HasPatience : Splice → (now : ℕ) → Type 0
-HasPatience f now = is_open f ≡ true → seeks f ≡ true → f.asks ≡ false → now < f.ask_at
+HasPatience f now = is_open f ≡ true → resolves f ≡ true → f.asks ≡ false → now < f.ask_at
 
 -- no timer of the flow is due
 abbrev pub IsTimely : Splice → (now : ℕ) → Type 0

@@ -1,7 +1,7 @@
 -- How a pump asks for the guest's hardware address.
 use Rattle.std.specs.Prelude.{◌≡◌, ℕ, ◌^◌, ◌<◌, ◌⊎◌, true, List, [], ◌∷◌, Option, None, Some}
 use Rattle.net_octets.specs.declared.Mac.{Mac}
-use Rattle.world_face.specs.Frames.{spelling}
+use Rattle.world_face.specs.Frames.{encoding}
 use Rattle.world_face.specs.Journal.{Entry, LinkWrite}
 use Rattle.world_face.specs.declared.Io.{Io}
 use Rattle.stream_netdev.specs.Offers.{offered}
@@ -13,7 +13,7 @@ use Rattle.flow_splice.specs.Splice.{Splice}
 pub record Requests (old new : Splice) (now : ℕ) (made : List Entry) : Type 0 where
   pub due : asks_now old ≡ true
   pub answer : Io
-  pub one : made ≡ LinkWrite (spelling (request_frame old.face)) answer ∷ []
+  pub one : made ≡ LinkWrite (encoding (request_frame old.face)) answer ∷ []
   pub change : new ≡ asked (offered answer) old now
   pub fits : old.face.guest.addr.0 < 2 ^ 32
 

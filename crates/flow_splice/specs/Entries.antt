@@ -1,7 +1,7 @@
 -- The entries that a flow makes, and the events of its story that they are.
 use Rattle.std.specs.Prelude.{◌≡◌, ℕ, ◌+◌, ◌%◌, ◌^◌, List, [], ◌∷◌, ◌++◌, Bool, true, false, Option, None, Some, nat_lt, if◌then◌else◌, ◌⊎◌}
 use Rattle.net_octets.specs.declared.Mac.{Mac}
-use Rattle.world_face.specs.Frames.{spelling}
+use Rattle.world_face.specs.Frames.{encoding}
 use Rattle.world_face.specs.Journal.{Entry, LinkWrite, Connected, TcpRead, TcpWrite, TcpEnd, Close, count_of}
 use Rattle.world_face.specs.declared.Io.{Io}
 use Rattle.world_face.specs.declared.Io.TheVariants.{Done, End, NotYet, Failed}
@@ -61,7 +61,7 @@ ident_after ident beats = (ident + datagrams beats) % 2 ^ 16
 pub record OffersSegment (s : Settings) (face : Face) (mac : Option Mac) (ident now : ℕ) (past : Story) (octets : List ℕ) (seg : Segment) : Type 0 where
   pub to : Mac
   pub known : mac ≡ Some to
-  pub frame : octets ≡ spelling (segment_frame face to ident seg)
+  pub frame : octets ≡ encoding (segment_frame face to ident seg)
   pub may : May s past now (Send seg)
   pub must : Must s past now (Send seg)
   pub sized : IsSized face to ident seg
@@ -69,7 +69,7 @@ pub record OffersSegment (s : Settings) (face : Face) (mac : Option Mac) (ident 
 -- a request for the hardware address of a guest that is called and isn't known
 pub record OffersRequest (face : Face) (mac : Option Mac) (past : Story) (octets : List ℕ) : Type 0 where
   pub unknown : mac ≡ None
-  pub frame : octets ≡ spelling (request_frame face)
+  pub frame : octets ≡ encoding (request_frame face)
   pub accepted : is_accepted past ≡ true
   pub unsent : syn_is_out past ≡ false
   pub open_yet : is_closed past ≡ false

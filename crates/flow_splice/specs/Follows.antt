@@ -5,13 +5,13 @@ use Rattle.tcp_connection.specs.Segments.{is_done}
 use Rattle.spec_flow.specs.Settings.{Settings}
 use Rattle.spec_flow.specs.Event.{Story}
 use Rattle.spec_flow.specs.Flow.{is_accepted, newest_of, opened_at, syn_sendings}
-use Rattle.spec_flow.specs.Close.{follows_reset, host_was_ended, last_at, rests_since}
-use Rattle.sim_halves.specs.Resends.{Seeks}
+use Rattle.spec_flow.specs.Close.{follows_reset, host_was_ended, last_at, in_time_wait_since}
+use Rattle.sim_halves.specs.Resends.{Resolves}
 use Rattle.sim_connection.specs.Holding.{Holds, is_calls}
-use Rattle.sim_connection.specs.Over.{IsOver, IsResting, is_resets}
+use Rattle.sim_connection.specs.Over.{IsOver, IsInTimeWait, is_resets}
 use Rattle.flow_splice.specs.Splice.{Splice}
 use Rattle.flow_splice.specs.declared.Place.{Place}
-use Rattle.flow_splice.specs.declared.Place.TheVariants.{Empty, InUse, Resting}
+use Rattle.flow_splice.specs.declared.Place.TheVariants.{Empty, InUse, InTimeWait}
 
 -- A request for the guest's hardware address is owed: fewer than nine went out, and the wait for an answer to the last is over. Else one went out.
 abbrev pub IsAsking : (asks : Bool) → (asked at now : ℕ) → Type 0
@@ -31,7 +31,7 @@ pub record IsOpen (s : Settings) (f : Splice) (past : Story) (now : ℕ) : Type 
   pub told : host_was_ended past ≡ f.told_end
   pub unfinished : is_done f.conn ≡ false
   pub unsent : f.mac ≡ None → (is_calls f.conn.stage ≡ true) × (has_gone f.conn.sendings ≡ false)
-  pub seeks : f.mac ≡ None → 0 < f.asked → Seeks past f.asked f.ask_at
+  pub resolves : f.mac ≡ None → 0 < f.asked → Resolves past f.asked f.ask_at
   pub asks : f.mac ≡ None → IsAsking f.asks f.asked f.ask_at now
   pub calm : f.conn.ack_owed ≡ false → follows_reset true past ≡ false
 
@@ -42,15 +42,15 @@ pub record IsOwing (s : Settings) (f : Splice) (past : Story) (now : ℕ) : Type
   pub mru : f.mru ≡ s.mru
   pub known : f.mac ≡ None → ⊥
 
--- Its socket was closed, it owes none, and it doesn't rest: it never did, or a segment ended its rest.
+-- Its socket was closed, it owes none, and it isn't in TIME-WAIT: it never was, or a segment ended its TIME-WAIT.
 pub record IsFree (s : Settings) (f : Splice) (past : Story) (now : ℕ) : Type 0 where
   pub over : IsOver s f.conn past now
   pub owes_none : is_resets f.conn.stage ≡ false
-  pub rests_none : rests_since past ≡ None
+  pub rests_none : in_time_wait_since past ≡ None
 
--- It rests, since a moment.
-pub record IsAtRest (s : Settings) (f : Splice) (past : Story) (now since : ℕ) : Type 0 where
-  pub rests : IsResting s f.conn f.up f.down past now since
+-- It is in TIME-WAIT, since a moment.
+pub record FollowsInTimeWait (s : Settings) (f : Splice) (past : Story) (now since : ℕ) : Type 0 where
+  pub time_waits : IsInTimeWait s f.conn f.up f.down past now since
   pub mru : f.mru ≡ s.mru
   pub known : f.mac ≡ None → ⊥
 
@@ -63,7 +63,7 @@ FollowsInUse true s f past now = IsOwing s f past now
 abbrev pub FollowsAt : Place → Bool → Settings → Splice → Story → ℕ → Type 0
 FollowsAt Empty shut s f past now = IsFree s f past now
 FollowsAt InUse shut s f past now = FollowsInUse shut s f past now
-FollowsAt (Resting since) shut s f past now = IsAtRest s f past now since
+FollowsAt (InTimeWait since) shut s f past now = FollowsInTimeWait s f past now since
 
 -- The flow follows its story at a moment.
 abbrev pub Follows : Settings → Splice → Story → ℕ → Type 0

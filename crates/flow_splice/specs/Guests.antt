@@ -15,7 +15,7 @@ use Rattle.sim_connection.specs.Seen.{segment_of}
 use Rattle.flow_splice.specs.Follows.{Follows}
 use Rattle.flow_splice.specs.Serves.{Serves}
 use Rattle.flow_splice.specs.Splice.{Splice, is_open}
-use Rattle.flow_splice.specs.declared.Place.TheVariants.{Empty, Resting}
+use Rattle.flow_splice.specs.declared.Place.TheVariants.{Empty, InTimeWait}
 
 -- the connection and its buffers take a segment
 abbrev pub heard : Splice → Tcp → ℕ → Splice
@@ -36,20 +36,20 @@ is_unfit Unfit = true
 abbrev pub turns_away : Splice → Tcp → ℕ → Bool
 turns_away f tcp now = is_open f && is_unfit (change_at f.conn f.up f.down tcp now)
 
--- a rest is ended by a reset at the next expected number, and by a SYN ahead of it
-abbrev pub ends_rest : Connection → Tcp → Bool
-ends_rest c tcp =
+-- a TIME-WAIT is ended by a reset at the next expected number, and by a SYN ahead of it
+abbrev pub ends_time_wait : Connection → Tcp → Bool
+ends_time_wait c tcp =
     (is_rst tcp && nat_eq tcp.seq (next_number c.received)) || (is_syn tcp && not (is_ack tcp) && not (is_rst tcp) && is_ahead tcp.seq (next_number c.received))
 
 -- and begins anew with FIN and ACK
 abbrev pub renews : Tcp → Bool
 renews tcp = is_fin tcp && is_ack tcp && not (is_syn tcp) && not (is_rst tcp)
 
--- at rest
-abbrev pub heard_at_rest : Splice → (since : ℕ) → Tcp → ℕ → Splice
-heard_at_rest f since tcp now =
-    if ends_rest f.conn tcp then record f { place = Empty }
-    else record (heard f tcp now) { place = Resting (if renews tcp then now else since) }
+-- in TIME-WAIT
+abbrev pub heard_in_time_wait : Splice → (since : ℕ) → Tcp → ℕ → Splice
+heard_in_time_wait f since tcp now =
+    if ends_time_wait f.conn tcp then record f { place = Empty }
+    else record (heard f tcp now) { place = InTimeWait (if renews tcp then now else since) }
 
 -- After every story that a flow followed, and the arrival of a segment: that what was made then are events of the flow, which follows the story.
 abbrev pub Hears : (old new : Splice) → Tcp → (now : ℕ) → List Entry → Type 0

@@ -9,7 +9,7 @@ use Rattle.world_face.specs.Journal.{Entry, Close, Connected, TcpRead, TcpWrite,
 use Rattle.world_face.specs.declared.Io.{Io}
 use Rattle.world_face.specs.declared.Io.TheVariants.{Done, End, NotYet, Failed}
 use Rattle.spec_flow.specs.Guest.{is_empty}
-use Rattle.sim_connection.specs.Holding.{is_connects}
+use Rattle.sim_connection.specs.Holding.{is_at_connecting}
 use Rattle.flow_splice.specs.Splice.{Splice, closed, is_open}
 use Rattle.flow_splice.specs.Wants.{reads, writes}
 
@@ -106,7 +106,7 @@ ReadsOn old new made = reads old ≡ true → (reads new || some_is reads_or_shu
 
 -- Each direction that was reported and waited for has its call; for reading, unless a call for writing closed the socket before it.
 pub record ServesReport (read write : Bool) (f : Splice) (made : List Entry) : Type 0 where
-  pub writing : write ≡ true → writes f ≡ true → some_is (serves_write (is_connects f.conn.stage)) made ≡ true
+  pub writing : write ≡ true → writes f ≡ true → some_is (serves_write (is_at_connecting f.conn.stage)) made ≡ true
   pub reading : read ≡ true → reads f ≡ true → some_is reads_or_shuts made ≡ true
 
 -- The guest's end isn't held back: where the socket is open, the end was taken and none of the guest's octets is held, the host was told it.

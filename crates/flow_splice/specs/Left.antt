@@ -13,13 +13,13 @@ abbrev pub count_if : Bool → ℕ → ℕ
 count_if b n = if b then n else 0
 
 abbrev pub left_by : Stage → Connection → Upward → Downward → ℕ
-left_by stage.Connects c up down = 0
-left_by stage.Calls c up down = count_if c.syn_owed 1
-left_by stage.Answers c up down = count_if c.syn_owed 2 + count_if c.ack_owed 1
+left_by stage.Connecting c up down = 0
+left_by stage.SynSent c up down = count_if c.syn_owed 1
+left_by stage.SynReceived c up down = count_if c.syn_owed 2 + count_if c.ack_owed 1
 left_by stage.Synchronized c up down = 4 * (octets_read down + 2 - c.transmission.sent) + count_if (is_owed_again c.transmission) 2 + count_if (c.ack_owed || is_update_owed c up) 1
-left_by stage.Rests c up down = count_if c.ack_owed 1
+left_by stage.TimeWait c up down = count_if c.ack_owed 1
 left_by (stage.Resets seq ack) c up down = 1
-left_by stage.Gone c up down = 0
+left_by stage.Closed c up down = 0
 
 abbrev pub left : Splice → ℕ
 left f = left_by f.conn.stage f.conn f.up f.down

@@ -14,7 +14,7 @@ use Rattle.spec_flow.specs.Event.{Story}
 use Rattle.sim_connection.specs.Sending.{is_rst, is_syn}
 use Rattle.flow_splice.specs.Hosts.{Sees, ends}
 use Rattle.flow_splice.specs.declared.Place.{Place}
-use Rattle.flow_splice.specs.declared.Place.TheVariants.{Empty, InUse, Resting}
+use Rattle.flow_splice.specs.declared.Place.TheVariants.{Empty, InUse, InTimeWait}
 use Rattle.sim_halves.specs.Resends.{least_wait}
 use Rattle.flow_splice.specs.Entries.{ident_after}
 use Rattle.flow_splice.specs.Follows.{Follows}
@@ -46,7 +46,7 @@ ident_if Failed ident = ident
 abbrev pub went_out : Splice → Owed → ℕ → Splice
 went_out f what now = record f { conn = after_gone what f.conn f.up now; last = now; called = if is_syn what then now else f.called }
 
--- one at rest acknowledges, or goes on as it was: it stays where it rests
+-- one in TIME-WAIT acknowledges, or goes on as it was: it stays in TIME-WAIT
 abbrev pub Acknowledges : (old new : Splice) → ℕ → Type 0
 Acknowledges old new now = (new ≡ old) ⊎ (new ≡ went_out old Ack now)
 
@@ -69,7 +69,7 @@ learnt f mac = record f { mac = or_known mac f.mac }
 abbrev pub takes_part_at : Place → Option Owed → Option Owed
 takes_part_at Empty what = None
 takes_part_at InUse what = what
-takes_part_at (Resting since) what = what
+takes_part_at (InTimeWait since) what = what
 
 abbrev pub takes_part : Splice → Option Owed → Option Owed
 takes_part f what = takes_part_at f.place what

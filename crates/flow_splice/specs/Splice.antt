@@ -8,9 +8,9 @@ use Rattle.sock_buffers.specs.Upward.{Upward, empty}
 use Rattle.tcp_connection.specs.Connection.{Connection, HasBuffers}
 use Rattle.tcp_connection.specs.declared.Stage.{Stage}
 use Rattle.tcp_connection.specs.declared.Stage.TheVariants as stage
-use Rattle.sim_connection.specs.Holding.{is_connects}
+use Rattle.sim_connection.specs.Holding.{is_at_connecting}
 use Rattle.flow_splice.specs.declared.Place.{Place}
-use Rattle.flow_splice.specs.declared.Place.TheVariants.{Empty, InUse, Resting}
+use Rattle.flow_splice.specs.declared.Place.TheVariants.{Empty, InUse, InTimeWait}
 
 -- the number of its socket, and between whom it goes: its guest, the other side, and the virtual host, whose hardware address is ours
 pub record Face : Type 0 where
@@ -61,29 +61,29 @@ pub record IsSound (c : Connection) (up : Upward) (down : Downward) (asked mru :
 abbrev pub is_in_use : Place → Bool
 is_in_use Empty = false
 is_in_use InUse = true
-is_in_use (Resting since) = false
+is_in_use (InTimeWait since) = false
 
--- a place at which a flow rests
-abbrev pub is_at_rest : Place → Bool
-is_at_rest Empty = false
-is_at_rest InUse = false
-is_at_rest (Resting since) = true
+-- a place at which a flow is in TIME-WAIT
+abbrev pub is_in_time_wait : Place → Bool
+is_in_time_wait Empty = false
+is_in_time_wait InUse = false
+is_in_time_wait (InTimeWait since) = true
 
 -- a connection of which both ends passed, in TIME-WAIT (RFC 9293, 3.6)
 abbrev pub is_time_wait : Stage → Bool
-is_time_wait stage.Connects = false
-is_time_wait stage.Calls = false
-is_time_wait stage.Answers = false
+is_time_wait stage.Connecting = false
+is_time_wait stage.SynSent = false
+is_time_wait stage.SynReceived = false
 is_time_wait stage.Synchronized = false
-is_time_wait stage.Rests = true
+is_time_wait stage.TimeWait = true
 is_time_wait (stage.Resets seq ack) = false
-is_time_wait stage.Gone = false
+is_time_wait stage.Closed = false
 
--- a flow rests only where its connection is in TIME-WAIT
-abbrev pub rests_by : Place → Stage → Bool
-rests_by Empty st = true
-rests_by InUse st = true
-rests_by (Resting since) st = is_time_wait st
+-- a flow is in TIME-WAIT only where its connection is in TIME-WAIT
+abbrev pub is_time_wait_by : Place → Stage → Bool
+is_time_wait_by Empty st = true
+is_time_wait_by InUse st = true
+is_time_wait_by (InTimeWait since) st = is_time_wait st
 
 -- its socket is open
 abbrev pub is_open : Splice → Bool
@@ -91,13 +91,13 @@ is_open f = is_in_use f.place && not f.shut
 
 -- where a flow stands that was closed at a moment, by its connection
 abbrev pub place_after : Stage → ℕ → Place
-place_after stage.Connects now = Empty
-place_after stage.Calls now = Empty
-place_after stage.Answers now = Empty
+place_after stage.Connecting now = Empty
+place_after stage.SynSent now = Empty
+place_after stage.SynReceived now = Empty
 place_after stage.Synchronized now = Empty
-place_after stage.Rests now = Resting now
+place_after stage.TimeWait now = InTimeWait now
 place_after (stage.Resets seq ack) now = InUse
-place_after stage.Gone now = Empty
+place_after stage.Closed now = Empty
 
 -- the flow, closed at a moment
 abbrev pub closed : Splice → ℕ → Splice
@@ -111,7 +111,7 @@ begun now guest other number vhost mac c f = record f {
   face = record { guest = guest; other = other; number = number; vhost = vhost };
   mac = mac;
   since = now;
-  accepted = not (is_connects c.stage);
+  accepted = not (is_at_connecting c.stage);
   told_end = false;
   asked = 0;
   ask_at = 0;

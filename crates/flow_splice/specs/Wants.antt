@@ -4,7 +4,7 @@ use Rattle.sock_buffers.specs.Downward.{Downward}
 use Rattle.tcp_connection.specs.Connection.{is_opening}
 use Rattle.tcp_connection.specs.Hosts.{is_open as host_is_open}
 use Rattle.tcp_connection.specs.Timing.{due_of as conn_due}
-use Rattle.sim_connection.specs.Holding.{is_connects}
+use Rattle.sim_connection.specs.Holding.{is_at_connecting}
 use Rattle.flow_splice.specs.Splice.{Splice, is_open}
 
 -- a socket may connect for 75,000 ms; ours
@@ -12,12 +12,12 @@ abbrev pub connect_end : Splice → ℕ
 connect_end f = f.since + 75000
 
 -- a request for the guest's hardware address waits for its answer
-abbrev pub seeks : Splice → Bool
-seeks f = not (is_some f.mac) && nat_lt 0 f.asked
+abbrev pub resolves : Splice → Bool
+resolves f = not (is_some f.mac) && nat_lt 0 f.asked
 
 -- the host may give octets, and there is room for some
 abbrev pub may_read : Splice → Bool
-may_read f = not (is_connects f.conn.stage) && host_is_open f.conn.transmission.end && nat_lt 0 (f.down.size - length f.down.octets)
+may_read f = not (is_at_connecting f.conn.stage) && host_is_open f.conn.transmission.end && nat_lt 0 (f.down.size - length f.down.octets)
 
 -- octets of the guest are held that the host is to take, and its end was taken that the host wasn't told
 abbrev pub owes_octets : Splice → Bool
@@ -28,7 +28,7 @@ may_end f = f.conn.received.ended && not f.told_end
 
 -- there is something for the host to do
 abbrev pub may_write : Splice → Bool
-may_write f = is_connects f.conn.stage || owes_octets f || may_end f
+may_write f = is_at_connecting f.conn.stage || owes_octets f || may_end f
 
 -- what is waited for
 abbrev pub reads : Splice → Bool
@@ -52,7 +52,7 @@ reads_none down = nat_eq down.first 0 && nat_eq (length down.octets) 0
 -- its peer ended without an octet before its guest answered, and no acknowledgement is owed
 abbrev pub is_deserted : Splice → Bool
 is_deserted f =
-    f.accepted && not (is_connects f.conn.stage) && is_opening f.conn.stage && not (host_is_open f.conn.transmission.end) && reads_none f.down
+    f.accepted && not (is_at_connecting f.conn.stage) && is_opening f.conn.stage && not (host_is_open f.conn.transmission.end) && reads_none f.down
     && not f.conn.ack_owed
 
 -- until then its guest may answer: 1,000 ms; ours
@@ -65,7 +65,7 @@ is_short f = not (host_is_open f.conn.transmission.end) || f.told_end || (reads_
 
 -- how many milliseconds it keeps its place without a sign of life (RFC 5382, REQ-5; while it connects ours)
 abbrev pub quiet_time : Splice → ℕ
-quiet_time f = if is_connects f.conn.stage then 10000 else (if is_short f then 240000 else 7440000)
+quiet_time f = if is_at_connecting f.conn.stage then 10000 else (if is_short f then 240000 else 7440000)
 
 -- From this moment on it may give way to a guest's SYN; one of which both ends passed doesn't.
 abbrev pub gives_way_at : Splice → ℕ
@@ -73,7 +73,7 @@ gives_way_at f = if f.told_end && f.conn.fin_acked then 2 ^ 64 - 1 else f.last +
 
 -- the moment at which an open flow is to be looked at, but for the end of patience
 abbrev pub due_else : Splice → Option ℕ
-due_else f = if is_connects f.conn.stage then Some (connect_end f) else (if seeks f then ask_due f else conn_due f.conn)
+due_else f = if is_at_connecting f.conn.stage then Some (connect_end f) else (if resolves f then ask_due f else conn_due f.conn)
 
 -- the moment by which a deserted flow is closed: its patience is over, and its last sign of life past
 abbrev pub left_at : Splice → ℕ
@@ -89,5 +89,5 @@ due_of f = if is_open f then (if is_deserted f then Some (sooner (left_at f) (du
 
 -- Time doesn't close it at this moment: the socket may connect yet, and a guest whose peer is gone answer, or the last sign of life is of this moment.
 pub record HasTime (f : Splice) (now : ℕ) : Type 0 where
-  pub connects : is_open f ≡ true → is_connects f.conn.stage ≡ true → now < connect_end f
+  pub connects : is_open f ≡ true → is_at_connecting f.conn.stage ≡ true → now < connect_end f
   pub deserted : is_open f ≡ true → is_deserted f ≡ true → now < left_at f

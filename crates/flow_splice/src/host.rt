@@ -8,7 +8,7 @@ ghost use Rattle.tcp_connection.specs.declared.Change.{Change as Changes};
 ghost use Rattle.tcp_transmit.specs.Transmission.{octets_read};
 ghost use Rattle.world_face.specs.Journal.{TcpRead, TcpWrite, Close, count_of};
 ghost use Rattle.world_face.specs.Tells.{Answers, Makes};
-ghost use Rattle.sim_connection.specs.Holding.{is_connects, without};
+ghost use Rattle.sim_connection.specs.Holding.{is_at_connecting, without};
 ghost use Rattle.flow_splice.specs.Hosts.{IsRead, gives_octets};
 
 use crate::Spliced;
@@ -45,7 +45,7 @@ impl Spliced {
             (λ made. GoesOn self.old self.new false now made × IsHostWork read write made × ServesReport read write self.old made) }
         ensures stays { StaysButServed self.old self.new }
         // After a report for writing the guest's end isn't held back in a flow that had connected.
-        ensures passes_end { write ≡ true → is_connects self.old.conn.stage ≡ false → PassesEnd self.new }
+        ensures passes_end { write ≡ true → is_at_connecting self.old.conn.stage ≡ false → PassesEnd self.new }
         ensures closed { is_open_by self.old ≡ false → self.new ≡ self.old }
     {
         self.serve_writing(world, scratch, now, write);
@@ -63,10 +63,10 @@ impl Spliced {
         requires now { now ≤ 2 ^ 62 }
         ensures makes { Makes (W.tells world.old) (W.tells world.new)
             (λ made. GoesOn self.old self.new false now made × (is_writing made ≡ true) × (ready ≡ false → made ≡ [])
-            × (ready ≡ true → writes self.old ≡ true → some_is (serves_write (is_connects self.old.conn.stage)) made ≡ true) × ReadsOn self.old self.new made) }
+            × (ready ≡ true → writes self.old ≡ true → some_is (serves_write (is_at_connecting self.old.conn.stage)) made ≡ true) × ReadsOn self.old self.new made) }
         ensures stays { StaysButWritten self.old self.new }
         ensures idle { ready ≡ false → (self.new ≡ self.old) × (W.tells world.new ≡ W.tells world.old) }
-        ensures passes_end { ready ≡ true → is_connects self.old.conn.stage ≡ false → PassesEnd self.new }
+        ensures passes_end { ready ≡ true → is_at_connecting self.old.conn.stage ≡ false → PassesEnd self.new }
         ensures closed { is_open_by self.old ≡ false → self.new ≡ self.old }
     {
         if !ready || !self.is_open() {
@@ -108,7 +108,7 @@ impl Spliced {
     fn connect<W: World>(&mut self, world: &mut W, now: u64)
         requires now { now ≤ 2 ^ 62 }
         requires open_yet { is_open_by self.old ≡ true }
-        requires connects { is_connects self.old.conn.stage ≡ true }
+        requires connects { is_at_connecting self.old.conn.stage ≡ true }
         ensures makes { Makes (W.tells world.old) (W.tells world.new)
             (λ made. GoesOn self.old self.new false now made × (is_writing made ≡ true) × (some_is (serves_write true) made ≡ true)) }
         ensures stays { Stays self.old self.new }
@@ -156,7 +156,7 @@ impl Spliced {
     fn write<W: World>(&mut self, world: &mut W, scratch: &mut Scratch, now: u64)
         requires now { now ≤ 2 ^ 62 }
         requires open_yet { is_open_by self.old ≡ true }
-        requires connected { is_connects self.old.conn.stage ≡ false }
+        requires connected { is_at_connecting self.old.conn.stage ≡ false }
         requires owes { owes_octets_by self.old ≡ true }
         ensures makes { Makes (W.tells world.old) (W.tells world.new)
             (λ made. GoesOn self.old self.new false now made × (is_writing made ≡ true) × (some_is (serves_write false) made ≡ true)
@@ -207,7 +207,7 @@ impl Spliced {
     fn end_after_octets<W: World>(&mut self, world: &mut W, now: u64)
         requires now { now ≤ 2 ^ 62 }
         requires open_yet { is_open_by self.old ≡ true }
-        requires connected { is_connects self.old.conn.stage ≡ false }
+        requires connected { is_at_connecting self.old.conn.stage ≡ false }
         ensures makes { Makes (W.tells world.old) (W.tells world.new)
             (λ made. GoesOn self.old self.new false now made × (is_ending made ≡ true) × ReadsOn self.old self.new made) }
         ensures stays { Stays self.old self.new }
@@ -222,7 +222,7 @@ impl Spliced {
     fn end<W: World>(&mut self, world: &mut W, now: u64)
         requires now { now ≤ 2 ^ 62 }
         requires open_yet { is_open_by self.old ≡ true }
-        requires connected { is_connects self.old.conn.stage ≡ false }
+        requires connected { is_at_connecting self.old.conn.stage ≡ false }
         requires all { owes_octets_by self.old ≡ false }
         requires ends { may_end self.old ≡ true }
         ensures makes { Makes (W.tells world.old) (W.tells world.new)

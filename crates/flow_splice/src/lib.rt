@@ -7,6 +7,13 @@
 //! What a call makes is said over every story: where the flow followed the story so far, the entries made are events of it, and the flow follows it with these
 //! (`Follows`, `Serves`). Each event was allowed by the laws of one flow, and was as it must be. Moments are in milliseconds, at most 2^62.
 //!
+//! | Field | RFC 9293, 3.3.1 |
+//! |---|---|
+//! | `conn` | the transmission control block: ISS, IRS, SND and RCV variables stand in it (`tcp_connection`) |
+//! | `up` | the receive buffer, from what the host took up to RCV.NXT, and what is kept past a gap |
+//! | `down` | the send buffer, from SND.UNA on |
+//! | `guest`, `other` | the remote and the local socket of the guest's connection |
+//!
 //! Proved:
 //! - After every story that the flow follows (`Follows`), `Spliced::host_ready`, `guest_segment`, `tick` and `pump` make calls that are events of this flow and no
 //!   others, each allowed and as it must be after what was before it, and the flow follows the story with these (`makes` of each; of `tick` where the guest's hardware
@@ -16,14 +23,14 @@
 //!   last failed exactly where it answers Failed.
 //! - After a report for writing a host that had connected was told the guest's end, where the flow is open, that was taken and no octet is held (`passes_end`).
 //! - `guest_segment` answers true exactly where the connection has no place for the segment (`unfit`). Of a closed flow only `pump` calls something (`closed`,
-//!   `rests`, `quiet`).
+//!   `time_waits`, `quiet`).
 //! - `tick` closes a socket that didn't connect in 75,000 ms, and that of a deserted flow past its patience; after it, and a `pump`, time closes the flow no more
 //!   (`in_time`, `HasTime`). What the connection's timer makes owed is owed (`again`), as is a request for the guest's hardware address whose wait is over (`waits`),
 //!   and none of the two is due after it, unless an acknowledgement is owed (`ahead`).
 //! - `pump` writes each segment in its frame, with the guest's hardware address and identifications that count up, or where the address isn't known one request for
 //!   it, which it counts once the link took something of it, or nothing (`makes`, with `AsksOnce`). It answers what the link is then (`blocked`, `free`, `failed`), and
 //!   Clear only where nothing is owed (`clear`). A timer that wasn't due isn't after it (`ahead`).
-//! - A flow in TIME-WAIT only acknowledges, once, and stays so since the same moment (`rests`); `renews` is whether a segment begins TIME-WAIT anew. `start` begins
+//! - A flow in TIME-WAIT only acknowledges, once, and stays so since the same moment (`time_waits`); `renews` is whether a segment begins TIME-WAIT anew. `start` begins
 //!   the story of a flow that a guest opened or that a peer did (`connects`, `accepts`, `begins`), in a place that `open` made; after `leave` no flow has the place.
 //! - `want` waits for octets exactly where the law says so, and to write where it must be and only where it may be (`wants`, `reads`, `must`, `may`). `due`, `place`,
 //!   `other`, `held`, `last` and `left_at` are exact, as are `is_open`, `number`, `is_accepted`, `guest`, `mac`, and what `learn` tells it. `due` is within the two
@@ -56,7 +63,7 @@ ghost use Rattle.tcp_segment.specs.Tcp.{Tcp};
 ghost use Rattle.spec_flow.specs.Settings.{Settings};
 ghost use Rattle.spec_flow.specs.Event.{Story, Connects, Accepts, At};
 ghost use Rattle.spec_flow.specs.Windows.{mss};
-ghost use Rattle.sim_connection.specs.Holding.{is_connects, is_live};
+ghost use Rattle.sim_connection.specs.Holding.{is_at_connecting, is_live};
 ghost use Rattle.sim_connection.specs.Seen.{segment_of};
 ghost use Rattle.flow_splice.specs.Wants.{sooner};
 
@@ -100,7 +107,7 @@ pub enum Place {
     /// Its flow's socket is open, or it owes its guest a reset.
     InUse,
     /// Its flow is in TIME-WAIT, with its socket closed, and the rest is counted from this moment.
-    Resting(u64),
+    InTimeWait(u64),
 }
 
 /// One flow, or the place for one. A contract sees a `Splice`.
@@ -133,7 +140,7 @@ pub struct Spliced {
 
 impl Model for Spliced {
     ghost use Rattle.std.specs.Prelude.{◌≡◌, ◌≤◌, ◌^◌, length, true};
-    ghost use Rattle.flow_splice.specs.Splice.{AreMoments, Splice, IsSound, rests_by};
+    ghost use Rattle.flow_splice.specs.Splice.{AreMoments, Splice, IsSound, is_time_wait_by};
 
     ghost Value = { Splice };
 
@@ -156,7 +163,7 @@ impl Model for Spliced {
       called = s.called;
     } };
 
-    ghost invariant = { λ s. IsSound s.conn s.up s.down s.asked s.mru × AreMoments s.since s.last s.called × (rests_by s.place s.conn.stage ≡ true) };
+    ghost invariant = { λ s. IsSound s.conn s.up s.down s.asked s.mru × AreMoments s.since s.last s.called × (is_time_wait_by s.place s.conn.stage ≡ true) };
 }
 
 impl Spliced {
@@ -171,7 +178,7 @@ impl Spliced {
     ghost use Rattle.flow_splice.specs.Sends.{IsClear};
     ghost use Rattle.flow_splice.specs.Held.{IsFront};
     ghost use Rattle.spec_flow.specs.Flow.{guest};
-    ghost use Rattle.spec_flow.specs.Guest.{Honest};
+    ghost use Rattle.spec_flow.specs.Guest.{Conforming};
 
     /// The place for a flow, with all the memory that one will ever need of its own: `ring` octets for each direction, from 1 to 1,048,576. `mru` is the longest
     /// datagram that comes from the guest, from 576 to 9,216 octets.
@@ -363,8 +370,8 @@ impl Spliced {
     pub fn held(&self, into: &mut [u8]) -> usize
         ensures count { result ≡ min (length into.old) (length self.now.up.held) }
         ensures copied { into.new ≡ take result self.now.up.held ++ drop result into.old }
-        // Of an honest guest they are what came from where the host stopped, and reach to what was acknowledged at least, where they fit.
-        ensures front { (s : Settings) (past : Story) (now : ℕ) → Follows s self.now past now → is_open_by self.now ≡ true → Honest (guest past)
+        // Of a conforming guest they are what came from where the host stopped, and reach to what was acknowledged at least, where they fit.
+        ensures front { (s : Settings) (past : Story) (now : ℕ) → Follows s self.now past now → is_open_by self.now ≡ true → Conforming (guest past)
             → IsFront past (length into.old) result (take result into.new) }
     {
         self.up.front_piece(into)
@@ -376,19 +383,19 @@ impl Spliced {
     ghost use Rattle.flow_splice.specs.Hosts.{Sees, ends};
     ghost use Rattle.flow_splice.specs.Splice.{closed, place_after as place_after_by};
     ghost use Rattle.flow_splice.specs.Wants.{connect_end as connect_end_by, due_of, may_end, may_read as may_read_by, may_write as may_write_by, owes_octets as owes_octets_by};
-    ghost use Rattle.flow_splice.specs.Wants.{reads as reads_by, seeks as seeks_by, writes as writes_by, due_else, is_deserted as is_deserted_by, is_short as is_short_by};
+    ghost use Rattle.flow_splice.specs.Wants.{reads as reads_by, resolves as resolves_by, writes as writes_by, due_else, is_deserted as is_deserted_by, is_short as is_short_by};
     ghost use Rattle.flow_splice.specs.Wants.{patience_end as patience_end_by, quiet_time as quiet_time_by, reads_none as reads_none_by, left_at as left_at_by, gives_way_at as gives_way_at_by};
 
     // Whether the socket is to connect.
     pub(crate) fn connects(&self) -> bool
-        ensures { result ≡ is_connects self.now.conn.stage }
+        ensures { result ≡ is_at_connecting self.now.conn.stage }
     {
         self.conn.connecting()
     }
 
     // Whether a request for the guest's hardware address waits for its answer.
-    pub(crate) fn seeks(&self) -> bool
-        ensures { result ≡ seeks_by self.now }
+    pub(crate) fn resolves(&self) -> bool
+        ensures { result ≡ resolves_by self.now }
     {
         self.mac.is_none() && self.asked > 0
     }
@@ -412,7 +419,7 @@ impl Spliced {
     {
         if self.connects() {
             Some(self.connect_end())
-        } else if self.seeks() {
+        } else if self.resolves() {
             (!self.asks).then_some(self.ask_at)
         } else {
             self.conn.due()
@@ -537,7 +544,7 @@ impl Spliced {
         ensures { result ≡ place_after_by self.now.conn.stage now }
     {
         if self.conn.time_wait() {
-            Place::Resting(now)
+            Place::InTimeWait(now)
         } else if self.conn.owed(&self.up, &self.down).is_some() {
             Place::InUse
         } else {
@@ -588,7 +595,7 @@ fn sooner(at: u64, other: Option<u64>) -> u64
 
 // Whether a new connection is one for a peer that was accepted: no socket is to connect for it.
 fn is_for_peer(conn: &Conn) -> bool
-    ensures { result ≡ not (is_connects conn.now.stage) }
+    ensures { result ≡ not (is_at_connecting conn.now.stage) }
 {
     !conn.connecting()
 }

@@ -1,6 +1,6 @@
 // What a flow owes its guest goes out on the link.
 ghost use Rattle.std.specs.Prelude.{◌≡◌, ℕ, ◌^◌, ◌<◌, ◌≤◌, List, ◌++◌, [], None, Some, length, true, false};
-ghost use Rattle.world_face.specs.Frames.{spelling};
+ghost use Rattle.world_face.specs.Frames.{encoding};
 ghost use Rattle.world_face.specs.Limits.{most_to_link};
 ghost use Rattle.world_face.specs.Journal.{Entry};
 ghost use Rattle.world_face.specs.Tells.{Makes, Rose};
@@ -23,7 +23,7 @@ use crate::{Place, Spliced};
 use net_octets::{Ip4, Mac};
 use rules_flow::may_ask;
 use sock_buffers::Down;
-use stream_netdev::{LENGTH, Link, Offered, Pumped, outcome, spell};
+use stream_netdev::{LENGTH, Link, Offered, Pumped, encode, outcome};
 use tcp_connection::{Change, Head, Owed};
 use world_face::World;
 
@@ -44,7 +44,7 @@ impl Spliced {
         requires none { link.old.tail ≡ [] }
         requires free { link.old.blocked ≡ false }
         ensures makes { Makes (W.tells world.old) (W.tells world.new) (λ made.
-            Writes result (spelling (segment_frame self.old.face mac ident (segment_out self.old.mru self.old.conn self.old.up self.old.down what.now))) made
+            Writes result (encoding (segment_frame self.old.face mac ident (segment_out self.old.mru self.old.conn self.old.up self.old.down what.now))) made
             × ((past : List Entry) → Keeps link.old past → Keeps link.new (made ++ past))) }
         ensures failed { result ≡ Offered.Failed → Rose (W.tells world.old).faults.link (W.tells world.new).faults.link }
         ensures settles { Settles result link.new }
@@ -92,7 +92,7 @@ fn offer_frame<W: World>(
     requires none { link.old.tail ≡ [] }
     requires free { link.old.blocked ≡ false }
     ensures makes { (number : ℕ) → Makes (W.tells world.old) (W.tells world.new) (λ made.
-        Writes result (spelling (segment_frame
+        Writes result (encoding (segment_frame
         (record { guest = route.now.guest; other = route.now.other; number = number; vhost = route.now.vhost }) route.now.mac route.now.ident
         (with_head head.now mru down.now what.now))) made
         × ((past : List Entry) → Keeps link.old past → Keeps link.new (made ++ past))) }
@@ -104,7 +104,7 @@ fn offer_frame<W: World>(
         route.now.mac route.now.ident (with_head head.now mru down.now what.now) }
 {
     let length = write_frame(route, head, what, mru, down, &mut buffer[LENGTH..]);
-    let size = spell(buffer, length);
+    let size = encode(buffer, length);
     link.offer(world, &buffer[..size])
 }
 
@@ -168,7 +168,7 @@ impl Spliced {
     ghost use Rattle.flow_splice.specs.Stays.{Stays};
     ghost use Rattle.flow_splice.specs.Left.{left};
     ghost use Rattle.flow_splice.specs.Shapes.{IsPumpWork};
-    ghost use Rattle.flow_splice.specs.Splice.{is_at_rest, is_open as is_open_by, rests_by};
+    ghost use Rattle.flow_splice.specs.Splice.{is_in_time_wait, is_open as is_open_by, is_time_wait_by};
     ghost use Rattle.flow_splice.specs.Wants.{HasTime};
     ghost use Rattle.flow_splice.specs.Sends.{Acknowledges, IsClear, IsPumped, SendsOn, asked, asks_now, learnt, or_known, takes_part};
     ghost use Rattle.flow_splice.specs.declared.Place.TheVariants.{Empty};
@@ -177,7 +177,7 @@ impl Spliced {
     /// Sends all that the flow owes, one segment at a time, until the link is blocked. Each datagram that goes out has the number `ident`, which is one more
     /// then, modulo 2^16. `mac` is the guest's hardware address, where it is known: the flow keeps it. A flow that calls a guest whose address isn't known
     /// asks for it in place of its SYN. Where both ends passed with what went out the socket is closed. No other call is made: it only writes on the link, and
-    /// failed exactly where its last write did. Its frames are written in the scratch. A flow at rest only acknowledges (RFC 9293, 3.10.7.4, TIME-WAIT), and rests on.
+    /// failed exactly where its last write did. Its frames are written in the scratch. A flow in TIME-WAIT only acknowledges (RFC 9293, 3.10.7.4, TIME-WAIT), and stays in TIME-WAIT.
     pub fn pump<W: World>(
         &mut self,
         world: &mut W,
@@ -199,7 +199,7 @@ impl Spliced {
         ensures same { under_way link.new ≡ under_way link.old }
         ensures stays { IsPumped mac self.old self.new }
         ensures closed { is_open_by self.old ≡ false → is_open_by self.new ≡ false }
-        ensures rests { is_at_rest self.old.place ≡ true → Acknowledges (learnt self.old mac) self.new now }
+        ensures time_waits { is_in_time_wait self.old.place ≡ true → Acknowledges (learnt self.old mac) self.new now }
         // Where time didn't close it, it doesn't then.
         ensures in_time { HasTime self.old now → HasTime self.new now }
         // Where no timer of it was due, none is due then.
@@ -213,7 +213,7 @@ impl Spliced {
         }
         match self.mac() {
             Some(mac) => self.send_all(world, link, scratch, ident, mac, now),
-            None => self.seek(world, link, scratch, now),
+            None => self.resolve(world, link, scratch, now),
         }
     }
 
@@ -236,7 +236,7 @@ impl Spliced {
     // What it owes, if it has its place.
     fn owed(&self) -> Option<Owed>
         ensures owed { result ≡ takes_part self.now (owed_of self.now.conn self.now.up self.now.down) }
-        ensures rests { rests_by self.now.place self.now.conn.stage ≡ true }
+        ensures time_waits { is_time_wait_by self.now.place self.now.conn.stage ≡ true }
     {
         if self.place == Place::Empty {
             None
@@ -246,7 +246,7 @@ impl Spliced {
     }
 
     // Asks for the guest's hardware address, where it is time to.
-    fn seek<W: World>(
+    fn resolve<W: World>(
         &mut self,
         world: &mut W,
         link: &mut Link,
@@ -269,7 +269,7 @@ impl Spliced {
         ensures same { under_way link.new ≡ under_way link.old }
         ensures stays { IsPumped None self.old self.new }
         ensures closed { is_open_by self.old ≡ false → is_open_by self.new ≡ false }
-        ensures rests { is_at_rest self.old.place ≡ true → self.new ≡ self.old }
+        ensures time_waits { is_in_time_wait self.old.place ≡ true → self.new ≡ self.old }
         ensures conn { self.new.conn ≡ self.old.conn }
         ensures in_time { HasTime self.old now → HasTime self.new now }
     {
@@ -296,7 +296,7 @@ impl Spliced {
     ) -> Offered
         requires none { link.old.tail ≡ [] }
         requires free { link.old.blocked ≡ false }
-        ensures makes { Makes (W.tells world.old) (W.tells world.new) (λ made. Writes result (spelling (request_frame self.old.face)) made
+        ensures makes { Makes (W.tells world.old) (W.tells world.new) (λ made. Writes result (encoding (request_frame self.old.face)) made
             × ((past : List Entry) → Keeps link.old past → Keeps link.new (made ++ past))) }
         ensures failed { result ≡ Offered.Failed → Rose (W.tells world.old).faults.link (W.tells world.new).faults.link }
         ensures settles { Settles result link.new }
@@ -343,7 +343,7 @@ impl Spliced {
         ensures clear { result ≡ Clear → takes_part self.new (owed_of self.new.conn self.new.up self.new.down) ≡ None }
         ensures same { under_way link.new ≡ under_way link.old }
         ensures stays { Stays self.old self.new }
-        ensures rests { is_at_rest self.old.place ≡ true → Acknowledges self.old self.new now }
+        ensures time_waits { is_in_time_wait self.old.place ≡ true → Acknowledges self.old self.new now }
         ensures closed { is_open_by self.old ≡ false → is_open_by self.new ≡ false }
         ensures early { IsEarly now self.old.conn → IsEarly now self.new.conn }
         ensures in_time { HasTime self.old now → HasTime self.new now }
@@ -376,7 +376,7 @@ impl Spliced {
         requires free { link.old.blocked ≡ false }
         requires mac { self.old.mac ≡ Some mac }
         requires owed { takes_part self.old (owed_of self.old.conn self.old.up self.old.down) ≡ Some what.now }
-        requires rests { rests_by self.old.place self.old.conn.stage ≡ true }
+        requires time_waits { is_time_wait_by self.old.place self.old.conn.stage ≡ true }
         ensures makes { Makes (W.tells world.old) (W.tells world.new)
             (λ made. SendsOn self.old self.new link.old link.new ident.old ident.new now made × IsPumpWork result made) }
         ensures blocked { result ≡ Blocked → link.new.blocked ≡ true }
@@ -385,7 +385,7 @@ impl Spliced {
         ensures less { result ≡ Clear → left self.new < left self.old }
         ensures same { under_way link.new ≡ under_way link.old }
         ensures stays { Stays self.old self.new }
-        ensures rests { is_at_rest self.old.place ≡ true → Acknowledges self.old self.new now }
+        ensures time_waits { is_in_time_wait self.old.place ≡ true → Acknowledges self.old self.new now }
         ensures closed { is_open_by self.old ≡ false → is_open_by self.new ≡ false }
         ensures early { IsEarly now self.old.conn → IsEarly now self.new.conn }
         ensures in_time { HasTime self.old now → HasTime self.new now }
@@ -417,7 +417,7 @@ fn offer_arp<W: World>(
     requires none { link.old.tail ≡ [] }
     requires free { link.old.blocked ≡ false }
     ensures makes { (other at : Endpoint) (number : ℕ) → Makes (W.tells world.old) (W.tells world.new) (λ made.
-        Writes result (spelling (request_frame (record { guest = record { addr = guest; port = at.port }; other = other; number = number; vhost = vhost }))) made
+        Writes result (encoding (request_frame (record { guest = record { addr = guest; port = at.port }; other = other; number = number; vhost = vhost }))) made
         × ((past : List Entry) → Keeps link.old past → Keeps link.new (made ++ past))) }
     ensures failed { result ≡ Offered.Failed → Rose (W.tells world.old).faults.link (W.tells world.new).faults.link }
     ensures settles { Settles result link.new }
@@ -425,7 +425,7 @@ fn offer_arp<W: World>(
     ensures room { length buffer.new ≡ length buffer.old }
 {
     let length = write_request(vhost, guest, &mut buffer[LENGTH..]);
-    let size = spell(buffer, length);
+    let size = encode(buffer, length);
     link.offer(world, &buffer[..size])
 }
 

@@ -8,7 +8,7 @@ ghost use Rattle.world_face.specs.Tells.{Makes};
 ghost use Rattle.spec_flow.specs.Settings.{Settings};
 ghost use Rattle.spec_flow.specs.Close.{follows_reset, may_give_way};
 ghost use Rattle.spec_flow.specs.Event.{At, Closes, Story};
-ghost use Rattle.sim_connection.specs.Holding.{is_connects};
+ghost use Rattle.sim_connection.specs.Holding.{is_at_connecting};
 
 use crate::Spliced;
 use rules_flow::REQUESTS;
@@ -22,7 +22,7 @@ impl Spliced {
     ghost use Rattle.flow_splice.specs.Serves.{GoesOnYet, TicksOn};
     ghost use Rattle.flow_splice.specs.Shapes.{is_at_most_a_close};
     ghost use Rattle.flow_splice.specs.Splice.{is_open as is_open_by};
-    ghost use Rattle.flow_splice.specs.Wants.{HasTime, asks_after, connect_end as connect_end_by, is_deserted as is_deserted_by, patience_end as patience_end_by, seeks as seeks_by};
+    ghost use Rattle.flow_splice.specs.Wants.{HasTime, asks_after, connect_end as connect_end_by, is_deserted as is_deserted_by, patience_end as patience_end_by, resolves as resolves_by};
 
     /// The moment came. A socket that didn't connect in 75,000 ms is closed; so is that of a flow whose peer ended without an octet before its guest answered,
     /// 1,000 ms after it was accepted and after our SYN went out last, unless an acknowledgement is owed; that of a flow whose guest wasn't found by nine
@@ -37,10 +37,10 @@ impl Spliced {
         // Time doesn't close it then: it would have.
         ensures in_time { HasTime self.new now }
         // A flow that calls a guest owes its request again once the wait for an answer is over.
-        ensures waits { is_open_by self.old ≡ true → is_connects self.old.conn.stage ≡ false → seeks_by self.old ≡ true → is_open_by self.new ≡ true
+        ensures waits { is_open_by self.old ≡ true → is_at_connecting self.old.conn.stage ≡ false → resolves_by self.old ≡ true → is_open_by self.new ≡ true
             → self.new ≡ asks_after self.old now }
         // What the connection's timer makes owed again is owed again.
-        ensures again { is_open_by self.old ≡ true → is_connects self.old.conn.stage ≡ false → seeks_by self.old ≡ false → is_open_by self.new ≡ true
+        ensures again { is_open_by self.old ≡ true → is_at_connecting self.old.conn.stage ≡ false → resolves_by self.old ≡ false → is_open_by self.new ≡ true
             → self.new ≡ record self.old { conn = after_tick self.old.conn now } }
         // No timer of it is due then, unless an acknowledgement is owed.
         ensures ahead { (s : Settings) (past : Story) (before : ℕ) → Follows s self.old past before → self.old.conn.ack_owed ≡ false
@@ -54,7 +54,7 @@ impl Spliced {
             self.await_host(world, now);
         } else if self.is_left(now) {
             self.fail(world, now);
-        } else if self.seeks() {
+        } else if self.resolves() {
             self.await_guest(world, now);
         } else {
             self.expire(world, now);
@@ -72,7 +72,7 @@ impl Spliced {
     fn await_host<W: World>(&mut self, world: &mut W, now: u64)
         requires now { now ≤ 2 ^ 62 }
         requires open_yet { is_open_by self.old ≡ true }
-        requires connects { is_connects self.old.conn.stage ≡ true }
+        requires connects { is_at_connecting self.old.conn.stage ≡ true }
         ensures makes { Makes (W.tells world.old) (W.tells world.new) (λ made. GoesOnYet self.old self.new now made × (is_at_most_a_close made ≡ true)) }
         ensures stays { Stays self.old self.new }
         ensures in_time { is_open_by self.new ≡ true → now < connect_end_by self.new }
@@ -87,7 +87,7 @@ impl Spliced {
     fn await_guest<W: World>(&mut self, world: &mut W, now: u64)
         requires now { now ≤ 2 ^ 62 }
         requires open_yet { is_open_by self.old ≡ true }
-        requires seeks { seeks_by self.old ≡ true }
+        requires resolves { resolves_by self.old ≡ true }
         ensures makes { Makes (W.tells world.old) (W.tells world.new) (λ made. TicksOn self.old self.new now made × (is_at_most_a_close made ≡ true)) }
         ensures stays { Stays self.old self.new }
         ensures stage { is_open_by self.new ≡ true → self.new.conn.stage ≡ self.old.conn.stage }

@@ -9,7 +9,7 @@ use Rattle.std.proofs.lemmas.List.{length-replicate}
 use Rattle.std.proofs.lemmas.List.FromFn.{length-range_with_len, get_or-range_with_len}
 use Rattle.std.proofs.lemmas.Option.{same_Some, slice_get_read, slice_get_within, slice_get-get_or, get_or_from_slice_get}
 use Rattle.flow_table.specs.declared.Slot.{Slot}
-use Rattle.flow_table.specs.declared.Slot.TheVariants.{Free, Resting}
+use Rattle.flow_table.specs.declared.Slot.TheVariants.{Free, InTimeWait}
 use Rattle.spec_flows.specs.declared.Tuple.{Tuple}
 use Rattle.flow_table.specs.Slots.{AreKept, Flows, HasTuple, Once, Stands, flows, tuple_of, moved_last}
 
@@ -94,30 +94,30 @@ first_place (z ∷ xs) k (suc i) h = elim (eqb_tells z k) [
 ]
 
 -- an order stays one where a number goes to its end
-pub moved_kept : (slots : List Slot) (rest_order : List ℕ) (k : ℕ) → k < length slots → AreKept slots rest_order → AreKept slots (moved_last k rest_order)
-moved_kept slots rest_order k fits kept =
-    let at = position_or_len (λ other. other == k) rest_order in
+pub moved_kept : (slots : List Slot) (time_wait_order : List ℕ) (k : ℕ) → k < length slots → AreKept slots time_wait_order → AreKept slots (moved_last k time_wait_order)
+moved_kept slots time_wait_order k fits kept =
+    let at = position_or_len (λ other. other == k) time_wait_order in
     let stood = kept.all k fits in
-    let stands = first_place rest_order k stood.0 stood.1 in
+    let stands = first_place time_wait_order k stood.0 stood.1 in
     record {
       apart = kept.apart;
-      within = λ i x h. elim (of_end (remove rest_order at) k i x h) [
-        | inl s ↦ let t = of_removed rest_order at s.0 x s.1 in kept.within t.0 x t.1
+      within = λ i x h. elim (of_end (remove time_wait_order at) k i x h) [
+        | inl s ↦ let t = of_removed time_wait_order at s.0 x s.1 in kept.within t.0 x t.1
         | inr e ↦ subst
             (λ n. n < length slots) (sym e) fits
       ];
       all = λ x small. let s = kept.all x small in
-          elim (in_removed rest_order at s.0 x s.1) [
-            | inl e ↦ subst (λ n. Stands (moved_last k rest_order) n) (same_Some k x (sym stands ∙ ap (slice_get rest_order) (sym e) ∙ s.1)) (at_end (remove rest_order at) k)
-            | inr t ↦ before_end (remove rest_order at) k t.0 x t.1
+          elim (in_removed time_wait_order at s.0 x s.1) [
+            | inl e ↦ subst (λ n. Stands (moved_last k time_wait_order) n) (same_Some k x (sym stands ∙ ap (slice_get time_wait_order) (sym e) ∙ s.1)) (at_end (remove time_wait_order at) k)
+            | inr t ↦ before_end (remove time_wait_order at) k t.0 x t.1
           ];
-      once = once_at_end (remove rest_order at) k (once_removed rest_order at kept.once) (gone rest_order at k kept.once stands);
+      once = once_at_end (remove time_wait_order at) k (once_removed time_wait_order at kept.once) (gone time_wait_order at k kept.once stands);
     }
 
 -- a slot gets a content whose tuple no other slot has
-pub set_kept : (slots : List Slot) (rest_order : List ℕ) (k : ℕ) (s : Slot) → ((other : ℕ) (t : Tuple) → tuple_of s ≡ Some t → HasTuple slots other t → other ≡ k) →
-    AreKept slots rest_order → AreKept (slice_set slots k s) rest_order
-set_kept slots rest_order k s alone kept =
+pub set_kept : (slots : List Slot) (time_wait_order : List ℕ) (k : ℕ) (s : Slot) → ((other : ℕ) (t : Tuple) → tuple_of s ≡ Some t → HasTuple slots other t → other ≡ k) →
+    AreKept slots time_wait_order → AreKept (slice_set slots k s) time_wait_order
+set_kept slots time_wait_order k s alone kept =
     let long = length-set slots k s in
     record {
       apart = λ one other t h g.
@@ -167,22 +167,22 @@ has_within (s ∷ slots) (suc k) t h = let w = has_within slots k t h in omega a
 pub tuple_is_read : (slots : List Slot) (k : ℕ) (s : Slot) (t : Tuple) → HasTuple slots k t → s ≡ get_or slots k s → tuple_of s ≡ Some t
 tuple_is_read slots k s t has read = sym (ap (option_and_then tuple_of) (slice_get_read slots (length slots) k s refl (has_within slots k t has) read)) ∙ has
 
--- a slot that came to rest
-pub rested_is : (slots : List Slot) (rest_order new : List ℕ) (now : Flows) (k since : ℕ) (t u : Tuple) → flows slots rest_order ≡ now → HasTuple slots k u →
-    new ≡ moved_last k rest_order → HasTuple now.slots k t
-    → flows (slice_set slots k (Resting u since)) new ≡ flows (slice_set now.slots k (Resting t since)) (moved_last k now.rest_order)
-rested_is slots rest_order new now k since t u view has moved asked =
+-- a slot that entered TIME-WAIT
+pub rested_is : (slots : List Slot) (time_wait_order new : List ℕ) (now : Flows) (k since : ℕ) (t u : Tuple) → flows slots time_wait_order ≡ now → HasTuple slots k u →
+    new ≡ moved_last k time_wait_order → HasTuple now.slots k t
+    → flows (slice_set slots k (InTimeWait u since)) new ≡ flows (slice_set now.slots k (InTimeWait t since)) (moved_last k now.time_wait_order)
+rested_is slots time_wait_order new now k since t u view has moved asked =
     let had : HasTuple slots k t = subst (λ (f : Flows). HasTuple f.slots k t) (sym view) asked in
     let same : u ≡ t = same_Some u t (sym has ∙ had) in
-    ap (λ (x : List ℕ). flows (slice_set slots k (Resting u since)) x) moved
-    ∙ ap (λ (x : Tuple). flows (slice_set slots k (Resting x since)) (moved_last k rest_order)) same
-    ∙ ap (λ (f : Flows). flows (slice_set f.slots k (Resting t since)) (moved_last k f.rest_order)) view
+    ap (λ (x : List ℕ). flows (slice_set slots k (InTimeWait u since)) x) moved
+    ∙ ap (λ (x : Tuple). flows (slice_set slots k (InTimeWait x since)) (moved_last k time_wait_order)) same
+    ∙ ap (λ (f : Flows). flows (slice_set f.slots k (InTimeWait t since)) (moved_last k f.time_wait_order)) view
 
 -- and what holds then
-pub rested_kept : (slots : List Slot) (rest_order : List ℕ) (k since : ℕ) (u : Tuple) → HasTuple slots k u → AreKept slots rest_order → AreKept
-    (slice_set slots k (Resting u since)) (moved_last k rest_order)
-rested_kept slots rest_order k since u has kept =
+pub rested_kept : (slots : List Slot) (time_wait_order : List ℕ) (k since : ℕ) (u : Tuple) → HasTuple slots k u → AreKept slots time_wait_order → AreKept
+    (slice_set slots k (InTimeWait u since)) (moved_last k time_wait_order)
+rested_kept slots time_wait_order k since u has kept =
     let fits = has_within slots k u has in
-    set_kept slots (moved_last k rest_order) k (Resting u since)
+    set_kept slots (moved_last k time_wait_order) k (InTimeWait u since)
     (λ other t is h. kept.apart other k t h (has ∙ is))
-    (moved_kept slots rest_order k fits kept)
+    (moved_kept slots time_wait_order k fits kept)

@@ -1,7 +1,7 @@
 pub mod Finding
 pub mod Freeing
 pub mod Keeping
-pub mod Resting
+pub mod InTimeWait
 pub mod Searching
 pub mod Tables
 pub mod Tuples

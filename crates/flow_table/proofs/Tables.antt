@@ -11,20 +11,20 @@ use Rattle.std.proofs.lemmas.Option.{slice_get_within}
 use Rattle.ordered_rows.proofs.Counts.{fewer_than}
 use Rattle.ordered_rows.proofs.Places.{set_at, set_twice}
 use Rattle.flow_table.specs.declared.Entry.{Entry}
-use Rattle.flow_table.specs.declared.Rest.{Rest}
+use Rattle.flow_table.specs.declared.TimeWait.{TimeWait}
 use Rattle.flow_table.specs.declared.Slot.{Slot}
-use Rattle.flow_table.specs.declared.Slot.TheVariants.{Free, InUse, Resting}
+use Rattle.flow_table.specs.declared.Slot.TheVariants.{Free, InUse, InTimeWait}
 use Rattle.spec_flows.specs.declared.Tuple.{Tuple}
-use Rattle.flow_table.specs.Slots.{AreKept, HasTuple, NoneHas, RestsSince, moved_last}
-use Rattle.flow_table.specs.Rows.{AreEntries, AreFree, AreRests, BelongsAt, IsFirstAfter, IsSlotIn, IsTable, IsVacated, entry_of, rest_of}
+use Rattle.flow_table.specs.Slots.{AreKept, HasTuple, NoneHas, InTimeWaitSince, moved_last}
+use Rattle.flow_table.specs.Rows.{AreEntries, AreFree, AreTimeWaits, BelongsAt, IsFirstAfter, IsSlotIn, IsTable, IsVacated, entry_of, time_wait_of}
 use Rattle.flow_table.proofs.Freeing.{all_are_free, freed, last_taken, still_free}
 use Rattle.flow_table.proofs.Keeping.{has_within, moved_kept, set_kept, start_kept}
-use Rattle.flow_table.proofs.Resting.{no_rests, rests_inserted, rests_quiet}
+use Rattle.flow_table.proofs.InTimeWait.{no_rests, rests_inserted, rests_quiet}
 use Rattle.flow_table.proofs.Tuples.{entries_inserted, entries_same, has_set, no_entries, no_tuple}
 
-pub start_table : (n : ℕ) (slots : List Slot) (rest_order free : List ℕ) (entries : List Entry) (rests : List Rest) (ce cr cf : ℕ) → slots ≡ replicate n Free →
-    rest_order ≡ range_with_len 0 n → free ≡ range_with_len 0 n → entries ≡ [] → rests ≡ [] → n ≤ ce → n ≤ cr → n ≤ cf → IsTable slots rest_order entries rests free ce cr cf
-start_table n slots rest_order free entries rests ce cr cf is by_number all_free none no_one e r f =
+pub start_table : (n : ℕ) (slots : List Slot) (time_wait_order free : List ℕ) (entries : List Entry) (time_waits : List TimeWait) (ce cr cf : ℕ) → slots ≡ replicate n Free →
+    time_wait_order ≡ range_with_len 0 n → free ≡ range_with_len 0 n → entries ≡ [] → time_waits ≡ [] → n ≤ ce → n ≤ cr → n ≤ cf → IsTable slots time_wait_order entries time_waits free ce cr cf
+start_table n slots time_wait_order free entries time_waits ce cr cf is by_number all_free none no_one e r f =
     let size = length-replicate n Free in
     let long = length-range_with_len 0 n in
     rw (is, by_number, all_free, none, no_one) (record {
@@ -43,10 +43,10 @@ pub slot_has : (slots : List Slot) (entries : List Entry) (t : Tuple) (found : O
 slot_has slots entries t None are is = tt
 slot_has slots entries t (Some slot) are is = are.has is.0 (entry_of t slot) is.1
 
-pub slot_alone : (slots : List Slot) (rest_order : List ℕ) (entries : List Entry) (t : Tuple) (found : Option ℕ) → AreKept slots rest_order → AreEntries slots entries →
+pub slot_alone : (slots : List Slot) (time_wait_order : List ℕ) (entries : List Entry) (t : Tuple) (found : Option ℕ) → AreKept slots time_wait_order → AreEntries slots entries →
     IsSlotIn entries t found → IfSome found (λ slot. (other : ℕ) → HasTuple slots other t → other ≡ slot)
-slot_alone slots rest_order entries t None kept are is = tt
-slot_alone slots rest_order entries t (Some slot) kept are is = λ other h. kept.apart other slot t h (are.has is.0 (entry_of t slot) is.1)
+slot_alone slots time_wait_order entries t None kept are is = tt
+slot_alone slots time_wait_order entries t (Some slot) kept are is = λ other h. kept.apart other slot t h (are.has is.0 (entry_of t slot) is.1)
 
 pub none_has : (slots : List Slot) (entries : List Entry) (t : Tuple) (found : Option ℕ) → AreEntries slots entries → IsSlotIn entries t found → IfNone found (NoneHas slots t)
 none_has slots entries t None are is = λ k h. let w = are.all k t h in is w.0 k w.1
@@ -67,18 +67,18 @@ few_steps entries free slots before after count few k enough =
     positive (suc k) = let p = pow-succ' 2 k in let h = positive k in omega (arith, p, h)
 
 -- a slot is freed
-pub freed_table : (slots : List Slot) (rest_order free free_new : List ℕ) (entries entries_new : List Entry) (rests rests_new : List Rest) (k : ℕ) (t : Tuple)
-    (ce cr cf ce_new cr_new cf_new : ℕ) → IsTable slots rest_order entries rests free ce cr cf → HasTuple slots k t
-    → AreEntries (slice_set slots k Free) entries_new → length entries_new + 1 ≡ length entries → ((rest_order : List ℕ) → AreRests slots rest_order rests → AreRests
-    (slice_set slots k Free) rest_order rests_new) → free_new ≡ free ++ k ∷ [] → ce_new ≡ ce → cr_new ≡ cr → cf ≤ cf_new
-    → IsTable (slice_set slots k Free) rest_order entries_new rests_new free_new ce_new cr_new cf_new
-freed_table slots rest_order free free_new entries entries_new rests rests_new k t ce cr cf ce_new cr_new cf_new table had by_tuple fewer by_rest pushed e r f =
+pub freed_table : (slots : List Slot) (time_wait_order free free_new : List ℕ) (entries entries_new : List Entry) (time_waits rests_new : List TimeWait) (k : ℕ) (t : Tuple)
+    (ce cr cf ce_new cr_new cf_new : ℕ) → IsTable slots time_wait_order entries time_waits free ce cr cf → HasTuple slots k t
+    → AreEntries (slice_set slots k Free) entries_new → length entries_new + 1 ≡ length entries → ((time_wait_order : List ℕ) → AreTimeWaits slots time_wait_order time_waits → AreTimeWaits
+    (slice_set slots k Free) time_wait_order rests_new) → free_new ≡ free ++ k ∷ [] → ce_new ≡ ce → cr_new ≡ cr → cf ≤ cf_new
+    → IsTable (slice_set slots k Free) time_wait_order entries_new rests_new free_new ce_new cr_new cf_new
+freed_table slots time_wait_order free free_new entries entries_new time_waits rests_new k t ce cr cf ce_new cr_new cf_new table had by_tuple fewer by_rest pushed e r f =
     let size = length-set slots k Free in
     let more = ap (λ (x : List ℕ). length x) pushed ∙ length-append free (k ∷ []) in
     record {
-      kept = set_kept slots rest_order k Free (λ other u is h. absurd (no_tuple u is)) table.kept;
+      kept = set_kept slots time_wait_order k Free (λ other u is h. absurd (no_tuple u is)) table.kept;
       by_tuple = by_tuple;
-      by_rest = by_rest rest_order table.by_rest;
+      by_rest = by_rest time_wait_order table.by_rest;
       are_free = subst (λ (x : List ℕ). AreFree (slice_set slots k Free) x) (sym pushed) (freed slots free k t table.are_free had);
       count = omega (arith, table.count, fewer, more, size);
       entries_fit = omega (arith, size, e, table.entries_fit);
@@ -87,10 +87,10 @@ freed_table slots rest_order free free_new entries entries_new rests rests_new k
     }
 
 -- nothing was taken
-pub same_table : (slots : List Slot) (rest_order free free_new : List ℕ) (entries entries_new : List Entry) (rests rests_new : List Rest) (ce cr cf ce_new cr_new cf_new : ℕ) →
-    IsTable slots rest_order entries rests free ce cr cf → entries_new ≡ entries → rests_new ≡ rests → free_new ≡ free → ce_new ≡ ce → cr_new ≡ cr → cf_new ≡ cf →
-    IsTable slots rest_order entries_new rests_new free_new ce_new cr_new cf_new
-same_table slots rest_order free free_new entries entries_new rests rests_new ce cr cf ce_new cr_new cf_new table e r f a b c = rw (e, r, f, a, b, c) table
+pub same_table : (slots : List Slot) (time_wait_order free free_new : List ℕ) (entries entries_new : List Entry) (time_waits rests_new : List TimeWait) (ce cr cf ce_new cr_new cf_new : ℕ) →
+    IsTable slots time_wait_order entries time_waits free ce cr cf → entries_new ≡ entries → rests_new ≡ time_waits → free_new ≡ free → ce_new ≡ ce → cr_new ≡ cr → cf_new ≡ cf →
+    IsTable slots time_wait_order entries_new rests_new free_new ce_new cr_new cf_new
+same_table slots time_wait_order free free_new entries entries_new time_waits rests_new ce cr cf ce_new cr_new cf_new table e r f a b c = rw (e, r, f, a, b, c) table
 
 -- none has the tuple where one slot is free
 pub none_has_then : (slots : List Slot) (k : ℕ) (t : Tuple) → NoneHas slots t → NoneHas (slice_set slots k Free) t
@@ -100,12 +100,12 @@ busy : (t : Tuple) → Free ≡ InUse t → ⊥
 busy t e = cc
 
 -- a slot is taken
-pub taken_table : (slots : List Slot) (rest_order free free_new : List ℕ) (entries entries_left entries_new : List Entry) (rests rests_new : List Rest) (k place : ℕ) (t : Tuple)
-    (ce cr cf ce_new cr_new cf_new : ℕ) → IsTable slots rest_order entries rests free ce cr cf → NoneHas slots t
-    → IsVacated slots k rests entries_left rests_new free_new → length entries_left + length free_new + 1 ≡ length entries + length free → BelongsAt entries_left place t →
+pub taken_table : (slots : List Slot) (time_wait_order free free_new : List ℕ) (entries entries_left entries_new : List Entry) (time_waits rests_new : List TimeWait) (k place : ℕ) (t : Tuple)
+    (ce cr cf ce_new cr_new cf_new : ℕ) → IsTable slots time_wait_order entries time_waits free ce cr cf → NoneHas slots t
+    → IsVacated slots k time_waits entries_left rests_new free_new → length entries_left + length free_new + 1 ≡ length entries + length free → BelongsAt entries_left place t →
     entries_new ≡ insert entries_left place (entry_of t k) → ce ≤ ce_new → cr_new ≡ cr → cf_new ≡ cf
-    → IsTable (slice_set slots k (InUse t)) rest_order entries_new rests_new free_new ce_new cr_new cf_new
-taken_table slots rest_order free free_new entries entries_left entries_new rests rests_new k place t ce cr cf ce_new cr_new cf_new table none out count belongs is e r f =
+    → IsTable (slice_set slots k (InUse t)) time_wait_order entries_new rests_new free_new ce_new cr_new cf_new
+taken_table slots time_wait_order free free_new entries entries_left entries_new time_waits rests_new k place t ce cr cf ce_new cr_new cf_new table none out count belongs is e r f =
     let empty = slice_set slots k Free in
     let size = length-set slots k (InUse t) in
     let sized = length-set slots k Free in
@@ -113,12 +113,12 @@ taken_table slots rest_order free free_new entries entries_left entries_new rest
     let twice = set_twice slots k Free (InUse t) in
     let more = ap (λ (x : List Entry). length x) is ∙ length-insert entries_left place (entry_of t k) belongs.within in
     record {
-      kept = set_kept slots rest_order k (InUse t) (λ other u same h. absurd (none other (h ∙ sym same))) table.kept;
+      kept = set_kept slots time_wait_order k (InUse t) (λ other u same h. absurd (none other (h ∙ sym same))) table.kept;
       by_tuple = subst (λ (x : List Entry). AreEntries (slice_set slots k (InUse t)) x) (sym is)
           (subst (λ (s : List Slot). AreEntries s (insert entries_left place (entry_of t k))) twice (entries_inserted empty entries_left place k t fits
           (set_at slots k Free out.within) belongs out.by_tuple));
-      by_rest = subst (λ (s : List Slot). AreRests s rest_order rests_new) twice (rests_quiet empty rest_order rests_new k (InUse t)
-          (λ u since h. let e = sym (set_at slots k Free out.within) ∙ h in cc) (λ u since h. cc) (out.by_rest rest_order table.by_rest));
+      by_rest = subst (λ (s : List Slot). AreTimeWaits s time_wait_order rests_new) twice (rests_quiet empty time_wait_order rests_new k (InUse t)
+          (λ u since h. let e = sym (set_at slots k Free out.within) ∙ h in cc) (λ u since h. cc) (out.by_rest time_wait_order table.by_rest));
       are_free = subst (λ (s : List Slot). AreFree s free_new) twice (last_taken empty free_new k (InUse t) (busy t) out.freed);
       count = omega (arith, table.count, count, more, size);
       entries_fit = omega (arith, size, e, table.entries_fit);
@@ -126,35 +126,35 @@ taken_table slots rest_order free free_new entries entries_left entries_new rest
       free_fit = omega (arith, size, f, table.free_fit);
     }
 
--- there is room for one more rest
-pub rests_below : (slots : List Slot) (rest_order : List ℕ) (rests : List Rest) (k : ℕ) → k < length slots → AreRests (slice_set slots k Free) rest_order rests → length rests < length slots
-rests_below slots rest_order rests k fits are =
+-- there is room for one more TIME-WAIT
+pub rests_below : (slots : List Slot) (time_wait_order : List ℕ) (time_waits : List TimeWait) (k : ℕ) → k < length slots → AreTimeWaits (slice_set slots k Free) time_wait_order time_waits → length time_waits < length slots
+rests_below slots time_wait_order time_waits k fits are =
     let size = length-set slots k Free in
-    let apart : (i : ℕ) (r : Rest) → slice_get rests i ≡ Some r → r.slot ≢ k =
-    λ i r h same. let had = are.has i r h in let e = sym (set_at slots k Free fits) ∙ subst (λ m. RestsSince (slice_set slots k Free) m had.0 r.since) same had.1 in cc in
-    let within : (i : ℕ) (r : Rest) → slice_get rests i ≡ Some r → r.slot < length slots =
-    λ i r h. let had = are.has i r h in let w = slice_get_within (slice_set slots k Free) r.slot (Resting had.0 r.since) had.1 in omega (arith, w, size) in
-    let other : (i j : ℕ) (a b : Rest) → i < j → slice_get rests i ≡ Some a → slice_get rests j ≡ Some b → a.slot ≢ b.slot =
+    let apart : (i : ℕ) (r : TimeWait) → slice_get time_waits i ≡ Some r → r.slot ≢ k =
+    λ i r h same. let had = are.has i r h in let e = sym (set_at slots k Free fits) ∙ subst (λ m. InTimeWaitSince (slice_set slots k Free) m had.0 r.since) same had.1 in cc in
+    let within : (i : ℕ) (r : TimeWait) → slice_get time_waits i ≡ Some r → r.slot < length slots =
+    λ i r h. let had = are.has i r h in let w = slice_get_within (slice_set slots k Free) r.slot (InTimeWait had.0 r.since) had.1 in omega (arith, w, size) in
+    let other : (i j : ℕ) (a b : TimeWait) → i < j → slice_get time_waits i ≡ Some a → slice_get time_waits j ≡ Some b → a.slot ≢ b.slot =
     λ i j a b less h g. (are.order i j a b less h g).other in
-    fewer_than (λ (r : Rest). r.slot) rests (length slots) k fits within apart other
+    fewer_than (λ (r : TimeWait). r.slot) time_waits (length slots) k fits within apart other
 
--- a slot comes to rest
-pub rested_table : (slots : List Slot) (rest_order rest_order_new free : List ℕ) (entries : List Entry) (rests rests_left rests_new : List Rest) (k since place : ℕ) (t : Tuple)
-    (ce cr cf cr_new : ℕ) → IsTable slots rest_order entries rests free ce cr cf → HasTuple slots k t
-    → ((rest_order : List ℕ) → AreRests slots rest_order rests → AreRests (slice_set slots k Free) rest_order rests_left) → IsFirstAfter rests_left since place →
-    rests_new ≡ insert rests_left place (rest_of k since) → rest_order_new ≡ moved_last k rest_order → cr ≤ cr_new
-    → IsTable (slice_set slots k (Resting t since)) rest_order_new entries rests_new free ce cr_new cf
-rested_table slots rest_order rest_order_new free entries rests rests_left rests_new k since place t ce cr cf cr_new table had ended at is moved r =
+-- a slot enters TIME-WAIT
+pub rested_table : (slots : List Slot) (time_wait_order rest_order_new free : List ℕ) (entries : List Entry) (time_waits rests_left rests_new : List TimeWait) (k since place : ℕ) (t : Tuple)
+    (ce cr cf cr_new : ℕ) → IsTable slots time_wait_order entries time_waits free ce cr cf → HasTuple slots k t
+    → ((time_wait_order : List ℕ) → AreTimeWaits slots time_wait_order time_waits → AreTimeWaits (slice_set slots k Free) time_wait_order rests_left) → IsFirstAfter rests_left since place →
+    rests_new ≡ insert rests_left place (time_wait_of k since) → rest_order_new ≡ moved_last k time_wait_order → cr ≤ cr_new
+    → IsTable (slice_set slots k (InTimeWait t since)) rest_order_new entries rests_new free ce cr_new cf
+rested_table slots time_wait_order rest_order_new free entries time_waits rests_left rests_new k since place t ce cr cf cr_new table had ended at is moved r =
     let fits = has_within slots k t had in
-    let s = Resting t since in
+    let s = InTimeWait t since in
     let size = length-set slots k s in
     record {
-      kept = subst (AreKept (slice_set slots k s)) (sym moved) (set_kept slots (moved_last k rest_order) k s (λ other u same h. table.kept.apart other k u h (had ∙ same))
-          (moved_kept slots rest_order k fits table.kept));
+      kept = subst (AreKept (slice_set slots k s)) (sym moved) (set_kept slots (moved_last k time_wait_order) k s (λ other u same h. table.kept.apart other k u h (had ∙ same))
+          (moved_kept slots time_wait_order k fits table.kept));
       by_tuple = entries_same slots entries k s t had refl fits table.by_tuple;
-      by_rest = subst (λ (x : List Rest). AreRests (slice_set slots k s) rest_order_new x) (sym is)
-          (subst (λ (x : List ℕ). AreRests (slice_set slots k s) x (insert rests_left place (rest_of k since))) (sym moved)
-          (rests_inserted slots rest_order rests_left place k since t fits table.kept at (ended rest_order table.by_rest)));
+      by_rest = subst (λ (x : List TimeWait). AreTimeWaits (slice_set slots k s) rest_order_new x) (sym is)
+          (subst (λ (x : List ℕ). AreTimeWaits (slice_set slots k s) x (insert rests_left place (time_wait_of k since))) (sym moved)
+          (rests_inserted slots time_wait_order rests_left place k since t fits table.kept at (ended time_wait_order table.by_rest)));
       are_free = still_free slots free k s t had (λ e. cc) table.are_free;
       count = omega (arith, table.count, size);
       entries_fit = omega (arith, size, table.entries_fit);

@@ -1,15 +1,15 @@
--- The rows by which a table of flows finds a slot without a walk: one by tuple, and one with the longest rest first.
+-- The rows by which a table of flows finds a slot without a walk: one by tuple, and one with the longest TIME-WAIT first.
 use Rattle.std.specs.Prelude.{◌≡◌, ◌≢◌, ℕ, ◌+◌, ◌<◌, ◌≤◌, List, length, slice_get, slice_set, [], ◌∷◌, ◌++◌, Option, Some, None, Result, Ok, Err}
 use Rattle.std.specs.List.Sorted.{IsNonDecreasingBy}
 use Rattle.std.specs.declared.cmp.Ordering.{Ordering}
 use Rattle.std.specs.declared.cmp.Ordering.TheVariants.{Less, Greater}
 use Rattle.std.specs.Ordering.{nat_cmp, ordering_then}
 use Rattle.flow_table.specs.declared.Entry.{Entry}
-use Rattle.flow_table.specs.declared.Rest.{Rest}
+use Rattle.flow_table.specs.declared.TimeWait.{TimeWait}
 use Rattle.flow_table.specs.declared.Slot.{Slot}
 use Rattle.spec_flows.specs.declared.Tuple.{Tuple}
 use Rattle.flow_table.specs.declared.Slot.TheVariants.{Free}
-use Rattle.flow_table.specs.Slots.{AreKept, HasTuple, IsFree, MayBeTaken, RestsSince, Stands, StandsBefore, Once, flows}
+use Rattle.flow_table.specs.Slots.{AreKept, HasTuple, IsFree, MayBeTaken, InTimeWaitSince, Stands, StandsBefore, Once, flows}
 
 -- the order of tuples: by guest address, guest port, other address, other port
 abbrev pub tuple_cmp : Tuple → Tuple → Ordering
@@ -63,51 +63,51 @@ pub record AreFree (slots : List Slot) (free : List ℕ) : Type 0 where
   pub all : (k : ℕ) → IsFree slots k → Stands free k
   pub once : Once free
 
--- a slot at rest since a moment
-abbrev pub rest_of : ℕ → ℕ → Rest
-rest_of slot since = record { slot = slot; since = since }
+-- a slot in TIME-WAIT since a moment
+abbrev pub time_wait_of : ℕ → ℕ → TimeWait
+time_wait_of slot since = record { slot = slot; since = since }
 
--- the one rests longer, or as long and came to rest first
-pub record IsLonger (rest_order : List ℕ) (a b : Rest) : Type 0 where
+-- the one is in TIME-WAIT for longer, or as long and entered TIME-WAIT first
+pub record IsLonger (time_wait_order : List ℕ) (a b : TimeWait) : Type 0 where
   pub since : a.since ≤ b.since
-  pub first : a.since ≡ b.since → StandsBefore rest_order a.slot b.slot
+  pub first : a.since ≡ b.since → StandsBefore time_wait_order a.slot b.slot
   pub other : a.slot ≢ b.slot
 
--- each slot at rest stands once in the row, before those that rest less long
-pub record AreRests (slots : List Slot) (rest_order : List ℕ) (rests : List Rest) : Type 0 where
-  pub has : (i : ℕ) (r : Rest) → slice_get rests i ≡ Some r → (t : Tuple) × RestsSince slots r.slot t r.since
-  pub all : (k : ℕ) (t : Tuple) (since : ℕ) → RestsSince slots k t since → (i : ℕ) × (slice_get rests i ≡ Some (rest_of k since))
-  pub order : (i j : ℕ) (a b : Rest) → i < j → slice_get rests i ≡ Some a → slice_get rests j ≡ Some b → IsLonger rest_order a b
+-- each slot in TIME-WAIT stands once in the row, before those in TIME-WAIT for less long
+pub record AreTimeWaits (slots : List Slot) (time_wait_order : List ℕ) (time_waits : List TimeWait) : Type 0 where
+  pub has : (i : ℕ) (r : TimeWait) → slice_get time_waits i ≡ Some r → (t : Tuple) × InTimeWaitSince slots r.slot t r.since
+  pub all : (k : ℕ) (t : Tuple) (since : ℕ) → InTimeWaitSince slots k t since → (i : ℕ) × (slice_get time_waits i ≡ Some (time_wait_of k since))
+  pub order : (i j : ℕ) (a b : TimeWait) → i < j → slice_get time_waits i ≡ Some a → slice_get time_waits j ≡ Some b → IsLonger time_wait_order a b
 
--- none rests since an earlier moment than one before it
-abbrev pub DoNotFall : List Rest → Type 0
-DoNotFall rests = IsNonDecreasingBy (λ (r : Rest). r.since) rests
+-- none is in TIME-WAIT since an earlier moment than one before it
+abbrev pub DoNotFall : List TimeWait → Type 0
+DoNotFall time_waits = IsNonDecreasingBy (λ (r : TimeWait). r.since) time_waits
 
--- the first place of those that rest since this moment or a later one
-pub record IsFirstSince (rests : List Rest) (since place : ℕ) : Type 0 where
-  pub within : place ≤ length rests
-  pub before : (i : ℕ) (r : Rest) → i < place → slice_get rests i ≡ Some r → r.since < since
-  pub after : (i : ℕ) (r : Rest) → place ≤ i → slice_get rests i ≡ Some r → since ≤ r.since
+-- the first place of those that are in TIME-WAIT since this moment or a later one
+pub record IsFirstSince (time_waits : List TimeWait) (since place : ℕ) : Type 0 where
+  pub within : place ≤ length time_waits
+  pub before : (i : ℕ) (r : TimeWait) → i < place → slice_get time_waits i ≡ Some r → r.since < since
+  pub after : (i : ℕ) (r : TimeWait) → place ≤ i → slice_get time_waits i ≡ Some r → since ≤ r.since
 
--- the first place of those that rest since a later moment
-pub record IsFirstAfter (rests : List Rest) (since place : ℕ) : Type 0 where
-  pub within : place ≤ length rests
-  pub before : (i : ℕ) (r : Rest) → i < place → slice_get rests i ≡ Some r → r.since ≤ since
-  pub after : (i : ℕ) (r : Rest) → place ≤ i → slice_get rests i ≡ Some r → since < r.since
+-- the first place of those that are in TIME-WAIT since a later moment
+pub record IsFirstAfter (time_waits : List TimeWait) (since place : ℕ) : Type 0 where
+  pub within : place ≤ length time_waits
+  pub before : (i : ℕ) (r : TimeWait) → i < place → slice_get time_waits i ≡ Some r → r.since ≤ since
+  pub after : (i : ℕ) (r : TimeWait) → place ≤ i → slice_get time_waits i ≡ Some r → since < r.since
 
 -- a slot that could be taken stands in neither row, and isn't among the free ones any more, whose order is free
-pub record IsVacated (slots : List Slot) (slot : ℕ) (rests : List Rest) (entries_left : List Entry) (rests_left : List Rest) (free_left : List ℕ) : Type 0 where
+pub record IsVacated (slots : List Slot) (slot : ℕ) (time_waits : List TimeWait) (entries_left : List Entry) (rests_left : List TimeWait) (free_left : List ℕ) : Type 0 where
   pub within : slot < length slots
-  pub may : (rest_order : List ℕ) → AreKept slots rest_order → AreRests slots rest_order rests → MayBeTaken (flows slots rest_order) slot
+  pub may : (time_wait_order : List ℕ) → AreKept slots time_wait_order → AreTimeWaits slots time_wait_order time_waits → MayBeTaken (flows slots time_wait_order) slot
   pub by_tuple : AreEntries (slice_set slots slot Free) entries_left
-  pub by_rest : (rest_order : List ℕ) → AreRests slots rest_order rests → AreRests (slice_set slots slot Free) rest_order rests_left
+  pub by_rest : (time_wait_order : List ℕ) → AreTimeWaits slots time_wait_order time_waits → AreTimeWaits (slice_set slots slot Free) time_wait_order rests_left
   pub freed : AreFree (slice_set slots slot Free) (free_left ++ slot ∷ [])
 
 -- what always holds of a table and its rows, which have room for all slots
-pub record IsTable (slots : List Slot) (rest_order : List ℕ) (entries : List Entry) (rests : List Rest) (free : List ℕ) (entries_room rests_room free_room : ℕ) : Type 0 where
-  pub kept : AreKept slots rest_order
+pub record IsTable (slots : List Slot) (time_wait_order : List ℕ) (entries : List Entry) (time_waits : List TimeWait) (free : List ℕ) (entries_room rests_room free_room : ℕ) : Type 0 where
+  pub kept : AreKept slots time_wait_order
   pub by_tuple : AreEntries slots entries
-  pub by_rest : AreRests slots rest_order rests
+  pub by_rest : AreTimeWaits slots time_wait_order time_waits
   pub are_free : AreFree slots free
   pub count : length entries + length free ≡ length slots
   pub entries_fit : length slots ≤ entries_room

@@ -1,32 +1,32 @@
-//! A table of the flows of a network: which slot has which two ends, and which slot is taken next. A slot *rests* where its flow is in TIME-WAIT.
+//! A table of the flows of a network: which slot has which two ends, and which slot is taken next. A slot *is in TIME-WAIT* where its flow is in TIME-WAIT.
 //!
 //! Proved:
 //! - Slots of flows as a list, with the order in which they came to TIME-WAIT, in which each number stands once (`kept`): `FlowTable::open` has them free, `find` is
 //!   None exactly where no slot has the tuple, and no other slot has it. `find_counted` answers the same (`found`, `alone`, `none`), and where 2^k is at least the
 //!   number of slots with at most k + 1 comparisons (`few`): 13 for 4,096. A comparison is `Steps::order`, which counts as one step (`step`; `open`, `tick`).
-//! - `take` gives a free slot, else the one that has been in TIME-WAIT longest, None exactly where every slot is in use. `resting`, `free`.
+//! - `take` gives a free slot, else the one that has been in TIME-WAIT longest, None exactly where every slot is in use. `in_time_wait`, `free`.
 #![tactic(auto)]
 
 ghost use Rattle.std.specs.Prelude.{◌≡◌, ℕ, ◌+◌, ◌^◌, ◌<◌, ◌≤◌, List, [], ◌∷◌, ◌++◌, length, slice_set, vec_len, IfOk, IfSome, IfNone, Some};
 ghost use Rattle.spec_flows.specs.declared.Tuple.{Tuple};
-ghost use Rattle.flow_table.specs.declared.Slot.TheVariants.{Free, InUse, Resting};
-ghost use Rattle.flow_table.specs.Slots.{AreKept, HasTuple, HasSome, NoneHas, NoneIsFree, NoneRests, MayBeTaken, all_free, flows, moved_last, tuple_of, with_slot};
-ghost use Rattle.flow_table.specs.Rows.{AreEntries, AreFree, AreRests, IsVacated, tuple_cmp};
+ghost use Rattle.flow_table.specs.declared.Slot.TheVariants.{Free, InUse, InTimeWait};
+ghost use Rattle.flow_table.specs.Slots.{AreKept, HasTuple, HasSome, NoneHas, NoneIsFree, NoneInTimeWait, MayBeTaken, all_free, flows, moved_last, tuple_of, with_slot};
+ghost use Rattle.flow_table.specs.Rows.{AreEntries, AreFree, AreTimeWaits, IsVacated, tuple_cmp};
 ghost use Rattle.std.specs.List.{range_with_len};
 ghost use Rattle.std.specs.Ordering.{nat_cmp, ordering_then};
 ghost use Rattle.std.specs.Vec.{vec_capacity};
 
 mod entries;
-mod rests;
+mod time_waits;
 
 use entries::{insert_entry, place_of, remove_entry, search, slot_found};
 use net_octets::{Endpoint, NoMemory};
-use rests::{end_rest, insert_rest, move_last};
 use spec_flows::Tuple;
 use std::alloc::{AllocError, Global};
 use std::cmp::Ordering;
 use std::marker::Model;
 use std::sync::ledger::{Blank, Book, Ledger, Share};
+use time_waits::{end_time_wait, insert_time_wait, move_last};
 
 /// How many comparisons of tuples were made. It takes no octets, and `tick` alone changes it.
 #[derive(Drop)]
@@ -98,33 +98,33 @@ struct Entry {
     slot: usize,
 }
 
-/// A slot at rest, and the moment since when it is, as it stands in the row of rests.
+/// A slot in TIME-WAIT, and the moment since when it is, as it stands in the row of TIME-WAITs.
 #[derive(Clone, Copy)]
-struct Rest {
+struct TimeWait {
     slot: usize,
     since: u64,
 }
 
 /// A slot has no flow, one that is in use, or one in TIME-WAIT whose host socket is closed
-/// (RFC 9293, 3.6.1), with the moment since when it rests, in milliseconds.
+/// (RFC 9293, 3.6.1), with the moment since when it is in TIME-WAIT, in milliseconds.
 #[derive(Clone, Copy, Debug, PartialEq, Eq)]
 pub enum Slot {
     Free,
     InUse(Tuple),
-    Resting(Tuple, u64),
+    InTimeWait(Tuple, u64),
 }
 
 /// A fixed number of slots for flows. A contract sees a list of slots, and their numbers in the
-/// order in which each last came to rest, the latest last. No two slots have the same tuple.
+/// order in which each last entered TIME-WAIT, the latest last. No two slots have the same tuple.
 ///
-/// Beside these the tuples stand in their order with their slots, the slots at rest with the longest
+/// Beside these the tuples stand in their order with their slots, the slots in TIME-WAIT with the longest
 /// rest first, and the free ones on a stack.
 #[derive(Drop)]
 pub struct FlowTable {
     slots: Vec<Slot>,
-    rest_order: Vec<usize>,
+    time_wait_order: Vec<usize>,
     entries: Vec<Entry>,
-    rests: Vec<Rest>,
+    time_waits: Vec<TimeWait>,
     free: Vec<usize>,
 }
 
@@ -135,10 +135,10 @@ impl Model for FlowTable {
 
     ghost Value = { Flows };
 
-    ghost view = { λ table. flows table.slots.items table.rest_order.items };
+    ghost view = { λ table. flows table.slots.items table.time_wait_order.items };
 
-    ghost invariant = { λ table. IsTable table.slots.items table.rest_order.items table.entries.items table.rests.items table.free.items
-        (vec_capacity table.entries) (vec_capacity table.rests) (vec_capacity table.free) };
+    ghost invariant = { λ table. IsTable table.slots.items table.time_wait_order.items table.entries.items table.time_waits.items table.free.items
+        (vec_capacity table.entries) (vec_capacity table.time_waits) (vec_capacity table.free) };
 }
 
 impl FlowTable {
@@ -150,7 +150,7 @@ impl FlowTable {
         requires { 1 ≤ slots }
         ensures { IfOk result (λ table. table ≡ all_free slots) }
     {
-        let Ok(rest_order) = slot_numbers(alloc, slots) else {
+        let Ok(time_wait_order) = slot_numbers(alloc, slots) else {
             return Err(NoMemory);
         };
         let Ok(free) = slot_numbers(alloc, slots) else {
@@ -159,7 +159,7 @@ impl FlowTable {
         let Ok(entries) = Vec::with_capacity(alloc, slots) else {
             return Err(NoMemory);
         };
-        let Ok(rests) = Vec::with_capacity(alloc, slots) else {
+        let Ok(time_waits) = Vec::with_capacity(alloc, slots) else {
             return Err(NoMemory);
         };
         let Ok(slots) = vec![in alloc; Slot::Free; slots] else {
@@ -167,21 +167,21 @@ impl FlowTable {
         };
         Ok(FlowTable {
             slots,
-            rest_order,
+            time_wait_order,
             entries,
-            rests,
+            time_waits,
             free,
         })
     }
 
-    /// The slot that has the tuple, in use or at rest. None exactly where no slot has it.
+    /// The slot that has the tuple, in use or in TIME-WAIT. None exactly where no slot has it.
     pub fn find(&self, t: &Tuple) -> Option<usize>
         ensures found { IfSome result (λ slot. HasTuple self.now.slots slot t.now) }
         ensures alone { IfSome result (λ slot. (other : ℕ) → HasTuple self.now.slots other t.now
             → other ≡ slot) }
         ensures none { IfNone result (NoneHas self.now.slots t.now) }
-        // No two slots have one tuple, and each slot's number stands once in the order of rests.
-        ensures kept { AreKept self.now.slots self.now.rest_order }
+        // No two slots have one tuple, and each slot's number stands once in the order of TIME-WAITs.
+        ensures kept { AreKept self.now.slots self.now.time_wait_order }
     {
         let found = place_of(&self.entries, t);
         slot_found(&self.entries, found)
@@ -201,22 +201,22 @@ impl FlowTable {
         slot_found(&self.entries, found)
     }
 
-    /// Gives a slot to the tuple, which no slot has: a free one, else the one that has rested
-    /// longest, of those that rest since the same moment the one that came to rest first. None
-    /// exactly where every slot is in use and none is at rest.
+    /// Gives a slot to the tuple, which no slot has: a free one, else the one that has been in TIME-WAIT
+    /// longest, of those that are in TIME-WAIT since the same moment the one that entered TIME-WAIT first. None
+    /// exactly where every slot is in use and none is in TIME-WAIT.
     /// Which of several free slots is taken is left open.
     pub fn take(&mut self, t: &Tuple) -> Option<usize>
         requires { NoneHas self.old.slots t.now }
         ensures which { IfSome result (λ slot. MayBeTaken self.old slot) }
         ensures taken { IfSome result (λ slot. self.new ≡ with_slot self.old slot (InUse t.now)) }
         ensures free { IfNone result (NoneIsFree self.old.slots) }
-        ensures resting { IfNone result (NoneRests self.old.slots) }
+        ensures in_time_wait { IfNone result (NoneInTimeWait self.old.slots) }
         ensures unchanged { IfNone result (self.new ≡ self.old) }
     {
         let slot = vacate(
             &self.slots,
             &mut self.entries,
-            &mut self.rests,
+            &mut self.time_waits,
             &mut self.free,
         )?;
         insert_entry(&mut self.entries, Entry { tuple: *t, slot });
@@ -225,19 +225,19 @@ impl FlowTable {
     }
 
     /// The flow in a slot that has one is in TIME-WAIT since this moment, in milliseconds, whether
-    /// it rested before or not.
-    /// The order of rests is a list of slot numbers of fixed length, so no counter can run out.
-    pub fn resting(&mut self, slot: usize, since: u64)
+    /// it was in TIME-WAIT before or not.
+    /// The order of TIME-WAITs is a list of slot numbers of fixed length, so no counter can run out.
+    pub fn in_time_wait(&mut self, slot: usize, since: u64)
         requires { HasSome self.old.slots slot }
         ensures { (t : Tuple) → HasTuple self.old.slots slot t
-            → self.new ≡ flows (slice_set self.old.slots slot (Resting t since))
-            (moved_last slot self.old.rest_order) }
+            → self.new ≡ flows (slice_set self.old.slots slot (InTimeWait t since))
+            (moved_last slot self.old.time_wait_order) }
     {
         if let Some(tuple) = self.slots[slot].tuple() {
-            end_rest(&self.slots, &mut self.rests, slot);
-            insert_rest(&mut self.rests, Rest { slot, since });
-            self.slots[slot] = Slot::Resting(tuple, since);
-            move_last(&mut self.rest_order, slot);
+            end_time_wait(&self.slots, &mut self.time_waits, slot);
+            insert_time_wait(&mut self.time_waits, TimeWait { slot, since });
+            self.slots[slot] = Slot::InTimeWait(tuple, since);
+            move_last(&mut self.time_wait_order, slot);
         }
     }
 
@@ -246,7 +246,7 @@ impl FlowTable {
         requires { HasSome self.old.slots slot }
         ensures { self.new ≡ with_slot self.old slot Free }
     {
-        release(&self.slots, &mut self.entries, &mut self.rests, slot);
+        release(&self.slots, &mut self.entries, &mut self.time_waits, slot);
         give_back(&mut self.free, slot);
         self.slots[slot] = Slot::Free;
     }
@@ -260,7 +260,7 @@ impl Slot {
         match *self {
             Slot::Free => None,
             Slot::InUse(tuple) => Some(tuple),
-            Slot::Resting(tuple, _) => Some(tuple),
+            Slot::InTimeWait(tuple, _) => Some(tuple),
         }
     }
 }
@@ -277,49 +277,49 @@ fn slot_numbers(alloc: Global, slots: usize) -> Result<Vec<usize>, AllocError>
     Ok(numbers)
 }
 
-/// Takes a slot that may be taken: a free one, or else the one that has rested longest, which
+/// Takes a slot that may be taken: a free one, or else the one that has been in TIME-WAIT the longest, which
 /// gives its tuple up.
 fn vacate(
     slots: &[Slot],
     entries: &mut Vec<Entry>,
-    rests: &mut Vec<Rest>,
+    time_waits: &mut Vec<TimeWait>,
     free: &mut Vec<usize>,
 ) -> Option<usize>
     requires entries { AreEntries slots.now entries.old.items }
-    requires rests { (rest_order : List ℕ) × AreRests slots.now rest_order rests.old.items }
+    requires time_waits { (time_wait_order : List ℕ) × AreTimeWaits slots.now time_wait_order time_waits.old.items }
     requires free { AreFree slots.now free.old.items }
     ensures none { IfNone result (NoneIsFree slots.now) }
-    ensures resting { IfNone result (NoneRests slots.now) }
-    ensures unchanged { IfNone result ((entries.new.items ≡ entries.old.items) × (rests.new.items ≡ rests.old.items) × (free.new.items ≡ free.old.items)) }
-    ensures vacated { IfSome result (λ slot. IsVacated slots.now slot rests.old.items entries.new.items rests.new.items free.new.items) }
+    ensures in_time_wait { IfNone result (NoneInTimeWait slots.now) }
+    ensures unchanged { IfNone result ((entries.new.items ≡ entries.old.items) × (time_waits.new.items ≡ time_waits.old.items) × (free.new.items ≡ free.old.items)) }
+    ensures vacated { IfSome result (λ slot. IsVacated slots.now slot time_waits.old.items entries.new.items time_waits.new.items free.new.items) }
     ensures count { IfSome result (λ slot. length entries.new.items + length free.new.items + 1 ≡ length entries.old.items + length free.old.items) }
     ensures room { vec_capacity entries.new ≡ vec_capacity entries.old }
-    ensures bed { vec_capacity rests.new ≡ vec_capacity rests.old }
+    ensures bed { vec_capacity time_waits.new ≡ vec_capacity time_waits.old }
     ensures stack { vec_capacity free.new ≡ vec_capacity free.old }
 {
     match free.pop() {
         Some(slot) => Some(slot),
         None => {
-            let slot = rests.first()?.slot;
-            release(slots, entries, rests, slot);
+            let slot = time_waits.first()?.slot;
+            release(slots, entries, time_waits, slot);
             Some(slot)
         }
     }
 }
 
 /// Takes a slot out of both rows.
-fn release(slots: &[Slot], entries: &mut Vec<Entry>, rests: &mut Vec<Rest>, slot: usize)
+fn release(slots: &[Slot], entries: &mut Vec<Entry>, time_waits: &mut Vec<TimeWait>, slot: usize)
     requires entries { AreEntries slots.now entries.old.items }
-    requires rests { (rest_order : List ℕ) × AreRests slots.now rest_order rests.old.items }
+    requires time_waits { (time_wait_order : List ℕ) × AreTimeWaits slots.now time_wait_order time_waits.old.items }
     requires some { HasSome slots.now slot }
     ensures entries { AreEntries (slice_set slots.now slot Free) entries.new.items }
     ensures one { length entries.new.items + 1 ≡ length entries.old.items }
-    ensures rests { (rest_order : List ℕ) → AreRests slots.now rest_order rests.old.items
-        → AreRests (slice_set slots.now slot Free) rest_order rests.new.items }
+    ensures time_waits { (time_wait_order : List ℕ) → AreTimeWaits slots.now time_wait_order time_waits.old.items
+        → AreTimeWaits (slice_set slots.now slot Free) time_wait_order time_waits.new.items }
     ensures room { vec_capacity entries.new ≡ vec_capacity entries.old }
-    ensures bed { vec_capacity rests.new ≡ vec_capacity rests.old }
+    ensures bed { vec_capacity time_waits.new ≡ vec_capacity time_waits.old }
 {
-    end_rest(slots, rests, slot);
+    end_time_wait(slots, time_waits, slot);
     if let Some(tuple) = slots[slot].tuple() {
         remove_entry(entries, &tuple);
     }

@@ -185,7 +185,8 @@ pub(crate) fn first_guest(place: &Place<Peer>) -> Option<Place<Peer>>
         }
         Place::ListensTcp(listener) => {
             let (stream, _) = listener.accept().ok()?;
-            send_at_once(&stream);
+            let mut calls = &stream;
+            send_at_once(&mut calls);
             Some(Place::Guest(Peer::Tcp(stream)))
         }
         _ => None,

@@ -1,6 +1,7 @@
 pub mod Moments
 pub mod Buffered
 pub mod Datagrams
+pub mod Endpoints
 pub mod Ends
 pub mod Streams
 pub mod Carrying

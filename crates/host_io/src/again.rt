@@ -2,6 +2,7 @@
 ghost use Rattle.std.specs.Prelude.{◌≤◌, length, true, ◌≡◌, IfOk, IsErr};
 ghost use Rattle.std.specs.Io.{ReadsAtMost, WritesAtMost};
 ghost use Rattle.std.specs.Io.KnownBytes.{ReadConsumes, WriteAppends};
+ghost use Rattle.host_io.specs.Streams.{is_interruption, was_interrupted};
 
 use mio::net::UdpSocket;
 use std::io;
@@ -67,8 +68,20 @@ pub fn recv_from(socket: &UdpSocket, into: &mut [u8]) -> io::Result<(usize, Sock
     Err(io::Error::from(ErrorKind::Interrupted))
 }
 
+// Whether a signal cut the call short, and nothing else did.
 fn is_interrupted<T>(answer: &io::Result<T>) -> bool
-    ensures { result ≡ true → IsErr answer.now }
+    ensures failed { result ≡ true → IsErr answer.now }
+    ensures kind { result ≡ was_interrupted answer.now }
 {
-    matches!(answer, Err(fault) if fault.kind() == ErrorKind::Interrupted)
+    match answer {
+        Ok(_) => false,
+        Err(fault) => is_interruption(fault.kind()),
+    }
+}
+
+// Whether a call that failed so was cut short by a signal.
+fn is_interruption(kind: ErrorKind) -> bool
+    ensures { result ≡ is_interruption kind }
+{
+    matches!(kind, ErrorKind::Interrupted)
 }

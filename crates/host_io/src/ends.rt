@@ -1,8 +1,8 @@
 // Connections and listeners by single calls that move no octets.
-ghost use Rattle.std.specs.Prelude.{◌≡◌, List, None};
+ghost use Rattle.std.specs.Prelude.{◌≡◌, Bool, List, None};
 ghost use Rattle.std.specs.declared.option.Option.{Option};
 ghost use Rattle.std.specs.declared.net.handle.Shutdown.{Shutdown};
-ghost use Rattle.host_io.specs.Ends.{IsShut, answer_taken};
+ghost use Rattle.host_io.specs.Ends.{IsSet, IsShut, answer_taken};
 ghost use Rattle.host_io.specs.Streams.{Answer, Calls};
 
 use mio::net::{TcpListener, TcpStream};
@@ -25,6 +25,25 @@ pub trait Shuts {
 impl Shuts for &TcpStream {
     fn shutdown(&mut self, how: Shutdown) -> io::Result<()> {
         TcpStream::shutdown(self, how)
+    }
+}
+
+/// A connection that may hold back what is written, until there is more. A contract sees what it was told of that, where that is known: of a connection that tells.
+pub trait Delays {
+    // What its calls set, the newest first: true where all goes out at once.
+    ghost nodelay: { Self → Option (List Bool) } = { λ _. None };
+
+    /// Has it send at once what is written, or not, by one call.
+    ///
+    /// # Errors
+    /// That of the call.
+    fn set_nodelay(&mut self, at_once: bool) -> io::Result<()>
+        ensures called { IsSet (nodelay self.old) (nodelay self.new) at_once };
+}
+
+impl Delays for &TcpStream {
+    fn set_nodelay(&mut self, at_once: bool) -> io::Result<()> {
+        TcpStream::set_nodelay(self, at_once)
     }
 }
 

@@ -70,7 +70,7 @@ impl Policy {
         a == self.config.vnameserver
     }
 
-    /// Whether guests are lent addresses (RFC 2131).
+    /// Whether guests are leased addresses (RFC 2131).
     pub fn lends_addresses(&self) -> bool
         ensures { result ≡ not self.now.no_dhcp }
     {

@@ -87,11 +87,11 @@ icmp_at octets =
     else (if is_echo (one_at octets 0) (one_at octets 1) then echo (one_at octets 0 == 0) (two_at octets 4) (two_at octets 6) (drop 8 octets)
     else other (one_at octets 0) (one_at octets 1))
 
--- the fields that octets spell
+-- the fields that octets encode
 abbrev pub read_icmp : List ℕ → Option Icmp
 read_icmp octets = if nat_le 8 (length octets) && sum_ok (word_sum octets) then Some (icmp_at octets) else None
 
--- the first fault of octets that spell none
+-- the first fault of octets that encode none
 abbrev pub icmp_fault : List ℕ → Option Fault
 icmp_fault octets =
     if nat_lt (length octets) 8 then Some (record { kind = Short; at = length octets })

@@ -7,8 +7,8 @@
 //!
 //! | At | What happens | Calls | What is open then |
 //! |---|---|---|---|
-//! | 0 ms | `open` of 7 for 10.0.2.15:4000, 0x1234 | none: it was opened before | 7 (used at 0) |
-//! | 900 | `open` of 8 for the same port, 0x1235 | none | 7, 8 (used at 900) |
+//! | 0 ms | `open_at` of 7 for 10.0.2.15:4000, 0x1234 | `udp_open` of 7 | 7 (used at 0) |
+//! | 900 | `open_at` of 8 for the same port, 0x1235 | `udp_open` of 8 | 7, 8 (used at 900) |
 //! | 950 | `sent` on 7 | none | 8, 7 (used at 950) |
 //! | 10,800 | `close_idle` | none: 8 is over at 10,900 | 8, 7 |
 //! | 10,960 | `close_idle` | `close` of 7, `close` of 8: both are over, by rising number | nothing |
@@ -20,7 +20,7 @@
 //! rows, and that the same is closed of it then is proofs/Mapping.
 //!
 //! Proved:
-//! - At most 512 sockets, the longest unused first: `IdleSockets::new`, `open`, `close`, `sent`, `received`, `numbered`, `socket_of` (by port and identifier),
+//! - At most 512 sockets, the longest unused first: `IdleSockets::new`, `open_at` (the one call, by which a socket more is open or nothing changes: `call`, `done`, `failed`), `close`, `sent`, `received`, `numbered`, `socket_of` (by port and identifier),
 //!   `oldest`, `next_due`, `rising` (all numbers in order, none twice: `all`, `rising`, `strict`, `most`), each exactly.
 //! - Over every World which of them are closed, and what is left: `make_room` (the longest unused of 512: `calls`, `list`, `room`), `close_idle` (of those whose life
 //!   is over the least number first: `closes`, `none`), `close_first` (`closes`, `fewer`).

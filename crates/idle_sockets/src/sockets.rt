@@ -6,13 +6,18 @@ ghost use Rattle.idle_sockets.specs.Sockets.{is_over, most_sockets, number_of, n
 ghost use Rattle.idle_sockets.specs.Closing.{IsLeast};
 ghost use Rattle.idle_sockets.specs.Rows.{key, AreSince};
 ghost use Rattle.idle_sockets.specs.declared.IdleSocket.{IdleSocket};
+ghost use Rattle.slirp_settings.specs.Addresses.{endpoint};
+ghost use Rattle.world_face.specs.Journal.{UdpOpen};
+ghost use Rattle.world_face.specs.Tells.{Answers};
+ghost use Rattle.world_face.specs.declared.Made.TheVariants.{Done, Failed};
 
 use crate::order::Order;
 use crate::{IdleSocket, MOST_SOCKETS};
 use arrayvec::ArrayVec;
-use net_octets::{Endpoint, Mac};
+use net_octets::{Endpoint, Ip4, Mac};
 use rules_udp::is_life_over;
 use std::marker::Model;
+use world_face::{Made, World};
 
 /// At most 512 open sockets, each for one port of a guest and one identifier, the longest unused first.
 ///
@@ -101,7 +106,7 @@ impl IdleSockets {
     }
 
     /// A socket was opened for a port of a guest that has none with its identifier. Its number is greater than that of all.
-    pub fn open(&mut self, socket: IdleSocket)
+    pub(crate) fn open(&mut self, socket: IdleSocket)
         requires room { length self.old < most_sockets }
         requires above { All (λ n. n < socket.number) (numbers self.old) }
         requires fresh { socket_of socket.guest socket.ident self.old ≡ None }
@@ -115,6 +120,27 @@ impl IdleSockets {
         self.rising.push(socket.number);
         self.since = self.since.min(socket.used);
         self.rows.push(socket);
+    }
+
+    /// Opens a socket for a port of a guest that has none with its identifier, at port 0 of this address of the host: the system chooses the port. Its number
+    /// is greater than that of all. Where the host refuses it nothing changes.
+    pub fn open_at<W: World>(&mut self, world: &mut W, bind: Ip4, socket: IdleSocket) -> Made
+        requires room { length self.old < most_sockets }
+        requires above { All (λ n. n < socket.number) (numbers self.old) }
+        requires fresh { socket_of socket.guest socket.ident self.old ≡ None }
+        ensures call { Answers (W.tells world.old) (W.tells world.new) (UdpOpen socket.number (endpoint bind.0 0) result) }
+        ensures done { result ≡ Done → self.new ≡ self.old ++ (socket ∷ []) }
+        ensures failed { result ≡ Failed → self.new ≡ self.old }
+    {
+        let at = Endpoint {
+            addr: bind,
+            port: 0,
+        };
+        let answer = world.udp_open(socket.number, at);
+        if let Made::Done = answer {
+            self.open(socket);
+        }
+        answer
     }
 
     /// The socket with this number was closed.

@@ -2,4 +2,4 @@ pub mod Cutting
 pub mod Members
 pub mod Passing
 pub mod Plain
-pub mod Spelling
+pub mod Encoding

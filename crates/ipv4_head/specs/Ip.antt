@@ -55,7 +55,7 @@ is_ip octets =
     && nat_le (head_length octets) (two_at octets 2) && nat_le (two_at octets 2) (length octets)
     && sum_ok (word_sum (take (head_length octets) octets))
 
--- the fields that octets spell
+-- the fields that octets encode
 abbrev pub read_ip : List ℕ → Option Ip
 read_ip octets =
     if is_ip octets
@@ -71,7 +71,7 @@ read_ip octets =
     })
     else None
 
--- the first fault of octets that spell none
+-- the first fault of octets that encode none
 abbrev pub ip_fault : List ℕ → Option Fault
 ip_fault octets =
     if nat_lt (length octets) 20 then Some (record { kind = Short; at = length octets })

@@ -1,4 +1,4 @@
--- What the calls of a record carry to a connection, and from it.
+-- What the calls of a trace carry to a connection, and from it.
 use Rattle.std.proofs.Common.{◌≡◌, ℕ, List, [], ◌∷◌, ◌++◌, Option, None, Some, refl, ap, sym, subst}
 use Rattle.std.proofs.lemmas.List.{append-nil}
 use Rattle.std.specs.Io.KnownBytes.{Appends, Consumes}

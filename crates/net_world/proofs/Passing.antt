@@ -1,4 +1,4 @@
--- What the calls of a record keep together.
+-- What the calls of a trace keep together.
 use Rattle.std.proofs.Common.{◌≡◌, ℕ, Bool, true, false, cond, List, [], ◌∷◌, ◌++◌, Option, None, Some, refl, ap, sym, subst, ◌∙◌, append_assoc}
 use Rattle.world_face.specs.Journal.{Entry}
 use Rattle.guest_link.specs.Keeping.{HandsOn, SendsOn}

@@ -1,11 +1,18 @@
 -- What a listener gives by one call, and what it is known to be ready for then.
-use Rattle.std.specs.Prelude.{◌≡◌, Bool, true, false, Ok, Err}
+use Rattle.std.specs.Prelude.{◌≡◌, Bool, true, false, Option, None, Some, Ok, Err}
 use Rattle.std.specs.declared.io.ErrorKind.{ErrorKind}
 use Rattle.std.specs.declared.io.ErrorKind.TheVariants.{WouldBlock, ConnectionAborted}
 use Rattle.host_io.specs.Streams.{Answer}
 use Rattle.net_world.specs.declared.slot.Came.{Came}
-use Rattle.net_world.specs.declared.slot.Came.TheVariants.{NotYet, Failed}
+use Rattle.net_world.specs.declared.slot.Came.TheVariants.{From, NotYet, Failed}
 use Rattle.host_io.specs.declared.stream_calls.Ready.{Ready}
+use Rattle.mio.specs.declared.net.stream.TcpStream.{TcpStream}
+use Rattle.net_octets.specs.declared.Endpoint.{Endpoint}
+
+-- a connection that came, by its peer's endpoint, if that has one
+abbrev pub came_of : TcpStream → Option Endpoint → Came
+came_of stream (Some peer) = From stream peer
+came_of stream None = Failed
 
 -- Of a call that failed so: it would have waited; the connection was given up before it was taken; or the system had no descriptor for it, and it stays there.
 abbrev pub none_by : ErrorKind → Came

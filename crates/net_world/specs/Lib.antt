@@ -5,3 +5,4 @@ pub mod Recording
 pub mod Slots
 pub mod Tables
 pub mod Telling
+pub mod Lasting

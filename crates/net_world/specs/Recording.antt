@@ -1,4 +1,4 @@
--- What a whole record of calls makes of the octets of the link, and of those of a connection.
+-- What a whole trace of calls makes of the octets of the link, and of those of a connection.
 use Rattle.std.specs.Prelude.{◌≡◌, ℕ, cond, List, [], ◌∷◌, ◌++◌, ◌==◌}
 use Rattle.world_face.specs.Journal.{Entry, LinkRead, LinkWrite, TcpRead, TcpWrite, filled}
 use Rattle.guest_link.specs.Passing.{Passing, Passes}
@@ -13,7 +13,7 @@ abbrev pub handed_by : Entry → List ℕ
 handed_by (LinkRead asked answer octets) = octets
 handed_by _ = []
 
--- the same of all calls of a record, in their order
+-- the same of all calls of a trace, in their order
 abbrev pub written : List Entry → List ℕ
 written [] = []
 written (entry ∷ entries) = written_by entry ++ written entries
@@ -36,7 +36,7 @@ abbrev pub read_from_by : ℕ → Entry → List ℕ
 read_from_by connection (TcpRead socket asked answer octets) = cond (socket == connection) octets []
 read_from_by connection _ = []
 
--- the same of all calls of a record, in their order
+-- the same of all calls of a trace, in their order
 abbrev pub written_to : ℕ → List Entry → List ℕ
 written_to connection [] = []
 written_to connection (entry ∷ entries) = written_to_by connection entry ++ written_to connection entries

@@ -1,6 +1,8 @@
 // The sockets of a World, the clock, and what the system tells of them.
 ghost use Rattle.std.specs.Prelude.{◌≡◌, ◌≤◌, ◌<◌, ◌++◌, ℕ, true, false, [], Some, length, take, min, is_some, IfOk};
-ghost use Rattle.std.specs.Bool.{OnFalse};
+ghost use Rattle.std.specs.Bool.{OnFalse, OnTrue};
+ghost use Rattle.std.specs.Option.{option_map};
+ghost use Rattle.std.specs.Duration.{as_nanos};
 ghost use Rattle.std.specs.List.{Contains};
 ghost use Rattle.poll_list.specs.Listing.{AreWants};
 ghost use Rattle.poll_list.specs.declared.Want.{Want};
@@ -10,16 +12,18 @@ ghost use Rattle.world_face.specs.Limits.{most_ready, most_wants, most_to_link};
 ghost use Rattle.guest_link.specs.Linking.{is_told_readable, is_told_writable, bears};
 ghost use Rattle.guest_link.specs.Places.{listens};
 ghost use Rattle.guest_link.specs.Passing.{Passes, passing_untold};
+ghost use Rattle.host_io.specs.Moments.{Looks, after_look};
 ghost use Rattle.net_world.specs.Tables.{IsTaken, Joins, Opens, Table, number_of, slot_at};
+ghost use Rattle.net_world.specs.Lasting.{end_of, is_link_read, is_over, time_left};
 ghost use Rattle.net_world.specs.declared.slot.Slot.{Slot};
 ghost use Rattle.guest_link.specs.declared.place.Place.{Place};
 ghost use Rattle.net_world.specs.Telling.{AreInOrder, AreReady, IsReadable, IsWritable, TellsOneRead, TellsRead, TellsWrite, link_known, read_sockets};
 
-use crate::gathering::{gather, gather_link};
+use crate::gathering::{gather, gather_link, is_link};
 use crate::sockets::{Known, MOST, Sockets};
 use guest_link::link::Link;
 use guest_link::place::{LINK, Peer};
-use host_io::Moments;
+use host_io::{Moments, Ticks};
 use mio::net::TcpStream;
 use mio::{Events, Poll};
 use net_octets::NoMemory;
@@ -61,12 +65,13 @@ impl Edge {
         };
         let sockets = Sockets::open(alloc)?;
         let link = Link::open(alloc)?;
+        let mut clock = rt;
         Ok(Edge {
             link,
             sockets,
             poll: Poll::new(rt).ok(),
             events,
-            clock: Moments::begin(rt),
+            clock: Moments::begin(&mut clock),
             answered: 0,
         })
     }
@@ -270,12 +275,13 @@ impl Edge {
         ensures passes { Passes [] [] (passing_untold self.old.link) (passing_untold self.new.link) }
         ensures ready { AreReady (link_known self.new.link) self.new.sockets.slots ready.new.items }
     {
+        let mut clock = rt;
         let until = end_of(self.clock.last(), timeout);
         self.flush();
         self.offer_all(wants, ready);
         for _ in 0..MOST_ASKED {
             let limit = time_left(self.clock.last(), until, !ready.items().is_empty());
-            if !self.ask(rt, limit) {
+            if !self.ask(rt, &mut clock, limit) {
                 ready.clear();
                 return false;
             }
@@ -323,8 +329,15 @@ impl Edge {
     }
 
     // Asks the system what is ready, for at most so long.
-    fn ask<R: Net + Files + Clock>(&mut self, rt: &R, limit: Option<Duration>) -> bool
+    fn ask<R: Net + Files, C: Ticks>(
+        &mut self,
+        rt: &R,
+        clock: &mut C,
+        limit: Option<Duration>,
+    ) -> bool
         ensures moment { self.old.clock.moment ≤ self.new.clock.moment }
+        // Once it answered, one look at the clock brings its time.
+        ensures looks { OnTrue result (Looks (C.told clock.old) (C.told clock.new) (λ now. self.new.clock ≡ after_look now self.old.clock)) }
         ensures passes { Passes [] [] (passing_untold self.old.link) (passing_untold self.new.link) }
     {
         let Some(poll) = &mut self.poll else {
@@ -336,7 +349,7 @@ impl Edge {
         note_events(&self.events, &mut self.link, &mut self.sockets);
         self.link.take_peer(rt, poll.registry());
         self.link.flush(poll.registry());
-        self.clock.ask(rt);
+        self.clock.ask(clock);
         true
     }
 
@@ -347,19 +360,25 @@ impl Edge {
 }
 
 // The moment at which a wait is over that begins now, if it ends.
-fn end_of(now: u64, timeout: Option<u64>) -> Option<u64> {
+fn end_of(now: u64, timeout: Option<u64>) -> Option<u64>
+    ensures { result ≡ end_of now timeout }
+{
     Some(now.saturating_add(timeout?))
 }
 
 // For how long the system is asked at most: where something is known to be ready, not at all.
-fn time_left(now: u64, until: Option<u64>, is_some_ready: bool) -> Option<Duration> {
+fn time_left(now: u64, until: Option<u64>, is_some_ready: bool) -> Option<Duration>
+    ensures { option_map as_nanos result ≡ time_left now until is_some_ready }
+{
     if is_some_ready {
         return Some(Duration::ZERO);
     }
     Some(Duration::from_millis(until?.saturating_sub(now)))
 }
 
-fn is_over(now: u64, until: Option<u64>) -> bool {
+fn is_over(now: u64, until: Option<u64>) -> bool
+    ensures { result ≡ is_over now until }
+{
     match until {
         Some(until) => until <= now,
         None => false,
@@ -367,8 +386,13 @@ fn is_over(now: u64, until: Option<u64>) -> bool {
 }
 
 // Whether the link, which stands first where it is wanted, is wanted for reading.
-fn is_link_read(wants: &[Want]) -> bool {
-    matches!(wants.first(), Some(want) if want.of == Who::Link && want.read)
+fn is_link_read(wants: &[Want]) -> bool
+    ensures { result ≡ is_link_read wants.now }
+{
+    match wants {
+        [want, ..] => is_link(want.of) && want.read,
+        [] => false,
+    }
 }
 
 // Notes what the system told.

@@ -1,5 +1,5 @@
 // Files.
-ghost use Rattle.std.specs.Prelude.{◌<◌, length};
+ghost use Rattle.std.specs.Prelude.{◌≡◌, ◌<◌, ◌≤◌, [], length};
 ghost use Rattle.world_face.specs.Journal.{MayReadFile};
 
 use arrayvec::ArrayString;
@@ -18,7 +18,10 @@ pub(crate) struct OpenedFile<R: Files> {
 
 impl<R: Files> OpenedFile<R> {
     /// No file was measured or read yet.
-    pub fn none() -> OpenedFile<R> {
+    pub fn none() -> OpenedFile<R>
+        ensures name { result.name.bytes ≡ [] }
+        ensures file { result.file ≡ None }
+    {
         OpenedFile {
             name: ArrayString::new(),
             file: None,
@@ -54,7 +57,11 @@ impl<R: Files> OpenedFile<R> {
         }
     }
 
-    fn keep(&mut self, name: &str, file: R::File) {
+    // Keeps a file under its name, where that isn't too long; else none.
+    fn keep(&mut self, name: &str, file: R::File)
+        ensures kept { length name.now ≤ MOST_NAME → (self.new.name.bytes ≡ name.now) × (self.new.file ≡ Some file) }
+        ensures long { MOST_NAME < length name.now → self.new.file ≡ None }
+    {
         self.name.clear();
         self.file = self.name.try_push_str(name).is_ok().then_some(file);
     }

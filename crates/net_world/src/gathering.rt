@@ -111,8 +111,8 @@ fn gather_first<'a>(
     rest
 }
 
-// Whether this is the link.
-fn is_link(of: Who) -> bool
+/// Whether this is the link.
+pub(crate) fn is_link(of: Who) -> bool
     ensures { result ≡ same_who Link of }
 {
     matches!(of, Who::Link)

@@ -21,8 +21,8 @@ pub fn what_comes_is_handed_out_in_order()
         → (rest : List ℕ) × (left ≡ Some rest) × (joined parts ++ (ahead ++ rest) ≡ gives) }
 {}
 
-/// A whole record of calls on a link that holds nothing at first: its stream got, and behind it what waits is, what the record's writes told as taken, in the order
-/// of the calls: all of them while what is written goes out, else those of a first part of the record.
+/// A whole trace of calls on a link that holds nothing at first: its stream got, and behind it what waits is, what the trace's writes told as taken, in the order
+/// of the calls: all of them while what is written goes out, else those of a first part of the trace.
 pub fn what_a_record_wrote_went_out_in_order()
     ensures { (entries : List Entry) (first last : Passing) → first.taken ≡ Some [] → first.waits ≡ [] → AllPass first entries last
         → (got : List ℕ) × (before after : List Entry) × (last.taken ≡ Some got) × (entries ≡ before ++ after) × (got ++ last.waits ≡ written before) × (last.goes_out ≡ true → after ≡ []) }
@@ -34,14 +34,14 @@ pub fn what_came_a_record_read_in_order()
         → (rest : List ℕ) × (last.left ≡ Some rest) × (handed entries ++ (last.ahead ++ rest) ≡ gives) }
 {}
 
-/// A whole record of calls on a connection whose stream took nothing yet: it got what the record's writes to it told as taken, in the order of the calls, as the clause
+/// A whole trace of calls on a connection whose stream took nothing yet: it got what the trace's writes to it told as taken, in the order of the calls, as the clause
 /// `carries` of a connection's calls says.
 pub fn what_a_record_wrote_to_a_connection_it_got()
     ensures { (connection : ℕ) (entries : List Entry) (first last : Carrying) → first.taken ≡ Some [] → AllCarry connection first entries last
         → last.taken ≡ Some (written_to connection entries) }
 {}
 
-/// What the record's reads of it brought, and behind it what the stream has still to give, is what the stream had to give, in its order.
+/// What the trace's reads of it brought, and behind it what the stream has still to give, is what the stream had to give, in its order.
 pub fn what_a_connection_gave_its_reads_brought()
     ensures { (connection : ℕ) (entries : List Entry) (first last : Carrying) (gives : List ℕ) → first.left ≡ Some gives → AllCarry connection first entries last
         → (rest : List ℕ) × (last.left ≡ Some rest) × (read_from connection entries ++ rest ≡ gives) }

@@ -7,7 +7,6 @@ use std::alloc::Global;
 use std::fs::Files;
 use std::marker::Model;
 use std::net::Net;
-use std::sync::Wait;
 use std::time::Clock;
 use world_face::{
     Accepted, Endpoint, FileSize, Got, Io, Joined, LinkAt, Made, ReadyList, Sent, Waited, Wants,
@@ -19,7 +18,7 @@ use world_face::{
 /// A frame that it took may still lie in its own buffer: it goes out before the next wait that really waits, and a fault of the link is told at a later call. A
 /// reset or a broken pipe of the link is no fault but its end: what a peer that is gone was sent is lost. What a wait reports may be known from before, so
 /// something that is ready may be told some waits later.
-pub struct NetWorld<'a, R: Net + Wait + Files + Clock> {
+pub struct NetWorld<'a, R: Net + Files + Clock> {
     rt: &'a R,
     edge: Edge,
     file: OpenedFile<R>,
@@ -29,7 +28,7 @@ pub struct NetWorld<'a, R: Net + Wait + Files + Clock> {
     file_faults: u64,
 }
 
-impl<'a, R: Net + Wait + Files + Clock> Model for NetWorld<'a, R> {
+impl<'a, R: Net + Files + Clock> Model for NetWorld<'a, R> {
     ghost use Rattle.world_face.specs.Tells.{Counts};
 
     ghost Value = { Counts };
@@ -37,7 +36,7 @@ impl<'a, R: Net + Wait + Files + Clock> Model for NetWorld<'a, R> {
     ghost view = { λ w. record { link = w.link_faults; wait = w.wait_faults; socket = w.socket_faults; file = w.file_faults } };
 }
 
-impl<'a, R: Net + Wait + Files + Clock> NetWorld<'a, R> {
+impl<'a, R: Net + Files + Clock> NetWorld<'a, R> {
     ghost use Rattle.std.specs.Prelude.{◌≡◌, IfOk};
     ghost use Rattle.net_world.specs.Faults.{no_faults};
 
@@ -58,7 +57,7 @@ impl<'a, R: Net + Wait + Files + Clock> NetWorld<'a, R> {
     }
 }
 
-impl<'a, R: Net + Wait + Files + Clock> Drop for NetWorld<'a, R> {
+impl<'a, R: Net + Files + Clock> Drop for NetWorld<'a, R> {
     /// What was gathered goes out, as much as is taken at once, and no file of a listener stays.
     fn drop(self) {
         let NetWorld {
@@ -74,7 +73,7 @@ impl<'a, R: Net + Wait + Files + Clock> Drop for NetWorld<'a, R> {
     }
 }
 
-impl<'a, R: Net + Wait + Files + Clock> World for NetWorld<'a, R> {
+impl<'a, R: Net + Files + Clock> World for NetWorld<'a, R> {
     ghost use Rattle.std.specs.Prelude.{◌≡◌, ◌<◌, ◌≤◌, ℕ, length};
     ghost use Rattle.poll_list.specs.Listing.{AreWants};
     ghost use Rattle.world_face.specs.Faults.{io_failed, made_failed, join_failed, accept_failed, sent_failed, got_failed, size_failed, waited_failed};

@@ -2,10 +2,11 @@
 ghost use Rattle.std.specs.Prelude.{◌≡◌, ℕ, ◌<◌, true, false, Some, None, Ok, Err, length};
 ghost use Rattle.std.specs.Io.KnownBytes.{Appends, Consumes, IsAtEnd, Keeps};
 ghost use Rattle.host_io.specs.Streams.{Calls};
+ghost use Rattle.host_io.specs.Endpoints.{endpoint_of};
 ghost use Rattle.world_face.specs.Journal.{MayRead, MayWrite, MayGet, filled};
 ghost use Rattle.net_world.specs.Slots.{of_stream, is_connection, are_datagrams};
 ghost use Rattle.host_io.specs.Streaming.{read_tells, write_tells, after_read, after_write};
-ghost use Rattle.net_world.specs.Accepting.{IsCameBy, after_accept, none_by, ready_by, starved_by, starves_by};
+ghost use Rattle.net_world.specs.Accepting.{IsCameBy, after_accept, came_of, none_by, ready_by, starved_by, starves_by};
 
 use host_io::stream_calls::Ready;
 use host_io::{Accepts, Stream, address, datagram_calls, endpoint, send_at_once, stream_calls};
@@ -48,7 +49,8 @@ pub(crate) fn new_socket<R: Net>(rt: &R, of: Who, at: Endpoint) -> Option<Socket
         }
         Who::Tcp(_) => {
             let stream = TcpStream::connect(rt, address(at)).ok()?;
-            send_at_once(&stream);
+            let mut calls = &stream;
+            send_at_once(&mut calls);
             Some(Socket::Stream(stream))
         }
     }
@@ -132,7 +134,8 @@ fn accept_by<L: Accepts>(listener: &mut L, ready: &mut Ready, starved: &mut bool
 
 // The connection, with its peer's endpoint. Failed where that has no address of version 4.
 fn came_from(stream: TcpStream, peer: SocketAddr) -> Came
-    ensures { result ≡ Came.NotYet → ⊥ }
+    ensures came { result ≡ came_of stream (endpoint_of peer) }
+    ensures told { result ≡ Came.NotYet → ⊥ }
 {
     match endpoint(peer) {
         Some(peer) => Came::From(stream, peer),

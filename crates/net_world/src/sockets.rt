@@ -422,7 +422,8 @@ impl Sockets<TcpStream> {
     {
         match self.take(listener) {
             Came::From(stream, peer) => {
-                send_at_once(&stream);
+                let mut calls = &stream;
+                send_at_once(&mut calls);
                 if self.add(registry, Who::Tcp(number), Socket::Stream(stream)) {
                     Accepted::From(peer)
                 } else {

@@ -1,6 +1,6 @@
 -- The frames that aren't out yet.
 use Rattle.std.specs.Prelude.{◌≡◌, ℕ, ◌==◌, ◌<◌, ◌≤◌, List, [], ◌∷◌, drop, map, take, if◌then◌else◌}
-use Rattle.world_face.specs.Frames.{spelling}
+use Rattle.world_face.specs.Frames.{encoding}
 use Rattle.net_octets.specs.Kinds.{icmp_proto, tcp_proto, udp_proto}
 use Rattle.icmp_echo.specs.Icmp.{Icmp, icmp_octets}
 use Rattle.ipv4_head.specs.Cuts.{cuts_from}
@@ -21,8 +21,8 @@ abbrev pub frames_in : ℕ → List ℕ → List (List ℕ)
 frames_in size octets = if size == 0 then [] else drop 4 (take size octets) ∷ []
 
 -- what stands there is a frame behind its length
-abbrev pub IsSpelt : ℕ → List ℕ → Type 0
-IsSpelt size octets = 0 < size → take size octets ≡ spelling (drop 4 (take size octets))
+abbrev pub IsEncoded : ℕ → List ℕ → Type 0
+IsEncoded size octets = 0 < size → take size octets ≡ encoding (drop 4 (take size octets))
 
 -- the octets of a segment, as one word
 unfoldable pub segment_octets : (from to : ℕ) → Tcp → List ℕ

@@ -20,7 +20,7 @@ use ipv4_reasm::cut;
 use net_octets::{ICMP_PROTO, IPV4_KIND, Ip4, MOST_CARRIED, Mac, NoMemory, TCP_PROTO, UDP_PROTO};
 use std::alloc::Global;
 use std::marker::Model;
-use stream_netdev::{LENGTH, spell};
+use stream_netdev::{LENGTH, encode};
 use tcp_segment::TcpView;
 use udp_datagram::UdpView;
 
@@ -66,7 +66,7 @@ impl Model for Cutting {
 
 impl Cutting {
     ghost use Rattle.std.specs.Prelude.{[], ◌++◌, IfOk};
-    ghost use Rattle.owed_frames.specs.Outgoing.{IsSpelt, frames_in};
+    ghost use Rattle.owed_frames.specs.Outgoing.{IsEncoded, frames_in};
 
     /// No datagram, and the room for one.
     pub fn open(alloc: Global) -> Result<Cutting, NoMemory>
@@ -135,7 +135,7 @@ impl Cutting {
     pub fn write_next(&mut self, frame: &mut [u8]) -> usize
         requires room { length frame.old ≡ most_to_link }
         ensures frame { frames_in result frame.new ++ self.new ≡ self.old }
-        ensures spelt { IsSpelt result frame.new }
+        ensures encoded { IsEncoded result frame.new }
         ensures none { result ≡ 0 → self.new ≡ [] }
         ensures length { result ≤ most_to_link }
         ensures room { length frame.new ≡ most_to_link }
@@ -150,7 +150,7 @@ impl Cutting {
         );
         self.plan.next += 1;
         self.plan.left -= 1;
-        spell(frame, length)
+        encode(frame, length)
     }
 }
 

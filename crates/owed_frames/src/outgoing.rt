@@ -6,10 +6,10 @@ ghost use Rattle.ether_frame.specs.Ether.{ether_octets};
 ghost use Rattle.icmp_echo.specs.Icmp.{CanWrite, icmp_of, icmp_with};
 ghost use Rattle.udp_datagram.specs.Udp.{udp_of};
 ghost use Rattle.tcp_segment.specs.Tcp.{tcp_length, tcp_of};
-ghost use Rattle.owed_frames.specs.Outgoing.{IsSpelt, MayBeCut, message_frames, segment_frames, udp_frames};
+ghost use Rattle.owed_frames.specs.Outgoing.{IsEncoded, MayBeCut, message_frames, segment_frames, udp_frames};
 ghost use Rattle.spec_run.specs.Answers.{datagrams_in};
 ghost use Rattle.net_octets.specs.Sizes.{most_carried, most_frame};
-ghost use Rattle.world_face.specs.Frames.{spelling};
+ghost use Rattle.world_face.specs.Frames.{encoding};
 ghost use Rattle.world_face.specs.Limits.{most_to_link, most_to_udp};
 
 use crate::cutting::Cutting;
@@ -20,7 +20,7 @@ use icmp_echo::IcmpView;
 use net_octets::{ARP_KIND, IPV4_KIND, Ip4, Mac, NoMemory};
 use std::alloc::Global;
 use std::marker::Model;
-use stream_netdev::{LENGTH, spell};
+use stream_netdev::{LENGTH, encode};
 use tcp_segment::TcpView;
 use udp_datagram::UdpView;
 use world_face::MOST_TO_LINK;
@@ -48,7 +48,7 @@ pub struct Course {
 
 impl Model for Outgoing {
     ghost use Rattle.std.specs.Prelude.{◌≡◌, ℕ, ◌≤◌, ◌++◌, [], List, length};
-    ghost use Rattle.owed_frames.specs.Outgoing.{IsSpelt, frames_in};
+    ghost use Rattle.owed_frames.specs.Outgoing.{IsEncoded, frames_in};
     ghost use Rattle.world_face.specs.Limits.{most_to_link};
 
     ghost Value = { List (List ℕ) };
@@ -56,7 +56,7 @@ impl Model for Outgoing {
     ghost view = { λ o. frames_in o.used o.frame.items ++ o.cutting };
 
     ghost invariant = { λ o. (o.used ≤ most_to_link) × (length o.frame.items ≡ most_to_link)
-        × (o.used ≡ 0 → o.cutting ≡ []) × IsSpelt o.used o.frame.items };
+        × (o.used ≡ 0 → o.cutting ≡ []) × IsEncoded o.used o.frame.items };
 }
 
 impl Outgoing {
@@ -93,9 +93,9 @@ impl Outgoing {
     }
 
     /// The same behind its length, as it goes out.
-    pub fn spelt(&self) -> &[u8]
+    pub fn encoded(&self) -> &[u8]
         requires { 0 < length self.now }
-        ensures spelt { (frame : List ℕ) × (result.now ≡ spelling frame) × (self.now ≡ frame ∷ drop 1 self.now) }
+        ensures encoded { (frame : List ℕ) × (result.now ≡ encoding frame) × (self.now ≡ frame ∷ drop 1 self.now) }
         ensures length { length result.now ≤ most_to_link }
     {
         &self.frame[..self.used]
@@ -161,12 +161,12 @@ impl Outgoing {
 fn write_arp(to: Mac, packet: &ArpView, frame: &mut [u8]) -> usize
     requires room { length frame.old ≡ most_to_link }
     ensures frame { drop 4 (take result frame.new) ≡ ether_octets to.0 packet.now.sender_mac.0 arp_kind (arp_octets (arp_of packet.now)) }
-    ensures spelt { IsSpelt result frame.new }
+    ensures encoded { IsEncoded result frame.new }
     ensures length { (0 < result) × (result ≤ most_to_link) }
     ensures room { length frame.new ≡ most_to_link }
 {
     let length = write_arp_frame(to, packet, &mut frame[LENGTH..]);
-    spell(frame, length)
+    encode(frame, length)
 }
 
 // Writes the frame of an ARP packet, and answers its length.

@@ -7,7 +7,7 @@ use Rattle.hex.specs.Hex.{encode_with, lower_digits, decode_pairs, decode_of, pa
 use Rattle.hex.specs.declared.error.FromHexError.{FromHexError}
 use Rattle.hex.proofs.HexLemmas.{decode_of-ok, decode_of-even}
 use Rattle.std.specs.Result.{result_unwrap_or}
-use Rattle.replay.specs.Spelling.{is_lower}
+use Rattle.replay.specs.Encoding.{is_lower}
 use Rattle.replay.specs.Text.{hexadecimal}
 
 bind_ok : {A B : Type 0} (r : Result A FromHexError) (f : A → Result B FromHexError) (y : B) → (r >>= f) ≡ Ok y → (x : A) × (r ≡ Ok x) × (f x ≡ Ok y)

@@ -1,4 +1,4 @@
--- Kinds of octets in a record of calls, and of which kinds numbers and octets are as they are written there.
+-- Kinds of octets in a trace of calls, and of which kinds numbers and octets are as they are written there.
 use Rattle.std.proofs.Common.{◌≡◌, ℕ, zero, suc, ◌+◌, ◌*◌, ◌/◌, ◌%◌, ◌^◌, ◌<◌, Bool, true, not, ◌&&◌, eqb, ltb, List, [], ◌∷◌, length, slice_index, decimal, refl, arith}
 use Rattle.std.specs.List.{list_all}
 use Rattle.std.proofs.lemmas.Bool.Decides.{nat_tests}

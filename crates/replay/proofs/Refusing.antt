@@ -1,4 +1,4 @@
--- Why a text that was refused spells nothing in range: the parts of octets and wants.
+-- Why a text that was refused encodes nothing in range: the parts of octets and wants.
 use Rattle.std.proofs.Common.{◌≡◌, ◌≢◌, ℕ, zero, suc, ◌/◌, ◌%◌, ◌^◌, ◌<◌, true, false, cond, ◌&&◌, ◌||◌, List, [], ◌∷◌, ◌++◌, length, get_or, slice_index, decimal, Option, Result, Ok, Err}
 use Rattle.std.proofs.Common.{codes, refl, sym, ◌∙◌, ap, subst, arith, append_assoc, length-append}
 use Rattle.std.specs.List.{list_all}
@@ -14,7 +14,7 @@ use Rattle.replay.specs.declared.CallName.TheVariants as names
 use Rattle.std.proofs.lemmas.List.Elements.{All-head, All-tail, All-cons, All-nil}
 use Rattle.address_text.specs.Texts.{is_other, endpoint_text, place_text}
 use Rattle.address_text.proofs.Parting.{fit_weaker, parts_once, both, pair, digit_is_no_colon, no_part}
-use Rattle.replay.specs.Spelling.{is_lower, IsWritten, Says}
+use Rattle.replay.specs.Encoding.{is_lower, IsWritten, Says}
 use Rattle.replay.specs.Text.{hexadecimal, who_text, direction_text, want_text, joined_text, wants_text, timeout_text, call_text}
 use Rattle.replay.proofs.Calls.{args_text, named, name_word}
 use Rattle.replay.specs.Rows.{Row, IsReadable, row_text, said_answer, said_call}
@@ -188,9 +188,9 @@ answer_parts text before after split lacks row h is =
 tail_same : (octet : ℕ) (a b : List ℕ) → octet ∷ a ≡ octet ∷ b → a ≡ b
 tail_same octet a b is = cc
 
-pub spelt_once : (before after call answer : List ℕ) (row : Row) → before ≡ call ++ 32 ∷ [] → after ≡ 32 ∷ answer → (before ≡ said_call row ++ 32 ∷ []) ×
+pub encoded_once : (before after call answer : List ℕ) (row : Row) → before ≡ call ++ 32 ∷ [] → after ≡ 32 ∷ answer → (before ≡ said_call row ++ 32 ∷ []) ×
     (after ≡ 32 ∷ said_answer row) → IsWritten call answer row
-spelt_once before after call answer row front back parts = (last_same 32 call (said_call row) (sym front ∙ parts.0), tail_same 32 answer (said_answer row) (sym back ∙ parts.1))
+encoded_once before after call answer row front back parts = (last_same 32 call (said_call row) (sym front ∙ parts.0), tail_same 32 answer (said_answer row) (sym back ∙ parts.1))
 
 -- a call's name and the rest
 pub call_parts : (call word args : List ℕ) → call ≡ word ++ 32 ∷ args → list_all (is_other 32) word ≡ true → (c : Call) → call ≡ call_text c → (word ≡ name_text (name_of c)) ×

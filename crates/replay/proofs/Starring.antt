@@ -14,7 +14,7 @@ use Rattle.replay.specs.Fitting.{with_answer}
 use Rattle.replay.specs.Names.{name_of, name_text}
 use Rattle.replay.specs.Range.{InRange, AnswersInRange, IsSayable}
 use Rattle.replay.specs.Rows.{Row, IsReadable, TakesAll, said_call}
-use Rattle.replay.specs.Spelling.{IsSpelt, IsWritten, HasArguments, SaidArguments, Says, SaysRow, is_write, blank_args, given_args, counted_answer}
+use Rattle.replay.specs.Encoding.{IsEncoded, IsWritten, HasArguments, SaidArguments, Says, SaysRow, is_write, blank_args, given_args, counted_answer}
 use Rattle.address_text.specs.Texts.{address_text, endpoint_text, place_text}
 use Rattle.address_text.proofs.Parting.{is_digit, decimal_digits}
 use Rattle.address_text.proofs.Numbers.{zero_text}
@@ -329,15 +329,15 @@ counts_all _ write = cc write
 call_written : (name : CallName) (args given : List ℕ) (starred all : Bool) (e : Entry) → (IsTrue starred ↔ (args ≡ codes "*")) → given ≡ given_args starred name args → name_of
     (call_of e) ≡ name → name_text name ++ 32 ∷ given ≡ call_text (call_of e)
     → name_text name ++ 32 ∷ args ≡ said_call (record { entry = with_answer all (call_of e) e; starred = starred; all = all })
-call_written name args given true all e tells given_is is spelt = ap (λ n. name_text n ++ 32 ∷ args) (sym is ∙ sym (ap name_of (call_kept all e))) ∙ ap
+call_written name args given true all e tells given_is is encoded = ap (λ n. name_text n ++ 32 ∷ args) (sym is ∙ sym (ap name_of (call_kept all e))) ∙ ap
     (λ t. name_text (name_of (call_of (with_answer all (call_of e) e))) ++ 32 ∷ t) (tells.0 refl)
-call_written name args given false all e tells given_is is spelt = ap (λ t. name_text name ++ 32 ∷ t) (sym given_is) ∙ spelt ∙ ap call_text (sym (call_kept all e))
+call_written name args given false all e tells given_is is encoded = ap (λ t. name_text name ++ 32 ∷ t) (sym given_is) ∙ encoded ∙ ap call_text (sym (call_kept all e))
 
 answer_written : (name : CallName) (answer said : List ℕ) (all : Bool) (e : Entry) → (IsTrue all ↔ (IsTrue (is_write name) × (answer ≡ codes "all"))) →
     said ≡ counted_answer all answer → said ≡ answer_text e
     → answer ≡ cond all (codes "all") (answer_text (with_answer all (call_of e) e))
-answer_written name answer said true e tells said_is spelt = (tells.0 refl).1
-answer_written name answer said false e tells said_is spelt = sym said_is ∙ spelt ∙ sym (answer_kept (call_of e) e)
+answer_written name answer said true e tells said_is encoded = (tells.0 refl).1
+answer_written name answer said false e tells said_is encoded = sym said_is ∙ encoded ∙ sym (answer_kept (call_of e) e)
 
 -- the arguments after the name are the call
 pair_text : (a b : List ℕ) → a ++ 32 ∷ b ≡ (a ++ 32 ∷ []) ++ b
@@ -367,16 +367,16 @@ with_arguments (CallUdpRecv socket asked) args has = ap (λ t. codes "urecv " ++
 with_arguments (CallFileLen name) args has = ap (λ t. codes "flen " ++ t) has
 with_arguments (CallFileRead name place asked) args has = ap (λ t. codes "fread " ++ t) (has ∙ three_text (hexadecimal name) (decimal place) (decimal asked))
 
-says_spelt : (name : CallName) (args answer : List ℕ) (e : Entry) → Says name args answer e → IsSpelt (name_text name ++ 32 ∷ args) answer e
-says_spelt name args answer e says = (ap (λ n. name_text n ++ 32 ∷ args) (sym says.0) ∙ with_arguments (call_of e) args says.1, says.2)
+says_encoded : (name : CallName) (args answer : List ℕ) (e : Entry) → Says name args answer e → IsEncoded (name_text name ++ 32 ∷ args) answer e
+says_encoded name args answer e says = (ap (λ n. name_text n ++ 32 ∷ args) (sym says.0) ∙ with_arguments (call_of e) args says.1, says.2)
 
 pub row_written : (name : CallName) (args answer given said : List ℕ) (starred all : Bool) (e : Entry) → (IsTrue starred ↔ (args ≡ codes "*")) →
     (IsTrue all ↔ (IsTrue (is_write name) × (answer ≡ codes "all")))
     → given ≡ given_args starred name args → said ≡ counted_answer all answer → Says name given said e
     → IsWritten (name_text name ++ 32 ∷ args) answer (record { entry = with_answer all (call_of e) e; starred = starred; all = all })
 row_written name args answer given said starred all e tells_star tells_all given_is said_is says =
-    let spelt = says_spelt name given said e says in
-    (call_written name args given starred all e tells_star given_is says.0 spelt.0, answer_written name answer said all e tells_all said_is spelt.1)
+    let encoded = says_encoded name given said e says in
+    (call_written name args given starred all e tells_star given_is says.0 encoded.0, answer_written name answer said all e tells_all said_is encoded.1)
 
 pub row_readable : (name : CallName) (args answer given said : List ℕ) (starred all : Bool) (e : Entry) → name ≢ names.Now →
     (IsTrue all ↔ (IsTrue (is_write name) × (answer ≡ codes "all"))) → Says name given said e

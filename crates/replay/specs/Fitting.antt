@@ -155,7 +155,7 @@ divergence_of script = option_map (λ call. record {
       (slice_get script.lines script.used);
 }) script.stop
 
--- the moment after an entry, and after a record of calls
+-- the moment after an entry, and after a trace of calls
 abbrev pub moment_after : Entry → ℕ → ℕ
 moment_after (EntryNow moment) before = moment
 moment_after _ before = before

@@ -8,7 +8,7 @@ pub mod Room
 pub mod Rows
 pub mod Reporting
 pub mod Script
-pub mod Spelling
+pub mod Encoding
 pub mod Text
 pub mod Unread
 pub mod Views

@@ -56,7 +56,7 @@ abbrev pub turned_text : List Row → List ℕ
 turned_text [] = []
 turned_text (row ∷ rows) = turned_text rows ++ row_text row
 
--- The calls of a record, which is newest first, fit the lines of a schedule one to one from the first, and this is left.
+-- The calls of a trace, which is newest first, fit the lines of a schedule one to one from the first, and this is left.
 pub record FitsBefore (past : List Entry) (schedule rest : List ℕ) : Type 0 where
   pub rows : List Row
   pub readable : AreReadable rows

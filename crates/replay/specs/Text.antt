@@ -1,4 +1,4 @@
--- The text of a record of calls: one line for each call, with its arguments and its answer.
+-- The text of a trace of calls: one line for each call, with its arguments and its answer.
 use Rattle.std.specs.Prelude.{ℕ, List, [], ◌∷◌, ◌++◌, Bool, true, false, Option, Some, None, codes, decimal}
 use Rattle.hex.specs.Hex.{encode_lower}
 use Rattle.address_text.specs.Texts.{endpoint_text, place_text}
@@ -157,7 +157,7 @@ answer_text (FileRead name place asked answer octets) = read_text answer octets
 abbrev pub line_text : Entry → List ℕ
 line_text e = call_text (call_of e) ++ codes " = " ++ answer_text e ++ 10 ∷ []
 
--- The record is kept newest first; its text has the lines in the order of the calls.
+-- The trace is kept newest first; its text has the lines in the order of the calls.
 abbrev pub text : List Entry → List ℕ
 text [] = []
 text (e ∷ past) = text past ++ line_text e

@@ -32,7 +32,7 @@ pub use printing::put_line;
 pub use view::LineView;
 pub use world::ScriptWorld;
 
-/// The calls on a World, without their arguments; `name` spells each as it stands in a line.
+/// The calls on a World, without their arguments; `name` encodes each as it stands in a line.
 #[derive(Clone, Copy, PartialEq, Eq)]
 pub enum CallName {
     Now,

@@ -13,7 +13,7 @@ ghost use Rattle.replay.specs.declared.CallName.TheVariants.{Now, Wait, LinkOpen
 ghost use Rattle.replay.specs.declared.CallName.TheVariants.{UdpSend, UdpRecv, FileLen, FileRead};
 ghost use Rattle.replay.specs.declared.tokens.Unread.TheVariants.{NoReading};
 ghost use Rattle.replay.specs.Range.{AnswersInRange};
-ghost use Rattle.replay.specs.Spelling.{IsWritten, Says, SaysRow, blank_args, counted_answer, given_args, is_write};
+ghost use Rattle.replay.specs.Encoding.{IsWritten, Says, SaysRow, blank_args, counted_answer, given_args, is_write};
 
 use crate::CallName;
 use crate::allowing::same;

@@ -13,7 +13,7 @@ ghost use Rattle.poll_list.specs.declared.Want.{Want as AWant};
 ghost use Rattle.poll_list.specs.Listing.{is_who, are_wants};
 ghost use Rattle.world_face.specs.Journal.{AreOctets, IsEndpoint, IsNumber, IsTimeout};
 ghost use Rattle.address_text.specs.Texts.{is_other, endpoint_text};
-ghost use Rattle.replay.specs.Spelling.{is_lower};
+ghost use Rattle.replay.specs.Encoding.{is_lower};
 ghost use Rattle.replay.specs.Text.{hexadecimal, who_text, want_text, joined_text, wants_text, timeout_text, direction_text};
 
 use crate::CallName;
@@ -227,7 +227,7 @@ pub fn read_timeout(text: &[u8]) -> Result<Option<u64>, Unread>
     Ok(Some(read_number(text)?))
 }
 
-/// Reads the name of a call, as `CallName::name` spells it. NoReading where no call has that name.
+/// Reads the name of a call, as `CallName::name` encodes it. NoReading where no call has that name.
 pub fn read_name(text: &[u8]) -> Result<CallName, Unread>
     ensures name { IfOk result (λ name. text.now ≡ name_text name) }
     ensures refused { OnErr result ((name : AName) → text.now ≢ name_text name) }

@@ -1,4 +1,4 @@
--- A record without the control's entries: what the network sees of it. The laws of the network speak of that.
+-- A trace without the control's entries: what the network sees of it. The laws of the network speak of that.
 use Rattle.std.specs.Prelude.{ℕ, ◌&&◌, not, nat_le, nat_lt, Bool, false, List, [], ◌∷◌, length, filter, if◌then◌else◌}
 use Rattle.std.specs.List.{filter_map, list_any}
 use Rattle.poll_list.specs.Listing.{reads, writes}
@@ -56,7 +56,7 @@ abbrev pub seen : Entry → Entry
 seen (Wait wants timeout answer ready) = Wait (others wants) timeout answer (others ready)
 seen e = e
 
--- what the network sees of a record: all but the calls on the control's sockets, and each wait without their items
+-- what the network sees of a trace: all but the calls on the control's sockets, and each wait without their items
 abbrev pub without_control : List Entry → List Entry
 without_control [] = []
 without_control (e ∷ past) = if is_on_control e then without_control past else seen e ∷ without_control past

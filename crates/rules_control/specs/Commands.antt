@@ -20,7 +20,7 @@ has_no_port forward = (forward.host.port == 0) || (forward.guest.port == 0)
 -- `add RULE`, whose two ports are ports; without an address of a guest the RULE leads to this one
 pub record IsAdd (guest : ℕ) (line : List ℕ) (forward : Forward) : Type 0 where
   pub rule : List ℕ
-  pub spelt : line ≡ codes "add " ++ rule
+  pub encoded : line ≡ codes "add " ++ rule
   pub is : IsRule rule guest forward
   pub ports : has_no_port forward ≡ false
 
@@ -31,7 +31,7 @@ removal proto = codes "remove " ++ proto_text proto ++ codes " "
 -- a line that takes back the forward of a port of the host
 pub record IsRemove (line : List ℕ) (proto : Proto) (host : Endpoint) : Type 0 where
   pub text : List ℕ
-  pub spelt : line ≡ removal proto ++ text
+  pub encoded : line ≡ removal proto ++ text
   pub is : IsEndpointText text host
 
 -- it asks for none of these

@@ -9,7 +9,7 @@ use Rattle.rules_dhcp.specs.declared.Message.{Message}
 use Rattle.rules_dhcp.specs.declared.Answer.{Answer}
 use Rattle.rules_dhcp.specs.declared.Answer.TheVariants.{Silence, Offers, Lends, Informs, Refuses}
 use Rattle.rules_dhcp.specs.Leases.{same_mac}
-use Rattle.rules_dhcp.specs.History.{Received, Says, answer_over, Gives, GivesUp, IsInDay, IsLent}
+use Rattle.rules_dhcp.specs.History.{Received, Says, answer_over, Gives, GivesUp, IsInDay, IsLeased}
 use Rattle.rules_dhcp.proofs.Holding.{same_of}
 use Rattle.rules_dhcp.proofs.Lasting.{nobody_else}
 
@@ -55,7 +55,7 @@ owns_15 = 10 ∷ 0 ∷ 2 ∷ 15 ∷ []
 abbrev came : (at client kind : ℕ) (own options : List ℕ) → Received
 came at client kind own options = record { at = at; octets = body client kind own options }
 
--- the first client asks and is lent 10.0.2.15
+-- the first client asks and is leased 10.0.2.15
 abbrev asks : List Received
 asks = came 5 1 1 (zeros 4) [] ∷ []
 
@@ -66,9 +66,9 @@ offered : answer_over usual [] (came 5 1 1 (zeros 4) []) ≡ Offers 0
 unfolding Reading.read_on
 offered = refl
 
-lent : answer_over usual asks takes ≡ Lends 0
+leased : answer_over usual asks takes ≡ Lends 0
 unfolding Reading.read_on
-lent = refl
+leased = refl
 
 -- a second one is offered another, is refused that one, and the first one binds it anew after half a day
 abbrev second_asks : Received
@@ -152,10 +152,10 @@ not_given m says gives = by gives
 in_day : (from at : ℕ) → from ≤ at → at < from + 86400000 → IsInDay from at
 in_day from at since before = record { since = since; before = before }
 
-is_lent : IsLent usual asks takes later of_first 0
-is_lent = record {
+is_leased : IsLeased usual asks takes later of_first 0
+is_leased = record {
   says = first_says;
-  lent = lent;
+  leased = leased;
   kept = (
     (
       (
@@ -185,7 +185,7 @@ last_says = refl
 not_offered : answer_over usual (later ++ (takes ∷ asks)) at_last ≡ Offers 0 → ⊥
 not_offered is =
     false≢true (same_of of_last.mac of_first.mac
-    (nobody_else usual asks later takes of_first 0 is_lent at_last of_last (in_day 6 86400005 (omega arith) (omega arith)) last_says
+    (nobody_else usual asks later takes of_first 0 is_leased at_last of_last (in_day 6 86400005 (omega arith) (omega arith)) last_says
     (subst (Gives 0) (sym is) refl)))
 
 -- Each part of the premise is wanted: where the first one gave the address up by RELEASE, and where the day is over, the second one is offered it.
@@ -196,9 +196,9 @@ given_up : answer_over usual (lets_go ∷ takes ∷ asks) (came 10 2 1 (zeros 4)
 unfolding Reading.read_on
 given_up = refl
 
-still_lent : answer_over usual (takes ∷ asks) (came 86400005 2 1 (zeros 4) asks_15) ≡ Offers 1
+still_leased : answer_over usual (takes ∷ asks) (came 86400005 2 1 (zeros 4) asks_15) ≡ Offers 1
 unfolding Reading.read_on
-still_lent = refl
+still_leased = refl
 
 over : answer_over usual (takes ∷ asks) (came 86400006 2 1 (zeros 4) asks_15) ≡ Offers 0
 unfolding Reading.read_on

@@ -1,4 +1,4 @@
--- An address that was lent stays its client's for a day, unless that gives it up.
+-- An address that was leased stays its client's for a day, unless that gives it up.
 use Rattle.std.proofs.Common.{◌≡◌, ◌≢◌, ◌⊎◌, inl, inr, ℕ, zero, suc, ◌+◌, ◌<◌, ◌≤◌, nat_lt, Bool, true, false, if◌then◌else◌, List, [], ◌∷◌, ◌++◌}
 use Rattle.std.proofs.Common.{length, map, set, Option, Some, None, refl, sym, ap, ◌∙◌, subst, arith, get_or-set_same, get_or-set_other}
 use Rattle.std.specs.Prelude.{MatchOption, position}
@@ -20,12 +20,12 @@ use Rattle.rules_dhcp.specs.Leases.{lease_time, declined_time}
 use Rattle.rules_dhcp.specs.Serving.{discover, request, decline, release, leaves, asked_place, offers, is_for_another, wanted, lends, requested, given_up, outcome_of, served}
 use Rattle.rules_dhcp.specs.Messages.{read_message}
 use Rattle.rules_dhcp.specs.History.{Received, Says, leases_over, entry_over, answer_over, IsForUs, IsAt, IsOpen, IsTaken}
-use Rattle.rules_dhcp.specs.History.{HasReason, IsInDay, GivesUp, KeepsIt, IsLent, IsLentTo, Gives}
+use Rattle.rules_dhcp.specs.History.{HasReason, IsInDay, GivesUp, KeepsIt, IsLeased, IsLeasedTo, Gives}
 use Rattle.rules_dhcp.proofs.Owning.{same_is, lease_at-map, none_found}
 use Rattle.rules_dhcp.proofs.Holding.{same_of, place_is, inside_some, asked_is, either_if, by_kind, one_at_moment, long_at_moment, answer_is, of_request, of_discover, lends_if}
 use Rattle.rules_dhcp.proofs.Holding.{has_reason, refused_taken}
 
--- at this place an address is lent to the hardware address, for a day from a moment on at least
+-- at this place an address is leased to the hardware address, for a day from a moment on at least
 pub record Holds (mac : Mac) (place from : ℕ) (leases : List Lease) : Type 0 where
   pub until : ℕ
   pub entry : lease_at leases place ≡ Bound mac until
@@ -76,7 +76,7 @@ module _ (config : Config) (mac : Mac) (place from now : ℕ) (m : Message) (lea
       (set_keeps leases k place (reserved now m.mac (lease_at leases k)) (λ is.
       ap (λ n. reserved now m.mac (lease_at leases n)) is ∙ ap (reserved now m.mac) holds.entry ∙ sym holds.entry))
 
-  -- the client is lent it again, or another is lent another
+  -- the client is leased it again, or another is leased another
   lasts_lend : Holds mac place from leases → from ≤ now → place < length leases → (k : ℕ) → can_have m.mac (lease_at leases k) ≡ true → Lasts (leaves (lend now m.mac k leases) (Lends k))
   lasts_lend holds since within k can kept = by (same_mac mac m.mac) refl (cases_eq k place)
     where
@@ -138,7 +138,7 @@ module _ (config : Config) (mac : Mac) (place from now : ℕ) (m : Message) (lea
       (λ kind. lasts_given_up holds Free (place_of config m.client.0) (λ is. inl (kind, place_is config m.client.0 place is)))
       (λ kind kept. holds) (λ kept. holds)
 
-  -- what is lent is the client's from then on
+  -- what is leased is the client's from then on
   abbrev Begins : Outcome → Type 0
   Begins o = o.answer ≡ Lends place → Holds m.mac place now o.leases
 
@@ -166,15 +166,15 @@ module _ (config : Config) (mac : Mac) (place from now : ℕ) (m : Message) (lea
       enough : (n : ℕ) → n ≤ n
       enough n = omega arith
 
--- what is given is lent, after a REQUEST for this server alone
+-- what is given is leased, after a REQUEST for this server alone
 begins : (config : Config) (before : List Received) (r : Received) (m : Message) (place : ℕ) → Says r m → answer_over config before r ≡ Lends place →
     (place < 16) × Holds m.mac place r.at (leases_over config (r ∷ before))
-begins config before r m place says lent =
+begins config before r m place says leased =
     let leases = map (at_moment r.at) (leases_over config before) in
-    let reason = subst (HasReason config before r.at m) lent (has_reason config before r m says) in
+    let reason = subst (HasReason config before r.at m) leased (has_reason config before r m says) in
     let outcome = of_request config r.at m leases reason.kind reason.for_us (Some place) (inside_some config (wanted m) place reason.wants) in
     let within : place < length leases = subst (λ n. place < n) (sym (long_at_moment config before r.at)) reason.wants.among in
-    let answer : (lends r.at m.mac leases (Some place)).answer ≡ Lends place = sym (answer_is config before r m says ∙ ap (λ (o : Outcome). o.answer) outcome) ∙ lent in (
+    let answer : (lends r.at m.mac leases (Some place)).answer ≡ Lends place = sym (answer_is config before r m says ∙ ap (λ (o : Outcome). o.answer) outcome) ∙ leased in (
       reason.wants.among,
       subst (Holds m.mac place r.at) (sym (ap (λ o. (served config r.at (leases_over config before) o).leases) says ∙ ap (λ (o : Outcome). o.leases) outcome))
           (begins_lends config m.mac place r.at r.at m leases within (Some place) answer),
@@ -198,17 +198,17 @@ lasts config mac place from before (x ∷ later) few holds kept =
 
 -- ---- what it is told and asked within the day
 
-module _ (config : Config) (before later : List Received) (r : Received) (m : Message) (place : ℕ) (lent : IsLent config before r later m place) where
+module _ (config : Config) (before later : List Received) (r : Received) (m : Message) (place : ℕ) (leased : IsLeased config before r later m place) where
   few : place < 16
-  few = (begins config before r m place lent.says lent.lent).0
+  few = (begins config before r m place leased.says leased.leased).0
 
   held : (at : ℕ) → IsInDay r.at at → Holds m.mac place r.at (map (at_moment at) (leases_over config (later ++ (r ∷ before))))
   held at day =
       after_moment m.mac place r.at at (leases_over config (later ++ (r ∷ before))) day.before
-      (lasts config m.mac place r.at (r ∷ before) later few (begins config before r m place lent.says lent.lent).1 lent.kept)
+      (lasts config m.mac place r.at (r ∷ before) later few (begins config before r m place leased.says leased.leased).1 leased.kept)
 
-  pub stays : (at : ℕ) → IsInDay r.at at → IsLentTo m.mac (entry_over config (later ++ (r ∷ before)) at place)
-  stays at day = subst (IsLentTo m.mac) (sym (held at day).entry) refl
+  pub stays : (at : ℕ) → IsInDay r.at at → IsLeasedTo m.mac (entry_over config (later ++ (r ∷ before)) at place)
+  stays at day = subst (IsLeasedTo m.mac) (sym (held at day).entry) refl
 
   open_place : (at : ℕ) (n : Message) (answer : Answer) → HasReason config (later ++ (r ∷ before)) at n answer → Gives place answer →
       IsOpen n.mac (entry_over config (later ++ (r ∷ before)) at place)
@@ -238,9 +238,9 @@ module _ (config : Config) (before later : List Received) (r : Received) (m : Me
   can_again mac (Bound owner until) is = is
   can_again mac (Declined until) is = is
 
-  pub lent_again : (x : Received) (n : Message) → IsInDay r.at x.at → Says x n → n.mac ≡ m.mac → n.kind ≡ request → IsForUs config n → IsAt config (wanted n) place →
+  pub leased_again : (x : Received) (n : Message) → IsInDay r.at x.at → Says x n → n.mac ≡ m.mac → n.kind ≡ request → IsForUs config n → IsAt config (wanted n) place →
       answer_over config (later ++ (r ∷ before)) x ≡ Lends place
-  lent_again x n day says own kind ours wants =
+  leased_again x n day says own kind ours wants =
       let leases = map (at_moment x.at) (leases_over config (later ++ (r ∷ before))) in
       answer_is config (later ++ (r ∷ before)) x n says
       ∙ ap (λ (o : Outcome). o.answer) (of_request config x.at n leases kind ours (Some place) (inside_some config (wanted n) place wants))

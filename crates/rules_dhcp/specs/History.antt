@@ -46,14 +46,14 @@ pub record IsAt (config : Config) (address place : ℕ) : Type 0 where
   pub is : address ≡ address_of config place
   pub among : place < 16
 
--- a client can't have it: it was offered or is lent to another, or a client found it in use
+-- a client can't have it: it was offered or is leased to another, or a client found it in use
 abbrev pub IsTaken : Mac → Lease → Type 0
 IsTaken mac Free = ⊥
 IsTaken mac (Reserved owner until) = owner ≢ mac
 IsTaken mac (Bound owner until) = owner ≢ mac
 IsTaken mac (Declined until) = ⊤
 
--- a client can have it: nobody has it, or it was offered or is lent to itself
+-- a client can have it: nobody has it, or it was offered or is leased to itself
 abbrev pub IsOpen : Mac → Lease → Type 0
 IsOpen mac Free = ⊤
 IsOpen mac (Reserved owner until) = owner ≡ mac
@@ -88,12 +88,12 @@ HasReason config before at m (Lends place) = IsLease config before at m place
 HasReason config before at m Informs = m.kind ≡ inform
 HasReason config before at m Refuses = IsRefusal config before at m
 
--- A moment within the day for which an address was lent at another: 86,400 s from then on, without the very end (RFC 2131, 3.1, and RFC 2132, 9.2).
+-- A moment within the day for which an address was leased at another: 86,400 s from then on, without the very end (RFC 2131, 3.1, and RFC 2132, 9.2).
 pub record IsInDay (from at : ℕ) : Type 0 where
   pub since : from ≤ at
   pub before : at < from + lease_time
 
--- A client gives an address up where it releases it (RFC 2131, 4.3.4), where it declines it (4.3.3), and where it is lent another in its place.
+-- A client gives an address up where it releases it (RFC 2131, 4.3.4), where it declines it (4.3.3), and where it is leased another in its place.
 abbrev pub GivesUp : Config → List Received → Received → Message → ℕ → Type 0
 GivesUp config before r m place =
     ((m.kind ≡ release) × IsAt config m.client.0 place)
@@ -108,18 +108,18 @@ KeepsIt config mac place from (r ∷ later) before =
     × IsInDay from r.at
     × ((m : Message) → Says r m → m.mac ≡ mac → ¬ GivesUp config (later ++ before) r m place)
 
--- An address was lent to a client by the answer to this message, and the client kept it through what came later.
-pub record IsLent (config : Config) (before : List Received) (r : Received) (later : List Received) (m : Message) (place : ℕ) : Type 0 where
+-- An address was leased to a client by the answer to this message, and the client kept it through what came later.
+pub record IsLeased (config : Config) (before : List Received) (r : Received) (later : List Received) (m : Message) (place : ℕ) : Type 0 where
   pub says : Says r m
-  pub lent : answer_over config before r ≡ Lends place
+  pub leased : answer_over config before r ≡ Lends place
   pub kept : KeepsIt config m.mac place r.at later (r ∷ before)
 
--- the address is lent to this client
-abbrev pub IsLentTo : Mac → Lease → Type 0
-IsLentTo mac Free = ⊥
-IsLentTo mac (Reserved owner until) = ⊥
-IsLentTo mac (Bound owner until) = owner ≡ mac
-IsLentTo mac (Declined until) = ⊥
+-- the address is leased to this client
+abbrev pub IsLeasedTo : Mac → Lease → Type 0
+IsLeasedTo mac Free = ⊥
+IsLeasedTo mac (Reserved owner until) = ⊥
+IsLeasedTo mac (Bound owner until) = owner ≡ mac
+IsLeasedTo mac (Declined until) = ⊥
 
 -- the answer gives this address, by an offer or by a lease
 abbrev pub Gives : ℕ → Answer → Type 0

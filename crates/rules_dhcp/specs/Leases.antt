@@ -1,4 +1,4 @@
--- The list of leases: one entry for each address that is lent, in their order (RFC 2131, 2.2).
+-- The list of leases: one entry for each address that is leased, in their order (RFC 2131, 2.2).
 use Rattle.std.specs.Prelude.{◌≡◌, ℕ, ◌+◌, ◌-◌, nat_eq, nat_lt, nat_le, ◌&&◌, ◌||◌, Bool, true, false, List, map, position, slice_index_or, slice_set, Option, Some, None, if◌then◌else◌}
 use Rattle.std.specs.Option.{option_and_then, option_or}
 use Rattle.std.specs.Cmp.Lexicographic.{pointwise}
@@ -46,7 +46,7 @@ is_reserved_for mac _ = false
 abbrev pub lease_at : List Lease → ℕ → Lease
 lease_at leases place = slice_index_or leases place Free
 
--- the place of an address in the list; an address that isn't lent has none
+-- the place of an address in the list; an address that isn't leased has none
 abbrev pub place_of : Config → ℕ → Option ℕ
 place_of config address = if nat_le config.dhcp_start address && nat_lt address (config.dhcp_start + 16) then Some (address - config.dhcp_start) else None
 
@@ -79,11 +79,11 @@ freed mac lease = if is_of mac lease then Free else lease
 abbrev pub not_reserved : Mac → Lease → Lease
 not_reserved mac lease = if is_reserved_for mac lease then Free else lease
 
--- whether a place's address can be lent to a hardware address
+-- whether a place's address can be leased to a hardware address
 abbrev pub can_have : Mac → Lease → Bool
 can_have mac lease = is_free lease || is_of mac lease
 
--- an address is lent, and any other of the hardware address is free
+-- an address is leased, and any other of the hardware address is free
 abbrev pub lend : ℕ → Mac → ℕ → List Lease → List Lease
 lend now mac place leases = slice_set (map (freed mac) leases) place (Bound mac (now + lease_time))
 

@@ -5,7 +5,7 @@ ghost use Rattle.slirp_settings.specs.Addresses.{Config};
 ghost use Rattle.rules_dhcp.specs.declared.Message.{Message};
 ghost use Rattle.rules_dhcp.specs.declared.Answer.TheVariants.{Informs, Lends, Offers, Refuses};
 ghost use Rattle.rules_dhcp.specs.History.{Received, Says, answer_over, entry_over};
-ghost use Rattle.rules_dhcp.specs.History.{Gives, HasReason, IsAt, IsForUs, IsInDay, IsLease, IsLent, IsLentTo, IsOffer, IsRefusal};
+ghost use Rattle.rules_dhcp.specs.History.{Gives, HasReason, IsAt, IsForUs, IsInDay, IsLease, IsLeased, IsLeasedTo, IsOffer, IsRefusal};
 ghost use Rattle.rules_dhcp.specs.Leases.{lease_time};
 ghost use Rattle.rules_dhcp.specs.Serving.{discover, inform, request, wanted};
 
@@ -31,19 +31,19 @@ pub fn a_refusal_is_sent_where_the_rules_have_one()
         → IsRefusal config before r.at m → answer_over config before r ≡ Refuses }
 {}
 
-/// An address that was lent stays its client's for 86,400 seconds, unless the client gives it up: by RELEASE, by DECLINE, or for another one. In that time no
-/// other client is offered or lent it, and one that asks for it is refused; the client itself is offered it again, and lent it again (RFC 2131, 3.1 and 4.3).
-pub fn an_address_that_was_lent_stays_its_clients()
-    ensures stays { (config : Config) (before later : List Received) (r : Received) (m : Message) (place at : ℕ) → IsLent config before r later m place
-        → IsInDay r.at at → IsLentTo m.mac (entry_over config (later ++ (r ∷ before)) at place) }
-    ensures nobody_else { (config : Config) (before later : List Received) (r x : Received) (m n : Message) (place : ℕ) → IsLent config before r later m place
+/// An address that was leased stays its client's for 86,400 seconds, unless the client gives it up: by RELEASE, by DECLINE, or for another one. In that time no
+/// other client is offered or leased it, and one that asks for it is refused; the client itself is offered it again, and leased it again (RFC 2131, 3.1 and 4.3).
+pub fn an_address_that_was_leased_stays_its_clients()
+    ensures stays { (config : Config) (before later : List Received) (r : Received) (m : Message) (place at : ℕ) → IsLeased config before r later m place
+        → IsInDay r.at at → IsLeasedTo m.mac (entry_over config (later ++ (r ∷ before)) at place) }
+    ensures nobody_else { (config : Config) (before later : List Received) (r x : Received) (m n : Message) (place : ℕ) → IsLeased config before r later m place
         → IsInDay r.at x.at → Says x n → Gives place (answer_over config (later ++ (r ∷ before)) x) → n.mac ≡ m.mac }
-    ensures refused { (config : Config) (before later : List Received) (r x : Received) (m n : Message) (place : ℕ) → IsLent config before r later m place
+    ensures refused { (config : Config) (before later : List Received) (r x : Received) (m n : Message) (place : ℕ) → IsLeased config before r later m place
         → IsInDay r.at x.at → Says x n → n.mac ≢ m.mac → n.kind ≡ request → IsForUs config n → IsAt config (wanted n) place
         → answer_over config (later ++ (r ∷ before)) x ≡ Refuses }
-    ensures offered_again { (config : Config) (before later : List Received) (r x : Received) (m n : Message) (place : ℕ) → IsLent config before r later m place
+    ensures offered_again { (config : Config) (before later : List Received) (r x : Received) (m n : Message) (place : ℕ) → IsLeased config before r later m place
         → IsInDay r.at x.at → Says x n → n.mac ≡ m.mac → n.kind ≡ discover → answer_over config (later ++ (r ∷ before)) x ≡ Offers place }
-    ensures lent_again { (config : Config) (before later : List Received) (r x : Received) (m n : Message) (place : ℕ) → IsLent config before r later m place
+    ensures leased_again { (config : Config) (before later : List Received) (r x : Received) (m n : Message) (place : ℕ) → IsLeased config before r later m place
         → IsInDay r.at x.at → Says x n → n.mac ≡ m.mac → n.kind ≡ request → IsForUs config n → IsAt config (wanted n) place
         → answer_over config (later ++ (r ∷ before)) x ≡ Lends place }
     ensures day { lease_time ≡ 86400 * 1000 }

@@ -5,18 +5,18 @@
 //! - An OFFER is sent only for a DISCOVER, an ACK only for a REQUEST of its address or an INFORM (`each_answer_has_its_reason`: `offers`, `lends`, `informs`, `all`).
 //! - A NAK is sent exactly where the rules have one (`a_refusal_is_sent_where_the_rules_have_one`: `only`, `always`).
 //! - An address that was leased stays its client's for 86,400 s, unless that gives it up: no other is offered or leased it
-//!   (`an_address_that_was_lent_stays_its_clients`).
+//!   (`an_address_that_was_leased_stays_its_clients`).
 #![tactic(auto)]
 
 mod history;
 
 pub use history::{
-    a_refusal_is_sent_where_the_rules_have_one, an_address_that_was_lent_stays_its_clients,
+    a_refusal_is_sent_where_the_rules_have_one, an_address_that_was_leased_stays_its_clients,
     each_answer_has_its_reason,
 };
 use net_octets::{Ip4, Mac};
 
-/// How many addresses are lent.
+/// How many addresses are leased.
 pub const POOL: usize = 16;
 
 // The kinds of messages (RFC 2132, 9.6).
@@ -44,7 +44,7 @@ pub enum Lease {
     Free,
     /// It was offered to this hardware address.
     Reserved(Mac, u64),
-    /// It is lent to this hardware address.
+    /// It is leased to this hardware address.
     Bound(Mac, u64),
     /// A client found it in use, and nobody gets it.
     Declined(u64),

@@ -25,7 +25,7 @@ pub record Stays (old new : ServiceState) : Type 0 where
   pub ready : new.ready ≡ old.ready
 
 -- nothing was read or written, no datagram was sent, no guest is known, no socket is open, no moment was told, nothing is owed, no fragment waits, no address
--- is lent and no guest gets a file; no forward is added or taken back; there is room for as many flows as the settings say, and none of them was used; no port of the host is open yet, and no
+-- is leased and no guest gets a file; no forward is added or taken back; there is room for as many flows as the settings say, and none of them was used; no port of the host is open yet, and no
 -- question waits; a frame has room for a header and a unit of 8 octets, and there are at most 2^44 turns, one at least
 pub record IsNew (service : ServiceState) : Type 0 where
   pub sound : IsSound service.slirp.config

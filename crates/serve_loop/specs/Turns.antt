@@ -45,7 +45,7 @@ is_read_now to_read item = to_read && same_who Link item.of && item.read
 abbrev pub still : Bool → Want → Bool
 still to_read item = to_read && not (same_who Link item.of && item.read)
 
--- What the network and its link have is what the calls made so far left; before a wait the rests of flows that are over have ended, too.
+-- What the network and its link have is what the calls made so far left; before a wait the TIME-WAITs of flows that are over have ended, too.
 abbrev pub HoldsNow : Config → Standing → Bool → SlirpState → LinkState → List Entry → Type 0
 HoldsNow config at aged slirp link past = Holds config at slirp (flowing aged slirp.flows) link past
 
@@ -132,7 +132,7 @@ pub record EndedAs (config : Config) (count : ℕ) (end : End) (forwards : List 
   pub is : end ≡ end_by why
   pub drawn : next_number past ≡ number
 
--- after a turn: the core stands for the record yet, or the run has ended
+-- after a turn: the core stands for the trace yet, or the run has ended
 abbrev pub AfterTurn : Turn → Config → Standing → Bool → SlirpState → LinkState → List Entry → Type 0
 AfterTurn Again config at aged slirp link past = HoldsNow config at aged slirp link past
 AfterTurn (TurnEnded end) config at aged slirp link past = EndedAs config at.count end slirp.forwards (holders_of slirp) slirp.number past

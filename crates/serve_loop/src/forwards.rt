@@ -77,7 +77,7 @@ impl Service {
     /// until the reset that it owes its guest is out. It looks at all flows.
     pub fn flow_after(&self, last: Option<u64>) -> Option<(u64, Tuple)>
         ensures drawn { IfSome result (λ next. next.0 < self.now.slirp.number) }
-        // By the record, between two turns.
+        // By the trace, between two turns.
         ensures next { (config : Config) (count : ℕ) (past : List Entry) → AttendsNow config (after count) false self.now.slirp self.now.link past
             → IsNextFlow last result (book config past).flows }
     {

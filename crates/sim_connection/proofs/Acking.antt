@@ -21,7 +21,7 @@ use Rattle.spec_flow.specs.Lawful.{is_overdue, is_prompted, repeats}
 use Rattle.sim_halves.specs.Resends.{Resends}
 use Rattle.sim_halves.specs.Sends.{Keeps, Outward}
 use Rattle.sim_halves.proofs.Gone.{bare_goes}
-use Rattle.sim_connection.specs.Holding.{Gives, Holds, is_calls, is_connects, is_live}
+use Rattle.sim_connection.specs.Holding.{Gives, Holds, is_calls, is_at_connecting, is_live}
 use Rattle.sim_connection.specs.Seen.{count_of, outward_of, resending_of, timer_of}
 use Rattle.sim_connection.specs.Sending.{segment_out}
 use Rattle.sim_connection.proofs.Counting.{counts_on}
@@ -139,13 +139,13 @@ record Asked (c : Connection) (past : Story) : Type 0 where
 
 module _ (s : Settings) (c : Connection) (up : Upward) (down : Downward) (past : Story) (now : ℕ) (h : Holds s c up down past now) where
   is_asked : (st : Stage) → c.stage ≡ st → owed_by st c up down ≡ Some Ack → is_live st ≡ true → Asked c past
-  is_asked stage.Connects is owed live = absurd cc
-  is_asked stage.Calls is owed live = absurd (by c.syn_owed owed)
+  is_asked stage.Connecting is owed live = absurd cc
+  is_asked stage.SynSent is owed live = absurd (by c.syn_owed owed)
     where
       by : (b : Bool) → (if b then Some Syn else None) ≡ Some Ack → ⊥
       by true owed = absurd cc
       by false owed = absurd cc
-  is_asked stage.Answers is owed live = by c.syn_owed c.ack_owed refl refl owed
+  is_asked stage.SynReceived is owed live = by c.syn_owed c.ack_owed refl refl owed
     where
       opening : is_opening c.stage ≡ true
       opening = ap (λ (st : Stage). is_opening st) is
@@ -155,7 +155,7 @@ module _ (s : Settings) (c : Connection) (up : Upward) (down : Downward) (past :
 
       by_gone : (b : Bool) → has_gone c.sendings ≡ b → c.syn_owed ≡ false → b ≡ true
       by_gone true gone none = refl
-      by_gone false gone none = let not_it = sym (h.opened.owes (ap (λ (st : Stage). is_connects st) is) opening gone) ∙ none in absurd cc
+      by_gone false gone none = let not_it = sym (h.opened.owes (ap (λ (st : Stage). is_at_connecting st) is) opening gone) ∙ none in absurd cc
 
       by : (a b : Bool) → c.syn_owed ≡ a → c.ack_owed ≡ b → (if a then Some SynAck else ack_if b) ≡ Some Ack → Asked c past
       by true b syn_is ack_is owed = absurd cc
@@ -194,9 +194,9 @@ module _ (s : Settings) (c : Connection) (up : Upward) (down : Downward) (past :
       by false false ack_is prompted_is owed =
           absurd (none_owed c.received.ended (ap (λ (told : Option ℕ). not c.received.ended && moves_far told (told_edge c up (our_shift c)))
           (sym ((h.receives known).updated prompted_is synchronized)) ∙ owed))
-  is_asked stage.Rests is owed live = absurd cc
+  is_asked stage.TimeWait is owed live = absurd cc
   is_asked (stage.Resets seq ack) is owed live = absurd cc
-  is_asked stage.Gone is owed live = absurd cc
+  is_asked stage.Closed is owed live = absurd cc
 
   -- an acknowledgement that is owed may go out
   pub owed_ack_goes : (m : ℕ) → now ≤ m → owed_of c up down ≡ Some Ack → HasBuffers (told c up (our_shift c)) up down

@@ -23,7 +23,7 @@ use Rattle.spec_flow.specs.Close.{renews}
 use Rattle.spec_flow.proofs.Sides.{our_first_is}
 use Rattle.spec_flow.specs.Segments.{segment_of}
 use Rattle.sim_halves.proofs.Segments.{number_from}
-use Rattle.sim_connection.specs.Holding.{Holds, is_calls, is_connects, is_live}
+use Rattle.sim_connection.specs.Holding.{Holds, is_calls, is_at_connecting, is_live}
 use Rattle.sim_connection.proofs.Unheeded.{stays}
 use Rattle.sim_connection.proofs.Watching.{synchronized_is}
 
@@ -142,7 +142,7 @@ module _ (s : Settings) (c : Connection) (up : Upward) (down : Downward) (past :
   not_next is number = let same = equal_is seg.number (next_number c.received) number in let not_it = sym same ∙ is in absurd cc
 
   -- an acknowledgement of another number than our SYN's, before that is acknowledged
-  stranger_quiet : c.stage ≡ stage.Answers → tcp.ack < 2 ^ 32 → seg.ack ≡ true → seg.rst ≡ false → acknowledges_syn c tcp ≡ false → Quiet c past seg
+  stranger_quiet : c.stage ≡ stage.SynReceived → tcp.ack < 2 ^ 32 → seg.ack ≡ true → seg.rst ≡ false → acknowledges_syn c tcp ≡ false → Quiet c past seg
   stranger_quiet at fits ack rst other = record {
     none = last_none (confirms past seg) (is_acceptable (host past) tcp.ack) (by (is_acceptable (host past) tcp.ack) refl);
     unheeded = heed_none (is_closed past) (is_some (their_number past)) (syn_is_out past) seg.ack seg.syn seg.rst (not_past_sent (host past) tcp.ack)
@@ -197,17 +197,17 @@ module _ (s : Settings) (c : Connection) (up : Upward) (down : Downward) (past :
     -- the connection stays as it is, but for what it owes
     rests : (syn_owed ack_owed : Bool) → after_segment c up down tcp m ≡ record c { syn_owed = syn_owed; ack_owed = ack_owed } → up_after_segment c up down tcp ≡ up →
         down_after_segment c up down tcp ≡ down
-        → (c.syn_owed ≡ true → syn_owed ≡ true) → (ack_owed ≡ false → c.ack_owed ≡ false) → (is_connects c.stage ≡ true → ack_owed ≡ false) → is_calls c.stage ≡ false → Quiet c past seg → Means
+        → (c.syn_owed ≡ true → syn_owed ≡ true) → (ack_owed ≡ false → c.ack_owed ≡ false) → (is_at_connecting c.stage ≡ true → ack_owed ≡ false) → is_calls c.stage ≡ false → Quiet c past seg → Means
     -- the guest is called on
-    waits : after_segment c up down tcp m ≡ c → up_after_segment c up down tcp ≡ up → down_after_segment c up down tcp ≡ down → c.stage ≡ stage.Calls → greets past seg ≡ false → Means
+    waits : after_segment c up down tcp m ≡ c → up_after_segment c up down tcp ≡ up → down_after_segment c up down tcp ≡ down → c.stage ≡ stage.SynSent → greets past seg ≡ false → Means
     -- the guest resets it: at the next number, or by the acknowledgement of our SYN
     resets : verdict_of c up tcp ≡ Resets → is_calls c.stage ≡ false → seg.rst ≡ true → seg.number ≡ next_number c.received → Means
     turns_away : verdict_of c up tcp ≡ Resets → is_calls c.stage ≡ true → seg.rst ≡ true → seg.ack ≡ true → seg.acknowledgement ≡ number_of c.ours 0 → Means
     -- the guest's SYN
-    is_greeted : verdict_of c up tcp ≡ Greets → c.stage ≡ stage.Calls → has_gone c.sendings ≡ true → greets past seg ≡ true → seg.rst ≡ false → seg.syn ≡ true →
+    is_greeted : verdict_of c up tcp ≡ Greets → c.stage ≡ stage.SynSent → has_gone c.sendings ≡ true → greets past seg ≡ true → seg.rst ≡ false → seg.syn ≡ true →
         (seg.ack ≡ true → tcp.ack ≡ number_of c.ours 0) → Means
     -- the acknowledgement of our SYN
-    is_opened : verdict_of c up tcp ≡ Heeded → c.stage ≡ stage.Answers → has_gone c.sendings ≡ true → tcp.ack ≡ number_of c.ours 0 → seg.ack ≡ true → seg.rst ≡ false → seg.syn ≡ false → Means
+    is_opened : verdict_of c up tcp ≡ Heeded → c.stage ≡ stage.SynReceived → has_gone c.sendings ≡ true → tcp.ack ≡ number_of c.ours 0 → seg.ack ≡ true → seg.rst ≡ false → seg.syn ≡ false → Means
     -- one of the stream
     is_heard : verdict_of c up tcp ≡ Heeded → c.stage ≡ stage.Synchronized → seg.ack ≡ true → seg.rst ≡ false → seg.syn ≡ false → Means
 
@@ -223,7 +223,7 @@ module _ (s : Settings) (c : Connection) (up : Upward) (down : Downward) (past :
   as_repeats is known quiet = rests true c.ack_owed (ap (λ (v : Verdict). conn_by v c up down tcp m) is) (ap (λ (v : Verdict). up_by v c up down tcp) is)
       (ap (λ (v : Verdict). down_by v c down tcp) is) (λ so. refl) (λ so. so) h.opened.quiet known quiet
 
-  as_challenged : verdict_of c up tcp ≡ Challenged → is_connects c.stage ≡ false → is_calls c.stage ≡ false → Quiet c past seg → Means
+  as_challenged : verdict_of c up tcp ≡ Challenged → is_at_connecting c.stage ≡ false → is_calls c.stage ≡ false → Quiet c past seg → Means
   as_challenged is granted known quiet = rests c.syn_owed true (ap (λ (v : Verdict). conn_by v c up down tcp m) is) (ap (λ (v : Verdict). up_by v c up down tcp) is)
       (ap (λ (v : Verdict). down_by v c down tcp) is) (λ so. so) (λ so. absurd cc) (λ so. let not_it = sym so ∙ granted in absurd cc) known quiet
 
@@ -243,7 +243,7 @@ module _ (s : Settings) (c : Connection) (up : Upward) (down : Downward) (past :
           (unsent_quiet known (h.opened.out ∙ unsent) (λ is number. let not_it = sym is ∙ rst in absurd cc))
 
   -- once both SYNs are known
-  synchronized_means : verdict_of c up tcp ≡ verdict_synchronized c up tcp → is_connects c.stage ≡ false → is_calls c.stage ≡ false
+  synchronized_means : verdict_of c up tcp ≡ verdict_synchronized c up tcp → is_at_connecting c.stage ≡ false → is_calls c.stage ≡ false
       → (verdict_of c up tcp ≡ Heeded → seg.ack ≡ true → seg.rst ≡ false → seg.syn ≡ false → Means) → Means
   synchronized_means at granted known heeds = by (is_rst tcp) (is_next c tcp) (is_in_window c up tcp) (is_syn tcp) (is_ack tcp) refl refl refl refl refl
     where
@@ -264,8 +264,8 @@ module _ (s : Settings) (c : Connection) (up : Upward) (down : Downward) (past :
   -- ---- by how far it is opened
 
   module _ (ack_fits : tcp.ack < 2 ^ 32) where
-    connects_means : c.stage ≡ stage.Connects → Means
-    connects_means at = early_means (ap (λ (st : Stage). verdict_by st c up tcp) at) (ap (λ (st : Stage). is_calls st) at) (h.opened.unsent (ap (λ (st : Stage). is_connects st) at))
+    connects_means : c.stage ≡ stage.Connecting → Means
+    connects_means at = early_means (ap (λ (st : Stage). verdict_by st c up tcp) at) (ap (λ (st : Stage). is_calls st) at) (h.opened.unsent (ap (λ (st : Stage). is_at_connecting st) at))
 
     greets_by : (a b d e f : Bool) → seg.syn ≡ a → seg.rst ≡ b → syn_is_out past ≡ d → (not seg.ack || nat_eq tcp.ack (number_after (our_number past))) ≡ e
         → greets past seg ≡ (a && not b && d && true && e)
@@ -296,7 +296,7 @@ module _ (s : Settings) (c : Connection) (up : Upward) (down : Downward) (past :
     five true false false = refl
     five false b d = refl
 
-    calls_means : c.stage ≡ stage.Calls → Means
+    calls_means : c.stage ≡ stage.SynSent → Means
     calls_means at = by (is_rst tcp) (acknowledges_syn c tcp) (has_gone c.sendings) (is_ack tcp) (is_syn tcp) refl refl refl refl refl
       where
         calls : is_calls c.stage ≡ true
@@ -350,14 +350,14 @@ module _ (s : Settings) (c : Connection) (up : Upward) (down : Downward) (past :
             is_greeted (verdict_is false b true false true a_is b_is d_is e_is f_is) at d_is (greets_is false b true false true a_is b_is d_is e_is f_is) a_is f_is
             (λ so. let not_it = sym so ∙ e_is in absurd cc)
 
-    answers_means : c.stage ≡ stage.Answers → Means
+    answers_means : c.stage ≡ stage.SynReceived → Means
     answers_means at = by_gone (has_gone c.sendings) refl
       where
         known : is_calls c.stage ≡ false
         known = ap (λ (st : Stage). is_calls st) at
 
-        granted : is_connects c.stage ≡ false
-        granted = ap (λ (st : Stage). is_connects st) at
+        granted : is_at_connecting c.stage ≡ false
+        granted = ap (λ (st : Stage). is_at_connecting st) at
 
         at_verdict : verdict_of c up tcp ≡ verdict_answering c up tcp
         at_verdict = ap (λ (st : Stage). verdict_by st c up tcp) at
@@ -399,18 +399,18 @@ module _ (s : Settings) (c : Connection) (up : Upward) (down : Downward) (past :
     means = by c.stage refl h.opened.live
       where
         by : (st : Stage) → c.stage ≡ st → is_live st ≡ true → Means
-        by stage.Connects at live = connects_means at
-        by stage.Calls at live = calls_means at
-        by stage.Answers at live = answers_means at
+        by stage.Connecting at live = connects_means at
+        by stage.SynSent at live = calls_means at
+        by stage.SynReceived at live = answers_means at
         by stage.Synchronized at live =
-            synchronized_means (ap (λ (st : Stage). verdict_by st c up tcp) at) (ap (λ (st : Stage). is_connects st) at) (ap (λ (st : Stage). is_calls st) at)
+            synchronized_means (ap (λ (st : Stage). verdict_by st c up tcp) at) (ap (λ (st : Stage). is_at_connecting st) at) (ap (λ (st : Stage). is_calls st) at)
             (λ so ack rst syn. is_heard so at ack rst syn)
-        by stage.Rests at live = absurd cc
+        by stage.TimeWait at live = absurd cc
         by (stage.Resets seq ack) at live = absurd cc
-        by stage.Gone at live = absurd cc
+        by stage.Closed at live = absurd cc
 
     -- one after which the connection stays as it is
     pub rests_holds : (syn_owed ack_owed : Bool) → (c.syn_owed ≡ true → syn_owed ≡ true) → (ack_owed ≡ false → c.ack_owed ≡ false) →
-        (is_connects c.stage ≡ true → ack_owed ≡ false) → is_calls c.stage ≡ false → Quiet c past seg
+        (is_at_connecting c.stage ≡ true → ack_owed ≡ false) → is_calls c.stage ≡ false → Quiet c past seg
         → HasBuffers (record c { syn_owed = syn_owed; ack_owed = ack_owed }) up down → Holds s (record c { syn_owed = syn_owed; ack_owed = ack_owed }) up down after m
     rests_holds syn_owed ack_owed keeps only calm known q buffers = stays s c up down past now m seg on h q.none known q.unheeded q.apart syn_owed ack_owed keeps only calm (λ none. q.calm) buffers

@@ -12,7 +12,7 @@ use Rattle.spec_flow.specs.Flow.{is_accepted, is_closed, is_connecting, has_conn
 use Rattle.spec_flow.specs.Lawful.{AskConnected}
 use Rattle.sim_halves.proofs.Acts.{may_ask, must_ask}
 use Rattle.sim_halves.proofs.Resent.{IsQuiet}
-use Rattle.sim_connection.specs.Holding.{Goes, Holds, is_calls, is_connects}
+use Rattle.sim_connection.specs.Holding.{Goes, Holds, is_calls, is_at_connecting}
 use Rattle.sim_connection.specs.Same.{SameGuest, SameHost, SameStart}
 use Rattle.sim_connection.proofs.Going.{comes, does, nothing_to_close}
 use Rattle.sim_connection.proofs.Quiet.{awaits_on, gives_as, gives_on, opened_on, receives_beside, receives_on}
@@ -34,7 +34,7 @@ module _ (s : Settings) (c : Connection) (up : Upward) (down : Downward) (past :
   }
 
   -- the host hasn't connected yet
-  pub connects_yet : is_connects c.stage ≡ true → Holds s c up down past now → Holds s c up down (At m ConnectsYet ∷ past) m
+  pub connects_yet : is_at_connecting c.stage ≡ true → Holds s c up down past now → Holds s c up down (At m ConnectsYet ∷ past) m
   connects_yet joins h = quietly ConnectsYet tt
       (record { ours = refl; connecting = refl; out = refl; accepted = refl; theirs = refl; unasked = refl })
       (record { guest = refl; ended = refl; edge = refl; prompted = refl; answered = refl })
@@ -60,12 +60,12 @@ module _ (s : Settings) (c : Connection) (up : Upward) (down : Downward) (past :
   connected_goes : is_connecting past ≡ true → Goes s past now → Goes s (At m Connected ∷ past) m
   connected_goes connects g = does s past now m Connected AskConnected g on (λ o. o) refl (may_ask s past m g.well g.open_yet connects) (must_ask s past m g.free) g.open_yet refl refl
 
-  pub connects_now : c.stage ≡ stage.Connects → HasBuffers (record c { stage = stage.Answers; syn_owed = true }) up down
-      → Holds s c up down past now → Holds s (record c { stage = stage.Answers; syn_owed = true }) up down (At m Connected ∷ past) m
+  pub connects_now : c.stage ≡ stage.Connecting → HasBuffers (record c { stage = stage.SynReceived; syn_owed = true }) up down
+      → Holds s c up down past now → Holds s (record c { stage = stage.SynReceived; syn_owed = true }) up down (At m Connected ∷ past) m
   connects_now is buffers h =
       let o = h.opened in
       let known : is_calls c.stage ≡ false = ap (λ (st : Stage). is_calls st) is in
-      let unsent : has_gone c.sendings ≡ false = o.unsent (ap (λ (st : Stage). is_connects st) is) in
+      let unsent : has_gone c.sendings ≡ false = o.unsent (ap (λ (st : Stage). is_at_connecting st) is) in
       let opening : is_opening c.stage ≡ true = ap (λ (st : Stage). is_opening st) is in
       let g = gives_on s c down past now m Connected tt on refl (record { host = refl; window = refl; fin_out = refl }) h.gives in
       let r = receives_on s c up past m Connected tt refl (record { guest = refl; ended = refl; edge = refl; prompted = refl; answered = refl }) (h.receives known) in
@@ -73,7 +73,7 @@ module _ (s : Settings) (c : Connection) (up : Upward) (down : Downward) (past :
         suits = record { ring = h.suits.ring; congestion = h.suits.congestion; scales = h.suits.scales; few = h.suits.few };
         buffers = buffers;
         within = h.within;
-        goes = connected_goes (o.connects ∙ ap (λ (st : Stage). is_connects st) is) h.goes;
+        goes = connected_goes (o.connects ∙ ap (λ (st : Stage). is_at_connecting st) is) h.goes;
         opened = record {
           live = refl;
           ours = o.ours;
@@ -85,14 +85,14 @@ module _ (s : Settings) (c : Connection) (up : Upward) (down : Downward) (past :
           owes = λ no opening_now none. refl;
           calls = λ no. absurd cc;
           quiet = λ no. absurd cc;
-          called = λ accepted no. let not_it = sym (ap (λ (b : Bool). not (b || has_connected past || is_closed past)) accepted) ∙ o.connects ∙ ap (λ (st : Stage). is_connects st) is in absurd cc;
+          called = λ accepted no. let not_it = sym (ap (λ (b : Bool). not (b || has_connected past || is_closed past)) accepted) ∙ o.connects ∙ ap (λ (st : Stage). is_at_connecting st) is in absurd cc;
           theirs = o.theirs ∙ ap (λ (b : Bool). if b then None else Some c.received.first) known;
           scale = o.scale;
           mss = λ no. o.mss known;
           calling = λ no. absurd cc;
         };
         awaits = λ no. absurd cc;
-        receives = λ no. receives_beside s c (record c { stage = stage.Answers; syn_owed = true }) up (At m Connected ∷ past) (λ yes. absurd cc) r;
-        gives = gives_as s c (record c { stage = stage.Answers; syn_owed = true }) down (At m Connected ∷ past) m (sym opening) refl refl refl refl
+        receives = λ no. receives_beside s c (record c { stage = stage.SynReceived; syn_owed = true }) up (At m Connected ∷ past) (λ yes. absurd cc) r;
+        gives = gives_as s c (record c { stage = stage.SynReceived; syn_owed = true }) down (At m Connected ∷ past) m (sym opening) refl refl refl refl
             (λ owed gone opening_now. let not_it = sym gone ∙ unsent in absurd cc) (λ owed. refl) (λ opening_now owed runs. uncalled_unheard (At m Connected ∷ past) (o.answered ∙ ap (λ (st : Stage). is_synchronized st) is) (o.out ∙ unsent)) g;
       }

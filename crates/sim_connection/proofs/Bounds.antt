@@ -14,11 +14,11 @@ use Rattle.spec_flow.specs.Event.{IsStory, Story, newest_moment}
 use Rattle.spec_flow.specs.Host.{acked, answered, owned, sent}
 use Rattle.spec_flow.specs.Flow.{acknowledged_at, host, is_accepted, is_closed, is_under_way, oldest_sendings, opened_at, sendings, syn_is_out, syn_sendings, newest_of}
 use Rattle.spec_flow.specs.Close.{asked_at, times_asked}
-use Rattle.spec_flow.specs.Dutiful.{back_off, closing_moments, moment_if, oldest_unheard, resend_deadline, seeks_guest, waits_for_window, waits_since, wakes}
+use Rattle.spec_flow.specs.Dutiful.{back_off, closing_moments, moment_if, oldest_unheard, resend_deadline, resolves_guest, waits_for_window, waits_since, wakes}
 use Rattle.spec_flow.specs.Bounds.{IsBy, IsFrom}
 use Rattle.sim_halves.specs.Resends.{Resends}
 use Rattle.sim_halves.proofs.Edges.{owned_is}
-use Rattle.sim_halves.proofs.InTime.{not_woken, opened_by, seeks_none}
+use Rattle.sim_halves.proofs.InTime.{not_woken, opened_by, resolves_none}
 use Rattle.sim_halves.proofs.Moments.{by_both}
 use Rattle.sim_halves.proofs.Sendings.{nothing_past}
 use Rattle.sim_connection.specs.Holding.{Holds}
@@ -43,7 +43,7 @@ from_second at [] ns f = f
 from_second at (m ∷ ms) ns f = inr (from_second at ms ns f)
 
 -- no guest's address is asked for
-by_none : (due : Option ℕ) (past : Story) → seeks_guest past ≡ false → IsBy due (moment_if (seeks_guest past && nat_lt 0 (times_asked past)) (asked_at past + 60000))
+by_none : (due : Option ℕ) (past : Story) → resolves_guest past ≡ false → IsBy due (moment_if (resolves_guest past && nat_lt 0 (times_asked past)) (asked_at past + 60000))
 by_none due past none = rw none tt
 
 -- ---- a timer
@@ -60,10 +60,10 @@ by_window past due watched = by (waits_for_window past) watched
     by false f = tt
 
 -- it expires within a minute since what is under way went out
-within : (past : Story) (now k w : ℕ) (tm : Timer) → Resends past now (timer_by tm w) k w → (is_under_way past ≡ true → is_expired tm ≡ true → ⊥) → seeks_guest past ≡ false
+within : (past : Story) (now k w : ℕ) (tm : Timer) → Resends past now (timer_by tm w) k w → (is_under_way past ≡ true → is_expired tm ≡ true → ⊥) → resolves_guest past ≡ false
     → Watches past (due_by tm w) → IsBy (due_by tm w) (resend_deadline past)
 within past now k w tm r unexpired called watched =
-    by_both (due_by tm w) (moment_if (is_under_way past && not (is_closed past)) (waits_since past + 60000) ++ moment_if (seeks_guest past && nat_lt 0 (times_asked past)) (asked_at past + 60000)) _
+    by_both (due_by tm w) (moment_if (is_under_way past && not (is_closed past)) (waits_since past + 60000) ++ moment_if (resolves_guest past && nat_lt 0 (times_asked past)) (asked_at past + 60000)) _
     (by_both (due_by tm w) (moment_if (is_under_way past && not (is_closed past)) (waits_since past + 60000)) _ (by (is_under_way past) (is_closed past) refl)
     (by_none (due_by tm w) past called)) (by_window past (due_by tm w) watched)
   where
@@ -132,7 +132,7 @@ module _ (s : Settings) (c : Connection) (up : Upward) (down : Downward) (past :
     syn_ran : Resends past now (timer_of c.syn) (count_of (is_under_way past) c.syn) c.syn.estimate.wait
     syn_ran = ran c.syn (ap (λ (b : Bool). if b then c.syn else c.transmission.resend) opening)
 
-    pub opening_by : (has_gone c.sendings ≡ true → c.syn_owed ≡ false) → seeks_guest past ≡ false → IsBy (resend_due c.syn) (resend_deadline past)
+    pub opening_by : (has_gone c.sendings ≡ true → c.syn_owed ≡ false) → resolves_guest past ≡ false → IsBy (resend_due c.syn) (resend_deadline past)
     opening_by none called = within past now (count_of (is_under_way past) c.syn) c.syn.estimate.wait c.syn.timer syn_ran
         (λ under over. let not_it = sym (h.gives.owes_syn opening over) ∙ none (sym (syn_under_way s c past h.opened opening) ∙ under) in absurd cc) called (λ waits. absurd (no_window past (h.opened.answered ∙ opening_is c.stage h.opened.live opening) waits))
 
@@ -161,7 +161,7 @@ module _ (s : Settings) (c : Connection) (up : Upward) (down : Downward) (past :
 
     pub synchronized_by : is_expired t.resend.timer ≡ false → Watches past (resend_due t.resend) → IsBy (resend_due t.resend) (resend_deadline past)
     synchronized_by none watched = within past now (count_of (is_under_way past) t.resend) t.resend.estimate.wait t.resend.timer piece_ran (λ under over. let not_it = sym over ∙ none in absurd cc)
-        (seeks_none past (λ accepted. h.opened.out ∙ h.opened.sent synchronized)) watched
+        (resolves_none past (λ accepted. h.opened.out ∙ h.opened.sent synchronized)) watched
 
     -- where nothing is under way, what waits for the window is unsent, and waits since the opening and the last acknowledgement at least
     waits : is_under_way past ≡ false → (base : ℕ) → t.resend.timer ≡ timer.Since base

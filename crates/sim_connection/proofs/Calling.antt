@@ -16,7 +16,7 @@ use Rattle.spec_flow.specs.Lawful.{OpensWithSyn, Send}
 use Rattle.spec_flow.specs.Dutiful.{TellsRoom}
 use Rattle.sim_halves.proofs.Acts.{may_send, must_send}
 use Rattle.sim_halves.proofs.Windows.{syn_tells}
-use Rattle.sim_connection.specs.Holding.{Goes, Holds, is_calls, is_connects}
+use Rattle.sim_connection.specs.Holding.{Goes, Holds, is_calls, is_at_connecting}
 use Rattle.sim_connection.specs.Seen.{part_of}
 use Rattle.sim_connection.specs.Sending.{segment_out}
 use Rattle.sim_connection.proofs.Going.{does}
@@ -26,7 +26,7 @@ use Rattle.sim_connection.proofs.Syns.{opened_gone, syn_gives, syn_reason}
 use Rattle.sim_connection.proofs.Telling.{least_same}
 
 module _ (s : Settings) (c : Connection) (up : Upward) (down : Downward) (past : Story) (now m : ℕ) (on : now ≤ m) (late : m ≤ 2 ^ 62) (h : Holds s c up down past now)
-    (at : c.stage ≡ stage.Calls) (owed : c.syn_owed ≡ true) where
+    (at : c.stage ≡ stage.SynSent) (owed : c.syn_owed ≡ true) where
   abbrev seg : Segment
   seg = segment_out s.mru c up down Syn
 
@@ -63,7 +63,7 @@ module _ (s : Settings) (c : Connection) (up : Upward) (down : Downward) (past :
       (may_send s past m seg (refl, refl) (omega arith) (syn_reason s c down up past now m seg on late h opening refl refl owed) (λ is. absurd cc)
       (λ sent. (sym (ap (λ (o : Option ℕ). is_some o) unknown), λ is. absurd cc))
       (λ is. absurd cc) h.goes.well (λ is. absurd cc) (λ is. absurd (none_if (is_closed past) h.goes.open_yet is))
-      (λ is. granted s c past h.opened h.goes.open_yet (ap (λ (st : Stage). is_connects st) at)) opens
+      (λ is. granted s c past h.opened h.goes.open_yet (ap (λ (st : Stage). is_at_connecting st) at)) opens
       (record { carries = λ is. absurd cc; acknowledges = ((λ is. absurd cc), (λ is. refl)); next = λ is. absurd cc; window = λ is. absurd cc })
       (refl, scale_is s.scales (is_scaled s past) (least_shift c.ring) (least_told s.ring) h.suits.scales (ap least_shift h.suits.ring ∙ sym (least_same s.ring))))
       (must_send s past m seg tells h.goes.free)
@@ -76,7 +76,7 @@ module _ (s : Settings) (c : Connection) (up : Upward) (down : Downward) (past :
         buffers = buffers;
         within = h.within;
         goes = goes_now;
-        opened = opened_gone s c past (At m (Departs seg) ∷ past) m (ap (λ (st : Stage). is_connects st) at) refl refl refl refl refl refl h.opened;
+        opened = opened_gone s c past (At m (Departs seg) ∷ past) m (ap (λ (st : Stage). is_at_connecting st) at) refl refl refl refl refl refl h.opened;
         awaits = λ is. awaits_beside s c (syn_gone c m) up past (At m (Departs seg) ∷ past) refl refl refl refl refl (h.awaits is);
         receives = λ is. let not_it = sym is ∙ calls in absurd cc;
         gives = syn_gives s c down up past now m seg on late h opening refl refl owed;

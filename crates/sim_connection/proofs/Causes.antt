@@ -16,7 +16,7 @@ use Rattle.tcp_connection.specs.Segments.{is_done as takes_for_done, settled}
 use Rattle.tcp_connection.specs.declared.Stage.{Stage}
 use Rattle.tcp_connection.specs.declared.Stage.TheVariants as stage
 use Rattle.spec_flow.specs.Settings.{Settings}
-use Rattle.spec_flow.proofs.GuestLaws.{honest_before}
+use Rattle.spec_flow.proofs.GuestLaws.{conforming_before}
 use Rattle.spec_flow.specs.Event.{Arrives, Closes, ConnectFails, WriteFails, ReadFails, EndFails, At, Event, Opens, Segment, Story}
 use Rattle.spec_flow.specs.Host.{answered, got_end}
 use Rattle.spec_flow.specs.Flow.{guest, host, is_accepted, is_closed, next_number as number_after, our_number, syn_is_out, their_number}
@@ -27,11 +27,11 @@ use Rattle.sim_halves.proofs.Acts.{may_ask, may_end, may_read, may_write, must_a
 use Rattle.sim_halves.proofs.Owed.{done_owes_none, failed_owes, late_owes, reset_owes_none, way_owes}
 use Rattle.sim_halves.proofs.Owing.{given_up_not_done, no_reset, unacked_not_done, unanswered_not_done, unended_not_done}
 use Rattle.sim_halves.proofs.Resets.{reset_closes, reset_is_fatal, reset_turns_away, turning_away_is_fatal}
-use Rattle.sim_halves.proofs.Rests.{closes_to_rest, done_is, our_fin, quiet_ends}
+use Rattle.sim_halves.proofs.Rests.{closes_to_time_wait, done_is, our_fin, quiet_ends}
 use Rattle.sim_halves.proofs.Steps.{told_the_end, wrote}
 use Rattle.sim_halves.proofs.Wanting.{offers}
-use Rattle.sim_connection.specs.Holding.{Holds, is_calls, is_connects, is_live}
-use Rattle.sim_connection.specs.Over.{IsOver, IsResting, Runs, is_resets}
+use Rattle.sim_connection.specs.Holding.{Holds, is_calls, is_at_connecting, is_live}
+use Rattle.sim_connection.specs.Over.{IsOver, IsInTimeWait, Runs, is_resets}
 use Rattle.sim_connection.specs.Seen.{outward_of, part_of}
 use Rattle.sim_connection.proofs.Closing.{closes, closes_for, resets_over, runs_of, runs_on}
 use Rattle.sim_connection.proofs.Going.{longer}
@@ -120,13 +120,13 @@ module _ (s : Settings) (c : Connection) (up : Upward) (down : Downward) (past :
   fails at_end e act opens_none is may must open_yet failed =
       closes s (At m e ∷ past) m m false at_end known (runs_on s past now m e act runs on opens_none is may must) (omega arith) open_yet (failed_cause at_end (At m e ∷ past) failed)
 
-  pub refused_closes : (at_end : Bool) → is_connects c.stage ≡ true → is_opening c.stage ≡ true → IsOver s (reset c) (At m (Closes false at_end known) ∷ At m ConnectFails ∷ past) m
+  pub refused_closes : (at_end : Bool) → is_at_connecting c.stage ≡ true → is_opening c.stage ≡ true → IsOver s (reset c) (At m (Closes false at_end known) ∷ At m ConnectFails ∷ past) m
   refused_closes at_end connects opening =
       resets_over s c up down past now m h (At m ConnectFails ∷ past) refl refl refl h.gives.keeps (λ n come. come) false at_end known
       (fails at_end ConnectFails AskConnected (λ none. none) refl (may_ask s past m h.goes.well h.goes.open_yet (h.opened.connects ∙ connects)) (must_ask s past m h.goes.free) h.goes.open_yet refl)
       (failed_owes (At m ConnectFails ∷ past) m false at_end known refl (unanswered_not_done (At m ConnectFails ∷ past) (unanswered opening)))
 
-  pub read_fails_closes : (at_end : Bool) → is_open c.transmission.end ≡ true → is_connects c.stage ≡ false → IsOver s (reset c) (At m (Closes false at_end known) ∷ At m ReadFails ∷ past) m
+  pub read_fails_closes : (at_end : Bool) → is_open c.transmission.end ≡ true → is_at_connecting c.stage ≡ false → IsOver s (reset c) (At m (Closes false at_end known) ∷ At m ReadFails ∷ past) m
   read_fails_closes at_end yet joined =
       resets_over s c up down past now m h (At m ReadFails ∷ past) refl refl refl h.gives.keeps (λ n come. come) false at_end known
       (fails at_end ReadFails Read (λ none. none) refl (may_read s past m none_ended h.goes.well h.goes.open_yet (h.opened.connects ∙ joined)) (must_read s past m h.goes.free) h.goes.open_yet refl)
@@ -149,7 +149,7 @@ module _ (s : Settings) (c : Connection) (up : Upward) (down : Downward) (past :
           our_fin (outward_of c.transmission down) past h.gives.keeps ∙ apart c.transmission.acked (octets_read down) (let order = h.buffers.feeds.sound.order in omega (arith, order, low))
 
   -- while the host wasn't told the guest's end
-  module _ (reached : is_calls c.stage ≡ false) (joined : is_connects c.stage ≡ false) (untold : c.host_ended ≡ false) where
+  module _ (reached : is_calls c.stage ≡ false) (joined : is_at_connecting c.stage ≡ false) (untold : c.host_ended ≡ false) where
     not_ended : host_was_ended past ≡ false
     not_ended = (h.receives reached).host_ended ∙ untold
 
@@ -158,7 +158,7 @@ module _ (s : Settings) (c : Connection) (up : Upward) (down : Downward) (past :
         let w = wrote s.ring (part_of c up) (guest past) k 0 (omega arith) (omega (arith, all)) (h.receives reached).follows in
         let enough : OffersEnough past (take k up.held) = subst (λ (j : ℕ). OffersEnough past (take j up.held)) (sym all) (offers s past (part_of c up) (h.receives reached).follows) in
         resets_over s c up down past now m h (At m (WriteFails (take k up.held)) ∷ past) refl refl refl h.gives.keeps
-        (λ n come honest. come (honest_before (At m (WriteFails (take k up.held))) past honest)) false at_end known
+        (λ n come conforming. come (conforming_before (At m (WriteFails (take k up.held))) past conforming)) false at_end known
         (fails at_end (WriteFails (take k up.held)) (Write (take k up.held)) (λ none. none) refl (may_write s past m (take k up.held) w.1 w.2 h.goes.well h.goes.open_yet
         (h.opened.connects ∙ joined)) (must_write s past m (take k up.held) enough h.goes.free) h.goes.open_yet refl)
         (failed_owes (At m (WriteFails (take k up.held)) ∷ past) m false at_end known refl (unended_not_done (At m (WriteFails (take k up.held)) ∷ past) not_ended))
@@ -166,7 +166,7 @@ module _ (s : Settings) (c : Connection) (up : Upward) (down : Downward) (past :
     pub end_fails_closes : (at_end : Bool) → up.held ≡ [] → c.received.ended ≡ true → IsOver s (reset c) (At m (Closes false at_end known) ∷ At m EndFails ∷ past) m
     end_fails_closes at_end none ended =
         let t = told_the_end s.ring (part_of c up) (guest past) none ended untold (h.receives reached).follows in
-        resets_over s c up down past now m h (At m EndFails ∷ past) refl refl refl h.gives.keeps (λ n come honest. come (honest_before (At m EndFails) past honest)) false at_end known
+        resets_over s c up down past now m h (At m EndFails ∷ past) refl refl refl h.gives.keeps (λ n come conforming. come (conforming_before (At m EndFails) past conforming)) false at_end known
         (fails at_end EndFails EndHost (λ none. none) refl (may_end s past m (t.1, t.2) h.goes.well h.goes.open_yet (h.opened.connects ∙ joined)) (must_end s past m h.goes.free) h.goes.open_yet refl)
         (failed_owes (At m EndFails ∷ past) m false at_end known refl (unended_not_done (At m EndFails ∷ past) not_ended))
 
@@ -215,28 +215,28 @@ module _ (s : Settings) (c : Connection) (up : Upward) (down : Downward) (past :
     }
 
     -- the host ended last: it is gone
-    pub done_goes : IsOver s (record c { stage = stage.Gone }) (At m (Closes directly ended known) ∷ past) m
-    done_goes = done_over stage.Gone refl refl (λ seq ack is. cc)
+    pub done_goes : IsOver s (record c { stage = stage.Closed }) (At m (Closes directly ended known) ∷ past) m
+    done_goes = done_over stage.Closed refl refl (λ seq ack is. cc)
 
-    connects_none : (st : Stage) → is_synchronized st ≡ true → is_connects st ≡ false
-    connects_none stage.Connects is = absurd cc
-    connects_none stage.Calls is = refl
-    connects_none stage.Answers is = refl
+    connects_none : (st : Stage) → is_synchronized st ≡ true → is_at_connecting st ≡ false
+    connects_none stage.Connecting is = absurd cc
+    connects_none stage.SynSent is = refl
+    connects_none stage.SynReceived is = refl
     connects_none stage.Synchronized is = refl
-    connects_none stage.Rests is = refl
+    connects_none stage.TimeWait is = refl
     connects_none (stage.Resets seq ack) is = refl
-    connects_none stage.Gone is = refl
+    connects_none stage.Closed is = refl
 
-    -- our end came first: it rests
-    pub done_rests : closes_first c ≡ true → IsResting s (record c { stage = stage.Rests }) up down (At m (Closes directly ended known) ∷ past) m m
+    -- our end came first: it is in TIME-WAIT
+    pub done_rests : closes_first c ≡ true → IsInTimeWait s (record c { stage = stage.TimeWait }) up down (At m (Closes directly ended known) ∷ past) m m
     done_rests first =
         let r = h.receives reached in
-        let e = quiet_ends past (part_of c up) (part_of (record c { stage = stage.Rests }) up) c.end_acknowledged c.ours_first c.acknowledged m
+        let e = quiet_ends past (part_of c up) (part_of (record c { stage = stage.TimeWait }) up) c.end_acknowledged c.ours_first c.acknowledged m
         (Closes directly ended known) tt refl (λ i x is. is) r.ends in
         record {
-          over = done_over stage.Rests refl refl (λ seq ack is. cc);
+          over = done_over stage.TimeWait refl refl (λ seq ack is. cc);
           at = refl;
-          begun = closes_to_rest past (part_of c up) c.end_acknowledged c.ours_first c.acknowledged m directly ended known r.ends is_done_now (no_reset past directly no_rst)
+          begun = closes_to_time_wait past (part_of c up) c.end_acknowledged c.ours_first c.acknowledged m directly ended known r.ends is_done_now (no_reset past directly no_rst)
               ∙ ap (λ (b : Bool). if b then Some m else None) (sym first_now ∙ first);
           theirs = h.opened.theirs ∙ ap (λ (b : Bool). if b then None else Some c.received.first) reached;
           out = h.opened.out ∙ h.opened.sent four.0;
@@ -254,8 +254,8 @@ module _ (s : Settings) (c : Connection) (up : Upward) (down : Downward) (past :
         }
 
     -- so it is what the connection makes of itself
-    pub settled_is : settled c ≡ (if closes_first c then record c { stage = stage.Rests } else record c { stage = stage.Gone })
-    settled_is = ap (λ (b : Bool). if b then (if closes_first c then record c { stage = stage.Rests } else record c { stage = stage.Gone }) else c) done
+    pub settled_is : settled c ≡ (if closes_first c then record c { stage = stage.TimeWait } else record c { stage = stage.Closed })
+    settled_is = ap (λ (b : Bool). if b then (if closes_first c then record c { stage = stage.TimeWait } else record c { stage = stage.Closed }) else c) done
 
   -- ---- the guest reset it
 
@@ -268,7 +268,7 @@ module _ (s : Settings) (c : Connection) (up : Upward) (down : Downward) (past :
   }
 
   reset_over : (at_end : Bool) (seg : Segment) → HasOwnCause true at_end known m (At m (Arrives seg) ∷ past) → follows_reset true (At m (Arrives seg) ∷ past) ≡ true
-      → IsOver s (record c { stage = stage.Gone }) (At m (Closes true at_end known) ∷ At m (Arrives seg) ∷ past) m
+      → IsOver s (record c { stage = stage.Closed }) (At m (Closes true at_end known) ∷ At m (Arrives seg) ∷ past) m
   reset_over at_end seg cause fatal = record {
     runs = closes s (At m (Arrives seg) ∷ past) m m true at_end known (came seg) (omega arith) h.goes.open_yet cause;
     closed = refl;
@@ -285,7 +285,7 @@ module _ (s : Settings) (c : Connection) (up : Upward) (down : Downward) (past :
       reset_closes s m past seg rst (part_of c up) at_end known m (h.opened.theirs ∙ ap (λ (b : Bool). if b then None else Some c.received.first) reached) (h.receives reached).follows number
 
   pub next_reset_closes : (at_end : Bool) (seg : Segment) → is_calls c.stage ≡ false → seg.rst ≡ true → seg.number ≡ next_number c.received
-      → IsOver s (record c { stage = stage.Gone }) (At m (Closes true at_end known) ∷ At m (Arrives seg) ∷ past) m
+      → IsOver s (record c { stage = stage.Closed }) (At m (Closes true at_end known) ∷ At m (Arrives seg) ∷ past) m
   next_reset_closes at_end seg reached rst number =
       let r = h.receives reached in
       let theirs = h.opened.theirs ∙ ap (λ (b : Bool). if b then None else Some c.received.first) reached in
@@ -304,6 +304,6 @@ module _ (s : Settings) (c : Connection) (up : Upward) (down : Downward) (past :
   called_reset_cause at_end seg calls rst ack number = reset_turns_away s m past seg rst at_end known m (unknown_yet calls) ack (after_ours seg number)
 
   pub called_reset_closes : (at_end : Bool) (seg : Segment) → is_calls c.stage ≡ true → seg.rst ≡ true → seg.ack ≡ true → seg.acknowledgement ≡ number_of c.ours 0
-      → IsOver s (record c { stage = stage.Gone }) (At m (Closes true at_end known) ∷ At m (Arrives seg) ∷ past) m
+      → IsOver s (record c { stage = stage.Closed }) (At m (Closes true at_end known) ∷ At m (Arrives seg) ∷ past) m
   called_reset_closes at_end seg calls rst ack number =
       reset_over at_end seg (called_reset_cause at_end seg calls rst ack number) (turning_away_is_fatal s m past seg rst (unknown_yet calls) ack (after_ours seg number))

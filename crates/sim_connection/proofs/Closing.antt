@@ -10,7 +10,7 @@ use Rattle.tcp_connection.specs.declared.Stage.{Stage}
 use Rattle.tcp_connection.specs.declared.Stage.TheVariants as stage
 use Rattle.spec_flow.specs.Settings.{Settings}
 use Rattle.sim_connection.proofs.Telling.{came_of}
-use Rattle.spec_flow.specs.Guest.{Acked, HasCome, Honest, ackd}
+use Rattle.spec_flow.specs.Guest.{Acked, HasCome, Conforming, ackd}
 use Rattle.spec_flow.specs.Event.{Closes, At, Event, Story, Opens}
 use Rattle.spec_flow.specs.Flow.{host, is_accepted, is_closed, next_number as number_after, syn_is_out, their_number, guest}
 use Rattle.spec_flow.specs.Close.{host_failed, owes_reset}
@@ -19,7 +19,7 @@ use Rattle.spec_flow.specs.Dutiful.{Must, MustClose}
 use Rattle.sim_halves.specs.Sends.{Keeps}
 use Rattle.sim_halves.proofs.Acts.{may_close, must_close}
 use Rattle.sim_halves.proofs.Owed.{first_is_owed, next_is_owed, unsent_owes_none}
-use Rattle.sim_connection.specs.Holding.{Goes, Holds, is_calls, is_connects, is_live}
+use Rattle.sim_connection.specs.Holding.{Goes, Holds, is_calls, is_at_connecting, is_live}
 use Rattle.sim_connection.specs.Over.{IsOver, Pays, Runs, is_resets}
 use Rattle.sim_connection.specs.Seen.{outward_of}
 use Rattle.sim_connection.proofs.Going.{longer}
@@ -64,7 +64,7 @@ or_is false b is = absurd cc
 module _ (s : Settings) (c : Connection) (up : Upward) (down : Downward) (past : Story) (now m : ℕ) (h : Holds s c up down past now) (last : Story)
     (out_is : syn_is_out last ≡ syn_is_out past) (accepted_is : is_accepted last ≡ is_accepted past) (theirs_is : their_number last ≡ their_number past)
     (keeps : Keeps (outward_of c.transmission down) (host last))
-    (comes : (n : ℕ) → (Honest (guest past) → HasCome (guest past) (ackd (Acked n ∷ guest past))) → Honest (guest last) → HasCome (guest last) (ackd (Acked n ∷ guest last)))
+    (comes : (n : ℕ) → (Conforming (guest past) → HasCome (guest past) (ackd (Acked n ∷ guest past))) → Conforming (guest last) → HasCome (guest last) (ackd (Acked n ∷ guest last)))
     (directly ended known : Bool) where
   abbrev shut : Story
   shut = At m (Closes directly ended known) ∷ last
@@ -101,18 +101,18 @@ module _ (s : Settings) (c : Connection) (up : Upward) (down : Downward) (past :
 
   -- the reset of the connection is the one of the definition
   pays_at : (st : Stage) → c.stage ≡ st → is_live st ≡ true → (seq ack : Seq) → over_by st c ≡ stage.Resets seq ack → Pays shut seq.0 ack.0
-  pays_at stage.Connects at live seq ack is =
+  pays_at stage.Connecting at live seq ack is =
       let two = resets_are 0 (next_number c.received) seq ack is in
       let no_call : is_calls c.stage ≡ false = ap (λ (q : Stage). is_calls q) at in
-      let unsent = h.opened.unsent (ap (λ (q : Stage). is_connects q) at) in
+      let unsent = h.opened.unsent (ap (λ (q : Stage). is_at_connecting q) at) in
       subst (λ (x : ℕ). Pays shut x ack.0) two.0 (subst (λ (x : ℕ). Pays shut 0 x) two.1
       (first_pays no_call unsent (not_accepted no_call unsent) (ap (λ (q : Stage). is_opening q) at)))
-  pays_at stage.Calls at live seq ack is = by (has_gone c.sendings) refl is
+  pays_at stage.SynSent at live seq ack is = by (has_gone c.sendings) refl is
     where
-      by : (b : Bool) → has_gone c.sendings ≡ b → (if b then resets (numbers_sent c) 0 else stage.Gone) ≡ stage.Resets seq ack → Pays shut seq.0 ack.0
+      by : (b : Bool) → has_gone c.sendings ≡ b → (if b then resets (numbers_sent c) 0 else stage.Closed) ≡ stage.Resets seq ack → Pays shut seq.0 ack.0
       by true gone so = let two = resets_are (numbers_sent c) 0 seq ack so in subst (λ (x : ℕ). Pays shut x ack.0) two.0 (next_pays ack.0 gone)
       by false gone so = absurd cc
-  pays_at stage.Answers at live seq ack is = by (has_gone c.sendings) refl is
+  pays_at stage.SynReceived at live seq ack is = by (has_gone c.sendings) refl is
     where
       no_call : is_calls c.stage ≡ false
       no_call = ap (λ (q : Stage). is_calls q) at
@@ -125,40 +125,40 @@ module _ (s : Settings) (c : Connection) (up : Upward) (down : Downward) (past :
   pays_at stage.Synchronized at live seq ack is =
       let two = resets_are (numbers_sent c) (next_number c.received) seq ack is in
       subst (λ (x : ℕ). Pays shut x ack.0) two.0 (next_pays ack.0 (h.opened.sent (ap (λ (q : Stage). is_synchronized q) at)))
-  pays_at stage.Rests at live seq ack is = absurd cc
+  pays_at stage.TimeWait at live seq ack is = absurd cc
   pays_at (stage.Resets a b) at live seq ack is = absurd cc
-  pays_at stage.Gone at live seq ack is = absurd cc
+  pays_at stage.Closed at live seq ack is = absurd cc
 
   -- and acknowledges what came
   came_next : is_calls c.stage ≡ false → HasNumberThatCame shut (next_number c.received)
   came_next no_call =
-      subst (λ (o : Option ℕ). MatchOption o (next_number c.received ≡ 0) (λ f. Honest (guest last) → HasCome (guest last) (ackd (Acked (next_number c.received) ∷ guest last))))
+      subst (λ (o : Option ℕ). MatchOption o (next_number c.received ≡ 0) (λ f. Conforming (guest last) → HasCome (guest last) (ackd (Acked (next_number c.received) ∷ guest last))))
       (sym (theirs_is ∙ h.opened.theirs ∙ ap (λ (b : Bool). if b then None else Some c.received.first) no_call))
       (comes (next_number c.received) (came_of s c up past h.opened (h.receives no_call)))
 
   came_none : is_calls c.stage ≡ true → HasNumberThatCame shut 0
   came_none calls =
-      subst (λ (o : Option ℕ). MatchOption o (◌≡◌ {A = ℕ} 0 0) (λ f. Honest (guest last) → HasCome (guest last) (ackd (Acked 0 ∷ guest last))))
+      subst (λ (o : Option ℕ). MatchOption o (◌≡◌ {A = ℕ} 0 0) (λ f. Conforming (guest last) → HasCome (guest last) (ackd (Acked 0 ∷ guest last))))
       (sym (theirs_is ∙ h.opened.theirs ∙ ap (λ (b : Bool). if b then None else Some c.received.first) calls)) refl
 
   came_at : (st : Stage) → c.stage ≡ st → is_live st ≡ true → (seq ack : Seq) → over_by st c ≡ stage.Resets seq ack → HasNumberThatCame shut ack.0
-  came_at stage.Connects at live seq ack is =
+  came_at stage.Connecting at live seq ack is =
       let two = resets_are 0 (next_number c.received) seq ack is in
       subst (HasNumberThatCame shut) two.1 (came_next (ap (λ (q : Stage). is_calls q) at))
-  came_at stage.Calls at live seq ack is = by (has_gone c.sendings) is
+  came_at stage.SynSent at live seq ack is = by (has_gone c.sendings) is
     where
-      by : (b : Bool) → (if b then resets (numbers_sent c) 0 else stage.Gone) ≡ stage.Resets seq ack → HasNumberThatCame shut ack.0
+      by : (b : Bool) → (if b then resets (numbers_sent c) 0 else stage.Closed) ≡ stage.Resets seq ack → HasNumberThatCame shut ack.0
       by true so = let two = resets_are (numbers_sent c) 0 seq ack so in subst (HasNumberThatCame shut) two.1 (came_none (ap (λ (q : Stage). is_calls q) at))
       by false so = absurd cc
-  came_at stage.Answers at live seq ack is =
+  came_at stage.SynReceived at live seq ack is =
       let two = resets_are (if has_gone c.sendings then numbers_sent c else 0) (next_number c.received) seq ack is in
       subst (HasNumberThatCame shut) two.1 (came_next (ap (λ (q : Stage). is_calls q) at))
   came_at stage.Synchronized at live seq ack is =
       let two = resets_are (numbers_sent c) (next_number c.received) seq ack is in
       subst (HasNumberThatCame shut) two.1 (came_next (ap (λ (q : Stage). is_calls q) at))
-  came_at stage.Rests at live seq ack is = absurd cc
+  came_at stage.TimeWait at live seq ack is = absurd cc
   came_at (stage.Resets a b) at live seq ack is = absurd cc
-  came_at stage.Gone at live seq ack is = absurd cc
+  came_at stage.Closed at live seq ack is = absurd cc
 
   -- whether it owes one
   silent : (a b : Bool) → (a ≡ true → b ≡ true) → not (a && not b) ≡ true
@@ -167,36 +167,36 @@ module _ (s : Settings) (c : Connection) (up : Upward) (down : Downward) (past :
   silent false b only = refl
 
   speaks_at : (st : Stage) → c.stage ≡ st → is_live st ≡ true → is_resets (over_by st c) ≡ not (is_accepted last && not (syn_is_out last))
-  speaks_at stage.Connects at live =
+  speaks_at stage.Connecting at live =
       let no_call : is_calls c.stage ≡ false = ap (λ (q : Stage). is_calls q) at in
-      let unsent = h.opened.unsent (ap (λ (q : Stage). is_connects q) at) in
+      let unsent = h.opened.unsent (ap (λ (q : Stage). is_at_connecting q) at) in
       sym (silent (is_accepted last) (syn_is_out last) (λ is. let not_it = sym is ∙ accepted_is ∙ not_accepted no_call unsent in absurd cc))
-  speaks_at stage.Calls at live = by (has_gone c.sendings) refl
+  speaks_at stage.SynSent at live = by (has_gone c.sendings) refl
     where
-      by : (b : Bool) → has_gone c.sendings ≡ b → is_resets (if b then resets (numbers_sent c) 0 else stage.Gone) ≡ not (is_accepted last && not (syn_is_out last))
+      by : (b : Bool) → has_gone c.sendings ≡ b → is_resets (if b then resets (numbers_sent c) 0 else stage.Closed) ≡ not (is_accepted last && not (syn_is_out last))
       by true gone = sym (silent (is_accepted last) (syn_is_out last) (λ is. out_is ∙ h.opened.out ∙ gone))
       by false gone = sym (ap (λ (b : Bool). not (b && not (syn_is_out last))) (accepted_is ∙ h.opened.calls (ap (λ (q : Stage). is_calls q) at)) ∙ ap
           (λ (b : Bool). not (true && not b)) (out_is ∙ h.opened.out ∙ gone))
-  speaks_at stage.Answers at live =
+  speaks_at stage.SynReceived at live =
       let no_call : is_calls c.stage ≡ false = ap (λ (q : Stage). is_calls q) at in
       sym (silent (is_accepted last) (syn_is_out last) (λ is. out_is ∙ h.opened.out ∙ h.opened.called (sym accepted_is ∙ is) no_call))
   speaks_at stage.Synchronized at live = sym (silent (is_accepted last) (syn_is_out last) (λ is. out_is ∙ h.opened.out ∙ h.opened.sent (ap (λ (q : Stage). is_synchronized q) at)))
-  speaks_at stage.Rests at live = absurd cc
+  speaks_at stage.TimeWait at live = absurd cc
   speaks_at (stage.Resets a b) at live = absurd cc
-  speaks_at stage.Gone at live = absurd cc
+  speaks_at stage.Closed at live = absurd cc
 
   dead_at : (st : Stage) → is_live st ≡ true → is_live (over_by st c) ≡ false
-  dead_at stage.Connects live = refl
-  dead_at stage.Calls live = by (has_gone c.sendings)
+  dead_at stage.Connecting live = refl
+  dead_at stage.SynSent live = by (has_gone c.sendings)
     where
-      by : (b : Bool) → is_live (if b then resets (numbers_sent c) 0 else stage.Gone) ≡ false
+      by : (b : Bool) → is_live (if b then resets (numbers_sent c) 0 else stage.Closed) ≡ false
       by true = refl
       by false = refl
-  dead_at stage.Answers live = refl
+  dead_at stage.SynReceived live = refl
   dead_at stage.Synchronized live = refl
-  dead_at stage.Rests live = absurd cc
+  dead_at stage.TimeWait live = absurd cc
   dead_at (stage.Resets a b) live = absurd cc
-  dead_at stage.Gone live = absurd cc
+  dead_at stage.Closed live = absurd cc
 
   -- closed for a cause by which a reset is owed to a guest that knows of the flow
   pub resets_over : Runs s shut m → (((is_accepted last && not (syn_is_out last)) ≡ false) → owes_reset shut ≡ true) → IsOver s (reset c) shut m
@@ -215,7 +215,7 @@ module _ (s : Settings) (c : Connection) (up : Upward) (down : Downward) (past :
       by false is = owed is
 
   -- closed for another, by which none is owed
-  pub gone_over : Runs s shut m → owes_reset shut ≡ false → IsOver s (record c { stage = stage.Gone }) shut m
+  pub gone_over : Runs s shut m → owes_reset shut ≡ false → IsOver s (record c { stage = stage.Closed }) shut m
   gone_over runs none = record {
     runs = runs;
     closed = refl;

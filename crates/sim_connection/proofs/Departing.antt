@@ -28,13 +28,13 @@ pub unsettled : (c : Connection) (up : Upward) (down : Downward) → HasBuffers 
 unsettled c up down h = by (is_done c) (closes_first c) refl h
   where
     past_opening : (st : Stage) (rest : Bool) → (is_synchronized st && rest) ≡ true → is_opening st ≡ false
-    past_opening stage.Connects rest is = absurd cc
-    past_opening stage.Calls rest is = absurd cc
-    past_opening stage.Answers rest is = absurd cc
+    past_opening stage.Connecting rest is = absurd cc
+    past_opening stage.SynSent rest is = absurd cc
+    past_opening stage.SynReceived rest is = absurd cc
     past_opening stage.Synchronized rest is = refl
-    past_opening stage.Rests rest is = refl
+    past_opening stage.TimeWait rest is = refl
     past_opening (stage.Resets seq ack) rest is = refl
-    past_opening stage.Gone rest is = refl
+    past_opening stage.Closed rest is = refl
 
     three : (a b d e : Bool) → (a && b && d && e) ≡ true → a ≡ true
     three true b d e is = refl
@@ -61,9 +61,9 @@ unsettled c up down h = by (is_done c) (closes_first c) refl h
           size = x.size;
         }
 
-    by : (b d : Bool) → is_done c ≡ b → HasBuffers (if b then (if d then record c { stage = stage.Rests } else record c { stage = stage.Gone }) else c) up down → HasBuffers c up down
-    by true true done x = back stage.Rests done x
-    by true false done x = back stage.Gone done x
+    by : (b d : Bool) → is_done c ≡ b → HasBuffers (if b then (if d then record c { stage = stage.TimeWait } else record c { stage = stage.Closed }) else c) up down → HasBuffers c up down
+    by true true done x = back stage.TimeWait done x
+    by true false done x = back stage.Closed done x
     by false d done x = x
 
 -- ---- each thing that is owed
@@ -87,11 +87,11 @@ module _ (s : Settings) (c : Connection) (up : Upward) (down : Downward) (past :
   Goes_out what = HasBuffers (gone what c up m) up down → Holds s (gone what c up m) up down (At m (Departs (segment_out s.mru c up down what)) ∷ past) m
 
   goes_at : (st : Stage) → c.stage ≡ st → is_live st ≡ true → (what : Owed) → owed_by st c up down ≡ Some what → Goes_out what
-  goes_at stage.Connects at live what owed = absurd cc
-  goes_at stage.Calls at live what owed =
+  goes_at stage.Connecting at live what owed = absurd cc
+  goes_at stage.SynSent at live what owed =
       let two = if_syn c.syn_owed what owed in
       subst (λ (w : Owed). Goes_out w) two.1 (λ buffers. syn_goes_out s c up down past now m on late h at two.0 buffers)
-  goes_at stage.Answers at live what owed = by (if_answer c.syn_owed c.ack_owed what owed)
+  goes_at stage.SynReceived at live what owed = by (if_answer c.syn_owed c.ack_owed what owed)
     where
       by : ((c.syn_owed ≡ true) × (SynAck ≡ what)) ⊎ (Ack ≡ what) → Goes_out what
       by (inl two) = subst (λ (w : Owed). Goes_out w) two.1 (λ buffers. syn_ack_goes s c up down past now m on late h at two.0 buffers)
@@ -107,9 +107,9 @@ module _ (s : Settings) (c : Connection) (up : Upward) (down : Downward) (past :
           (subst (λ (p : Piece). 0 < numbers p) (sym numbered.0) numbered.1) buffers)
       by (inr is) = subst (λ (w : Owed). Goes_out w) is (λ buffers. owed_ack_goes s c up down past now h m on (ap (λ (q : Stage). owed_by q c up down) at ∙ owed ∙ ap
           (λ (w : Owed). Some w) (sym is)) buffers)
-  goes_at stage.Rests at live what owed = absurd cc
+  goes_at stage.TimeWait at live what owed = absurd cc
   goes_at (stage.Resets seq ack) at live what owed = absurd cc
-  goes_at stage.Gone at live what owed = absurd cc
+  goes_at stage.Closed at live what owed = absurd cc
 
   -- what is owed may go out, and the connection follows the story then
   pub departs : (what : Owed) → owed_of c up down ≡ Some what → HasBuffers (settled (gone what c up m)) up down

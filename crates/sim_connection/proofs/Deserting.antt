@@ -13,7 +13,7 @@ use Rattle.spec_flow.specs.Host.{answered, got, got_end}
 use Rattle.spec_flow.specs.Flow.{guest, host, is_accepted, is_closed, is_connecting, opened_at, their_number}
 use Rattle.spec_flow.specs.Close.{is_deserted, patience_end, syn_is_due}
 use Rattle.spec_flow.specs.Lawful.{is_prompted}
-use Rattle.spec_flow.specs.Dutiful.{closing_moments, moment_if, seeks_guest, wakes}
+use Rattle.spec_flow.specs.Dutiful.{closing_moments, moment_if, resolves_guest, wakes}
 use Rattle.spec_flow.specs.Bounds.{IsFrom}
 use Rattle.sim_connection.specs.Holding.{Holds, is_calls}
 use Rattle.sim_connection.proofs.Bounds.{from_first, from_if, from_second}
@@ -115,6 +115,6 @@ module _ (s : Settings) (c : Connection) (up : Upward) (down : Downward) (past :
   -- the end of its patience is among the moments that end a wait
   pub patience_from : is_deserted past ≡ true → IsFrom (Some (patience_end past)) (wakes past)
   patience_from is =
-      from_first (patience_end past) (closing_moments past ++ moment_if (seeks_guest past) (opened_at past + 1000)) _
+      from_first (patience_end past) (closing_moments past ++ moment_if (resolves_guest past) (opened_at past + 1000)) _
       (from_first (patience_end past) (closing_moments past) _
       (from_second (patience_end past) (moment_if (is_connecting past) (opened_at past + 75000)) _ (from_if (patience_end past) (patience_end past) (is_deserted past) is (omega arith))))

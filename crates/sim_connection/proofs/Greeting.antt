@@ -34,7 +34,7 @@ use Rattle.sim_connection.proofs.Unheeded.{answered_same, follows_owed, gives_af
 pub unknown_is : (o : Option Segment) → o ≡ None → is_some (option_map (λ (seg : Segment). seg.number) o) ≡ false
 unknown_is o is = rw is refl
 
-module _ (s : Settings) (c : Connection) (up : Upward) (down : Downward) (past : Story) (now m : ℕ) (tcp : Tcp) (on : now ≤ m) (h : Holds s c up down past now) (at : c.stage ≡ stage.Calls) where
+module _ (s : Settings) (c : Connection) (up : Upward) (down : Downward) (past : Story) (now m : ℕ) (tcp : Tcp) (on : now ≤ m) (h : Holds s c up down past now) (at : c.stage ≡ stage.SynSent) where
   abbrev seg : Segment
   seg = segment_of tcp
 
@@ -144,7 +144,7 @@ module _ (s : Settings) (c : Connection) (up : Upward) (down : Downward) (past :
           current = inr (ap (λ (n : ℕ). n) refl);
           sure = λ is. let not_it = sym is ∙ a.end_acknowledged in absurd cc;
           host_ended = a.untold ∙ sym a.host_ended;
-          told = λ honest. a.edge ∙ sym a.told;
+          told = λ conforming. a.edge ∙ sym a.told;
           answered = λ is none. let not_it = sym is ∙ a.end_acknowledged in absurd cc;
           prompted = λ is. refl;
           updated = λ none yes_. absurd cc;

@@ -38,7 +38,7 @@ use Rattle.sim_halves.specs.Sends.{Keeps}
 use Rattle.sim_halves.proofs.Reasons.{by_arrival}
 use Rattle.sim_halves.proofs.SendSteps.{place_of_number}
 use Rattle.sim_halves.proofs.Sendings.{rises}
-use Rattle.sim_connection.specs.Holding.{CountsSince, Gives, Goes, Holds, IsOpened, Receives, Suits, is_calls, is_connects}
+use Rattle.sim_connection.specs.Holding.{CountsSince, Gives, Goes, Holds, IsOpened, Receives, Suits, is_calls, is_at_connecting}
 use Rattle.sim_connection.specs.Seen.{count_of, outward_of, timer_of, window_by}
 use Rattle.sim_connection.proofs.Confirming.{answered_now, far_is, heard_counts, heard_fin, heard_keeps, heard_runs, heard_steady, heard_told, not_past, old_is, place_same, syn_heard_runs}
 use Rattle.sim_connection.proofs.Going.{comes as comes_on, nothing_to_close}
@@ -161,14 +161,14 @@ accepted_or (Forward n) is = inl refl
 accepted_or (FinToo n) is = inl refl
 accepted_or TooFar is = absurd cc
 
-synchronized_connects : (st : Stage) → is_synchronized st ≡ true → is_connects st ≡ false
-synchronized_connects stage.Connects is = absurd cc
-synchronized_connects stage.Calls is = refl
-synchronized_connects stage.Answers is = refl
+synchronized_connects : (st : Stage) → is_synchronized st ≡ true → is_at_connecting st ≡ false
+synchronized_connects stage.Connecting is = absurd cc
+synchronized_connects stage.SynSent is = refl
+synchronized_connects stage.SynReceived is = refl
 synchronized_connects stage.Synchronized is = refl
-synchronized_connects stage.Rests is = refl
+synchronized_connects stage.TimeWait is = refl
 synchronized_connects (stage.Resets seq ack) is = refl
-synchronized_connects stage.Gone is = refl
+synchronized_connects stage.Closed is = refl
 
 -- ---- while both SYNs are acknowledged
 
@@ -432,7 +432,7 @@ module _ (s : Settings) (c : Connection) (up : Upward) (down : Downward) (past :
 -- ---- our SYN is acknowledged
 
 module _ (s : Settings) (c : Connection) (up : Upward) (down : Downward) (past : Story) (now m : ℕ) (tcp : Tcp) (on : now ≤ m) (late : m ≤ 2 ^ 62) (h : Holds s c up down past now)
-    (at : c.stage ≡ stage.Answers) (gone : has_gone c.sendings ≡ true) (number : tcp.ack ≡ number_of c.ours 0)
+    (at : c.stage ≡ stage.SynReceived) (gone : has_gone c.sendings ≡ true) (number : tcp.ack ≡ number_of c.ours 0)
     (ack : (segment_of tcp).ack ≡ true) (rst : (segment_of tcp).rst ≡ false) (syn : (segment_of tcp).syn ≡ false)
     (fits : tcp.seq < 2 ^ 32) (few : length tcp.body ≤ 2 ^ 31) (comes : Comes c.received tcp.seq tcp.body up (up_after c.received tcp.seq tcp.body up))
     (within : length (up_after c.received tcp.seq tcp.body up).held ≤ (up_after c.received tcp.seq tcp.body up).size)
@@ -542,7 +542,7 @@ module _ (s : Settings) (c : Connection) (up : Upward) (down : Downward) (past :
       let o = h.opened in record {
         live = refl;
         ours = o.ours;
-        connects = o.connects ∙ ap (λ (st : Stage). is_connects st) at;
+        connects = o.connects ∙ ap (λ (st : Stage). is_at_connecting st) at;
         out = o.out;
         unsent = λ is. absurd cc;
         sent = λ is. gone;

@@ -21,7 +21,7 @@ use Rattle.spec_flow.proofs.Sides.{host_sent}
 use Rattle.sim_halves.specs.Sends.{Keeps}
 use Rattle.sim_halves.proofs.Acts.{may_send, must_send}
 use Rattle.sim_halves.proofs.SendSteps.{sends, sent_piece}
-use Rattle.sim_connection.specs.Holding.{Goes, Holds, IsOpened, Receives, is_calls, is_connects}
+use Rattle.sim_connection.specs.Holding.{Goes, Holds, IsOpened, Receives, is_calls, is_at_connecting}
 use Rattle.sim_connection.specs.Seen.{outward_of}
 use Rattle.sim_connection.proofs.Going.{does}
 use Rattle.sim_connection.proofs.Telling.{acknowledges, shift_is, tells, tells_room}
@@ -37,7 +37,7 @@ either_of false false false is apart_from = absurd cc
 either_of a b true is apart_from = absurd cc
 
 -- a flow whose SYN is out, or that is to open with it, was granted by the host
-pub granted : (s : Settings) (c : Connection) (past : Story) → IsOpened s c past → is_closed past ≡ false → is_connects c.stage ≡ false → (has_connected past || is_accepted past) ≡ true
+pub granted : (s : Settings) (c : Connection) (past : Story) → IsOpened s c past → is_closed past ≡ false → is_at_connecting c.stage ≡ false → (has_connected past || is_accepted past) ≡ true
 granted s c past o open_yet apart_from = either_of (is_accepted past) (has_connected past) (is_closed past) (o.connects ∙ apart_from) open_yet
 
 and_false : (a b : Bool) → IsTrue (a && not b) → b ≡ true → ⊥
@@ -78,10 +78,10 @@ module _ (s : Settings) (c : Connection) (up : Upward) (down : Downward) (past :
     (window : seg.window ≡ field (our_shift c) (room_of up)) (no_mss : seg.mss ≡ None) (no_scale_said : seg.scale ≡ None)
     (place : ℕ) (at : seg.number ≡ number_of c.transmission.first place) (low : down.first ≤ place) (joins : place ≤ c.transmission.sent) (near : c.transmission.sent < place + 2 ^ 31)
     (octets : seg.octets ≡ take (length seg.octets) (drop (place - down.first) down.octets)) where
-  unconnecting : is_connects c.stage ≡ false
-  unconnecting = by (is_connects c.stage) refl
+  unconnecting : is_at_connecting c.stage ≡ false
+  unconnecting = by (is_at_connecting c.stage) refl
     where
-      by : (b : Bool) → is_connects c.stage ≡ b → b ≡ false
+      by : (b : Bool) → is_at_connecting c.stage ≡ b → b ≡ false
       by true is = let not_it = sym (h.opened.unsent is) ∙ out in absurd cc
       by false is = refl
 

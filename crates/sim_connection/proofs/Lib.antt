@@ -20,8 +20,8 @@ pub mod Owing
 pub mod Pieces
 pub mod Quiet
 pub mod Reading
-pub mod Resting
-pub mod Seeking
+pub mod InTimeWait
+pub mod Resolving
 pub mod Settling
 pub mod Syns
 pub mod Taking

@@ -72,7 +72,7 @@ module _ (s : Settings) (m ours most size : ℕ) (scales : s.scales ≡ true) (f
         current = inr refl;
         sure = λ is. absurd cc;
         host_ended = refl;
-        told = λ honest. refl;
+        told = λ conforming. refl;
         answered = λ is. absurd cc;
         prompted = λ is. absurd cc;
         updated = λ none is. absurd cc;

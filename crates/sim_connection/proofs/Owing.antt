@@ -43,7 +43,7 @@ module _ (s : Settings) (c : Connection) (up : Upward) (down : Downward) (past :
   none_must must = let not_it = sym must.2 ∙ h.closed in absurd cc
 
   -- and none is owed then
-  pub reset_goes : IsOver s (record c { stage = stage.Gone }) (At m (Departs seg) ∷ past) m
+  pub reset_goes : IsOver s (record c { stage = stage.Closed }) (At m (Departs seg) ∷ past) m
   reset_goes = record {
     runs = runs_on s past now m (Departs seg) (Send seg) h.runs on (λ none. none) refl may (must_send s past m seg (λ sent. absurd cc) none_must);
     closed = h.closed;

@@ -9,7 +9,7 @@ use Rattle.tcp_connection.specs.Owing.{told}
 use Rattle.tcp_connection.specs.declared.Sendings.{Sendings}
 use Rattle.spec_flow.specs.Settings.{Settings}
 use Rattle.spec_flow.specs.Event.{Segment, Event, At, Story}
-use Rattle.spec_flow.specs.Guest.{AckIsDue, Honest, Up, was_acked}
+use Rattle.spec_flow.specs.Guest.{AckIsDue, Conforming, Up, was_acked}
 use Rattle.spec_flow.specs.Host.{Down, answered}
 use Rattle.spec_flow.specs.Flow.{guest, has_connected, host, is_accepted, is_under_way, their_number, their_syn, syn_is_out}
 use Rattle.spec_flow.specs.Windows.{mss, right_edge, their_scale}
@@ -24,7 +24,7 @@ use Rattle.sim_halves.proofs.Reasons.{reason_stays, reason_later}
 use Rattle.sim_halves.proofs.Resent.{IsQuiet, later, quiet}
 use Rattle.sim_halves.proofs.Rests.{quiet_ends}
 use Rattle.sim_halves.proofs.Unheard.{quiet_unheard}
-use Rattle.sim_connection.specs.Holding.{Awaits, CountsSince, Gives, Holds, IsOpened, Receives, is_calls, is_connects}
+use Rattle.sim_connection.specs.Holding.{Awaits, CountsSince, Gives, Holds, IsOpened, Receives, is_calls, is_at_connecting}
 use Rattle.sim_connection.specs.Same.{SameGuest, SameHost, SameStart}
 use Rattle.sim_connection.specs.Seen.{count_of, outward_of, part_of, resending_of, timer_of, window_by}
 use Rattle.sim_connection.proofs.Counting.{counts_on, quiet_same}
@@ -76,7 +76,7 @@ receives_on s c up past m e silent accepted same r = record {
   current = subst (λ (g : List Up). IsCurrent g (taken_of c.received.first c.received.taken c.received.ended) c.acknowledged) (sym same.guest) r.current;
   sure = r.sure;
   host_ended = same.ended ∙ r.host_ended;
-  told = λ honest. same.edge ∙ r.told (subst (λ (g : List Up). Honest g) same.guest honest);
+  told = λ conforming. same.edge ∙ r.told (subst (λ (g : List Up). Conforming g) same.guest conforming);
   answered = λ is none. same.answered ∙ r.answered is none;
   prompted = λ is. same.prompted ∙ r.prompted is;
   updated = λ none is. r.updated (sym same.prompted ∙ none) is;
@@ -165,7 +165,7 @@ gives_as s c d down past now open_is t_is syn_is gone_is fin_is reason still owe
 
 -- how far it is opened
 pub opened_beside : (s : Settings) (c d : Connection) (past : Story) → d.received.first ≡ c.received.first → d.transmission.mss ≡ c.transmission.mss → (c.syn_owed ≡ true → d.syn_owed ≡ true)
-    → (is_connects c.stage ≡ true → d.ack_owed ≡ false) → IsOpened s c past → IsOpened s (record d { ours = c.ours; stage = c.stage; sendings = c.sendings; scale = c.scale }) past
+    → (is_at_connecting c.stage ≡ true → d.ack_owed ≡ false) → IsOpened s c past → IsOpened s (record d { ours = c.ours; stage = c.stage; sendings = c.sendings; scale = c.scale }) past
 opened_beside s c d past first most owed quiet o = record {
   live = o.live;
   ours = o.ours;

@@ -20,7 +20,7 @@ use Rattle.sim_halves.proofs.Reasons.{reason_later, reason_stays}
 use Rattle.sim_halves.proofs.Resent.{quiet}
 use Rattle.sim_halves.proofs.Sendings.{rises}
 use Rattle.sim_halves.proofs.SendSteps.{reads as reads_step, reads_end as end_step}
-use Rattle.sim_connection.specs.Holding.{Gives, Holds, is_connects}
+use Rattle.sim_connection.specs.Holding.{Gives, Holds, is_at_connecting}
 use Rattle.sim_connection.specs.Seen.{count_of, outward_of, resending_of, timer_of}
 use Rattle.sim_connection.proofs.Going.{does}
 use Rattle.sim_connection.proofs.Quiet.{awaits_on, awaits_sending, opened_on, opened_sending, receives_on, receives_sending}
@@ -43,7 +43,7 @@ not_all : (acked n k : ℕ) → acked ≤ n → n ≤ k → nat_eq acked (k + 1)
 not_all acked n k low on = let a : nat_eq acked (k + 1) ≡ false = grind (arith, nat_tests) in let b : nat_eq acked (n + 1) ≡ false = grind (arith, nat_tests) in a ∙ sym b
 
 module _ (s : Settings) (c : Connection) (up : Upward) (down : Downward) (past : Story) (now m : ℕ) (on : now ≤ m) (h : Holds s c up down past now)
-    (yet : is_open c.transmission.end ≡ true) (joined : is_connects c.stage ≡ false) where
+    (yet : is_open c.transmission.end ≡ true) (joined : is_at_connecting c.stage ≡ false) where
   none_ended : got_end (host past) ≡ false
   none_ended = sym h.gives.keeps.ended ∙ ap not yet
 

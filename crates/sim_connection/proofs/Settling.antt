@@ -34,7 +34,7 @@ use Rattle.sim_halves.specs.Settled.{IsSettledIf}
 use Rattle.sim_halves.proofs.Edges.{edge_is, owned_is, window_known}
 use Rattle.sim_halves.proofs.InTime.{HasCalled, all_in_time}
 use Rattle.sim_halves.proofs.Waiting.{acknowledged_is, settled_is}
-use Rattle.sim_connection.specs.Holding.{Holds, is_calls, is_connects}
+use Rattle.sim_connection.specs.Holding.{Holds, is_calls, is_at_connecting}
 use Rattle.sim_connection.specs.Seen.{count_of, outward_of, part_of, resending_of, timer_by, timer_of, window_by}
 use Rattle.sim_connection.proofs.Acking.{piece_none}
 use Rattle.sim_connection.proofs.Telling.{shift_is}
@@ -119,8 +119,8 @@ nothing_to_acknowledge s c up down past now h calls =
     record {
       opening = λ is. absurd (second_none (is_accepted past) (is_some (their_number past)) (not (is_closed past)) unknown is);
       each = λ open_yet due. subst (λ (g : List Up). AckIsDue g) a.guest due;
-      all = λ open_yet honest q asks. absurd (subst (λ (g : List Up). Asks s.ring g q) a.guest asks);
-      resting = λ is. absurd cc;
+      all = λ open_yet conforming q asks. absurd (subst (λ (g : List Up). Asks s.ring g q) a.guest asks);
+      in_time_wait = λ is. absurd cc;
     }
   where
     second_none : (a b d : Bool) → b ≡ false → IsTrue (a && b && d) → ⊥
@@ -299,23 +299,23 @@ module _ (s : Settings) (c : Connection) (up : Upward) (down : Downward) (past :
         by false is = absurd cc
     none_connected false false true is = absurd cc
 
-    connecting_none : is_connects c.stage ≡ true → (is_accepted past ≡ false) × (has_connected past ≡ false)
+    connecting_none : is_at_connecting c.stage ≡ true → (is_accepted past ≡ false) × (has_connected past ≡ false)
     connecting_none is = none_connected (is_accepted past) (has_connected past) (is_closed past) (h.opened.connects ∙ is)
 
     -- where nothing is owed, our SYN went out and isn't owed again, and no acknowledgement is owed
-    module _ (unowed : c.ack_owed ≡ false) (gone : is_connects c.stage ≡ false → has_gone c.sendings ≡ true) (no_syn : has_gone c.sendings ≡ true → c.syn_owed ≡ false)
+    module _ (unowed : c.ack_owed ≡ false) (gone : is_at_connecting c.stage ≡ false → has_gone c.sendings ≡ true) (no_syn : has_gone c.sendings ≡ true → c.syn_owed ≡ false)
         (soon : Early → (d : ℕ) → resend_due c.syn ≡ Some d → now < d) where
       calls_out : HasCalled past
-      calls_out = by (is_connects c.stage) refl
+      calls_out = by (is_at_connecting c.stage) refl
         where
-          by : (b : Bool) → is_connects c.stage ≡ b → IsTrue (is_accepted past && not (is_closed past)) → IsTrue (syn_is_out past)
+          by : (b : Bool) → is_at_connecting c.stage ≡ b → IsTrue (is_accepted past && not (is_closed past)) → IsTrue (syn_is_out past)
           by true at is = absurd (no_both (is_accepted past) (not (is_closed past)) (connecting_none at).0 is)
           by false at is = h.opened.out ∙ gone at
 
       sends_all : HasSent s past known
       sends_all = record {
         reset = open_owes_none past h.goes.open_yet;
-        syn_ack = λ is. by_connects (is_connects c.stage) refl is;
+        syn_ack = λ is. by_connects (is_at_connecting c.stage) refl is;
         syn = λ is. or_first (syn_is_out past) (not known && nat_lt 0 (times_asked past)) (calls_out is);
         octets = λ is. absurd (no_both (answered (host past)) (not (is_closed past)) unanswered is);
       }
@@ -323,7 +323,7 @@ module _ (s : Settings) (c : Connection) (up : Upward) (down : Downward) (past :
           or_first : (a b : Bool) → a ≡ true → IsTrue (a || b)
           or_first a b is = rw is refl
 
-          by_connects : (b : Bool) → is_connects c.stage ≡ b → IsTrue (has_connected past && not (is_closed past)) → IsTrue (syn_is_out past)
+          by_connects : (b : Bool) → is_at_connecting c.stage ≡ b → IsTrue (has_connected past && not (is_closed past)) → IsTrue (syn_is_out past)
           by_connects true at is = absurd (no_both (has_connected past) (not (is_closed past)) (connecting_none at).1 is)
           by_connects false at is = h.opened.out ∙ gone at
 
@@ -345,7 +345,7 @@ module _ (s : Settings) (c : Connection) (up : Upward) (down : Downward) (past :
       opening_settled = record {
         sends = sends_all;
         acknowledges = acknowledges_all;
-        window = λ honest is. absurd (no_both (answered (host past)) (not (is_closed past)) unanswered is);
+        window = λ conforming is. absurd (no_both (answered (host past)) (not (is_closed past)) unanswered is);
         resends = λ early. all_in_time past now (timer_of (resending_of c)) (count_of (is_under_way past) (resending_of c)) (resending_of c).estimate.wait h.gives.resends
             (λ under over.
             let expired = expires_by c.syn.timer c.syn.estimate.wait (sym (ap (λ (q : Resending). timer_of q) runs_syn) ∙ over) in

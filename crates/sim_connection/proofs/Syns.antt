@@ -30,7 +30,7 @@ use Rattle.sim_halves.proofs.Acts.{may_send, must_send}
 use Rattle.sim_halves.proofs.Reasons.{reason_later, syn_may_go}
 use Rattle.sim_halves.proofs.Sendings.{rises}
 use Rattle.sim_halves.proofs.SynGone.{syn_again, syn_anyway, syn_goes}
-use Rattle.sim_connection.specs.Holding.{Gives, Goes, Holds, IsOpened, is_calls, is_connects}
+use Rattle.sim_connection.specs.Holding.{Gives, Goes, Holds, IsOpened, is_calls, is_at_connecting}
 use Rattle.sim_connection.specs.Seen.{count_of, outward_of, timer_by, timer_of}
 use Rattle.sim_connection.specs.Sending.{segment_out}
 use Rattle.sim_connection.proofs.Counting.{counts_on}
@@ -48,7 +48,7 @@ gone_once Once = refl
 gone_once Again = refl
 
 -- how far the connection is opened, once our SYN is out
-pub opened_gone : (s : Settings) (c : Connection) (past next : Story) (m : ℕ) → is_connects c.stage ≡ false → syn_is_out next ≡ true → our_number next ≡ our_number past →
+pub opened_gone : (s : Settings) (c : Connection) (past next : Story) (m : ℕ) → is_at_connecting c.stage ≡ false → syn_is_out next ≡ true → our_number next ≡ our_number past →
     is_connecting next ≡ is_connecting past
     → answered (host next) ≡ answered (host past) → is_accepted next ≡ is_accepted past → their_syn next ≡ their_syn past → IsOpened s c past → IsOpened s (syn_gone c m) next
 opened_gone s c past next m apart out_is ours_is connects_is answered_is accepted_is theirs_is o = record {
@@ -222,7 +222,7 @@ module _ (s : Settings) (c : Connection) (down : Downward) (up : Upward) (past :
 -- ---- our SYN-ACK
 
 module _ (s : Settings) (c : Connection) (up : Upward) (down : Downward) (past : Story) (now m : ℕ) (on : now ≤ m) (late : m ≤ 2 ^ 62) (h : Holds s c up down past now)
-    (at : c.stage ≡ stage.Answers) (owed : c.syn_owed ≡ true) where
+    (at : c.stage ≡ stage.SynReceived) (owed : c.syn_owed ≡ true) where
   abbrev seg : Segment
   seg = segment_out s.mru c up down SynAck
 
@@ -270,7 +270,7 @@ module _ (s : Settings) (c : Connection) (up : Upward) (down : Downward) (past :
       (may_send s past m seg (refl, refl) (omega arith) (syn_reason s c down up past now m seg on late h opening refl refl owed) (λ is. absurd cc)
       (acknowledges s c up past now m seg h.suits h.goes h.opened known h.gives.fin_out (h.receives known) refl refl refl)
       (λ is. absurd cc) h.goes.well (λ is. absurd cc) (λ is. absurd (none_if (is_closed past) h.goes.open_yet is))
-      (λ is. granted s c past h.opened h.goes.open_yet (ap (λ (st : Stage). is_connects st) at)) opens
+      (λ is. granted s c past h.opened h.goes.open_yet (ap (λ (st : Stage). is_at_connecting st) at)) opens
       (record { carries = λ is. absurd cc; acknowledges = ((λ is. refl), (λ is. absurd cc)); next = λ is. absurd cc; window = λ is. absurd cc }) options)
       (must_send s past m seg (tells_room s c up past now m seg h.suits h.goes h.opened known h.gives.fin_out (h.receives known) refl refl refl refl) h.goes.free)
       h.goes.open_yet refl refl
@@ -286,7 +286,7 @@ module _ (s : Settings) (c : Connection) (up : Upward) (down : Downward) (past :
         within = h.within;
         goes = goes_now;
         opened = opened_told s (syn_gone c m) up 0 (At m (Departs seg) ∷ past)
-            (opened_gone s c past (At m (Departs seg) ∷ past) m (ap (λ (st : Stage). is_connects st) at) refl refl refl refl refl refl h.opened);
+            (opened_gone s c past (At m (Departs seg) ∷ past) m (ap (λ (st : Stage). is_at_connecting st) at) refl refl refl refl refl refl h.opened);
         awaits = λ is. let not_it = sym is ∙ known in absurd cc;
         receives = λ is. receives_beside s (told c up 0) (told (syn_gone c m) up 0) up (At m (Departs seg) ∷ past) (λ so. so) r;
         gives = gives_as s (syn_gone c m) (told (syn_gone c m) up 0) down (At m (Departs seg) ∷ past) m refl refl refl refl refl (λ so gone yet. absurd cc) (λ so. so) (λ yet owes runs. absurd cc) g;

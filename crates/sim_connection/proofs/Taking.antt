@@ -15,7 +15,7 @@ use Rattle.tcp_connection.specs.Segments.{count_taken, is_end_taken, is_to_ackno
 use Rattle.tcp_connection.specs.declared.Stage.{Stage}
 use Rattle.spec_flow.specs.Settings.{Settings}
 use Rattle.spec_flow.specs.Event.{Arrives, At, Segment, Story}
-use Rattle.spec_flow.specs.Guest.{AckIsDue, Came, Honest, Up, ackd, is_empty, octet_at as octet_in, was_acked}
+use Rattle.spec_flow.specs.Guest.{AckIsDue, Came, Conforming, Up, ackd, is_empty, octet_at as octet_in, was_acked}
 use Rattle.spec_flow.specs.Flow.{guest, is_closed, is_heeded, is_plain, their_number}
 use Rattle.spec_flow.specs.Dutiful.{fin_is_answered}
 use Rattle.spec_flow.proofs.Sides.{guest_came}
@@ -221,7 +221,7 @@ module _ (s : Settings) (c : Connection) (up : Upward) (past : Story) (m : ℕ) 
     current = current_now;
     sure = sure_now;
     host_ended = r.host_ended;
-    told = λ honest. r.told (earlier (Came seg.number seg.octets seg.fin true) (guest past) (subst (λ (g : List Up). Honest g) same honest));
+    told = λ conforming. r.told (earlier (Came seg.number seg.octets seg.fin true) (guest past) (subst (λ (g : List Up). Conforming g) same conforming));
     answered = λ is none. answers (is_fin tcp) (quiet owed only none).2 (r.answered is (quiet owed only none).0);
     prompted = λ is. refl;
     updated = λ none yes_. absurd cc;

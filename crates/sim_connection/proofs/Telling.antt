@@ -9,7 +9,7 @@ use Rattle.tcp_connection.specs.Owing.{told}
 use Rattle.tcp_connection.specs.Windows.{field, least_shift, our_shift, shift_within, told_edge}
 use Rattle.spec_flow.specs.Settings.{Settings}
 use Rattle.spec_flow.specs.Event.{At, Departs, Segment, Story}
-use Rattle.spec_flow.specs.Guest.{AckIsDue, Acked, Honest, HasCome, IsAcknowledged, Up, ackd, was_acked, written}
+use Rattle.spec_flow.specs.Guest.{AckIsDue, Acked, Conforming, HasCome, IsAcknowledged, Up, ackd, was_acked, written}
 use Rattle.spec_flow.specs.Flow.{guest, their_number}
 use Rattle.spec_flow.specs.Windows.{is_scaled, least_shift as least_told, our_shift as shift_told, shift_within as told_within, their_scale}
 use Rattle.spec_flow.specs.Close.{fin_is_out}
@@ -61,7 +61,7 @@ shift_is s c past suits o =
 -- ---- the number that is expected next
 
 -- all before it came
-pub came_of : (s : Settings) (c : Connection) (up : Upward) (past : Story) → IsOpened s c past → Receives s c up past → Honest (guest past) → HasCome (guest past)
+pub came_of : (s : Settings) (c : Connection) (up : Upward) (past : Story) → IsOpened s c past → Receives s c up past → Conforming (guest past) → HasCome (guest past)
     (ackd (Acked (next_number c.received) ∷ guest past))
 came_of s c up past o r = (acked s.ring (part_of c up) (guest past) (next_number c.received) (room_of up) whole refl r.follows).1
   where
@@ -86,17 +86,17 @@ module _ (s : Settings) (c : Connection) (up : Upward) (past : Story) (now m : �
   whole = let size : up.size ≡ s.ring = r.follows.size in let within : length up.held ≤ s.ring = r.follows.within in omega (arith, size, within)
 
   step : Follows s.ring (record (part_of c up) { ack_owed = false }) (Acked seg.acknowledgement ∷ guest past)
-      × (Honest (guest past) → HasCome (guest past) (ackd (Acked seg.acknowledgement ∷ guest past)))
-      × (Honest (guest past) → (a : ℕ) → IsAcknowledged (Acked seg.acknowledgement ∷ guest past) a → room_of up + a ≡ length (written (guest past)) + s.ring)
+      × (Conforming (guest past) → HasCome (guest past) (ackd (Acked seg.acknowledgement ∷ guest past)))
+      × (Conforming (guest past) → (a : ℕ) → IsAcknowledged (Acked seg.acknowledgement ∷ guest past) a → room_of up + a ≡ length (written (guest past)) + s.ring)
   step = acked s.ring (part_of c up) (guest past) seg.acknowledgement (room_of up) whole number r.follows
 
   -- what is acknowledged came
   pub acknowledges : AcknowledgesWhatCame past (Send seg)
-  acknowledges = λ sent. (ack ∙ sym is_known, λ yes honest. step.1 honest)
+  acknowledges = λ sent. (ack ∙ sym is_known, λ yes conforming. step.1 conforming)
 
   -- the room is told
   pub tells_room : seg.window ≡ field (shift_told s past seg.syn) (room_of up) → TellsRoom s past m seg
-  tells_room is = λ sent honest a acknowledged. (room_of up, step.2 honest a (subst (λ (g : List Up). IsAcknowledged g a) acked_now acknowledged), is)
+  tells_room is = λ sent conforming a acknowledged. (room_of up, step.2 conforming a (subst (λ (g : List Up). IsAcknowledged g a) acked_now acknowledged), is)
 
   tells_ends : (shift : ℕ) → Ends (At m (Departs seg) ∷ past) (part_of (told c up shift) up) (c.end_acknowledged || c.received.ended) (closes_first c) (next_number c.received)
   tells_ends shift =
@@ -129,8 +129,8 @@ module _ (s : Settings) (c : Connection) (up : Upward) (past : Story) (now m : �
         (acked_current (guest past) (taken_of c.received.first c.received.taken c.received.ended) seg.acknowledgement number));
     sure = λ is. (either_ended c.end_acknowledged c.received.ended (c.acknowledged ≡ next_number c.received) r.sure is, refl);
     host_ended = r.host_ended;
-    told = λ honest.
-        tells_edge s past (part_of c up) m seg ack rst is_known number r.follows (earlier (Acked seg.acknowledgement) (guest past) (subst (λ (g : List Up). Honest g) acked_now honest))
+    told = λ conforming.
+        tells_edge s past (part_of c up) m seg ack rst is_known number r.follows (earlier (Acked seg.acknowledgement) (guest past) (subst (λ (g : List Up). Conforming g) acked_now conforming))
         ∙ ap (λ (k : ℕ). Some (places_taken (taken_of c.received.first c.received.taken c.received.ended) + seg.window * 2 ^ k)) (sym shift_same)
         ∙ ap (λ (k : ℕ). Some (places_taken (taken_of c.received.first c.received.taken c.received.ended) + k * 2 ^ shift)) window;
     answered = λ is none. rw (ack, rst) refl;

@@ -7,7 +7,7 @@ use Rattle.tcp_receive.specs.Received.{next_number}
 use Rattle.tcp_connection.specs.Connection.{Connection, HasBuffers}
 use Rattle.spec_flow.specs.Settings.{Settings}
 use Rattle.spec_flow.specs.Event.{Arrives, At, Segment, Story}
-use Rattle.spec_flow.specs.Guest.{AckIsDue, Came, Honest, Up, was_acked}
+use Rattle.spec_flow.specs.Guest.{AckIsDue, Came, Conforming, Up, was_acked}
 use Rattle.spec_flow.specs.Host.{Confirmed, Down, answered, is_acceptable}
 use Rattle.spec_flow.specs.Flow.{confirms, greets, guest, host, is_heeded, is_plain, is_under_way, their_number, their_syn}
 use Rattle.spec_flow.specs.Close.{renews}
@@ -27,7 +27,7 @@ use Rattle.sim_halves.proofs.Reasons.{by_arrival}
 use Rattle.sim_halves.proofs.Resets.{came_current}
 use Rattle.sim_halves.proofs.Steps.{passed}
 use Rattle.sim_halves.proofs.Wanting.{reset_at_next}
-use Rattle.sim_connection.specs.Holding.{Gives, Holds, Receives, is_calls, is_connects}
+use Rattle.sim_connection.specs.Holding.{Gives, Holds, Receives, is_calls, is_at_connecting}
 use Rattle.sim_connection.specs.Seen.{count_of, outward_of, part_of, resending_of, timer_of}
 use Rattle.sim_connection.proofs.Counting.{counts_on, unmoved_at}
 use Rattle.sim_connection.proofs.Acking.{way_same}
@@ -156,7 +156,7 @@ module _ (s : Settings) (c : Connection) (up : Upward) (down : Downward) (past :
               (taken_of c.received.first c.received.taken c.received.ended) c.acknowledged seg.number seg.octets seg.fin false refl (inl refl) r.current);
           sure = r.sure;
           host_ended = r.host_ended;
-          told = λ honest. r.told (earlier (Came seg.number seg.octets seg.fin false) (guest past) (subst (λ (g : List Up). Honest g) same honest));
+          told = λ conforming. r.told (earlier (Came seg.number seg.octets seg.fin false) (guest past) (subst (λ (g : List Up). Conforming g) same conforming));
           answered = λ is not_owed. answers (fresh not_owed is) (r.answered is (only not_owed));
           prompted = λ is. refl;
           updated = λ quiet so. absurd cc;
@@ -177,7 +177,7 @@ module _ (s : Settings) (c : Connection) (up : Upward) (down : Downward) (past :
           current = subst (λ (g : List Up). IsCurrent g (taken_of c.received.first c.received.taken c.received.ended) c.acknowledged) (sym same) r.current;
           sure = r.sure;
           host_ended = r.host_ended;
-          told = λ honest. r.told (subst (λ (g : List Up). Honest g) same honest);
+          told = λ conforming. r.told (subst (λ (g : List Up). Conforming g) same conforming);
           answered = λ is not_owed. answers (fresh not_owed is) (r.answered is (only not_owed));
           prompted = λ is. refl;
           updated = λ quiet so. absurd cc;
@@ -196,7 +196,7 @@ module _ (s : Settings) (c : Connection) (up : Upward) (down : Downward) (past :
         let two = if_some seg.rst seg must.0 (either seg.rst) must.1 in
         apart two.0 (ap (λ (g : Segment). g.number) two.1 ∙ reset_at_next s after (part_of c up) (h.receives known).follows must)
 
-    pub stays : (syn_owed ack_owed : Bool) → (c.syn_owed ≡ true → syn_owed ≡ true) → (ack_owed ≡ false → c.ack_owed ≡ false) → (is_connects c.stage ≡ true → ack_owed ≡ false) →
+    pub stays : (syn_owed ack_owed : Bool) → (c.syn_owed ≡ true → syn_owed ≡ true) → (ack_owed ≡ false → c.ack_owed ≡ false) → (is_at_connecting c.stage ≡ true → ack_owed ≡ false) →
         (ack_owed ≡ false → c.end_acknowledged ≡ true → renews seg ≡ false)
         → HasBuffers (record c { syn_owed = syn_owed; ack_owed = ack_owed }) up down → Holds s (record c { syn_owed = syn_owed; ack_owed = ack_owed }) up down after m
     stays syn_owed ack_owed keeps_syn only calm fresh buffers =

@@ -17,7 +17,7 @@ use Rattle.sim_halves.proofs.Moments.{both_ahead}
 use Rattle.sim_halves.proofs.Rests.{our_fin}
 use Rattle.sim_halves.proofs.Waiting.{closes_when_done}
 use Rattle.sim_halves.proofs.Wanting.{asks_for_room, has_room, may_want, must_want}
-use Rattle.sim_connection.specs.Holding.{Holds, is_calls, is_connects}
+use Rattle.sim_connection.specs.Holding.{Holds, is_calls, is_at_connecting}
 use Rattle.sim_connection.specs.Seen.{outward_of, part_of}
 use Rattle.sim_connection.proofs.Leaving.{granted}
 use Rattle.sim_connection.proofs.Watching.{synchronized_is}
@@ -55,8 +55,8 @@ module _ (s : Settings) (c : Connection) (up : Upward) (down : Downward) (past :
   shut_end is = sym h.gives.keeps.ended ∙ ap not is
 
   -- they are waited for while the host may give some and there is room
-  pub reads_where_room : waits_to_read s past ≡ (not (is_connects c.stage) && is_open c.transmission.end && nat_lt (length down.octets) s.ring)
-  reads_where_room = by (is_connects c.stage) (is_open c.transmission.end) refl refl
+  pub reads_where_room : waits_to_read s past ≡ (not (is_at_connecting c.stage) && is_open c.transmission.end && nat_lt (length down.octets) s.ring)
+  reads_where_room = by (is_at_connecting c.stage) (is_open c.transmission.end) refl refl
     where
       four : (a b d e : Bool) → (a ≡ false) ⊎ (d ≡ true) → (a && not b && not d && e) ≡ false
       four false b d e is = refl
@@ -68,7 +68,7 @@ module _ (s : Settings) (c : Connection) (up : Upward) (down : Downward) (past :
       all : (a b d e f : Bool) → a ≡ true → b ≡ false → d ≡ false → e ≡ f → (a && not b && not d && e) ≡ f
       all a b d e f a_is b_is d_is e_is = rw (a_is, b_is, d_is, e_is) refl
 
-      by : (b d : Bool) → is_connects c.stage ≡ b → is_open c.transmission.end ≡ d → waits_to_read s past ≡ (not b && d && nat_lt (length down.octets) s.ring)
+      by : (b d : Bool) → is_at_connecting c.stage ≡ b → is_open c.transmission.end ≡ d → waits_to_read s past ≡ (not b && d && nat_lt (length down.octets) s.ring)
       by true d at end = four (has_connected past || is_accepted past) (is_closed past) (got_end (host past)) (nat_lt (length (got (host past))) (acked (host past) + s.ring))
           (inl (none_granted (is_accepted past) (has_connected past) (is_closed past) (h.opened.connects ∙ at)))
       by false false at end = four (has_connected past || is_accepted past) (is_closed past) (got_end (host past)) (nat_lt (length (got (host past))) (acked (host past) + s.ring)) (inr (shut_end end))
@@ -84,25 +84,25 @@ module _ (s : Settings) (c : Connection) (up : Upward) (down : Downward) (past :
 
   -- what the host is waited for to take: that it connects, octets, or the end
 
-  pub must_write : is_calls c.stage ≡ false → must_wait_to_write past ≡ true → (is_connects c.stage ≡ true) ⊎ ((0 < length up.held) ⊎ ((c.received.ended ≡ true) × (c.host_ended ≡ false)))
+  pub must_write : is_calls c.stage ≡ false → must_wait_to_write past ≡ true → (is_at_connecting c.stage ≡ true) ⊎ ((0 < length up.held) ⊎ ((c.received.ended ≡ true) × (c.host_ended ≡ false)))
   must_write reached is = by (must_want s past (part_of c up) (h.receives reached).follows is)
     where
-      by : (is_connecting past ≡ true) ⊎ ((0 < length up.held) ⊎ ((c.received.ended ≡ true) × (c.host_ended ≡ false))) → (is_connects c.stage ≡ true) ⊎
+      by : (is_connecting past ≡ true) ⊎ ((0 < length up.held) ⊎ ((c.received.ended ≡ true) × (c.host_ended ≡ false))) → (is_at_connecting c.stage ≡ true) ⊎
           ((0 < length up.held) ⊎ ((c.received.ended ≡ true) × (c.host_ended ≡ false)))
       by (inl connects) = inl (sym h.opened.connects ∙ connects)
       by (inr more) = inr more
 
-  pub may_write : is_calls c.stage ≡ false → (is_connects c.stage ≡ true) ⊎ ((0 < length up.held) ⊎ ((c.received.ended ≡ true) × (c.host_ended ≡ false))) → MayWaitToWrite past
+  pub may_write : is_calls c.stage ≡ false → (is_at_connecting c.stage ≡ true) ⊎ ((0 < length up.held) ⊎ ((c.received.ended ≡ true) × (c.host_ended ≡ false))) → MayWaitToWrite past
   may_write reached wants = may_want s past (part_of c up) (h.receives reached).follows h.goes.open_yet (by wants)
     where
-      by : (is_connects c.stage ≡ true) ⊎ ((0 < length up.held) ⊎ ((c.received.ended ≡ true) × (c.host_ended ≡ false))) → (is_connecting past ≡ true) ⊎
+      by : (is_at_connecting c.stage ≡ true) ⊎ ((0 < length up.held) ⊎ ((c.received.ended ≡ true) × (c.host_ended ≡ false))) → (is_connecting past ≡ true) ⊎
           ((0 < length up.held) ⊎ ((c.received.ended ≡ true) × (c.host_ended ≡ false)))
       by (inl connects) = inl (h.opened.connects ∙ connects)
       by (inr more) = inr more
 
   -- ---- whether it may be waited at all
 
-  pub may_wait : is_calls c.stage ≡ false → takes_for_done c ≡ false → (is_connects c.stage ≡ true → now < opened_at past + 75000)
+  pub may_wait : is_calls c.stage ≡ false → takes_for_done c ≡ false → (is_at_connecting c.stage ≡ true → now < opened_at past + 75000)
       → (is_deserted past ≡ true → is_prompted past ≡ false → now < max (patience_end past) (last_at past + 1)) → MayWait past now
   may_wait reached not_done early patient = record {
     closes = closes_when_done past (part_of c up) c.end_acknowledged c.ours_first c.acknowledged (h.receives reached).ends

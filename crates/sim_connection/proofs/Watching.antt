@@ -25,22 +25,22 @@ use Rattle.sim_connection.proofs.Unanswered.{idle_unheard}
 
 -- a live connection that isn't opening is synchronized
 pub synchronized_is : (st : Stage) → is_live st ≡ true → is_opening st ≡ false → is_synchronized st ≡ true
-synchronized_is stage.Connects live is = absurd cc
-synchronized_is stage.Calls live is = absurd cc
-synchronized_is stage.Answers live is = absurd cc
+synchronized_is stage.Connecting live is = absurd cc
+synchronized_is stage.SynSent live is = absurd cc
+synchronized_is stage.SynReceived live is = absurd cc
 synchronized_is stage.Synchronized live is = refl
-synchronized_is stage.Rests live is = absurd cc
+synchronized_is stage.TimeWait live is = absurd cc
 synchronized_is (stage.Resets seq ack) live is = absurd cc
-synchronized_is stage.Gone live is = absurd cc
+synchronized_is stage.Closed live is = absurd cc
 
 pub opening_is : (st : Stage) → is_live st ≡ true → is_opening st ≡ true → is_synchronized st ≡ false
-opening_is stage.Connects live is = refl
-opening_is stage.Calls live is = refl
-opening_is stage.Answers live is = refl
+opening_is stage.Connecting live is = refl
+opening_is stage.SynSent live is = refl
+opening_is stage.SynReceived live is = refl
 opening_is stage.Synchronized live is = absurd cc
-opening_is stage.Rests live is = absurd cc
+opening_is stage.TimeWait live is = absurd cc
 opening_is (stage.Resets seq ack) live is = absurd cc
-opening_is stage.Gone live is = absurd cc
+opening_is stage.Closed live is = absurd cc
 
 -- numbers are under way by the counts of the sending half
 pub under_way_is : (s : Settings) (c : Connection) (down : Downward) (past : Story) → IsOpened s c past → Keeps (outward_of c.transmission down) (host past) → is_opening c.stage ≡ false

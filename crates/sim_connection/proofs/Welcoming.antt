@@ -31,7 +31,7 @@ use Rattle.sim_halves.specs.Sends.{Keeps}
 use Rattle.sim_halves.proofs.Reasons.{by_arrival}
 use Rattle.sim_halves.proofs.SendSteps.{place_of_number}
 use Rattle.sim_halves.proofs.Sendings.{rises}
-use Rattle.sim_connection.specs.Holding.{CountsSince, Gives, Holds, IsOpened, Receives, is_calls, is_connects, is_live}
+use Rattle.sim_connection.specs.Holding.{CountsSince, Gives, Holds, IsOpened, Receives, is_calls, is_at_connecting, is_live}
 use Rattle.sim_connection.specs.Seen.{outward_of, window_by}
 use Rattle.sim_connection.proofs.Confirming.{answered_now, heard_counts, heard_fin, heard_keeps, heard_steady, heard_told, place_same, syn_heard_runs}
 use Rattle.sim_connection.proofs.Greeting.{goes_greeted, greeted_receives, known_now, most_now, unknown, unknown_is}
@@ -66,7 +66,7 @@ limited_feeds t down k low alone f = record {
 }
 
 module _ (s : Settings) (c : Connection) (up : Upward) (down : Downward) (past : Story) (now m : ℕ) (tcp : Tcp) (on : now ≤ m) (late : m ≤ 2 ^ 62) (h : Holds s c up down past now)
-    (at : c.stage ≡ stage.Calls)
+    (at : c.stage ≡ stage.SynSent)
     (gone : has_gone c.sendings ≡ true) (is_greeted : greets past (segment_of tcp) ≡ true) (rst : (segment_of tcp).rst ≡ false) (syn : (segment_of tcp).syn ≡ true) where
   abbrev seg : Segment
   seg = segment_of tcp
@@ -89,14 +89,14 @@ module _ (s : Settings) (c : Connection) (up : Upward) (down : Downward) (past :
   scale_known : shift_of tcp.scale ≡ shift_of (elim (their_syn after) [ None ↦ None | Some g ↦ g.scale ])
   scale_known = ap (λ (o : Option Segment). shift_of (elim o [ None ↦ None | Some g ↦ g.scale ])) (sym syn_known)
 
-  opened_after : (st : Stage) (tr : Transmission) (sy : Resending) (so fa : Bool) → is_calls st ≡ false → is_connects st ≡ false → is_live st ≡ true → tr.mss ≡
+  opened_after : (st : Stage) (tr : Transmission) (sy : Resending) (so fa : Bool) → is_calls st ≡ false → is_at_connecting st ≡ false → is_live st ≡ true → tr.mss ≡
       (greeted c tcp).transmission.mss → answered (host after) ≡ is_synchronized st
       → (is_opening st ≡ true → so ≡ true) → IsOpened s (record (greeted c tcp) { stage = st; transmission = tr; syn = sy; syn_owed = so; fin_acked = fa }) after
   opened_after st tr sy so fa no_call no_connect live most answered_is owes =
       let o = h.opened in record {
         live = live;
         ours = o.ours;
-        connects = o.connects ∙ ap (λ (st : Stage). is_connects st) at ∙ sym no_connect;
+        connects = o.connects ∙ ap (λ (st : Stage). is_at_connecting st) at ∙ sym no_connect;
         out = o.out;
         unsent = λ is. let not_it = sym is ∙ no_connect in absurd cc;
         sent = λ is. gone;
@@ -125,10 +125,10 @@ module _ (s : Settings) (c : Connection) (up : Upward) (down : Downward) (past :
         buffers = buffers;
         within = h.within;
         goes = goes_greeted s c up down past now m tcp on h at is_greeted rst;
-        opened = opened_after stage.Answers (greeted c tcp).transmission c.syn true c.fin_acked refl refl refl refl
+        opened = opened_after stage.SynReceived (greeted c tcp).transmission c.syn true c.fin_acked refl refl refl refl
             (answered_same s c up down past now m seg on h none ∙ h.opened.answered ∙ ap (λ (st : Stage). is_synchronized st) at) (λ is. refl);
         awaits = λ is. absurd cc;
-        receives = λ is. received_after stage.Answers (greeted c tcp).transmission c.syn true c.fin_acked;
+        receives = λ is. received_after stage.SynReceived (greeted c tcp).transmission c.syn true c.fin_acked;
         gives = gives_most s (record (greeted c tcp) { transmission = c.transmission }) (greeted c tcp).transmission.mss down after m
             (gives_as s (record c { syn_owed = true; ack_owed = true }) (record (greeted c tcp) { transmission = c.transmission }) down after m (sym opening) refl refl refl refl
             (λ owes so yet. by_arrival past m m seg) (λ so. refl) (λ opening_yet owed runs. heard_now past m seg) g);

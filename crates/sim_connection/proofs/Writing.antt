@@ -18,7 +18,7 @@ use Rattle.sim_halves.proofs.Resets.{ended_current, wrote_current}
 use Rattle.sim_halves.proofs.Rests.{quiet_ends}
 use Rattle.sim_halves.proofs.Steps.{told_the_end, wrote}
 use Rattle.sim_halves.proofs.Wanting.{offers}
-use Rattle.sim_connection.specs.Holding.{Holds, Receives, is_calls, is_connects, without}
+use Rattle.sim_connection.specs.Holding.{Holds, Receives, is_calls, is_at_connecting, without}
 use Rattle.sim_connection.specs.Seen.{part_of}
 use Rattle.sim_connection.proofs.Going.{does}
 use Rattle.sim_connection.proofs.Quiet.{gives_as, gives_on, opened_beside, opened_on}
@@ -40,7 +40,7 @@ or_true : (a b : Bool) → b ≡ true → (a || b) ≡ true
 or_true true b is = refl
 or_true false b is = is
 
-module _ (s : Settings) (c : Connection) (up : Upward) (down : Downward) (past : Story) (now m : ℕ) (on : now ≤ m) (known : is_calls c.stage ≡ false) (joined : is_connects c.stage ≡ false) where
+module _ (s : Settings) (c : Connection) (up : Upward) (down : Downward) (past : Story) (now m : ℕ) (on : now ≤ m) (known : is_calls c.stage ≡ false) (joined : is_at_connecting c.stage ≡ false) where
   -- the front of what is held was offered, and the host took so many octets
   module _ (k n : ℕ) (few : n ≤ k) (all : k ≡ min 16384 (length up.held)) where
     within : k ≤ length up.held
@@ -55,7 +55,7 @@ module _ (s : Settings) (c : Connection) (up : Upward) (down : Downward) (past :
       current = wrote_current (guest past) (taken_of c.received.first c.received.taken c.received.ended) c.acknowledged (take k up.held) n r.current;
       sure = r.sure;
       host_ended = r.host_ended;
-      told = λ honest. r.told (earlier (Wrote (take k up.held) n) (guest past) honest);
+      told = λ conforming. r.told (earlier (Wrote (take k up.held) n) (guest past) conforming);
       answered = r.answered;
       prompted = λ is. or_true (nat_lt 0 n && not (is_empty (take k up.held))) (is_prompted past) (r.prompted is);
       updated = λ none yes.
@@ -91,7 +91,7 @@ module _ (s : Settings) (c : Connection) (up : Upward) (down : Downward) (past :
     current = ended_current (guest past) (taken_of c.received.first c.received.taken c.received.ended) c.acknowledged r.current;
     sure = r.sure;
     host_ended = refl;
-    told = λ honest. r.told (earlier Ended (guest past) honest);
+    told = λ conforming. r.told (earlier Ended (guest past) conforming);
     answered = r.answered;
     prompted = r.prompted;
     updated = r.updated;

@@ -13,7 +13,7 @@ use Rattle.tcp_connection.specs.declared.Stage.{Stage}
 use Rattle.tcp_connection.specs.declared.Stage.TheVariants as stage
 use Rattle.spec_flow.specs.Settings.{Settings}
 use Rattle.spec_flow.specs.Event.{IsStory, Story, newest_moment}
-use Rattle.spec_flow.specs.Guest.{AckIsDue, Honest, was_acked}
+use Rattle.spec_flow.specs.Guest.{AckIsDue, Conforming, was_acked}
 use Rattle.spec_flow.specs.Host.{answered}
 use Rattle.spec_flow.specs.Flow.{acknowledged_at, guest, has_connected, host, is_accepted, is_closed, is_connecting, is_under_way, opened_at, our_number, syn_is_out, their_number, their_syn}
 use Rattle.spec_flow.specs.Windows.{mss, right_edge, their_scale, window}
@@ -27,35 +27,35 @@ use Rattle.sim_halves.specs.Resends.{HasReason, Resends}
 use Rattle.sim_halves.specs.Sends.{Keeps}
 use Rattle.sim_connection.specs.Seen.{count_of, outward_of, part_of, resending_of, timer_of, window_by}
 
--- the connection is open: neither over nor at rest
+-- the connection is open: neither over nor in TIME-WAIT
 abbrev pub is_live : Stage → Bool
-is_live stage.Connects = true
-is_live stage.Calls = true
-is_live stage.Answers = true
+is_live stage.Connecting = true
+is_live stage.SynSent = true
+is_live stage.SynReceived = true
 is_live stage.Synchronized = true
-is_live stage.Rests = false
+is_live stage.TimeWait = false
 is_live (stage.Resets seq ack) = false
-is_live stage.Gone = false
+is_live stage.Closed = false
 
 -- the host is asked to connect
-abbrev pub is_connects : Stage → Bool
-is_connects stage.Connects = true
-is_connects stage.Calls = false
-is_connects stage.Answers = false
-is_connects stage.Synchronized = false
-is_connects stage.Rests = false
-is_connects (stage.Resets seq ack) = false
-is_connects stage.Gone = false
+abbrev pub is_at_connecting : Stage → Bool
+is_at_connecting stage.Connecting = true
+is_at_connecting stage.SynSent = false
+is_at_connecting stage.SynReceived = false
+is_at_connecting stage.Synchronized = false
+is_at_connecting stage.TimeWait = false
+is_at_connecting (stage.Resets seq ack) = false
+is_at_connecting stage.Closed = false
 
 -- we opened it, and the guest's SYN isn't known
 abbrev pub is_calls : Stage → Bool
-is_calls stage.Connects = false
-is_calls stage.Calls = true
-is_calls stage.Answers = false
+is_calls stage.Connecting = false
+is_calls stage.SynSent = true
+is_calls stage.SynReceived = false
 is_calls stage.Synchronized = false
-is_calls stage.Rests = false
+is_calls stage.TimeWait = false
 is_calls (stage.Resets seq ack) = false
-is_calls stage.Gone = false
+is_calls stage.Closed = false
 
 -- octets that the host took are no longer held
 abbrev pub without : Upward → ℕ → Upward
@@ -82,14 +82,14 @@ pub record Goes (s : Settings) (past : Story) (now : ℕ) : Type 0 where
 pub record IsOpened (s : Settings) (c : Connection) (past : Story) : Type 0 where
   pub live : is_live c.stage ≡ true
   pub ours : our_number past ≡ c.ours
-  pub connects : is_connecting past ≡ is_connects c.stage
+  pub connects : is_connecting past ≡ is_at_connecting c.stage
   pub out : syn_is_out past ≡ has_gone c.sendings
-  pub unsent : is_connects c.stage ≡ true → has_gone c.sendings ≡ false
+  pub unsent : is_at_connecting c.stage ≡ true → has_gone c.sendings ≡ false
   pub sent : is_synchronized c.stage ≡ true → has_gone c.sendings ≡ true
   pub answered : answered (host past) ≡ is_synchronized c.stage
-  pub owes : is_connects c.stage ≡ false → is_opening c.stage ≡ true → has_gone c.sendings ≡ false → c.syn_owed ≡ true
+  pub owes : is_at_connecting c.stage ≡ false → is_opening c.stage ≡ true → has_gone c.sendings ≡ false → c.syn_owed ≡ true
   pub calls : is_calls c.stage ≡ true → is_accepted past ≡ true
-  pub quiet : is_connects c.stage ≡ true → c.ack_owed ≡ false
+  pub quiet : is_at_connecting c.stage ≡ true → c.ack_owed ≡ false
   pub called : is_accepted past ≡ true → is_calls c.stage ≡ false → has_gone c.sendings ≡ true
   pub theirs : their_number past ≡ (if is_calls c.stage then None else Some c.received.first)
   pub scale : c.scale ≡ shift_of (their_scale past)
@@ -121,7 +121,7 @@ pub record Receives (s : Settings) (c : Connection) (up : Upward) (past : Story)
   pub current : IsCurrent (guest past) (taken_of c.received.first c.received.taken c.received.ended) c.acknowledged
   pub sure : c.end_acknowledged ≡ true → (c.received.ended ≡ true) × (c.acknowledged ≡ next_number c.received)
   pub host_ended : host_was_ended past ≡ c.host_ended
-  pub told : Honest (guest past) → right_edge s past ≡ c.told
+  pub told : Conforming (guest past) → right_edge s past ≡ c.told
   pub answered : c.end_acknowledged ≡ true → c.ack_owed ≡ false → fin_is_answered past ≡ true
   pub prompted : c.ack_owed ≡ true → is_prompted past ≡ true
   pub updated : is_prompted past ≡ false → is_synchronized c.stage ≡ true → c.told ≡ Some (told_edge c up (our_shift c))

@@ -14,7 +14,7 @@ use Rattle.spec_flow.specs.Settings.{Settings}
 use Rattle.spec_flow.specs.Event.{IsStory, Segment, Story, newest_moment}
 use Rattle.spec_flow.specs.Flow.{guest, has_connected, host, is_accepted, is_closed, syn_is_out, their_number}
 use Rattle.spec_flow.specs.Windows.{our_shift as shift_told}
-use Rattle.spec_flow.specs.Close.{fin_is_out, host_failed, is_owed_reset, owes_reset, rests_since}
+use Rattle.spec_flow.specs.Close.{fin_is_out, host_failed, is_owed_reset, owes_reset, in_time_wait_since}
 use Rattle.spec_flow.specs.Lawful.{HasNumberThatCame, IsLawful, is_prompted}
 use Rattle.spec_flow.specs.Dutiful.{IsDutiful, fin_is_answered}
 use Rattle.sim_halves.specs.Ends.{Ends}
@@ -31,13 +31,13 @@ pub record Runs (s : Settings) (past : Story) (now : ℕ) : Type 0 where
 
 -- a reset is owed
 abbrev pub is_resets : Stage → Bool
-is_resets stage.Connects = false
-is_resets stage.Calls = false
-is_resets stage.Answers = false
+is_resets stage.Connecting = false
+is_resets stage.SynSent = false
+is_resets stage.SynReceived = false
 is_resets stage.Synchronized = false
-is_resets stage.Rests = false
+is_resets stage.TimeWait = false
 is_resets (stage.Resets seq ack) = true
-is_resets stage.Gone = false
+is_resets stage.Closed = false
 
 -- a reset with these numbers is the one that is owed
 abbrev pub Pays : Story → (seq ack : ℕ) → Type 0
@@ -53,11 +53,11 @@ pub record IsOver (s : Settings) (c : Connection) (past : Story) (now : ℕ) : T
   pub pays : (seq ack : Seq) → c.stage ≡ stage.Resets seq ack → Pays past seq.0 ack.0
   pub came : (seq ack : Seq) → c.stage ≡ stage.Resets seq ack → HasNumberThatCame past ack.0
 
--- It rests, since a moment: all that came of the guest was acknowledged, and the host's stream is out with its end.
-pub record IsResting (s : Settings) (c : Connection) (up : Upward) (down : Downward) (past : Story) (now since : ℕ) : Type 0 where
+-- It is in TIME-WAIT, since a moment: all that came of the guest was acknowledged, and the host's stream is out with its end.
+pub record IsInTimeWait (s : Settings) (c : Connection) (up : Upward) (down : Downward) (past : Story) (now since : ℕ) : Type 0 where
   pub over : IsOver s c past now
-  pub at : c.stage ≡ stage.Rests
-  pub begun : rests_since past ≡ Some since
+  pub at : c.stage ≡ stage.TimeWait
+  pub begun : in_time_wait_since past ≡ Some since
   pub theirs : their_number past ≡ Some c.received.first
   pub out : syn_is_out past ≡ true
   pub shift : shift_told s past false ≡ our_shift c

@@ -11,7 +11,7 @@
 //! - What is owed may be sent, and as it must be (`what_is_owed_may_be_sent`: `lawful`, `dutiful`, `follows`). Held octets may be offered, however many the host
 //!   takes (`octets_that_are_held_may_be_written`). A flow that is owed nothing, once both SYNs were acknowledged, is settled, and in time where its timer isn't due
 //!   (`a_flow_that_is_owed_nothing_is_settled`).
-//! - Lemmas alone: causes of a close and the reset owed then (`Causes`, `Closing`, `Owing`), TIME-WAIT (`Resting`), what a wait names (`Wanting`), and that the timer
+//! - Lemmas alone: causes of a close and the reset owed then (`Causes`, `Closing`, `Owing`), TIME-WAIT (`InTimeWait`), what a wait names (`Wanting`), and that the timer
 //!   is within both bounds on a wait (`Bounds`).
 #![tactic(auto)]
 
@@ -29,7 +29,7 @@ ghost use Rattle.spec_flow.specs.Event.{Story, At, Departs, Writes};
 ghost use Rattle.spec_flow.specs.Lawful.{May, Send, Write};
 ghost use Rattle.spec_flow.specs.Dutiful.{Must};
 ghost use Rattle.sim_halves.specs.Settled.{IsSettledIf};
-ghost use Rattle.sim_connection.specs.Holding.{Holds, is_calls, is_connects, without};
+ghost use Rattle.sim_connection.specs.Holding.{Holds, is_calls, is_at_connecting, without};
 ghost use Rattle.sim_connection.specs.Sending.{segment_out};
 
 /// What a connection owes may be sent, as it must be: a SYN, a SYN-ACK, a piece of the host's stream or an acknowledgement,
@@ -51,13 +51,13 @@ pub fn what_is_owed_may_be_sent()
 /// follows the story however many of them the host took.
 pub fn octets_that_are_held_may_be_written()
     ensures lawful { (s : Settings) (c : Connection) (up : Upward) (down : Downward) (past : Story) (now m k n : ℕ)
-        → Holds s c up down past now → now ≤ m → is_calls c.stage ≡ false → is_connects c.stage ≡ false → n ≤ k → k ≡ min 16384 (length up.held)
+        → Holds s c up down past now → now ≤ m → is_calls c.stage ≡ false → is_at_connecting c.stage ≡ false → n ≤ k → k ≡ min 16384 (length up.held)
         → HasBuffers c (without up n) down → May s past m (Write (take k up.held)) }
     ensures dutiful { (s : Settings) (c : Connection) (up : Upward) (down : Downward) (past : Story) (now m k n : ℕ)
-        → Holds s c up down past now → now ≤ m → is_calls c.stage ≡ false → is_connects c.stage ≡ false → n ≤ k → k ≡ min 16384 (length up.held)
+        → Holds s c up down past now → now ≤ m → is_calls c.stage ≡ false → is_at_connecting c.stage ≡ false → n ≤ k → k ≡ min 16384 (length up.held)
         → HasBuffers c (without up n) down → Must s past m (Write (take k up.held)) }
     ensures follows { (s : Settings) (c : Connection) (up : Upward) (down : Downward) (past : Story) (now m k n : ℕ)
-        → Holds s c up down past now → now ≤ m → is_calls c.stage ≡ false → is_connects c.stage ≡ false → n ≤ k → k ≡ min 16384 (length up.held)
+        → Holds s c up down past now → now ≤ m → is_calls c.stage ≡ false → is_at_connecting c.stage ≡ false → n ≤ k → k ≡ min 16384 (length up.held)
         → HasBuffers c (without up n) down
         → Holds s c (without up n) down (At m (Writes (take k up.held) n) ∷ past) m }
 {}

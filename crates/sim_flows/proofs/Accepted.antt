@@ -13,14 +13,14 @@ use Rattle.spec_trace.specs.Moments.{moment}
 use Rattle.spec_trace.specs.Sockets.{next_number}
 use Rattle.flow_table.specs.Slots.{AreKept, HasTuple, MayBeTaken, NoneHas, flows, tuple_of}
 use Rattle.flow_table.specs.declared.Slot.{Slot}
-use Rattle.flow_table.specs.declared.Slot.TheVariants.{Free, InUse, Resting}
+use Rattle.flow_table.specs.declared.Slot.TheVariants.{Free, InUse, InTimeWait}
 use Rattle.spec_flows.specs.declared.Tuple.{Tuple}
 use Rattle.spec_flow.specs.Event.{Accepts, At}
 use Rattle.spec_flow.specs.Close.{is_in_use}
 use Rattle.spec_flow.specs.Flow.{first_number}
 use Rattle.spec_flows.specs.Book.{book, doom, is_refused, make_room, opens, port_of, tuple_for, visits_for, without}
-use Rattle.spec_flows.specs.Flows.{Book, Flow, Rest, flow_of, owner, rests_among, uses}
-use Rattle.spec_flows.specs.Lots.{due_for_flows}
+use Rattle.spec_flows.specs.Flows.{Book, Flow, TimeWait, flow_of, owner, is_among_time_waits, uses}
+use Rattle.spec_flows.specs.SegmentVerdicts.{due_for_flows}
 use Rattle.spec_flows.specs.Taught.{taught}
 use Rattle.sim_flows.specs.FlowsHold.{FlowsState}
 use Rattle.sim_flows.specs.Seats.{Seats, number_at}
@@ -40,10 +40,10 @@ use Rattle.sim_flows.proofs.Joined.{has_none, state_with}
 use Rattle.sim_flows.proofs.Looking.{none_rests, slot_of, slot_rests}
 use Rattle.sim_flows.proofs.Options.{none_some, some_same}
 
--- once the flow of a slot that rests on two ends has left it, no slot has them
-pub none_left : (slots : List Slot) (turns : List ℕ) (k : ℕ) (t : Tuple) (since : ℕ) → AreKept slots turns → slice_get slots k ≡ Some (Resting t since) → NoneHas (set slots k Free) t
+-- once the flow of a slot that is in TIME-WAIT on two ends has left it, no slot has them
+pub none_left : (slots : List Slot) (turns : List ℕ) (k : ℕ) (t : Tuple) (since : ℕ) → AreKept slots turns → slice_get slots k ≡ Some (InTimeWait t since) → NoneHas (set slots k Free) t
 none_left slots turns k t since kept slot j has = elim (same_or_not j k) [
-  | inl here ↦ none_some (sym (ap (option_and_then tuple_of) (ap (slice_get (set slots k Free)) here ∙ get_set_at slots k (Resting t since) Free slot)) ∙ has)
+  | inl here ↦ none_some (sym (ap (option_and_then tuple_of) (ap (slice_get (set slots k Free)) here ∙ get_set_at slots k (InTimeWait t since) Free slot)) ∙ has)
   | inr other ↦
       differ j k other
       (sym (kept.apart k j t (ap (option_and_then tuple_of) slot) (sym (ap (option_and_then tuple_of) (get_set_other slots k j Free (differ j k other))) ∙ has)))
@@ -74,7 +74,7 @@ module _ (config : Config) (state : FlowsState Splice) (past : List Entry) (now 
     abbrev pub begun_flow : Flow
     begun_flow = record { number = number; tuple = ends; story = At now (Accepts (first_number now state.opened)) ∷ [] }
 
-    -- the book of the record then
+    -- the book of the trace then
     abbrev opened : Book
     opened = opens config now number ends (Accepts (first_number now state.opened)) (book config past)
 
@@ -138,59 +138,59 @@ module _ (config : Config) (state : FlowsState Splice) (past : List Entry) (now 
           first_of_all : flow_of number (begun_flow ∷ (book config past).flows) ≡ Some begun_flow
           first_of_all = ap (λ b. cond b (Some begun_flow) (flow_of number (book config past).flows)) (same number)
 
-      core_opened : (slots : List Slot) → length slots ≡ length state.table.slots → Seats number_of (Following config now) (flows slots state.table.rest_order)
-          (set parts k (Some q)) (suc number) opened.flows opened.rests
-          → CoreHolds config now false None (record { table = flows slots state.table.rest_order; slots = set parts k (Some q); opened = suc state.opened }) later
+      core_opened : (slots : List Slot) → length slots ≡ length state.table.slots → Seats number_of (Following config now) (flows slots state.table.time_wait_order)
+          (set parts k (Some q)) (suc number) opened.flows opened.time_waits
+          → CoreHolds config now false None (record { table = flows slots state.table.time_wait_order; slots = set parts k (Some q); opened = suc state.opened }) later
       core_opened slots long seats = record {
-        seats = subst (λ n. Seats number_of (Following config now) (flows slots state.table.rest_order) (set parts k (Some q)) n (book config later).flows (book config later).rests) (one_more number)
-            (subst (λ (b : Book). Seats number_of (Following config now) (flows slots state.table.rest_order) (set parts k (Some q)) (suc number) b.flows b.rests) (sym book_is) seats);
+        seats = subst (λ n. Seats number_of (Following config now) (flows slots state.table.time_wait_order) (set parts k (Some q)) n (book config later).flows (book config later).time_waits) (one_more number)
+            (subst (λ (b : Book). Seats number_of (Following config now) (flows slots state.table.time_wait_order) (set parts k (Some q)) (suc number) b.flows b.time_waits) (sym book_is) seats);
         slots = long ∙ holds.slots;
         opened = ap (λ (b : Book). length b.flows) book_is ∙ ap suc holds.opened;
         asked = ap (λ b. due_for_flows config b (next_number later)) book_is;
         learnt = learnt_then;
       }
 
-    module _ (kept : AreKept state.table.slots state.table.rest_order) (sizes : length state.slots ≡ length state.table.slots) where
+    module _ (kept : AreKept state.table.slots state.table.time_wait_order) (sizes : length state.slots ≡ length state.table.slots) where
       -- ---- no slot has the two ends
 
       module _ (none : NoneHas state.table.slots ends) (k : ℕ) (taken : MayBeTaken state.table k) (q : Splice) (numbered : number_of q ≡ number)
           (follows : Following config now q (At now (Accepts (first_number now state.opened)) ∷ []))
           (learnt : (m : Mac) → q.mac ≡ Some m → Contains (taught config past) (guest.addr, m)) where
-        seats_then : Seats number_of (Following config now) (flows (set state.table.slots k (InUse ends)) state.table.rest_order) (set state.slots k (Some q)) (suc number) opened.flows opened.rests
+        seats_then : Seats number_of (Following config now) (flows (set state.table.slots k (InUse ends)) state.table.time_wait_order) (set state.slots k (Some q)) (suc number) opened.flows opened.time_waits
         seats_then =
             seats_joined number_of (Following config now) state.table state.slots number config (book config past) holds.seats kept sizes holds.slots (rests_rise config past).0
             k q now ends (Accepts (first_number now state.opened)) none
-            (none_rests number_of (Following config now) state.table state.slots number (book config past).flows (book config past).rests holds.seats sizes ends none)
-            taken (has_none number_of (Following config now) state.table state.slots number (book config past).flows (book config past).rests holds.seats sizes k) numbered refl follows
+            (none_rests number_of (Following config now) state.table state.slots number (book config past).flows (book config past).time_waits holds.seats sizes ends none)
+            taken (has_none number_of (Following config now) state.table state.slots number (book config past).flows (book config past).time_waits holds.seats sizes k) numbered refl follows
 
         -- the core's relation holds after it
         pub core_accepted : CoreHolds config now false None (state_with state k ends q) later
         core_accepted = core_opened state.slots (λ j r here. here) k q numbered learnt (set state.table.slots k (InUse ends)) (length-set state.table.slots k (InUse ends)) seats_then
 
-      -- ---- the flow of a slot rests on them: it leaves its slot first
+      -- ---- the flow of a slot is in TIME-WAIT on them: it leaves its slot first
 
-      module _ (i : ℕ) (p : Splice) (since : ℕ) (at : slice_get state.slots i ≡ Some (Some p)) (slot : slice_get state.table.slots i ≡ Some (Resting ends since)) where
+      module _ (i : ℕ) (p : Splice) (since : ℕ) (at : slice_get state.slots i ≡ Some (Some p)) (slot : slice_get state.table.slots i ≡ Some (InTimeWait ends since)) where
         abbrev pub left_state : FlowsState Splice
-        left_state = record { table = flows (set state.table.slots i Free) state.table.rest_order; slots = set state.slots i None; opened = state.opened }
+        left_state = record { table = flows (set state.table.slots i Free) state.table.time_wait_order; slots = set state.slots i None; opened = state.opened }
 
         abbrev all : List Flow
         all = (book config past).flows
 
-        abbrev rests : List Rest
-        rests = (book config past).rests
+        abbrev time_waits : List TimeWait
+        time_waits = (book config past).time_waits
 
-        resting : (r : Splice) × (f : Flow) × (slice_get state.slots i ≡ Some (Some r)) × (flow_of (number_of r) all ≡ Some f) × (owner ends all ≡ Some f) ×
-            (is_in_use f.story ≡ false) × (rests_among rests (owner ends all) ≡ true)
-        resting = slot_rests number_of (Following config now) state.table state.slots number all rests holds.seats sizes i ends since slot
+        in_time_wait : (r : Splice) × (f : Flow) × (slice_get state.slots i ≡ Some (Some r)) × (flow_of (number_of r) all ≡ Some f) × (owner ends all ≡ Some f) ×
+            (is_in_use f.story ≡ false) × (is_among_time_waits time_waits (owner ends all) ≡ true)
+        in_time_wait = slot_rests number_of (Following config now) state.table state.slots number all time_waits holds.seats sizes i ends since slot
 
-        found : flow_of (number_of p) all ≡ Some resting.1
-        found = ap (λ (x : Splice). flow_of (number_of x) all) (some_same p resting.0 (some_same (Some p) (Some resting.0) (sym at ∙ resting.2))) ∙ resting.3
+        found : flow_of (number_of p) all ≡ Some in_time_wait.1
+        found = ap (λ (x : Splice). flow_of (number_of x) all) (some_same p in_time_wait.0 (some_same (Some p) (Some in_time_wait.0) (sym at ∙ in_time_wait.2))) ∙ in_time_wait.3
 
         unused : uses (flow_of (number_of p) all) ≡ false
-        unused = ap uses found ∙ resting.5
+        unused = ap uses found ∙ in_time_wait.5
 
-        seats_left : Seats number_of (Following config now) left_state.table left_state.slots number all (without (number_of p) rests)
-        seats_left = seats_woken number_of (Following config now) state.table state.slots number all all rests i p ends since at slot unused unused (only_none (number_of p) all) holds.seats
+        seats_left : Seats number_of (Following config now) left_state.table left_state.slots number all (without (number_of p) time_waits)
+        seats_left = seats_woken number_of (Following config now) state.table state.slots number all all time_waits i p ends since at slot unused unused (only_none (number_of p) all) holds.seats
 
         sizes_left : length left_state.slots ≡ length left_state.table.slots
         sizes_left = length-set state.slots i None ∙ sizes ∙ sym (length-set state.table.slots i Free)
@@ -199,10 +199,10 @@ module _ (config : Config) (state : FlowsState Splice) (past : List Entry) (now 
             (follows : Following config now q (At now (Accepts (first_number now state.opened)) ∷ []))
             (learnt : (m : Mac) → q.mac ≡ Some m → Contains (taught config past) (guest.addr, m)) where
           free : slice_get left_state.table.slots k ≡ Some Free
-          free = elim taken [ inl is ↦ is | inr not ↦ absurd (not.0 i (get_set_at state.table.slots i (Resting ends since) Free slot)) ]
+          free = elim taken [ inl is ↦ is | inr not ↦ absurd (not.0 i (get_set_at state.table.slots i (InTimeWait ends since) Free slot)) ]
 
           empty_there : slice_get left_state.slots k ≡ Some None
-          empty_there = elim (has_none number_of (Following config now) left_state.table left_state.slots number all (without (number_of p) rests) seats_left sizes_left k)
+          empty_there = elim (has_none number_of (Following config now) left_state.table left_state.slots number all (without (number_of p) time_waits) seats_left sizes_left k)
               [ inl is ↦ is | inr not ↦ absurd (not free) ]
 
           nobody : (j n : ℕ) → number_at number_of left_state.slots j ≡ Some n → option_map (λ (g : Flow). g.tuple) (flow_of n all) ≡ Some ends → ⊥
@@ -211,25 +211,25 @@ module _ (config : Config) (state : FlowsState Splice) (past : List Entry) (now 
               by : (o : Option Flow) → flow_of n all ≡ o → option_map (λ (g : Flow). g.tuple) o ≡ Some ends → ⊥
               by None is none = none_some none
               by (Some g) is on =
-                  none_left state.table.slots state.table.rest_order i ends since kept slot j
+                  none_left state.table.slots state.table.time_wait_order i ends since kept slot j
                   (subst (HasTuple left_state.table.slots j) (some_same g.tuple ends on)
-                  (slot_of number_of (Following config now) left_state.table left_state.slots number all (without (number_of p) rests) seats_left sizes_left j n g has is))
+                  (slot_of number_of (Following config now) left_state.table left_state.slots number all (without (number_of p) time_waits) seats_left sizes_left j n g has is))
 
-          room : opened.rests ≡ without (number_of p) rests
+          room : opened.time_waits ≡ without (number_of p) time_waits
           room =
               let sc = holds.seats.seated i p at in
-              let same_flow : resting.1.number ≡ number_of p = ap (λ (f : Flow). f.number) (some_same resting.1 sc.0 (sym found ∙ sc.2)) ∙ sc.3 in
-              ap (λ o. make_room config o (book config past)) resting.4
-              ∙ room_own config resting.1 (book config past) (ap (rests_among rests) (sym resting.4) ∙ resting.6)
-              ∙ ap (λ n. without n rests) same_flow
+              let same_flow : in_time_wait.1.number ≡ number_of p = ap (λ (f : Flow). f.number) (some_same in_time_wait.1 sc.0 (sym found ∙ sc.2)) ∙ sc.3 in
+              ap (λ o. make_room config o (book config past)) in_time_wait.4
+              ∙ room_own config in_time_wait.1 (book config past) (ap (is_among_time_waits time_waits) (sym in_time_wait.4) ∙ in_time_wait.6)
+              ∙ ap (λ n. without n time_waits) same_flow
 
-          seats_again : Seats number_of (Following config now) (flows (set left_state.table.slots k (InUse ends)) state.table.rest_order) (set left_state.slots k (Some q))
-              (suc number) opened.flows opened.rests
+          seats_again : Seats number_of (Following config now) (flows (set left_state.table.slots k (InUse ends)) state.table.time_wait_order) (set left_state.slots k (Some q))
+              (suc number) opened.flows opened.time_waits
           seats_again =
-              subst (Seats number_of (Following config now) (flows (set left_state.table.slots k (InUse ends)) state.table.rest_order) (set left_state.slots k (Some q))
+              subst (Seats number_of (Following config now) (flows (set left_state.table.slots k (InUse ends)) state.table.time_wait_order) (set left_state.slots k (Some q))
               (suc number) opened.flows) (sym room)
               (seats_opened number_of (Following config now) left_state.table left_state.slots number all
-              (without (number_of p) rests) k q begun_flow free empty_there refl numbered refl follows nobody seats_left)
+              (without (number_of p) time_waits) k q begun_flow free empty_there refl numbered refl follows nobody seats_left)
 
           stay : (j : ℕ) (r : Splice) → slice_get left_state.slots j ≡ Some (Some r) → slice_get state.slots j ≡ Some (Some r)
           stay j r here = elim (same_or_not j i) [

@@ -1,4 +1,4 @@
--- A flow that was accepted asks for its guest's hardware address: the request may go out, and the slots stand for the flows of the record again.
+-- A flow that was accepted asks for its guest's hardware address: the request may go out, and the slots stand for the flows of the trace again.
 use Rattle.std.proofs.Common.{◌≡◌, ℕ, ◌*◌, ◌^◌, ◌<◌, ◌==◌, ◌&&◌, ◌||◌, not, Bool, true, false, List, [], ◌∷◌, drop, filter, length, map, set, slice_get, Some, None, option_map}
 use Rattle.std.proofs.Common.{if◌then◌else◌, inl, inr, refl, sym, ◌∙◌, ap, subst, arith}
 use Rattle.std.proofs.lemmas.Bool.Decides.{nat_tests}
@@ -16,13 +16,13 @@ use Rattle.spec_flow.specs.Event.{AsksAddress, At}
 use Rattle.spec_flow.specs.Close.{is_in_use}
 use Rattle.spec_flow.specs.Flow.{is_accepted}
 use Rattle.spec_flows.specs.Book.{book, scene, turned}
-use Rattle.spec_flows.specs.Doings.{Doing, Seeks, doing, doing_by, goes, seeks}
-use Rattle.spec_flows.specs.Flows.{Flow, flow_of, seeks_for, with_event}
+use Rattle.spec_flows.specs.Doings.{Doing, Resolves, doing, doing_by, goes, resolves}
+use Rattle.spec_flows.specs.Flows.{Flow, flow_of, resolves_for, with_event}
 use Rattle.spec_flows.specs.Laws.{MaySend, SendsOn, WritesBy, MustSend, flow_settings}
 use Rattle.spec_flows.specs.Segments.{asked_in, segment_in}
 use Rattle.spec_flows.specs.Taught.{taught}
-use Rattle.spec_flows.proofs.Apart.{map_found, seeks_number}
-use Rattle.sim_flows.specs.FlowsHold.{FlowsState, rests_at}
+use Rattle.spec_flows.proofs.Apart.{map_found, resolves_number}
+use Rattle.sim_flows.specs.FlowsHold.{FlowsState, time_waits_at}
 use Rattle.sim_flows.proofs.Seats.{differ, same_or_not, seats_one}
 use Rattle.sim_flows.proofs.Tables.{get_set_other, get_set_same}
 use Rattle.spec_run.specs.Answers.{is_out, left}
@@ -40,7 +40,7 @@ use Rattle.sim_flows.specs.Stands.{InWork}
 use Rattle.sim_flows.proofs.Calling.{due_is}
 use Rattle.sim_flows.proofs.Options.{some_same}
 use Rattle.sim_flows.proofs.ReadBack.{no_segment, request_back, request_written}
-use Rattle.sim_flows.proofs.Sought.{holds_sought}
+use Rattle.sim_flows.proofs.Sought.{holds_resolved}
 
 -- ---- a flow among those that were accepted for its guest
 
@@ -120,11 +120,11 @@ module _ (config : Config) (face : Face) (f : Flow) (past : List Entry) (n : ℕ
     pub may_request : May config past (CallLinkWrite octets)
     may_request = writes config past octets framed (due_is config past work ∙ asks_nothing.due) asks_nothing.stay (ap is_working work.working) begins work.open_yet (writes_it, must_write)
 
-  -- what the record has of it, where the link took something
-  pub is_request : (count : ℕ) → doing config past (LinkWrite octets (Done count)) ≡ Seeks guest
+  -- what the trace has of it, where the link took something
+  pub is_request : (count : ℕ) → doing config past (LinkWrite octets (Done count)) ≡ Resolves guest
   is_request count =
       ap (λ t. doing_by None (opens (LinkWrite octets (Done count)) t) (LinkWrite octets (Done count))) none
-      ∙ ap (λ x. goes (segment_in x) (asked_in x)) is ∙ ap (λ o. goes o (asked_in frame)) (no_segment face) ∙ ap seeks (request_back face fits)
+      ∙ ap (λ x. goes (segment_in x) (asked_in x)) is ∙ ap (λ o. goes o (asked_in frame)) (no_segment face) ∙ ap resolves (request_back face fits)
 
   pub goes_as_request : (count : ℕ) → goes_out (LinkWrite octets (Done count)) past ≡ Some frame
   goes_as_request count = ap (opens (LinkWrite octets (Done count))) none ∙ ap Some is
@@ -144,16 +144,16 @@ module _ (config : Config) (face : Face) (f : Flow) (past : List Entry) (n : ℕ
     abbrev told : Flow
     told = with_event now AsksAddress f
 
-    sought : CoreHolds config now aged None state later
-    sought = holds_sought number_of mac_of (Following config now) config aged None state past (LinkWrite octets (Done count)) guest holds
+    resolved : CoreHolds config now aged None state later
+    resolved = holds_resolved number_of mac_of (Following config now) config aged None state past (LinkWrite octets (Done count)) guest holds
         (λ r story following. asked_follows (flow_settings config) r story now now (omega arith) following) (is_request count) refl refl
 
     told_is : flow_of (number_of p) (book config later).flows ≡ Some told
     told_is =
         ap (λ (d : Doing). flow_of (number_of p) (turned config (scene config past) d (book config past)).flows) (is_request count)
-        ∙ map_found (number_of p) (seeks_for now guest) (seeks_number now guest) (book config past).flows
-        ∙ ap (λ (m : ℕ). option_map (seeks_for now guest) (flow_of m (book config past).flows)) numbered
-        ∙ ap (option_map (seeks_for now guest)) was ∙ ap (λ (b : Bool). Some (if b then told else f)) mine
+        ∙ map_found (number_of p) (resolves_for now guest) (resolves_number now guest) (book config past).flows
+        ∙ ap (λ (m : ℕ). option_map (resolves_for now guest) (flow_of m (book config past).flows)) numbered
+        ∙ ap (option_map (resolves_for now guest)) was ∙ ap (λ (b : Bool). Some (if b then told else f)) mine
 
     abbrev pub state_asked : FlowsState Splice
     state_asked = record { table = state.table; slots = set state.slots k (Some q); opened = state.opened }
@@ -163,17 +163,17 @@ module _ (config : Config) (face : Face) (f : Flow) (past : List Entry) (n : ℕ
     learnt_asked j r g m here found is_mac = elim (same_or_not j k) [
       | inl at_k ↦
           let it : r ≡ q = some_same r q (get_set_same state.slots k (Some p) (Some q) (Some r) at (subst (λ i. slice_get (set state.slots k (Some q)) i ≡ Some (Some r)) at_k here)) in
-          sought.learnt k p g m at (ap (λ i. flow_of i (book config later).flows) (sym same_number ∙ ap number_of (sym it)) ∙ found) (sym same_mac ∙ ap mac_of (sym it) ∙ is_mac)
-      | inr other ↦ sought.learnt j r g m (sym (get_set_other state.slots k j (Some q) (differ j k other)) ∙ here) found is_mac
+          resolved.learnt k p g m at (ap (λ i. flow_of i (book config later).flows) (sym same_number ∙ ap number_of (sym it)) ∙ found) (sym same_mac ∙ ap mac_of (sym it) ∙ is_mac)
+      | inr other ↦ resolved.learnt j r g m (sym (get_set_other state.slots k j (Some q) (differ j k other)) ∙ here) found is_mac
     ]
 
     pub core_asked : CoreHolds config now aged None state_asked later
     core_asked = record {
       seats = seats_one number_of (Following config now) state.table state.slots (next_number later) (book config later).flows (book config later).flows
-          (rests_at aged config later) k p q told told at same_number told_is used told_is used follows
-          (record { same = refl; apart = λ other not. refl; differ = λ is. is; used = refl }) sought.seats;
-      slots = sought.slots;
-      opened = sought.opened;
-      asked = sought.asked;
+          (time_waits_at aged config later) k p q told told at same_number told_is used told_is used follows
+          (record { same = refl; apart = λ other not. refl; differ = λ is. is; used = refl }) resolved.seats;
+      slots = resolved.slots;
+      opened = resolved.opened;
+      asked = resolved.asked;
       learnt = learnt_asked;
     }

@@ -1,4 +1,4 @@
--- A moment that is by, or from, the moments of each part is so by those of each flow of the record.
+-- A moment that is by, or from, the moments of each part is so by those of each flow of the trace.
 use Rattle.std.proofs.Common.{◌≡◌, ℕ, ◌≤◌, Bool, true, false, List, [], ◌∷◌, ◌++◌, Option, Some, None, inl, inr, refl, sym, ap, ◌∙◌, subst, cond, arith}
 use Rattle.spec_flow.specs.Event.{Story}
 use Rattle.spec_flows.specs.Flows.{Flow, flow_of, is_numbered}

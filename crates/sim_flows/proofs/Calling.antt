@@ -9,15 +9,15 @@ use Rattle.spec_trace.specs.Moments.{moment}
 use Rattle.spec_trace.specs.Shape.{Phase, due_in, is_ended, is_over, is_working, phase}
 use Rattle.spec_trace.specs.Sockets.{Kind, Association, DnsSocket, Forward, Listener, Flow as AFlow, is_among, is_flow, kind_of, next_number, open_sockets, first}
 use Rattle.spec_flow.specs.Event.{Segment, Event, Closes, At, Story, is_failure}
-use Rattle.spec_flow.specs.Close.{ended_first, finds_no_guest, follows_reset, gives_up, host_failed, is_done, newest_rst, rests_since, waits_too_long}
+use Rattle.spec_flow.specs.Close.{ended_first, finds_no_guest, follows_reset, gives_up, host_failed, is_done, newest_rst, in_time_wait_since, waits_too_long}
 use Rattle.spec_flow.specs.Flow.{is_closed}
 use Rattle.spec_flow.specs.Lawful.{Act, AskConnected, Write, EndHost, Read, HasOwnCause, May as MayOfOne}
 use Rattle.spec_flow.specs.Dutiful.{Must as MustOfOne, MustClose, read_size}
-use Rattle.spec_flows.specs.Book.{after_close as rests_after, book, rest, scene, turned}
+use Rattle.spec_flows.specs.Book.{after_close as rests_after, book, time_wait, scene, turned}
 use Rattle.spec_flows.specs.Doings.{Calls, Shuts, doing}
 use Rattle.spec_flows.specs.Flows.{Flow, closing, comes_directly, flow_of, guest_is_known, is_it, shuts, with_event}
 use Rattle.spec_flows.specs.Laws.{AsksForRoom, ClosesAtOnce, MayAct, MayFlow, MayShut, MayTouch, MustAct, MustTouch, NoneMustClose, flow_settings}
-use Rattle.spec_flows.specs.Lots.{due_by, due_for_flows}
+use Rattle.spec_flows.specs.SegmentVerdicts.{due_by, due_for_flows}
 use Rattle.spec_flows.specs.Said.{Differ}
 use Rattle.spec_flows.proofs.Apart.{own_call, own_close}
 use Rattle.sim_flows.specs.Only.{IsOf}
@@ -32,7 +32,7 @@ use Rattle.spec_run.proofs.Sorts.{same_flow}
 use Rattle.spec_run.proofs.Bools.{and_both, first_of, second_of}
 use Rattle.spec_run.proofs.Deeds.{any_one, closes, gathered, this_one}
 use Rattle.flow_splice.specs.Splice.{Face}
-use Rattle.sim_flows.specs.Stands.{HasFlow, HasFlowOf, InWork, close_if, with_rest}
+use Rattle.sim_flows.specs.Stands.{HasFlow, HasFlowOf, InWork, close_if, with_time_wait}
 use Rattle.sim_flows.proofs.Options.{some_same}
 
 -- ---- what is due
@@ -103,7 +103,7 @@ module _ (config : Config) (face : Face) (f : Flow) (past : List Entry) (work : 
         at_once = closes_only;
       })
 
-  -- the record has it closed then, and it asks for nothing
+  -- the trace has it closed then, and it asks for nothing
   pub closed_then : Differ (book config past).flows → HasFlow config face (shuts (scene config past) (book config past).came f) (Close face.number ∷ past)
   closed_then differ =
       let only = only_happens config (scene config past) face.number (book config past) differ (Shuts face.number) refl in
@@ -117,18 +117,18 @@ module _ (config : Config) (face : Face) (f : Flow) (past : List Entry) (work : 
         others = λ number g other found. has.others number g other (sym (only.apart number other) ∙ found);
       }
 
-  -- and it is the last of those that rest, where its story says that it rests
-  by_rest : (b : Bool) (now : ℕ) → f.number ≡ face.number → (if is_some (if b then Some now else None) then (book config past).rests ++ rest f.number now ∷ [] else (book config past).rests)
-      ≡ with_rest (if b then Some now else None) face.number (book config past).rests
-  by_rest true now number = ap (λ n. (book config past).rests ++ rest n now ∷ []) number
+  -- and it is the last of those in TIME-WAIT, where its story says that it is in TIME-WAIT
+  by_rest : (b : Bool) (now : ℕ) → f.number ≡ face.number → (if is_some (if b then Some now else None) then (book config past).time_waits ++ time_wait f.number now ∷ [] else (book config past).time_waits)
+      ≡ with_time_wait (if b then Some now else None) face.number (book config past).time_waits
+  by_rest true now number = ap (λ n. (book config past).time_waits ++ time_wait n now ∷ []) number
   by_rest false now number = refl
 
   pub rests_then : Differ (book config past).flows → (now : ℕ) (directly ended known : Bool) → moment past ≡ now → shuts (scene config past)
       (book config past).came f ≡ with_event now (Closes directly ended known) f
-      → (book config (Close face.number ∷ past)).rests ≡ with_rest (rests_since (At now (Closes directly ended known) ∷ f.story)) face.number (book config past).rests
+      → (book config (Close face.number ∷ past)).time_waits ≡ with_time_wait (in_time_wait_since (At now (Closes directly ended known) ∷ f.story)) face.number (book config past).time_waits
   rests_then differ now directly ended known at shuts_is =
-      ap (λ m. rests_after m (flow_of face.number (book config (Close face.number ∷ past)).flows) (book config past).rests) at
-      ∙ ap (λ o. rests_after now o (book config past).rests) ((closed_then differ).found ∙ ap Some shuts_is)
+      ap (λ m. rests_after m (flow_of face.number (book config (Close face.number ∷ past)).flows) (book config past).time_waits) at
+      ∙ ap (λ o. rests_after now o (book config past).time_waits) ((closed_then differ).found ∙ ap Some shuts_is)
       ∙ by_rest (is_done f.story && not (follows_reset directly f.story) && ended_first f.story) now (number_of_found face.number (book config past).flows f has.found)
 
 module _ (config : Config) (face : Face) (f : Flow) (past : List Entry) (work : InWork config past) (has : HasFlow config face f past) where
@@ -197,13 +197,13 @@ module _ (config : Config) (face : Face) (f : Flow) (past : List Entry) (work : 
       (flows_let (CallTcpRead face.number asked) Read may.closes_after_failure must.closes_after_reset (λ m. m)
       (λ m. (m, subst (λ o. AsksForRoom (flow_settings config) o asked) (sym has.found) size)) may must)
 
-  -- ---- what the record has of the flow then
+  -- ---- what the trace has of the flow then
 
   -- an event that closes nothing
   pub record IsCall (ev : Event) : Type 0 where
     pub failed : (m : ℕ) (story : Story) → host_failed (At m ev ∷ story) ≡ is_failure ev
     pub closed : (m : ℕ) (story : Story) → is_closed (At m ev ∷ story) ≡ is_closed story
-    pub rests : (m : ℕ) (story : Story) → rests_since (At m ev ∷ story) ≡ rests_since story
+    pub time_waits : (m : ℕ) (story : Story) → in_time_wait_since (At m ev ∷ story) ≡ in_time_wait_since story
 
   due_after : (t : Bool) (number : ℕ) → due_by (if t then Some face.number else None) None number ≡ close_if t face.number
   due_after true number = refl
@@ -293,14 +293,14 @@ module _ (config : Config) (face : Face) (f : Flow) (past : List Entry) (work : 
     pub may_shut : MayOfOne (flow_settings config) f.story (moment past) (closing (scene config past) (book config past).came f) → May config past (CallClose face.number)
     may_shut may = shuts_then config face f past work (close_if (host_failed f.story) face.number) has (asks_this (host_failed f.story)) (may_leave_then cause) open_yet may
 
-  -- the record has it closed then, and it asks for nothing
+  -- the trace has it closed then, and it asks for nothing
   pub after_close : Differ (book config past).flows → HasFlow config face (shuts (scene config past) (book config past).came f) (Close face.number ∷ past)
   after_close differ = closed_then config face f past work (close_if (host_failed f.story) face.number) has differ
 
-  -- and it is the last of those that rest, where its story says that it rests
+  -- and it is the last of those in TIME-WAIT, where its story says that it is in TIME-WAIT
   pub rests_closed : Differ (book config past).flows → (now : ℕ) (directly ended known : Bool) → moment past ≡ now → shuts (scene config past)
       (book config past).came f ≡ with_event now (Closes directly ended known) f
-      → (book config (Close face.number ∷ past)).rests ≡ with_rest (rests_since (At now (Closes directly ended known) ∷ f.story)) face.number (book config past).rests
+      → (book config (Close face.number ∷ past)).time_waits ≡ with_time_wait (in_time_wait_since (At now (Closes directly ended known) ∷ f.story)) face.number (book config past).time_waits
   rests_closed differ now directly ended known at shuts_is =
       rests_then config face f past work (close_if (host_failed f.story) face.number) has differ now directly ended known at shuts_is
 

@@ -14,9 +14,9 @@ use Rattle.spec_flow.specs.Close.{is_in_use, owes_reset}
 use Rattle.spec_flow.specs.Lawful.{HasOwnCause}
 use Rattle.spec_flows.specs.Book.{book, heard, scene, turned}
 use Rattle.spec_flows.specs.Doings.{Comes, comes, doing, doing_by}
-use Rattle.spec_flows.specs.Flows.{Flow, Book, came_on, comes_directly, flow_of, is_on, is_resting, is_used, owner, tell, uses, with_event}
+use Rattle.spec_flows.specs.Flows.{Flow, Book, came_on, comes_directly, flow_of, is_on, has_time_wait, is_used, owner, tell, uses, with_event}
 use Rattle.spec_flows.specs.Laws.{flow_settings}
-use Rattle.spec_flows.specs.Lots.{Lot, OfFlow, asked_for, due_by, due_for_flows, giving_way, lot, needs_room, quietest}
+use Rattle.spec_flows.specs.SegmentVerdicts.{SegmentVerdict, OfFlow, asked_for, due_by, due_for_flows, giving_way, segment_verdict, needs_room, quietest}
 use Rattle.spec_flows.specs.Said.{Differ}
 use Rattle.spec_flows.specs.Segments.{OnTuple, same_tuple, segment_came}
 use Rattle.spec_flows.specs.Touching.{has_number}
@@ -60,7 +60,7 @@ same_ends : (t : Tuple) → same_tuple t t ≡ true
 same_ends t = and_both (same_endpoint t.guest t.guest) (same_endpoint t.other t.other) (same_port t.guest) (same_port t.other)
 
 -- no flow gives way to a segment that is its flow's
-pub none_gives_way : (config : Config) (now : ℕ) (on : OnTuple) (b : Book) → lot config b on ≡ OfFlow → giving_way config now on b ≡ None
+pub none_gives_way : (config : Config) (now : ℕ) (on : OnTuple) (b : Book) → segment_verdict config b on ≡ OfFlow → giving_way config now on b ≡ None
 none_gives_way config now on b is =
     ap (λ l. if needs_room l && not (list_any (λ (f : Flow). owes_reset f.story) b.flows) then option_map (λ (f : Flow). f.number) (quietest now b.flows) else None) is
 
@@ -99,20 +99,20 @@ module _ (config : Config) (face : Face) (f : Flow) (past : List Entry) (e : Ent
   pub came_directly : comes_directly (book config (e ∷ past)).came after ≡ true
   came_directly = ap (λ b. came_on f.tuple b.came) new ∙ ap (λ t. same_tuple t f.tuple) (ends ∙ sym (ends_are config face f past has)) ∙ same_ends f.tuple
 
-  -- a segment of a flow that is in use or rests is its flow's
-  none_asked : (is_in_use f.story ≡ true) ⊎ (is_resting on.tuple (book config (e ∷ past)) ≡ true) → lot config then_book on ≡ OfFlow
-  none_asked why = by (is_used on.tuple then_book.flows || is_resting on.tuple then_book) _ (either why)
+  -- a segment of a flow that is in use or in TIME-WAIT is its flow's
+  none_asked : (is_in_use f.story ≡ true) ⊎ (has_time_wait on.tuple (book config (e ∷ past)) ≡ true) → segment_verdict config then_book on ≡ OfFlow
+  none_asked why = by (is_used on.tuple then_book.flows || has_time_wait on.tuple then_book) _ (either why)
     where
-      by : (b : Bool) (other : Lot) → b ≡ true → (if b then OfFlow else other) ≡ OfFlow
+      by : (b : Bool) (other : SegmentVerdict) → b ≡ true → (if b then OfFlow else other) ≡ OfFlow
       by true other is = refl
       by false other is = cc
 
-      either : (is_in_use f.story ≡ true) ⊎ (is_resting on.tuple (book config (e ∷ past)) ≡ true) → (is_used on.tuple then_book.flows || is_resting on.tuple then_book) ≡ true
-      either (inl in_use) = or_first (is_used on.tuple then_book.flows) (is_resting on.tuple then_book) (ap uses owner_then ∙ in_use)
-      either (inr rests) = or_second (is_used on.tuple then_book.flows) (is_resting on.tuple then_book) (ap (is_resting on.tuple) (sym new) ∙ rests)
+      either : (is_in_use f.story ≡ true) ⊎ (has_time_wait on.tuple (book config (e ∷ past)) ≡ true) → (is_used on.tuple then_book.flows || has_time_wait on.tuple then_book) ≡ true
+      either (inl in_use) = or_first (is_used on.tuple then_book.flows) (has_time_wait on.tuple then_book) (ap uses owner_then ∙ in_use)
+      either (inr time_waits) = or_second (is_used on.tuple then_book.flows) (has_time_wait on.tuple then_book) (ap (has_time_wait on.tuple) (sym new) ∙ time_waits)
 
-  -- the record has the flow with it
-  pub after_arrival : joins (e ∷ past) face.number ≡ joins past face.number → (is_in_use f.story ≡ true) ⊎ (is_resting on.tuple (book config (e ∷ past)) ≡ true) → HasFlow config face after (e ∷ past)
+  -- the trace has the flow with it
+  pub after_arrival : joins (e ∷ past) face.number ≡ joins past face.number → (is_in_use f.story ≡ true) ⊎ (has_time_wait on.tuple (book config (e ∷ past)) ≡ true) → HasFlow config face after (e ∷ past)
   after_arrival same_socket why = record {
     found = ap (λ b. flow_of face.number b.flows) new
         ∙ subst (λ m. flow_of m then_book.flows ≡ Some after) number
@@ -122,7 +122,7 @@ module _ (config : Config) (face : Face) (f : Flow) (past : List Entry) (e : Ent
     owned = owner_id f.tuple (book config (e ∷ past)).flows (book config past).flows only.same ∙ has.owned;
     socket = λ open_yet. same_socket ∙ has.socket open_yet;
     due = ap (λ b. due_for_flows config b (next_number (e ∷ past))) new
-        ∙ ap (λ o. due_by o (asked_for (lot config then_book on)) (next_number (e ∷ past))) (none_gives_way config (moment past) on (heard (moment past) on (book config past)) (none_asked why))
+        ∙ ap (λ o. due_by o (asked_for (segment_verdict config then_book on)) (next_number (e ∷ past))) (none_gives_way config (moment past) on (heard (moment past) on (book config past)) (none_asked why))
         ∙ ap (λ l. due_by None (asked_for l) (next_number (e ∷ past))) (none_asked why);
     others = λ m g other found. has.others m g other (sym (only.apart m other) ∙ found);
   }

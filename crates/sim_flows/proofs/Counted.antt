@@ -1,15 +1,15 @@
--- Numbers from 0 on, each once and in any order: what they sum up to; and how many slots rest.
+-- Numbers from 0 on, each once and in any order: what they sum up to; and how many slots are in TIME-WAIT.
 use Rattle.std.proofs.Common.{◌≡◌, ℕ, zero, suc, ◌+◌, ◌<◌, ◌≤◌, ◌==◌, ◌||◌, Bool, true, false, List, [], ◌∷◌, length, map, slice_get, Option, Some, None, inl, inr, refl, sym, ◌∙◌, ap, subst, arith}
 use Rattle.std.proofs.lemmas.Bool.Decides.{nat_tests}
 use Rattle.std.specs.Prelude.{filter_map}
 use Rattle.std.specs.List.{cons_option}
 use Rattle.flow_table.specs.Slots.{AreKept, Flows, IsFree, NoneIsFree, Stands, Once as EachOnce}
 use Rattle.flow_table.specs.declared.Slot.{Slot}
-use Rattle.flow_table.specs.declared.Slot.TheVariants.{Free, InUse, Resting}
+use Rattle.flow_table.specs.declared.Slot.TheVariants.{Free, InUse, InTimeWait}
 use Rattle.spec_flow.specs.Event.{Story}
 use Rattle.spec_trace.specs.Sockets.{is_among}
-use Rattle.spec_flows.specs.Flows.{Flow, Rest, used}
-use Rattle.sim_flows.specs.Seats.{count_used, in_use_slots, number_in, number_at, rests_at, Once, Seats}
+use Rattle.spec_flows.specs.Flows.{Flow, TimeWait, used}
+use Rattle.sim_flows.specs.Seats.{count_used, in_use_slots, number_in, number_at, time_waits_at, Once, Seats}
 use Rattle.sim_flows.proofs.Seats.{same_or_not}
 use Rattle.sim_flows.proofs.Turning.{without_one, without_head, without_tail, gone}
 
@@ -221,64 +221,64 @@ sum_same v w (suc n) same = over (v n) (w n) (sum_to v n) (sum_to w n) (same n (
 
 -- ---- slots
 
-abbrev pub count_resting : Slot → ℕ → ℕ
-count_resting (Resting t since) n = suc n
-count_resting _ n = n
+abbrev pub count_in_time_wait : Slot → ℕ → ℕ
+count_in_time_wait (InTimeWait t since) n = suc n
+count_in_time_wait _ n = n
 
-abbrev pub resting_slots : List Slot → ℕ
-resting_slots [] = 0
-resting_slots (s ∷ slots) = count_resting s (resting_slots slots)
+abbrev pub slots_in_time_wait : List Slot → ℕ
+slots_in_time_wait [] = 0
+slots_in_time_wait (s ∷ slots) = count_in_time_wait s (slots_in_time_wait slots)
 
 abbrev pub one_at_rest : Option Slot → ℕ
-one_at_rest (Some (Resting t since)) = 1
+one_at_rest (Some (InTimeWait t since)) = 1
 one_at_rest _ = 0
 
-resting_sum : (slots : List Slot) → sum_to (λ k. one_at_rest (slice_get slots k)) (length slots) ≡ resting_slots slots
+resting_sum : (slots : List Slot) → sum_to (λ k. one_at_rest (slice_get slots k)) (length slots) ≡ slots_in_time_wait slots
 resting_sum [] = refl
 resting_sum (s ∷ slots) =
-    sum_shift (λ k. one_at_rest (slice_get (s ∷ slots) k)) (length slots) ∙ ap (λ n. one_at_rest (Some s) + n) (resting_sum slots) ∙ adds s (resting_slots slots)
+    sum_shift (λ k. one_at_rest (slice_get (s ∷ slots) k)) (length slots) ∙ ap (λ n. one_at_rest (Some s) + n) (resting_sum slots) ∙ adds s (slots_in_time_wait slots)
   where
-    adds : (s : Slot) (n : ℕ) → one_at_rest (Some s) + n ≡ count_resting s n
+    adds : (s : Slot) (n : ℕ) → one_at_rest (Some s) + n ≡ count_in_time_wait s n
     adds Free n = omega arith
     adds (InUse t) n = omega arith
-    adds (Resting t since) n = omega arith
+    adds (InTimeWait t since) n = omega arith
 
--- a slot is in use, at rest, or free
-pub all_used : (slots : List Slot) → NoneIsFree slots → in_use_slots slots + resting_slots slots ≡ length slots
+-- a slot is in use, in TIME-WAIT, or free
+pub all_used : (slots : List Slot) → NoneIsFree slots → in_use_slots slots + slots_in_time_wait slots ≡ length slots
 all_used [] none = refl
 all_used (s ∷ slots) none = by_slot s (none 0) (all_used slots (λ k is. none (suc k) is))
   where
-    by_slot : (s : Slot) → (Some s ≡ Some Free → ⊥) → in_use_slots slots + resting_slots slots ≡ length slots → count_used s (in_use_slots slots) + count_resting s
-        (resting_slots slots) ≡ suc (length slots)
+    by_slot : (s : Slot) → (Some s ≡ Some Free → ⊥) → in_use_slots slots + slots_in_time_wait slots ≡ length slots → count_used s (in_use_slots slots) + count_in_time_wait s
+        (slots_in_time_wait slots) ≡ suc (length slots)
     by_slot Free not rest = absurd (not refl)
     by_slot (InUse t) not rest = omega (arith, rest)
-    by_slot (Resting t since) not rest = omega (arith, rest)
+    by_slot (InTimeWait t since) not rest = omega (arith, rest)
 
-at_most : (slots : List Slot) → in_use_slots slots + resting_slots slots ≤ length slots
+at_most : (slots : List Slot) → in_use_slots slots + slots_in_time_wait slots ≤ length slots
 at_most [] = omega arith
 at_most (s ∷ slots) = by_slot s (at_most slots)
   where
-    by_slot : (s : Slot) → in_use_slots slots + resting_slots slots ≤ length slots → count_used s (in_use_slots slots) + count_resting s (resting_slots slots) ≤ suc (length slots)
+    by_slot : (s : Slot) → in_use_slots slots + slots_in_time_wait slots ≤ length slots → count_used s (in_use_slots slots) + count_in_time_wait s (slots_in_time_wait slots) ≤ suc (length slots)
     by_slot Free rest = omega (arith, rest)
     by_slot (InUse t) rest = omega (arith, rest)
-    by_slot (Resting t since) rest = omega (arith, rest)
+    by_slot (InTimeWait t since) rest = omega (arith, rest)
 
-pub one_free : (slots : List Slot) (k : ℕ) → IsFree slots k → in_use_slots slots + resting_slots slots < length slots
+pub one_free : (slots : List Slot) (k : ℕ) → IsFree slots k → in_use_slots slots + slots_in_time_wait slots < length slots
 one_free [] k is = absurd cc
 one_free (s ∷ slots) zero is = let free : s ≡ Free = cc in by_slot s free (at_most slots)
   where
-    by_slot : (s : Slot) → s ≡ Free → in_use_slots slots + resting_slots slots ≤ length slots → count_used s (in_use_slots slots) + count_resting s (resting_slots slots) < suc (length slots)
+    by_slot : (s : Slot) → s ≡ Free → in_use_slots slots + slots_in_time_wait slots ≤ length slots → count_used s (in_use_slots slots) + count_in_time_wait s (slots_in_time_wait slots) < suc (length slots)
     by_slot Free is rest = omega (arith, rest)
     by_slot (InUse t) is rest = absurd cc
-    by_slot (Resting t since) is rest = absurd cc
+    by_slot (InTimeWait t since) is rest = absurd cc
 one_free (s ∷ slots) (suc k) is = by_slot s (one_free slots k is)
   where
-    by_slot : (s : Slot) → in_use_slots slots + resting_slots slots < length slots → count_used s (in_use_slots slots) + count_resting s (resting_slots slots) < suc (length slots)
+    by_slot : (s : Slot) → in_use_slots slots + slots_in_time_wait slots < length slots → count_used s (in_use_slots slots) + count_in_time_wait s (slots_in_time_wait slots) < suc (length slots)
     by_slot Free rest = omega (arith, rest)
     by_slot (InUse t) rest = omega (arith, rest)
-    by_slot (Resting t since) rest = omega (arith, rest)
+    by_slot (InTimeWait t since) rest = omega (arith, rest)
 
--- ---- rests
+-- ---- TIME-WAITs
 
 abbrev if_some : Option ℕ → ℕ
 if_some None = 0
@@ -292,60 +292,60 @@ filtered F (x ∷ xs) = by_option (F x) ∙ ap (λ n. if_some (F x) + n) (filter
     by_option None = omega arith
     by_option (Some y) = omega arith
 
--- as many flows rest as slots
-pub rests_counted : {P : Type 0} (number : P → ℕ) (Follows : P → Story → Type 0) (table : Flows) (parts : List (Option P)) (next : ℕ) (flows : List Flow) (rests : List Rest)
-    → Seats number Follows table parts next flows rests → AreKept table.slots table.rest_order → length parts ≡ length table.slots → length rests ≡ resting_slots table.slots
-rests_counted {P} number Follows table parts next flows rests seats kept sizes =
-    lengths rests ∙ ap length seats.order ∙ filtered F table.rest_order
-    ∙ sum_is (λ k. if_some (F k)) (length table.slots) table.rest_order (each_once table.rest_order kept.once)
-    (λ k is. let at = among_stands k table.rest_order is in kept.within at.0 k at.1) (λ k is. stands_among k table.rest_order (kept.all k is))
+-- as many flows are in TIME-WAIT as slots
+pub rests_counted : {P : Type 0} (number : P → ℕ) (Follows : P → Story → Type 0) (table : Flows) (parts : List (Option P)) (next : ℕ) (flows : List Flow) (time_waits : List TimeWait)
+    → Seats number Follows table parts next flows time_waits → AreKept table.slots table.time_wait_order → length parts ≡ length table.slots → length time_waits ≡ slots_in_time_wait table.slots
+rests_counted {P} number Follows table parts next flows time_waits seats kept sizes =
+    lengths time_waits ∙ ap length seats.order ∙ filtered F table.time_wait_order
+    ∙ sum_is (λ k. if_some (F k)) (length table.slots) table.time_wait_order (each_once table.time_wait_order kept.once)
+    (λ k is. let at = among_stands k table.time_wait_order is in kept.within at.0 k at.1) (λ k is. stands_among k table.time_wait_order (kept.all k is))
     ∙ sum_same (λ k. if_some (F k)) (λ k. one_at_rest (slice_get table.slots k)) (length table.slots) same ∙ resting_sum table.slots
   where
     F : ℕ → Option ℕ
-    F k = rests_at (slice_get table.slots k) (number_at number parts k)
+    F k = time_waits_at (slice_get table.slots k) (number_at number parts k)
 
-    lengths : (rests : List Rest) → length rests ≡ length (map (λ (r : Rest). r.number) rests)
+    lengths : (time_waits : List TimeWait) → length time_waits ≡ length (map (λ (r : TimeWait). r.number) time_waits)
     lengths [] = refl
-    lengths (r ∷ rests) = ap suc (lengths rests)
+    lengths (r ∷ time_waits) = ap suc (lengths time_waits)
 
     there : {X : Type 0} (xs : List X) (k : ℕ) → k < length xs → (x : X) × (slice_get xs k ≡ Some x)
     there [] k is = absurd (omega (arith, is))
     there (x ∷ xs) zero is = (x, refl)
     there (x ∷ xs) (suc k) is = there xs k (omega (arith, is))
 
-    by_part : (s : Option Slot) (o : Option P) → (o ≡ None → s ≡ Some Free) → if_some (rests_at s (number_in number (Some o))) ≡ one_at_rest s
+    by_part : (s : Option Slot) (o : Option P) → (o ≡ None → s ≡ Some Free) → if_some (time_waits_at s (number_in number (Some o))) ≡ one_at_rest s
     by_part None o free = refl
     by_part (Some Free) o free = refl
     by_part (Some (InUse t)) o free = refl
-    by_part (Some (Resting t since)) (Some p) free = refl
-    by_part (Some (Resting t since)) None free = absurd (not_free (free refl))
+    by_part (Some (InTimeWait t since)) (Some p) free = refl
+    by_part (Some (InTimeWait t since)) None free = absurd (not_free (free refl))
       where
-        not_free : Some (Resting t since) ≡ Some Free → ⊥
+        not_free : Some (InTimeWait t since) ≡ Some Free → ⊥
         not_free is = cc
 
     same : (k : ℕ) → k < length table.slots → if_some (F k) ≡ one_at_rest (slice_get table.slots k)
     same k is =
         let part = there parts k (subst (λ n. k < n) (sym sizes) is) in
-        ap (λ o. if_some (rests_at (slice_get table.slots k) (number_in number o))) part.1
+        ap (λ o. if_some (time_waits_at (slice_get table.slots k) (number_in number o))) part.1
         ∙ by_part (slice_get table.slots k) part.0 (λ none. seats.empty k (part.1 ∙ ap Some none))
 
--- Where no slot is free the flows that are in use or rest are as many as slots, and fewer where one is.
-pub full : {P : Type 0} (number : P → ℕ) (Follows : P → Story → Type 0) (table : Flows) (parts : List (Option P)) (next : ℕ) (flows : List Flow) (rests : List Rest)
-    → Seats number Follows table parts next flows rests → AreKept table.slots table.rest_order → length parts ≡ length table.slots → NoneIsFree table.slots
-    → used flows + length rests ≡ length table.slots
-full number Follows table parts next flows rests seats kept sizes none =
-    sums (used flows) (in_use_slots table.slots) (length rests) (resting_slots table.slots) seats.counted
-    (rests_counted number Follows table parts next flows rests seats kept sizes) ∙ all_used table.slots none
+-- Where no slot is free the flows that are in use or in TIME-WAIT are as many as slots, and fewer where one is.
+pub full : {P : Type 0} (number : P → ℕ) (Follows : P → Story → Type 0) (table : Flows) (parts : List (Option P)) (next : ℕ) (flows : List Flow) (time_waits : List TimeWait)
+    → Seats number Follows table parts next flows time_waits → AreKept table.slots table.time_wait_order → length parts ≡ length table.slots → NoneIsFree table.slots
+    → used flows + length time_waits ≡ length table.slots
+full number Follows table parts next flows time_waits seats kept sizes none =
+    sums (used flows) (in_use_slots table.slots) (length time_waits) (slots_in_time_wait table.slots) seats.counted
+    (rests_counted number Follows table parts next flows time_waits seats kept sizes) ∙ all_used table.slots none
   where
     sums : (a b c d : ℕ) → a ≡ b → c ≡ d → a + c ≡ b + d
     sums a b c d one two = omega (arith, one, two)
 
-pub has_room : {P : Type 0} (number : P → ℕ) (Follows : P → Story → Type 0) (table : Flows) (parts : List (Option P)) (next : ℕ) (flows : List Flow) (rests : List Rest) (k : ℕ)
-    → Seats number Follows table parts next flows rests → AreKept table.slots table.rest_order → length parts ≡ length table.slots → IsFree table.slots k
-    → used flows + length rests < length table.slots
-has_room number Follows table parts next flows rests k seats kept sizes free =
-    sums (used flows) (in_use_slots table.slots) (length rests) (resting_slots table.slots) (length table.slots) seats.counted
-    (rests_counted number Follows table parts next flows rests seats kept sizes) (one_free table.slots k free)
+pub has_room : {P : Type 0} (number : P → ℕ) (Follows : P → Story → Type 0) (table : Flows) (parts : List (Option P)) (next : ℕ) (flows : List Flow) (time_waits : List TimeWait) (k : ℕ)
+    → Seats number Follows table parts next flows time_waits → AreKept table.slots table.time_wait_order → length parts ≡ length table.slots → IsFree table.slots k
+    → used flows + length time_waits < length table.slots
+has_room number Follows table parts next flows time_waits k seats kept sizes free =
+    sums (used flows) (in_use_slots table.slots) (length time_waits) (slots_in_time_wait table.slots) (length table.slots) seats.counted
+    (rests_counted number Follows table parts next flows time_waits seats kept sizes) (one_free table.slots k free)
   where
     sums : (a b c d n : ℕ) → a ≡ b → c ≡ d → b + d < n → a + c < n
     sums a b c d n one two is = omega (arith, one, two, is)

@@ -11,7 +11,7 @@ use Rattle.spec_flow.specs.Lawful.{May as MayOfOne}
 use Rattle.spec_flows.specs.Book.{book, scene}
 use Rattle.spec_flows.specs.Flows.{Flow, closing, comes_directly, comes_last, flow_of, guest_is_known, is_it, is_numbered}
 use Rattle.spec_flows.specs.Laws.{MayShut, flow_settings}
-use Rattle.spec_flows.specs.Lots.{due_for_flows}
+use Rattle.spec_flows.specs.SegmentVerdicts.{due_for_flows}
 use Rattle.spec_flows.proofs.Lists.{found_number, each_found}
 use Rattle.spec_run.specs.Laws.{Lawful, May, MayDue, is_closing, parts}
 use Rattle.spec_run.proofs.Bools.{and_both, same}

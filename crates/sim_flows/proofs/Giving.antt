@@ -5,8 +5,8 @@ use Rattle.flow_table.specs.Slots.{Flows}
 use Rattle.spec_flow.specs.Event.{Story}
 use Rattle.spec_flow.specs.Close.{host_was_ended, is_in_use, last_at, may_give_way, our_fin_is_acked, owes_reset, quiet_time}
 use Rattle.spec_flow.specs.Flow.{is_closed}
-use Rattle.spec_flows.specs.Flows.{Flow, Rest, flow_of, uses}
-use Rattle.spec_flows.specs.Lots.{goes_before, quietest}
+use Rattle.spec_flows.specs.Flows.{Flow, TimeWait, flow_of, uses}
+use Rattle.spec_flows.specs.SegmentVerdicts.{goes_before, quietest}
 use Rattle.spec_flows.specs.Said.{Each}
 use Rattle.spec_flows.proofs.Lists.{each_by_number, found_number}
 use Rattle.spec_flows.proofs.Quiet.{first_is_quiet, none_is_quiet}
@@ -46,7 +46,7 @@ not_in_use false owes is = cc
 module _ {P : Type 0} (number : P → ℕ) (Follows : P → Story → Type 0) (owes : P → Bool) (owes_is : (p : P) (story : Story) → Follows p story → owes_reset story ≡ owes p)
     (now : ℕ) (gives : P → Bool) (gives_is : (p : P) (story : Story) → Follows p story → may_give_way now story ≡ gives p)
     (last : P → ℕ) (last_is : (p : P) (story : Story) → Follows p story → gives p ≡ true → last_at story ≡ last p)
-    (table : Flows) (parts : List (Option P)) (next : ℕ) (flows : List Flow) (rests : List Rest) (seats : Seats number Follows table parts next flows rests) where
+    (table : Flows) (parts : List (Option P)) (next : ℕ) (flows : List Flow) (time_waits : List TimeWait) (seats : Seats number Follows table parts next flows time_waits) where
   -- a flow that is in use has a part
   record HasPart (f : Flow) : Type 0 where
     k : ℕ

@@ -1,4 +1,4 @@
--- A segment came on the two ends of a slot: its flow is told, and the slots stand for the flows of the record again, once the slot follows the flow's place.
+-- A segment came on the two ends of a slot: its flow is told, and the slots stand for the flows of the trace again, once the slot follows the flow's place.
 use Rattle.std.proofs.Common.{◌≡◌, ℕ, ◌==◌, not, Bool, true, false, List, [], ◌∷◌, ◌++◌, length, set, slice_get, Option, Some, None, if◌then◌else◌, inl, inr, refl, sym, ◌∙◌, ap, subst, append_assoc}
 use Rattle.std.specs.Prelude.{Contains}
 use Rattle.std.proofs.lemmas.List.{length-set}
@@ -9,15 +9,15 @@ use Rattle.spec_trace.specs.Moments.{moment}
 use Rattle.spec_trace.specs.Sockets.{next_number}
 use Rattle.flow_table.specs.Slots.{flows, moved_last}
 use Rattle.flow_table.specs.declared.Slot.{Slot}
-use Rattle.flow_table.specs.declared.Slot.TheVariants.{Free, Resting}
+use Rattle.flow_table.specs.declared.Slot.TheVariants.{Free, InTimeWait}
 use Rattle.spec_flows.specs.declared.Tuple.{Tuple}
 use Rattle.spec_flow.specs.Event.{Arrives, At, Story}
-use Rattle.spec_flow.specs.Close.{ends_rest, host_failed, is_in_use, renewed, renews, rests_since}
-use Rattle.spec_flows.specs.Book.{after_segment, book, rest, scene, turned, without}
+use Rattle.spec_flow.specs.Close.{ends_time_wait, host_failed, is_in_use, renewed, renews, in_time_wait_since}
+use Rattle.spec_flows.specs.Book.{after_segment, book, time_wait, scene, turned, without}
 use Rattle.spec_flows.specs.Doings.{Comes, doing}
-use Rattle.spec_flows.specs.Flows.{Book, Flow, Rest, comes_directly, comes_last, flow_of, guest_is_known, owner, rests_among, uses, with_event}
+use Rattle.spec_flows.specs.Flows.{Book, Flow, TimeWait, comes_directly, comes_last, flow_of, guest_is_known, owner, is_among_time_waits, uses, with_event}
 use Rattle.spec_flows.specs.Laws.{flow_settings}
-use Rattle.spec_flows.specs.Lots.{due_for_flows}
+use Rattle.spec_flows.specs.SegmentVerdicts.{due_for_flows}
 use Rattle.spec_flows.specs.Segments.{OnTuple}
 use Rattle.spec_flows.specs.Taught.{taught}
 use Rattle.spec_flows.proofs.Apart.{own_arrival}
@@ -27,20 +27,20 @@ use Rattle.sim_flows.specs.Seats.{IsSlotOf, Once, Seats, number_in}
 use Rattle.sim_flows.proofs.Holding.{taught_on}
 use Rattle.sim_flows.proofs.Laying.{seats_renewed}
 use Rattle.sim_flows.proofs.Only.{number_of_found, only_happens}
-use Rattle.sim_flows.proofs.Resting.{in_use_awake}
+use Rattle.sim_flows.proofs.InTimeWait.{in_use_awake}
 use Rattle.sim_flows.proofs.Seats.{differ, same_or_not}
 use Rattle.sim_flows.proofs.Tables.{get_set_other, get_set_same}
 use Rattle.sim_flows.proofs.Waking.{seats_woken}
 use Rattle.spec_run.specs.Laws.{Lawful, joins}
 use Rattle.flow_splice.specs.Follows.{FollowsAt}
-use Rattle.flow_splice.specs.Splice.{Face, Splice, is_at_rest, is_in_use as is_used_at}
+use Rattle.flow_splice.specs.Splice.{Face, Splice, is_in_time_wait, is_in_use as is_used_at}
 use Rattle.flow_splice.specs.declared.Place.{Place}
-use Rattle.flow_splice.specs.declared.Place.TheVariants.{Empty, InUse as Used, Resting as Rests}
+use Rattle.flow_splice.specs.declared.Place.TheVariants.{Empty, InUse as Used, InTimeWait as Rests}
 use Rattle.flow_splice.proofs.Promises.{lawful_is, place_is, rest_is, rest_none}
 use Rattle.flow_splice.specs.Entries.{AreEvents}
 use Rattle.flow_splice.specs.Shapes.{is_at_most_a_close}
 use Rattle.sim_flows.specs.Core.{CoreHolds, Following, ends_of, mac_of, number_of}
-use Rattle.sim_flows.specs.Stands.{HasFlow, InWork, close_if, slot_at, with_rest}
+use Rattle.sim_flows.specs.Stands.{HasFlow, InWork, close_if, slot_at, with_time_wait}
 use Rattle.sim_flows.proofs.Coming.{after_arrival, came_directly, closes_or_not, of_arrival}
 use Rattle.sim_flows.proofs.Hosting.{Called as CalledThen, Ready}
 use Rattle.sim_flows.proofs.Looking.{rests_any}
@@ -57,7 +57,7 @@ follows_well config now q story follows = by q.place q.shut follows
     by Empty b free = free.over.well
     by Used true owing = owing.over.well
     by Used false open_yet = open_yet.holds.goes.well
-    by (Rests since) b resting = resting.rests.over.well
+    by (Rests since) b in_time_wait = in_time_wait.time_waits.over.well
 
 -- entries of one flow, and more of it
 of_then : (config : Config) (n : ℕ) (past made : List Entry) (e : Entry) → IsOf n (book config past) (doing config past e) → AreOf config n (e ∷ past) made → AreOf config n past (made ++ (e ∷ []))
@@ -68,7 +68,7 @@ of_then config n past (d ∷ made) e one are =
 module _ (config : Config) (state : FlowsState Splice) (past : List Entry) (now : ℕ) (holds : CoreHolds config now false None state past) (moment_is : moment past ≡ now)
     (lawful_before : Lawful config past)
     (k : ℕ) (p q : Splice) (t : Tuple) (f : Flow) (at : slice_get state.slots k ≡ Some (Some p)) (slot : slice_get state.table.slots k ≡ Some (slot_at p.place t)) (same : q.face ≡ p.face)
-    (was : flow_of (number_of p) (book config past).flows ≡ Some f) (ends : f.tuple ≡ ends_of p.face) (once : Once state.table.rest_order)
+    (was : flow_of (number_of p) (book config past).flows ≡ Some f) (ends : f.tuple ≡ ends_of p.face) (once : Once state.table.time_wait_order)
     (e : Entry) (on : OnTuple) (comes : doing config past e ≡ Comes on) (on_ends : on.tuple ≡ ends_of p.face) (next_is : next_number (e ∷ past) ≡ next_number past)
     (learnt : (m : Mac) → q.mac ≡ Some m → Contains (taught config (e ∷ past)) (f.tuple.guest.addr, m)) where
   has : HasFlow config p.face f past
@@ -89,10 +89,10 @@ module _ (config : Config) (state : FlowsState Splice) (past : List Entry) (now 
   only : Only (number_of p) (book config past).flows (book config (e ∷ past)).flows
   only = only_happens config (scene config past) (number_of p) (book config past) holds.seats.differ (doing config past e) of_it
 
-  seat_slot : (s : Slot) → slice_get state.table.slots k ≡ Some s → IsSlotOf (book config past).rests f s
+  seat_slot : (s : Slot) → slice_get state.table.slots k ≡ Some s → IsSlotOf (book config past).time_waits f s
   seat_slot s here =
       let seat = holds.seats.seated k p at in
-      subst (λ (x : Slot). IsSlotOf (book config past).rests f x) (some_same seat.1 s (sym seat.5 ∙ here)) (subst (λ (x : Flow). IsSlotOf (book config past).rests x seat.1)
+      subst (λ (x : Slot). IsSlotOf (book config past).time_waits f x) (some_same seat.1 s (sym seat.5 ∙ here)) (subst (λ (x : Flow). IsSlotOf (book config past).time_waits x seat.1)
       (some_same seat.0 f (sym seat.2 ∙ was)) seat.6)
 
   followed : Following config now p f.story
@@ -108,19 +108,19 @@ module _ (config : Config) (state : FlowsState Splice) (past : List Entry) (now 
 
   module _ (in_use : is_in_use f.story ≡ true) (lawful : Lawful config (e ∷ past)) (work : InWork config (e ∷ past)) (moment_then : moment (e ∷ past) ≡ now)
       (same_socket : joins (e ∷ past) (number_of p) ≡ joins past (number_of p))
-      (awake : rests_among (book config past).rests (Some f) ≡ false) (mac : Option Mac) (ident : ℕ) (made : List Entry) (beats : Story) (few : is_at_most_a_close made ≡ true) where
+      (awake : is_among_time_waits (book config past).time_waits (Some f) ≡ false) (mac : Option Mac) (ident : ℕ) (made : List Entry) (beats : Story) (few : is_at_most_a_close made ≡ true) where
     abbrev pub ended : Bool
     ended = comes_last (scene config (e ∷ past)) told
 
     abbrev pub known : Bool
     known = guest_is_known (scene config (e ∷ past)) told
 
-    rests_same : (book config (e ∷ past)).rests ≡ (book config past).rests
+    rests_same : (book config (e ∷ past)).time_waits ≡ (book config past).time_waits
     rests_same =
-        ap (λ (b : Book). b.rests) new
-        ∙ ap (λ o. after_segment (moment past) on.segment o (book config past).rests) owner_here
-        ∙ ap (λ b. if not b then (book config past).rests else (if ends_rest f.story on.segment then without f.number (book config past).rests else
-        (if renews on.segment then without f.number (book config past).rests ++ (rest f.number (moment past) ∷ []) else (book config past).rests))) awake
+        ap (λ (b : Book). b.time_waits) new
+        ∙ ap (λ o. after_segment (moment past) on.segment o (book config past).time_waits) owner_here
+        ∙ ap (λ b. if not b then (book config past).time_waits else (if ends_time_wait f.story on.segment then without f.number (book config past).time_waits else
+        (if renews on.segment then without f.number (book config past).time_waits ++ (time_wait f.number (moment past) ∷ []) else (book config past).time_waits))) awake
 
     has_then : HasFlow config p.face told (e ∷ past)
     has_then = subst (λ m. HasFlow config p.face (with_event m (Arrives on.segment) f) (e ∷ past)) moment_is
@@ -161,19 +161,19 @@ module _ (config : Config) (state : FlowsState Splice) (past : List Entry) (now 
         asks = ap (λ (l : List Entry). due_for_flows config (book config l) (next_number l)) lists ∙ then_called.has.due ∙ ap (λ b. close_if b (number_of p))
             (follows_well config now q (beats ++ beat) follows);
         next = ap next_number lists ∙ then_called.next ∙ next_is;
-        rests = λ open_yet. ap (λ (l : List Entry). (book config l).rests) lists ∙ then_called.rests open_yet ∙ ap (λ (r : List Rest). with_rest (rests_since (beats ++ beat))
+        time_waits = λ open_yet. ap (λ (l : List Entry). (book config l).time_waits) lists ∙ then_called.time_waits open_yet ∙ ap (λ (r : List TimeWait). with_time_wait (in_time_wait_since (beats ++ beat))
             (number_of p) r) rests_same
-            ∙ ap (λ (x : Story). with_rest (rests_since x) (number_of p) (book config past).rests) (sym stories);
-        rests_on = λ shut. ap (λ (l : List Entry). (book config l).rests) lists ∙ then_called.rests_on shut ∙ rests_same;
-        rests_still = λ shut. ap rests_since stories ∙ then_called.rests_still shut ∙ still_none ∙ sym (in_use_awake f.story in_use);
-        since = λ open_yet m is. then_called.since open_yet m (sym (ap rests_since stories) ∙ is);
+            ∙ ap (λ (x : Story). with_time_wait (in_time_wait_since x) (number_of p) (book config past).time_waits) (sym stories);
+        rests_on = λ shut. ap (λ (l : List Entry). (book config l).time_waits) lists ∙ then_called.rests_on shut ∙ rests_same;
+        stays_in_time_wait = λ shut. ap in_time_wait_since stories ∙ then_called.stays_in_time_wait shut ∙ still_none ∙ sym (in_use_awake f.story in_use);
+        since = λ open_yet m is. then_called.since open_yet m (sym (ap in_time_wait_since stories) ∙ is);
       }
         where
-          still_none : rests_since beat ≡ None
-          still_none = by (ends_rest f.story on.segment) (ap (renewed (renews on.segment) now) (in_use_awake f.story in_use))
+          still_none : in_time_wait_since beat ≡ None
+          still_none = by (ends_time_wait f.story on.segment) (ap (renewed (renews on.segment) now) (in_use_awake f.story in_use))
             where
-              by : (b : Bool) → renewed (renews on.segment) now (rests_since f.story) ≡ renewed (renews on.segment) now None → (if b then None else renewed (renews on.segment) now
-                  (rests_since f.story)) ≡ None
+              by : (b : Bool) → renewed (renews on.segment) now (in_time_wait_since f.story) ≡ renewed (renews on.segment) now None → (if b then None else renewed (renews on.segment) now
+                  (in_time_wait_since f.story)) ≡ None
               by true is = refl
               by false is = is ∙ renews_none (renews on.segment)
                 where
@@ -190,24 +190,24 @@ module _ (config : Config) (state : FlowsState Splice) (past : List Entry) (now 
           (core_called config state past now false None holds moment_is lawful_before k p q t f at slot same was once all_made all_beats called
           (subst (Following config now q) (sym stories) follows) mac_learnt)
 
-  -- ---- a flow that rests
+  -- ---- a flow that is in TIME-WAIT
 
-  -- the slots and parts, once the slot of a flow that rested follows its place; a segment that renews the rest has it rest anew, as the last
+  -- the slots and parts, once the slot of a flow that was in TIME-WAIT follows its place; a segment that renews the TIME-WAIT has it enter TIME-WAIT anew, as the last
   abbrev pub rested_at : Place → (again : Bool) → Seated
-  rested_at Empty again = record { table = flows (set state.table.slots k Free) state.table.rest_order; slots = set state.slots k None }
+  rested_at Empty again = record { table = flows (set state.table.slots k Free) state.table.time_wait_order; slots = set state.slots k None }
   rested_at Used again = record { table = state.table; slots = state.slots }
-  rested_at (Rests since) true = record { table = flows (set state.table.slots k (Resting t since)) (moved_last k state.table.rest_order); slots = set state.slots k (Some q) }
+  rested_at (Rests since) true = record { table = flows (set state.table.slots k (InTimeWait t since)) (moved_last k state.table.time_wait_order); slots = set state.slots k (Some q) }
   rested_at (Rests since) false = record { table = state.table; slots = set state.slots k (Some q) }
 
   abbrev pub state_rested : FlowsState Splice
   state_rested = record { table = (rested_at q.place (renews on.segment)).table; slots = (rested_at q.place (renews on.segment)).slots; opened = state.opened }
 
   module _ (since : ℕ) (at_rest : p.place ≡ Rests since) (follows : Following config now q beat) where
-    here : slice_get state.table.slots k ≡ Some (Resting t since)
+    here : slice_get state.table.slots k ≡ Some (InTimeWait t since)
     here = slot ∙ ap (λ x. Some (slot_at x t)) at_rest
 
-    slot_here : IsSlotOf (book config past).rests f (Resting t since)
-    slot_here = seat_slot (Resting t since) here
+    slot_here : IsSlotOf (book config past).time_waits f (InTimeWait t since)
+    slot_here = seat_slot (InTimeWait t since) here
 
     unused_before : uses (flow_of (number_of p) (book config past).flows) ≡ false
     unused_before = ap uses was ∙ slot_here.2
@@ -222,44 +222,44 @@ module _ (config : Config) (state : FlowsState Splice) (past : List Entry) (now 
     unused_then : is_in_use told.story ≡ false
     unused_then = slot_here.2
 
-    among : rests_among (book config past).rests (Some f) ≡ true
-    among = rests_any (record { number = f.number; since = since }) (book config past).rests slot_here.1
+    among : is_among_time_waits (book config past).time_waits (Some f) ≡ true
+    among = rests_any (record { number = f.number; since = since }) (book config past).time_waits slot_here.1
 
-    -- those that rest, by what the segment is to the rest
-    rests_by : (book config (e ∷ past)).rests ≡ (if ends_rest f.story on.segment then without (number_of p) (book config past).rests
-        else (if renews on.segment then without (number_of p) (book config past).rests ++ (rest (number_of p) now ∷ []) else (book config past).rests))
-    rests_by =
-        ap (λ (b : Book). b.rests) new
-        ∙ ap (λ o. after_segment (moment past) on.segment o (book config past).rests) owner_here
-        ∙ ap (λ b. if not b then (book config past).rests else (if ends_rest f.story on.segment then without f.number (book config past).rests else
-        (if renews on.segment then without f.number (book config past).rests ++ (rest f.number (moment past) ∷ []) else (book config past).rests))) among
-        ∙ (λ i. if ends_rest f.story on.segment then without (number_is i) (book config past).rests else (if renews on.segment then without (number_is i) (book config past).rests
-        ++ (rest (number_is i) (moment_is i) ∷ []) else (book config past).rests))
+    -- those in TIME-WAIT, by what the segment is to the rest
+    is_time_wait_by : (book config (e ∷ past)).time_waits ≡ (if ends_time_wait f.story on.segment then without (number_of p) (book config past).time_waits
+        else (if renews on.segment then without (number_of p) (book config past).time_waits ++ (time_wait (number_of p) now ∷ []) else (book config past).time_waits))
+    is_time_wait_by =
+        ap (λ (b : Book). b.time_waits) new
+        ∙ ap (λ o. after_segment (moment past) on.segment o (book config past).time_waits) owner_here
+        ∙ ap (λ b. if not b then (book config past).time_waits else (if ends_time_wait f.story on.segment then without f.number (book config past).time_waits else
+        (if renews on.segment then without f.number (book config past).time_waits ++ (time_wait f.number (moment past) ∷ []) else (book config past).time_waits))) among
+        ∙ (λ i. if ends_time_wait f.story on.segment then without (number_is i) (book config past).time_waits else (if renews on.segment then without (number_is i) (book config past).time_waits
+        ++ (time_wait (number_is i) (moment_is i) ∷ []) else (book config past).time_waits))
 
-    begun : rests_since f.story ≡ Some since
+    begun : in_time_wait_since f.story ≡ Some since
     begun = rest_is (flow_settings config) p f.story now since followed at_rest
 
     -- the story's rest then
-    since_then : rests_since beat ≡ (if ends_rest f.story on.segment then None else renewed (renews on.segment) now (Some since))
-    since_then = ap (λ o. if ends_rest f.story on.segment then None else renewed (renews on.segment) now o) begun
+    since_then : in_time_wait_since beat ≡ (if ends_time_wait f.story on.segment then None else renewed (renews on.segment) now (Some since))
+    since_then = ap (λ o. if ends_time_wait f.story on.segment then None else renewed (renews on.segment) now o) begun
 
     abbrev Goal : Seated → Type 0
-    Goal x = Seats number_of (Following config now) x.table x.slots (next_number past) (book config (e ∷ past)).flows (book config (e ∷ past)).rests
+    Goal x = Seats number_of (Following config now) x.table x.slots (next_number past) (book config (e ∷ past)).flows (book config (e ∷ past)).time_waits
 
     follow_place : Following config now q told.story
     follow_place = follows
 
     -- it left
-    left_it : q.place ≡ Empty → (b : Bool) → ends_rest f.story on.segment ≡ b → Goal (rested_at Empty (renews on.segment))
+    left_it : q.place ≡ Empty → (b : Bool) → ends_time_wait f.story on.segment ≡ b → Goal (rested_at Empty (renews on.segment))
     left_it place true ends_it =
-        subst (λ (r : List Rest). Seats number_of (Following config now) (flows (set state.table.slots k Free) state.table.rest_order) (set state.slots k None) (next_number past)
+        subst (λ (r : List TimeWait). Seats number_of (Following config now) (flows (set state.table.slots k Free) state.table.time_wait_order) (set state.slots k None) (next_number past)
         (book config (e ∷ past)).flows r)
-        (sym (rests_by ∙ ap (λ b. if b then without (number_of p) (book config past).rests else (if renews on.segment then without (number_of p) (book config past).rests ++
-        (rest (number_of p) now ∷ []) else (book config past).rests)) ends_it))
+        (sym (is_time_wait_by ∙ ap (λ b. if b then without (number_of p) (book config past).time_waits else (if renews on.segment then without (number_of p) (book config past).time_waits ++
+        (time_wait (number_of p) now ∷ []) else (book config past).time_waits)) ends_it))
         (seats_woken number_of (Following config now) state.table state.slots (next_number past) (book config past).flows (book config (e ∷ past)).flows
-        (book config past).rests k p t since at here unused_before (ap uses told_is ∙ unused_then) only holds.seats)
+        (book config past).time_waits k p t since at here unused_before (ap uses told_is ∙ unused_then) only holds.seats)
     left_it place false not_yet =
-        let none = rest_none (flow_settings config) q beat now follows (ap is_at_rest place) in
+        let none = rest_none (flow_settings config) q beat now follows (ap is_in_time_wait place) in
         let some = since_then ∙ ap (λ b. if b then None else renewed (renews on.segment) now (Some since)) not_yet in
         absurd (never (renews on.segment) (sym none ∙ some))
       where
@@ -267,34 +267,34 @@ module _ (config : Config) (state : FlowsState Splice) (past : List Entry) (now 
         never true is = cc
         never false is = cc
 
-    -- it rests on, or anew
-    rests_on_it : (m : ℕ) → q.place ≡ Rests m → (b : Bool) → ends_rest f.story on.segment ≡ b → (r : Bool) → renews on.segment ≡ r → Goal (rested_at (Rests m) r)
+    -- it stays in TIME-WAIT, or enters it anew
+    rests_on_it : (m : ℕ) → q.place ≡ Rests m → (b : Bool) → ends_time_wait f.story on.segment ≡ b → (r : Bool) → renews on.segment ≡ r → Goal (rested_at (Rests m) r)
     rests_on_it m place true ends_it r again =
         absurd (none_some (sym (since_then ∙ ap (λ b. if b then None else renewed (renews on.segment) now (Some since)) ends_it) ∙ rest_is (flow_settings config) q beat now m follows place))
     rests_on_it m place false not_yet true again =
-        let is : rests_since beat ≡ Some now = since_then ∙ ap (λ b. if b then None else renewed (renews on.segment) now (Some since)) not_yet ∙ ap (λ b. renewed b now (Some since)) again in
+        let is : in_time_wait_since beat ≡ Some now = since_then ∙ ap (λ b. if b then None else renewed (renews on.segment) now (Some since)) not_yet ∙ ap (λ b. renewed b now (Some since)) again in
         let m_is : m ≡ now = some_same m now (sym (rest_is (flow_settings config) q beat now m follows place) ∙ is) in
-        subst (λ (r : List Rest). Seats number_of (Following config now) (flows (set state.table.slots k (Resting t m)) (moved_last k state.table.rest_order))
+        subst (λ (r : List TimeWait). Seats number_of (Following config now) (flows (set state.table.slots k (InTimeWait t m)) (moved_last k state.table.time_wait_order))
         (set state.slots k (Some q)) (next_number past) (book config (e ∷ past)).flows r)
-        (ap (λ n. without (number_of p) (book config past).rests ++ (rest (number_of p) n ∷ [])) m_is
-        ∙ sym (rests_by ∙ ap (λ b. if b then without (number_of p) (book config past).rests else (if renews on.segment then without (number_of p) (book config past).rests ++
-        (rest (number_of p) now ∷ []) else (book config past).rests)) not_yet
-        ∙ ap (λ b. if b then without (number_of p) (book config past).rests ++ (rest (number_of p) now ∷ []) else (book config past).rests) again))
+        (ap (λ n. without (number_of p) (book config past).time_waits ++ (time_wait (number_of p) n ∷ [])) m_is
+        ∙ sym (is_time_wait_by ∙ ap (λ b. if b then without (number_of p) (book config past).time_waits else (if renews on.segment then without (number_of p) (book config past).time_waits ++
+        (time_wait (number_of p) now ∷ []) else (book config past).time_waits)) not_yet
+        ∙ ap (λ b. if b then without (number_of p) (book config past).time_waits ++ (time_wait (number_of p) now ∷ []) else (book config past).time_waits) again))
         (seats_renewed number_of (Following config now) state.table state.slots (next_number past) (book config past).flows (book config (e ∷ past)).flows
-        (book config past).rests k p q told t since m at here
+        (book config past).time_waits k p q told t since m at here
         (ap (λ (x : Face). x.number) same) unused_before told_is unused_then follow_place only once holds.seats)
     rests_on_it m place false not_yet false again =
-        subst (λ (r : List Rest). Seats number_of (Following config now) state.table (set state.slots k (Some q)) (next_number past) (book config (e ∷ past)).flows r)
-        (sym (rests_by ∙ ap (λ b. if b then without (number_of p) (book config past).rests else (if renews on.segment then without (number_of p) (book config past).rests ++
-        (rest (number_of p) now ∷ []) else (book config past).rests)) not_yet
-        ∙ ap (λ b. if b then without (number_of p) (book config past).rests ++ (rest (number_of p) now ∷ []) else (book config past).rests) again))
+        subst (λ (r : List TimeWait). Seats number_of (Following config now) state.table (set state.slots k (Some q)) (next_number past) (book config (e ∷ past)).flows r)
+        (sym (is_time_wait_by ∙ ap (λ b. if b then without (number_of p) (book config past).time_waits else (if renews on.segment then without (number_of p) (book config past).time_waits ++
+        (time_wait (number_of p) now ∷ []) else (book config past).time_waits)) not_yet
+        ∙ ap (λ b. if b then without (number_of p) (book config past).time_waits ++ (time_wait (number_of p) now ∷ []) else (book config past).time_waits) again))
         (seats_kept number_of (Following config now) state.table state.slots (next_number past) (book config past).flows (book config (e ∷ past)).flows
-        (book config past).rests k p q f told t since at here
+        (book config past).time_waits k p q f told t since at here
         (ap (λ (x : Face). x.number) same) was slot_here.2 told_is unused_then follow_place only holds.seats)
 
     by_place : (x : Place) → q.place ≡ x → (r : Bool) → renews on.segment ≡ r → Goal (rested_at x r)
-    by_place Empty place r again = subst (λ b. Goal (rested_at Empty b)) again (left_it place (ends_rest f.story on.segment) refl)
-    by_place (Rests m) place r again = rests_on_it m place (ends_rest f.story on.segment) refl r again
+    by_place Empty place r again = subst (λ b. Goal (rested_at Empty b)) again (left_it place (ends_time_wait f.story on.segment) refl)
+    by_place (Rests m) place r again = rests_on_it m place (ends_time_wait f.story on.segment) refl r again
     by_place Used place r again =
         let used : is_in_use beat ≡ true = sym (place_is (flow_settings config) q beat now follows) ∙ ap is_used_at place in
         absurd (not_both (sym unused_then ∙ used))
@@ -305,7 +305,7 @@ module _ (config : Config) (state : FlowsState Splice) (past : List Entry) (now 
     size_then : (x : Place) (r : Bool) → length (rested_at x r).table.slots ≡ length state.table.slots
     size_then Empty r = length-set state.table.slots k Free
     size_then Used r = refl
-    size_then (Rests m) true = length-set state.table.slots k (Resting t m)
+    size_then (Rests m) true = length-set state.table.slots k (InTimeWait t m)
     size_then (Rests m) false = refl
 
     learnt_set : (x : Option Splice) → ((r : Splice) → x ≡ Some r → r ≡ q) → (j : ℕ) (r : Splice) (h : Flow) (m : Mac) → slice_get (set state.slots k x) j ≡ Some (Some r) → flow_of
@@ -343,7 +343,7 @@ module _ (config : Config) (state : FlowsState Splice) (past : List Entry) (now 
     -- the core's relation holds after the segment, with the call that it asks for where it ended the rest
     pub core_rested : CoreHolds config now false (due_for_flows config (book config (e ∷ past)) (next_number (e ∷ past))) state_rested (e ∷ past)
     core_rested = record {
-      seats = subst (λ n. Seats number_of (Following config now) state_rested.table state_rested.slots n (book config (e ∷ past)).flows (book config (e ∷ past)).rests)
+      seats = subst (λ n. Seats number_of (Following config now) state_rested.table state_rested.slots n (book config (e ∷ past)).flows (book config (e ∷ past)).time_waits)
           (sym next_is) (by_place q.place refl (renews on.segment) refl);
       slots = size_then q.place (renews on.segment) ∙ holds.slots;
       opened = as_many (book config (e ∷ past)).flows (book config past).flows only.same ∙ holds.opened;

@@ -9,9 +9,9 @@ use Rattle.slirp_settings.specs.Addresses.{Config}
 use Rattle.spec_flows.specs.declared.Tuple.{Tuple}
 use Rattle.spec_flow.specs.Event.{Story}
 use Rattle.spec_flow.specs.Close.{is_in_use}
-use Rattle.spec_flows.specs.Lots.{due_for_flows}
+use Rattle.spec_flows.specs.SegmentVerdicts.{due_for_flows}
 use Rattle.spec_flows.specs.Book.{book}
-use Rattle.spec_flows.specs.Flows.{Flow, Rest, flow_of, rests_among}
+use Rattle.spec_flows.specs.Flows.{Flow, TimeWait, flow_of, is_among_time_waits}
 use Rattle.spec_flows.specs.Taught.{taught, taught_by, taught_pair}
 use Rattle.spec_trace.specs.Happenings.{Arrival, happens}
 use Rattle.spec_trace.specs.Packets.{Pair}
@@ -20,7 +20,7 @@ use Rattle.sim_flows.specs.FlowsHold.{FlowsState, FlowsHold}
 use Rattle.sim_flows.specs.Seats.{number_in, Seats}
 use Rattle.sim_flows.specs.Only.{AreOf, StaysInUse, ids}
 use Rattle.sim_flows.proofs.Only.{only_made, head_same}
-use Rattle.sim_flows.proofs.Resting.{stays_out}
+use Rattle.sim_flows.proofs.InTimeWait.{stays_out}
 use Rattle.sim_flows.proofs.Seats.{seats_one, found_id, same_or_not, differ}
 use Rattle.sim_flows.proofs.Tables.{get_set_same, get_set_other}
 
@@ -49,7 +49,7 @@ module _ {P : Type 0} (number : P → ℕ) (mac : P → Option Mac) (Follows : P
       → slice_get state.slots k ≡ Some (Some p) → number q ≡ number p
       → flow_of (number p) (book config past).flows ≡ Some f → is_in_use f.story ≡ true
       → AreOf config (number p) past made → StaysInUse config (number p) past made
-      → ((h : Flow) → (h.number == number p) ≡ true → rests_among (book config past).rests (Some h) ≡ false)
+      → ((h : Flow) → (h.number == number p) ≡ true → is_among_time_waits (book config past).time_waits (Some h) ≡ false)
       → flow_of (number p) (book config (made ++ past)).flows ≡ Some g → is_in_use g.story ≡ true → Follows q g.story
       → ((m : Mac) → mac q ≡ Some m → Contains (taught config (made ++ past)) (f.tuple.guest.addr, m))
       → next_number (made ++ past) ≡ next_number past
@@ -58,12 +58,12 @@ module _ {P : Type 0} (number : P → ℕ) (mac : P → Option Mac) (Follows : P
       → FlowsHold number mac Follows config false new_task (record { table = state.table; slots = set state.slots k (Some q); opened = state.opened }) (made ++ past)
   hold_one task new_task past made k p q f g at same was was_used are uses awake is is_used follows learnt numbers asks holds =
       let only = only_made config (number p) past made holds.seats.differ are in
-      let rests = stays_out config (number p) past made are uses awake in
+      let time_waits = stays_out config (number p) past made are uses awake in
       record {
-        seats = subst (λ n. Seats number Follows state.table (set state.slots k (Some q)) n (book config (made ++ past)).flows (book config (made ++ past)).rests) (sym numbers)
-            (subst (λ (r : List Rest). Seats number Follows state.table (set state.slots k (Some q)) (next_number past) (book config (made ++ past)).flows r) (sym rests)
+        seats = subst (λ n. Seats number Follows state.table (set state.slots k (Some q)) n (book config (made ++ past)).flows (book config (made ++ past)).time_waits) (sym numbers)
+            (subst (λ (r : List TimeWait). Seats number Follows state.table (set state.slots k (Some q)) (next_number past) (book config (made ++ past)).flows r) (sym time_waits)
             (seats_one number Follows state.table state.slots (next_number past) (book config past).flows (book config (made ++ past)).flows
-            (book config past).rests k p q f g at same was was_used is is_used follows only holds.seats));
+            (book config past).time_waits k p q f g at same was was_used is is_used follows only holds.seats));
         slots = holds.slots;
         opened = as_many (book config (made ++ past)).flows (book config past).flows only.same ∙ holds.opened;
         asked = asks;

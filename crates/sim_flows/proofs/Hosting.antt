@@ -1,4 +1,4 @@
--- What a flow makes for one report of the host is lawful, and the record has it as the flow's events.
+-- What a flow makes for one report of the host is lawful, and the trace has it as the flow's events.
 use Rattle.std.proofs.Common.{◌≡◌, ℕ, ◌==◌, ◌&&◌, ◌||◌, not, Bool, true, false, List, [], ◌∷◌, ◌++◌, MatchOption, Option, None, if◌then◌else◌, ◌⊎◌, inl, inr, refl, sym, ◌∙◌, ap, subst, Some}
 use Rattle.net_octets.specs.declared.Mac.{Mac}
 use Rattle.poll_list.specs.Listing.{reads, same_who, writes}
@@ -16,7 +16,7 @@ use Rattle.slirp_settings.specs.Addresses.{Config}
 use Rattle.spec_trace.specs.Moments.{moment}
 use Rattle.spec_trace.specs.Sockets.{next_number}
 use Rattle.spec_flow.specs.Event.{Event, Closes, At, Story}
-use Rattle.spec_flow.specs.Close.{ended_first, follows_reset, host_failed, is_done, rests_since}
+use Rattle.spec_flow.specs.Close.{ended_first, follows_reset, host_failed, is_done, in_time_wait_since}
 use Rattle.spec_flow.specs.Flow.{is_closed}
 use Rattle.spec_flow.specs.Lawful.{Act, AskConnected, Write, EndHost, Read, HasOwnCause, MayHappen, Close as CloseAct, May as MayOfOne, act_of}
 use Rattle.spec_flow.specs.Dutiful.{Must as MustOfOne, MustClose, MustHappen, read_size}
@@ -37,14 +37,14 @@ use Rattle.flow_splice.specs.Splice.{Face}
 use Rattle.flow_splice.specs.Hosts.{is_for_reading, is_for_writing, shuts as is_shut}
 use Rattle.flow_splice.specs.Shapes.{IsHostWork, ends, gives, is_reading, is_writing}
 use Rattle.spec_run.proofs.Deeds.{quest_none}
-use Rattle.sim_flows.specs.Stands.{HasFlow, InWork, IsInOrder, IsLast, with_beats, with_rest}
+use Rattle.sim_flows.specs.Stands.{HasFlow, InWork, IsInOrder, IsLast, with_beats, with_time_wait}
 use Rattle.sim_flows.proofs.Calling.{IsCall, after_call, after_close, may_end, may_give, may_look, may_part_then, may_shut, may_take, rests_closed, since_now}
 use Rattle.sim_flows.proofs.Pumping.{differ_in, stays_shut}
 use Rattle.flow_splice.proofs.Restless.{open_none}
 
 -- ---- answers
 
--- the flow and the record say of an answer the same
+-- the flow and the trace say of an answer the same
 same_joined : (answer : Joined) → joined_by answer ≡ joined answer
 same_joined Yes = refl
 same_joined NotJoined = refl
@@ -108,7 +108,7 @@ module _ (config : Config) (face : Face) (f : Flow) (past : List Entry) (now : �
     pub knows : guest_is_known (scene config past) f ≡ known
     pub last : is_closed f.story ≡ false → comes_last (scene config past) f ≡ ended
 
-  -- These calls on a flow's socket are lawful, and in the record they are these events of the flow; nothing else has changed.
+  -- These calls on a flow's socket are lawful, and in the trace they are these events of the flow; nothing else has changed.
   pub record Called (made : List Entry) (beats : Story) : Type 0 where
     pub lawful : Lawful config (made ++ past)
     pub work : InWork config (made ++ past)
@@ -123,11 +123,11 @@ module _ (config : Config) (face : Face) (f : Flow) (past : List Entry) (now : �
     pub counted : identification (made ++ past) ≡ identification past
     pub next : next_number (made ++ past) ≡ next_number past
     pub taught : taught config (made ++ past) ≡ taught config past
-    -- a flow that was open rests where its story says so; one that wasn't goes on as it did
-    pub rests : is_closed f.story ≡ false → (book config (made ++ past)).rests ≡ with_rest (rests_since (beats ++ f.story)) face.number (book config past).rests
-    pub rests_on : is_closed f.story ≡ true → (book config (made ++ past)).rests ≡ (book config past).rests
-    pub rests_still : is_closed f.story ≡ true → rests_since (beats ++ f.story) ≡ rests_since f.story
-    pub since : is_closed f.story ≡ false → (m : ℕ) → rests_since (beats ++ f.story) ≡ Some m → m ≡ now
+    -- a flow that was open is in TIME-WAIT where its story says so; one that wasn't goes on as it did
+    pub time_waits : is_closed f.story ≡ false → (book config (made ++ past)).time_waits ≡ with_time_wait (in_time_wait_since (beats ++ f.story)) face.number (book config past).time_waits
+    pub rests_on : is_closed f.story ≡ true → (book config (made ++ past)).time_waits ≡ (book config past).time_waits
+    pub stays_in_time_wait : is_closed f.story ≡ true → in_time_wait_since (beats ++ f.story) ≡ in_time_wait_since f.story
+    pub since : is_closed f.story ≡ false → (m : ℕ) → in_time_wait_since (beats ++ f.story) ≡ Some m → m ≡ now
 
   -- none is made yet
   pub none_made : Ready → Called [] []
@@ -145,9 +145,9 @@ module _ (config : Config) (face : Face) (f : Flow) (past : List Entry) (now : �
     counted = refl;
     next = refl;
     taught = refl;
-    rests = λ was_open. sym (ap (λ o. with_rest o face.number (book config past).rests) (open_none f.story was_open));
+    time_waits = λ was_open. sym (ap (λ o. with_time_wait o face.number (book config past).time_waits) (open_none f.story was_open));
     rests_on = λ shut. refl;
-    rests_still = λ shut. refl;
+    stays_in_time_wait = λ shut. refl;
     since = λ was_open m is. absurd (none_since m (sym (open_none f.story was_open) ∙ is));
   }
     where
@@ -172,25 +172,25 @@ module _ (config : Config) (face : Face) (f : Flow) (past : List Entry) (now : �
 
     -- whatever the answer, no socket is closed by it; it failed where the event says so
     look_call : (answer : Joined) → IsCall config face g before called.work called.has (joined answer)
-    look_call Yes = record { failed = λ m story. refl; closed = λ m story. refl; rests = λ m story. refl }
-    look_call NotJoined = record { failed = λ m story. refl; closed = λ m story. refl; rests = λ m story. refl }
-    look_call JoinFailed = record { failed = λ m story. refl; closed = λ m story. refl; rests = λ m story. refl }
+    look_call Yes = record { failed = λ m story. refl; closed = λ m story. refl; time_waits = λ m story. refl }
+    look_call NotJoined = record { failed = λ m story. refl; closed = λ m story. refl; time_waits = λ m story. refl }
+    look_call JoinFailed = record { failed = λ m story. refl; closed = λ m story. refl; time_waits = λ m story. refl }
 
     read_call : (answer : Io) (octets : List ℕ) → IsCall config face g before called.work called.has (was_read answer octets)
-    read_call (Done n) octets = record { failed = λ m story. refl; closed = λ m story. refl; rests = λ m story. refl }
-    read_call End octets = record { failed = λ m story. refl; closed = λ m story. refl; rests = λ m story. refl }
-    read_call NotYet octets = record { failed = λ m story. refl; closed = λ m story. refl; rests = λ m story. refl }
-    read_call Failed octets = record { failed = λ m story. refl; closed = λ m story. refl; rests = λ m story. refl }
+    read_call (Done n) octets = record { failed = λ m story. refl; closed = λ m story. refl; time_waits = λ m story. refl }
+    read_call End octets = record { failed = λ m story. refl; closed = λ m story. refl; time_waits = λ m story. refl }
+    read_call NotYet octets = record { failed = λ m story. refl; closed = λ m story. refl; time_waits = λ m story. refl }
+    read_call Failed octets = record { failed = λ m story. refl; closed = λ m story. refl; time_waits = λ m story. refl }
 
     write_call : (answer : Io) (octets : List ℕ) → IsCall config face g before called.work called.has (was_written octets answer)
-    write_call (Done n) octets = record { failed = λ m story. refl; closed = λ m story. refl; rests = λ m story. refl }
-    write_call End octets = record { failed = λ m story. refl; closed = λ m story. refl; rests = λ m story. refl }
-    write_call NotYet octets = record { failed = λ m story. refl; closed = λ m story. refl; rests = λ m story. refl }
-    write_call Failed octets = record { failed = λ m story. refl; closed = λ m story. refl; rests = λ m story. refl }
+    write_call (Done n) octets = record { failed = λ m story. refl; closed = λ m story. refl; time_waits = λ m story. refl }
+    write_call End octets = record { failed = λ m story. refl; closed = λ m story. refl; time_waits = λ m story. refl }
+    write_call NotYet octets = record { failed = λ m story. refl; closed = λ m story. refl; time_waits = λ m story. refl }
+    write_call Failed octets = record { failed = λ m story. refl; closed = λ m story. refl; time_waits = λ m story. refl }
 
     end_call : (answer : Made) → IsCall config face g before called.work called.has (was_ended answer)
-    end_call MadeDone = record { failed = λ m story. refl; closed = λ m story. refl; rests = λ m story. refl }
-    end_call MadeFailed = record { failed = λ m story. refl; closed = λ m story. refl; rests = λ m story. refl }
+    end_call MadeDone = record { failed = λ m story. refl; closed = λ m story. refl; time_waits = λ m story. refl }
+    end_call MadeFailed = record { failed = λ m story. refl; closed = λ m story. refl; time_waits = λ m story. refl }
 
     still_last : (ev : Event) → IsCall config face g before called.work called.has ev → is_closed (At now ev ∷ rest ++ f.story) ≡ false → comes_last (scene config before) g ≡ ended
     still_last ev call open_yet = called.last (sym (call.closed now (rest ++ f.story)) ∙ open_yet)
@@ -217,10 +217,10 @@ module _ (config : Config) (face : Face) (f : Flow) (past : List Entry) (now : �
       counted = called.counted;
       next = called.next;
       taught = called.taught;
-      rests = λ was_open. called.rests was_open ∙ ap (λ o. with_rest o face.number (book config past).rests) (sym ((look_call answer).rests now (rest ++ f.story)));
+      time_waits = λ was_open. called.time_waits was_open ∙ ap (λ o. with_time_wait o face.number (book config past).time_waits) (sym ((look_call answer).time_waits now (rest ++ f.story)));
       rests_on = called.rests_on;
-      rests_still = λ shut. (look_call answer).rests now (rest ++ f.story) ∙ called.rests_still shut;
-      since = λ was_open m is. called.since was_open m (sym ((look_call answer).rests now (rest ++ f.story)) ∙ is);
+      stays_in_time_wait = λ shut. (look_call answer).time_waits now (rest ++ f.story) ∙ called.stays_in_time_wait shut;
+      since = λ was_open m is. called.since was_open m (sym ((look_call answer).time_waits now (rest ++ f.story)) ∙ is);
     }
 
     -- octets are offered to it
@@ -248,10 +248,10 @@ module _ (config : Config) (face : Face) (f : Flow) (past : List Entry) (now : �
       counted = called.counted;
       next = called.next;
       taught = called.taught;
-      rests = λ was_open. called.rests was_open ∙ ap (λ o. with_rest o face.number (book config past).rests) (sym ((write_call answer octets).rests now (rest ++ f.story)));
+      time_waits = λ was_open. called.time_waits was_open ∙ ap (λ o. with_time_wait o face.number (book config past).time_waits) (sym ((write_call answer octets).time_waits now (rest ++ f.story)));
       rests_on = called.rests_on;
-      rests_still = λ shut. (write_call answer octets).rests now (rest ++ f.story) ∙ called.rests_still shut;
-      since = λ was_open m is. called.since was_open m (sym ((write_call answer octets).rests now (rest ++ f.story)) ∙ is);
+      stays_in_time_wait = λ shut. (write_call answer octets).time_waits now (rest ++ f.story) ∙ called.stays_in_time_wait shut;
+      since = λ was_open m is. called.since was_open m (sym ((write_call answer octets).time_waits now (rest ++ f.story)) ∙ is);
     }
 
     -- it is told the guest's end
@@ -276,10 +276,10 @@ module _ (config : Config) (face : Face) (f : Flow) (past : List Entry) (now : �
       counted = called.counted;
       next = called.next;
       taught = called.taught;
-      rests = λ was_open. called.rests was_open ∙ ap (λ o. with_rest o face.number (book config past).rests) (sym ((end_call answer).rests now (rest ++ f.story)));
+      time_waits = λ was_open. called.time_waits was_open ∙ ap (λ o. with_time_wait o face.number (book config past).time_waits) (sym ((end_call answer).time_waits now (rest ++ f.story)));
       rests_on = called.rests_on;
-      rests_still = λ shut. (end_call answer).rests now (rest ++ f.story) ∙ called.rests_still shut;
-      since = λ was_open m is. called.since was_open m (sym ((end_call answer).rests now (rest ++ f.story)) ∙ is);
+      stays_in_time_wait = λ shut. (end_call answer).time_waits now (rest ++ f.story) ∙ called.stays_in_time_wait shut;
+      since = λ was_open m is. called.since was_open m (sym ((end_call answer).time_waits now (rest ++ f.story)) ∙ is);
     }
 
     -- it is read
@@ -307,10 +307,10 @@ module _ (config : Config) (face : Face) (f : Flow) (past : List Entry) (now : �
       counted = called.counted;
       next = called.next;
       taught = called.taught;
-      rests = λ was_open. called.rests was_open ∙ ap (λ o. with_rest o face.number (book config past).rests) (sym ((read_call answer octets).rests now (rest ++ f.story)));
+      time_waits = λ was_open. called.time_waits was_open ∙ ap (λ o. with_time_wait o face.number (book config past).time_waits) (sym ((read_call answer octets).time_waits now (rest ++ f.story)));
       rests_on = called.rests_on;
-      rests_still = λ shut. (read_call answer octets).rests now (rest ++ f.story) ∙ called.rests_still shut;
-      since = λ was_open m is. called.since was_open m (sym ((read_call answer octets).rests now (rest ++ f.story)) ∙ is);
+      stays_in_time_wait = λ shut. (read_call answer octets).time_waits now (rest ++ f.story) ∙ called.stays_in_time_wait shut;
+      since = λ was_open m is. called.since was_open m (sym ((read_call answer octets).time_waits now (rest ++ f.story)) ∙ is);
     }
 
     -- it is closed, directly after a segment of the flow or not
@@ -356,12 +356,12 @@ module _ (config : Config) (face : Face) (f : Flow) (past : List Entry) (now : �
         counted = called.counted;
         next = called.next;
         taught = called.taught;
-        rests = λ was_open.
+        time_waits = λ was_open.
             rests_closed config face g before called.work called.has differ now directly ended known called.at shuts_is
-            ∙ ap (with_rest (rests_since (At now (Closes directly ended known) ∷ rest ++ f.story)) face.number)
-            (called.rests was_open ∙ ap (λ o. with_rest o face.number (book config past).rests) (open_none (rest ++ f.story) open_yet));
+            ∙ ap (with_time_wait (in_time_wait_since (At now (Closes directly ended known) ∷ rest ++ f.story)) face.number)
+            (called.time_waits was_open ∙ ap (λ o. with_time_wait o face.number (book config past).time_waits) (open_none (rest ++ f.story) open_yet));
         rests_on = λ shut. absurd (shut_before shut);
-        rests_still = λ shut. absurd (shut_before shut);
+        stays_in_time_wait = λ shut. absurd (shut_before shut);
         since = λ was_open m is. since_now config face g before called.work called.has (is_done (rest ++ f.story) && not (follows_reset directly (rest ++ f.story)) && ended_first
             (rest ++ f.story)) now m is;
       }
@@ -520,7 +520,7 @@ module _ (config : Config) (face : Face) (mac : Option Mac) (f : Flow) (past : L
     pub called : CalledHere made beats
     pub agenda : Left (agenda (made ++ past))
 
-  -- These entries are lawful, and in the record they are these events of the flow; the reports behind this one are left; nothing else has changed.
+  -- These entries are lawful, and in the trace they are these events of the flow; the reports behind this one are left; nothing else has changed.
   abbrev pub Heard : List Entry → Story → Type 0
   Heard made beats = Facing (IsLast items) made beats
 

@@ -18,8 +18,8 @@ use Rattle.spec_flows.specs.declared.Tuple.{Tuple}
 use Rattle.spec_flow.specs.Event.{Connects, At, Story}
 use Rattle.spec_flow.specs.Flow.{first_number}
 use Rattle.spec_flows.specs.Book.{book, joins_for, opens}
-use Rattle.spec_flows.specs.Flows.{Book, Flow, flow_of, Rest}
-use Rattle.spec_flows.specs.Lots.{due_for_flows}
+use Rattle.spec_flows.specs.Flows.{Book, Flow, flow_of, TimeWait}
+use Rattle.spec_flows.specs.SegmentVerdicts.{due_for_flows}
 use Rattle.spec_flows.specs.Segments.{OnTuple}
 use Rattle.spec_flows.specs.Taught.{taught}
 use Rattle.sim_flows.specs.FlowsHold.{FlowsState}
@@ -41,10 +41,10 @@ use Rattle.sim_flows.proofs.Options.{some_same}
 use Rattle.sim_flows.proofs.Staying.{core_stays}
 
 -- a slot that is free has no part
-pub has_none : {P : Type 0} (number : P → ℕ) (Follows : P → Story → Type 0) (table : Flows) (parts : List (Option P)) (next : ℕ) (all : List Flow) (rests : List Rest) →
-    Seats number Follows table parts next all rests
+pub has_none : {P : Type 0} (number : P → ℕ) (Follows : P → Story → Type 0) (table : Flows) (parts : List (Option P)) (next : ℕ) (all : List Flow) (time_waits : List TimeWait) →
+    Seats number Follows table parts next all time_waits
     → length parts ≡ length table.slots → (k : ℕ) → slice_get parts k ≡ Some None ⊎ (IsFree table.slots k → ⊥)
-has_none {P} number Follows table parts next all rests seats sizes k = by (slice_get parts k) refl
+has_none {P} number Follows table parts next all time_waits seats sizes k = by (slice_get parts k) refl
   where
     both : {X Y : Type 0} (xs : List X) (ys : List Y) (k : ℕ) (y : Y) → length xs ≡ length ys → slice_get ys k ≡ Some y → slice_get xs k ≡ None → ⊥
     both xs [] k y is at none = cc
@@ -59,12 +59,12 @@ has_none {P} number Follows table parts next all rests seats sizes k = by (slice
     by (Some None) is = inl is
     by (Some (Some p)) is =
         let seat = seats.seated k p is in
-        inr (λ free. subst (λ (s : Slot). IsSlotOf rests seat.0 s) (some_same seat.1 Free (sym seat.5 ∙ free)) seat.6)
+        inr (λ free. subst (λ (s : Slot). IsSlotOf time_waits seat.0 s) (some_same seat.1 Free (sym seat.5 ∙ free)) seat.6)
     by None is = inr (λ free. both parts table.slots k Free sizes free is)
 
 -- the state after a flow more, in a slot
 abbrev pub state_with : FlowsState Splice → (k : ℕ) → Tuple → Splice → FlowsState Splice
-state_with state k t q = record { table = flows (set state.table.slots k (InUse t)) state.table.rest_order; slots = set state.slots k (Some q); opened = suc state.opened }
+state_with state k t q = record { table = flows (set state.table.slots k (InUse t)) state.table.time_wait_order; slots = set state.slots k (Some q); opened = suc state.opened }
 
 module _ (config : Config) (state : FlowsState Splice) (past : List Entry) (now : ℕ) (to : Endpoint)
     (holds : CoreHolds config now false (Some (CallConnect (next_number past) to)) state past) (work : InWork config past) (lawful : Lawful config past) where
@@ -83,12 +83,12 @@ module _ (config : Config) (state : FlowsState Splice) (past : List Entry) (now 
         at_once = λ number f found must. absurd (core_stays config now false (Some (CallConnect (next_number past) to)) state past holds number f found must);
       })
 
-  module _ (moment_is : moment past ≡ now) (on : OnTuple) (came : (book config past).came ≡ Some on) (kept : AreKept state.table.slots state.table.rest_order)
+  module _ (moment_is : moment past ≡ now) (on : OnTuple) (came : (book config past).came ≡ Some on) (kept : AreKept state.table.slots state.table.time_wait_order)
       (sizes : length state.slots ≡ length state.table.slots)
       (none : NoneHas state.table.slots on.tuple) (k : ℕ) (taken : MayBeTaken state.table k) (q : Splice) (numbered : number_of q ≡ next_number past)
       (follows : Following config now q (At now (Connects (first_number now state.opened) on.segment) ∷ []))
       (learnt : (m : Mac) → q.mac ≡ Some m → Contains (taught config past) (on.tuple.guest.addr, m)) where
-    -- the book of the record then
+    -- the book of the trace then
     abbrev later : List Entry
     later = Connect (next_number past) to Done ∷ past
 
@@ -101,13 +101,13 @@ module _ (config : Config) (state : FlowsState Splice) (past : List Entry) (now 
         ∙ ap (λ m. opens config m (next_number past) on.tuple (Connects (first_number m (length (book config past).flows)) on.segment) (book config past)) moment_is
         ∙ ap (λ n. opens config now (next_number past) on.tuple (Connects (first_number now n) on.segment) (book config past)) holds.opened
 
-    seats_then : Seats number_of (Following config now) (flows (set state.table.slots k (InUse on.tuple)) state.table.rest_order) (set state.slots k (Some q))
-        (suc (next_number past)) opened.flows opened.rests
+    seats_then : Seats number_of (Following config now) (flows (set state.table.slots k (InUse on.tuple)) state.table.time_wait_order) (set state.slots k (Some q))
+        (suc (next_number past)) opened.flows opened.time_waits
     seats_then =
         seats_joined number_of (Following config now) state.table state.slots (next_number past) config (book config past) holds.seats kept sizes holds.slots (rests_rise config past).0
         k q now on.tuple (Connects (first_number now state.opened) on.segment) none
-        (none_rests number_of (Following config now) state.table state.slots (next_number past) (book config past).flows (book config past).rests holds.seats sizes on.tuple none)
-        taken (has_none number_of (Following config now) state.table state.slots (next_number past) (book config past).flows (book config past).rests holds.seats sizes k) numbered refl follows
+        (none_rests number_of (Following config now) state.table state.slots (next_number past) (book config past).flows (book config past).time_waits holds.seats sizes on.tuple none)
+        taken (has_none number_of (Following config now) state.table state.slots (next_number past) (book config past).flows (book config past).time_waits holds.seats sizes k) numbered refl follows
 
     one_more : (n : ℕ) → suc n ≡ n + 1
     one_more n = omega arith
@@ -160,9 +160,9 @@ module _ (config : Config) (state : FlowsState Splice) (past : List Entry) (now 
     pub core_joined : CoreHolds config now false None (state_with state k on.tuple q) later
     core_joined = record {
       seats = subst (λ n. Seats number_of (Following config now) (state_with state k on.tuple q).table (state_with state k on.tuple q).slots n (book config later).flows
-          (book config later).rests) (one_more (next_number past))
+          (book config later).time_waits) (one_more (next_number past))
           (subst (λ (b : Book). Seats number_of (Following config now) (state_with state k on.tuple q).table (state_with state k on.tuple q).slots
-          (suc (next_number past)) b.flows b.rests) (sym book_is) seats_then);
+          (suc (next_number past)) b.flows b.time_waits) (sym book_is) seats_then);
       slots = length-set state.table.slots k (InUse on.tuple) ∙ holds.slots;
       opened = ap (λ (b : Book). length b.flows) book_is ∙ ap suc holds.opened;
       asked = ap (λ b. due_for_flows config b (next_number later)) book_is;

@@ -1,10 +1,10 @@
-pub mod Seeking
+pub mod Resolving
 pub mod Vacated
 pub mod Freeing
 pub mod Holding
 pub mod Only
 pub mod Opening
-pub mod Resting
+pub mod InTimeWait
 pub mod Retiring
 pub mod Seats
 pub mod Tables

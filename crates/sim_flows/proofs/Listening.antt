@@ -1,4 +1,4 @@
--- In a lawful record a listener is for a port of the host that is given to a guest: each was opened for the next of the forwards of the settings.
+-- In a lawful trace a listener is for a port of the host that is given to a guest: each was opened for the next of the forwards of the settings.
 use Rattle.std.proofs.Common.{◌≡◌, ℕ, zero, suc, ◌+◌, ◌==◌, nat_lt, Bool, true, false, List, [], ◌∷◌, drop, slice_get, is_some, MatchOption, Option, Some, None, option_and_then}
 use Rattle.std.specs.Option.{option_or}
 use Rattle.std.proofs.Common.{option_map, inl, inr, if◌then◌else◌, refl, sym, ◌∙◌, ap, subst, arith}
@@ -15,7 +15,7 @@ use Rattle.spec_trace.specs.Moments.{waits}
 use Rattle.spec_trace.specs.Shape.{Phase, Opening, Started, Woken, Working, Over, clocked, due_in, opened, opening_of, phase, phase_after, phase_by, unless_over, GivesNone}
 use Rattle.spec_trace.specs.Sockets.{Kind, Association, Forward as OfForward, Listener, Flow, datagram_kind, first, kind_of, next_number, open_sockets}
 use Rattle.spec_flows.specs.Book.{book, port_by, port_of}
-use Rattle.spec_flows.specs.Lots.{connects_to, due_by, due_for_flows}
+use Rattle.spec_flows.specs.SegmentVerdicts.{connects_to, due_by, due_for_flows}
 use Rattle.spec_run.specs.Asking.{step}
 use Rattle.spec_run.specs.Names.{answered}
 use Rattle.rules_tftp.specs.Asking.{call_for}

@@ -1,4 +1,4 @@
--- What the table of slots tells of a tuple is what the record does: whether a flow on it is in use, or rests.
+-- What the table of slots tells of a tuple is what the trace does: whether a flow on it is in use, or in TIME-WAIT.
 use Rattle.std.proofs.Common.{◌≡◌, ℕ, zero, suc, ◌==◌, ◌||◌, Bool, true, false, cond, List, [], ◌∷◌, length, map, slice_get, Option, Some, None, option_map, option_and_then, refl, sym}
 use Rattle.std.proofs.Common.{◌∙◌, ap, subst, arith}
 use Rattle.std.proofs.lemmas.Bool.Decides.{nat_tests}
@@ -6,14 +6,14 @@ use Rattle.std.specs.Prelude.{filter_map, Contains}
 use Rattle.std.specs.List.{cons_option, list_any}
 use Rattle.flow_table.specs.Slots.{Flows, HasTuple, NoneHas, tuple_of}
 use Rattle.flow_table.specs.declared.Slot.{Slot}
-use Rattle.flow_table.specs.declared.Slot.TheVariants.{Free, InUse, Resting}
+use Rattle.flow_table.specs.declared.Slot.TheVariants.{Free, InUse, InTimeWait}
 use Rattle.spec_flows.specs.declared.Tuple.{Tuple}
 use Rattle.spec_flow.specs.Event.{Story}
 use Rattle.spec_flow.specs.Close.{is_in_use}
 use Rattle.spec_trace.specs.Sockets.{is_among}
-use Rattle.spec_flows.specs.Flows.{Flow, Rest, flow_of, is_on, is_used, owner, rests_among, uses}
+use Rattle.spec_flows.specs.Flows.{Flow, TimeWait, flow_of, is_on, is_used, owner, is_among_time_waits, uses}
 use Rattle.spec_flows.specs.Segments.{same_tuple}
-use Rattle.sim_flows.specs.Seats.{IsSlotOf, Seats, number_at, number_in, rests_at}
+use Rattle.sim_flows.specs.Seats.{IsSlotOf, Seats, number_at, number_in, time_waits_at}
 use Rattle.sim_flows.proofs.Only.{found_by}
 use Rattle.sim_flows.proofs.Opening.{tuples_same}
 use Rattle.sim_flows.proofs.Options.{none_some, some_same}
@@ -53,45 +53,45 @@ module _ (F : ℕ → Option ℕ) where
       by_option None gives is rest = rest is
       by_option (Some m) gives is rest = by_test m (n == m) refl gives is rest
 
--- a flow that rests has its number among those of the rests
-pub among_rests : (n : ℕ) (rests : List Rest) → list_any (λ (r : Rest). r.number == n) rests ≡ true → is_among n (map (λ (r : Rest). r.number) rests) ≡ true
+-- a flow that is in TIME-WAIT has its number among those of the TIME-WAITs
+pub among_rests : (n : ℕ) (time_waits : List TimeWait) → list_any (λ (r : TimeWait). r.number == n) time_waits ≡ true → is_among n (map (λ (r : TimeWait). r.number) time_waits) ≡ true
 among_rests n [] is = cc
-among_rests n (r ∷ rests) is = by (r.number == n) (turned r.number n) is (among_rests n rests) refl
+among_rests n (r ∷ time_waits) is = by (r.number == n) (turned r.number n) is (among_rests n time_waits) refl
   where
     turned : (a b : ℕ) → (b == a) ≡ (a == b)
     turned a b = grind (arith, nat_tests)
 
-    by : (b : Bool) → (n == r.number) ≡ (r.number == n) → (b || list_any (λ (x : Rest). x.number == n) rests) ≡ true → (list_any (λ (x : Rest). x.number == n) rests ≡ true →
-        is_among n (map (λ (x : Rest). x.number) rests) ≡ true)
-        → (b ≡ (r.number == n)) → ((n == r.number) || is_among n (map (λ (x : Rest). x.number) rests)) ≡ true
-    by true same is go_on b_is = ap (λ c. c || is_among n (map (λ (x : Rest). x.number) rests)) (same ∙ sym b_is)
-    by false same is go_on b_is = ap (λ c. c || is_among n (map (λ (x : Rest). x.number) rests)) (same ∙ sym b_is) ∙ go_on is
+    by : (b : Bool) → (n == r.number) ≡ (r.number == n) → (b || list_any (λ (x : TimeWait). x.number == n) time_waits) ≡ true → (list_any (λ (x : TimeWait). x.number == n) time_waits ≡ true →
+        is_among n (map (λ (x : TimeWait). x.number) time_waits) ≡ true)
+        → (b ≡ (r.number == n)) → ((n == r.number) || is_among n (map (λ (x : TimeWait). x.number) time_waits)) ≡ true
+    by true same is go_on b_is = ap (λ c. c || is_among n (map (λ (x : TimeWait). x.number) time_waits)) (same ∙ sym b_is)
+    by false same is go_on b_is = ap (λ c. c || is_among n (map (λ (x : TimeWait). x.number) time_waits)) (same ∙ sym b_is) ∙ go_on is
 
--- and one among the rests is found there
-pub rests_any : (r : Rest) (rests : List Rest) → Contains rests r → list_any (λ (x : Rest). x.number == r.number) rests ≡ true
+-- and one among the TIME-WAITs is found there
+pub rests_any : (r : TimeWait) (time_waits : List TimeWait) → Contains time_waits r → list_any (λ (x : TimeWait). x.number == r.number) time_waits ≡ true
 rests_any r [] (i, below, at) = absurd (omega (arith, below))
-rests_any r (x ∷ rests) (zero, below, at) = let one : x ≡ r = cc in ap (λ (y : Rest). (y.number == r.number) || list_any (λ (z : Rest). z.number == r.number) rests) one ∙ ap
-    (λ b. b || list_any (λ (z : Rest). z.number == r.number) rests) (is_number r.number)
-rests_any r (x ∷ rests) (suc i, below, at) = or_true (x.number == r.number) (list_any (λ (z : Rest). z.number == r.number) rests) (rests_any r rests (i, omega (arith, below), at))
+rests_any r (x ∷ time_waits) (zero, below, at) = let one : x ≡ r = cc in ap (λ (y : TimeWait). (y.number == r.number) || list_any (λ (z : TimeWait). z.number == r.number) time_waits) one ∙ ap
+    (λ b. b || list_any (λ (z : TimeWait). z.number == r.number) time_waits) (is_number r.number)
+rests_any r (x ∷ time_waits) (suc i, below, at) = or_true (x.number == r.number) (list_any (λ (z : TimeWait). z.number == r.number) time_waits) (rests_any r time_waits (i, omega (arith, below), at))
   where
     or_true : (a b : Bool) → b ≡ true → (a || b) ≡ true
     or_true true b is = refl
     or_true false b is = is
 
-module _ {P : Type 0} (number : P → ℕ) (Follows : P → Story → Type 0) (table : Flows) (parts : List (Option P)) (next : ℕ) (flows : List Flow) (rests : List Rest)
-    (seats : Seats number Follows table parts next flows rests) (sizes : length parts ≡ length table.slots) where
+module _ {P : Type 0} (number : P → ℕ) (Follows : P → Story → Type 0) (table : Flows) (parts : List (Option P)) (next : ℕ) (flows : List Flow) (time_waits : List TimeWait)
+    (seats : Seats number Follows table parts next flows time_waits) (sizes : length parts ≡ length table.slots) where
   -- the slot of a number has the flow's tuple
   pub slot_of : (k n : ℕ) (f : Flow) → number_at number parts k ≡ Some n → flow_of n flows ≡ Some f → HasTuple table.slots k f.tuple
   slot_of k n f at found =
       let part = part_of number (slice_get parts k) n at in
       let seat = seats.seated k part.0 part.1 in
       let one : seat.0 ≡ f = some_same seat.0 f (sym seat.2 ∙ ap (λ m. flow_of m flows) part.2 ∙ found) in
-      ap (option_and_then tuple_of) seat.5 ∙ by seat.1 (subst (λ (x : Flow). IsSlotOf rests x seat.1) one seat.6)
+      ap (option_and_then tuple_of) seat.5 ∙ by seat.1 (subst (λ (x : Flow). IsSlotOf time_waits x seat.1) one seat.6)
     where
-      by : (s : Slot) → IsSlotOf rests f s → tuple_of s ≡ Some f.tuple
+      by : (s : Slot) → IsSlotOf time_waits f s → tuple_of s ≡ Some f.tuple
       by Free of_it = absurd of_it
       by (InUse t) of_it = ap Some (sym of_it.0)
-      by (Resting t since) of_it = ap Some (sym of_it.0)
+      by (InTimeWait t since) of_it = ap Some (sym of_it.0)
 
   -- the owner of a tuple, by its number
   owner_found : (t : Tuple) (f : Flow) → owner t flows ≡ Some f → flow_of f.number flows ≡ Some f
@@ -106,26 +106,26 @@ module _ {P : Type 0} (number : P → ℕ) (Follows : P → Story → Type 0) (t
         let had = seats.found f.number (ap uses found ∙ u) in
         absurd (none had.0 (slot_of had.0 f.number f had.1 found ∙ ap Some (owner_has t flows f is)))
 
-    awake : (o : Option Flow) → owner t flows ≡ o → (b : Bool) → rests_among rests o ≡ b → b ≡ false
+    awake : (o : Option Flow) → owner t flows ≡ o → (b : Bool) → is_among_time_waits time_waits o ≡ b → b ≡ false
     awake o is false r = refl
     awake None is true r = cc
     awake (Some f) is true r =
-        let among = ap (is_among f.number) (sym seats.order) ∙ among_rests f.number rests r in
-        let had = given (λ k. rests_at (slice_get table.slots k) (number_at number parts k)) f.number table.rest_order among in
+        let among = ap (is_among f.number) (sym seats.order) ∙ among_rests f.number time_waits r in
+        let had = given (λ k. time_waits_at (slice_get table.slots k) (number_at number parts k)) f.number table.time_wait_order among in
         absurd (none had.0 (slot_of had.0 f.number f (by (slice_get table.slots had.0) had.1) (owner_found t f is) ∙ ap Some (owner_has t flows f is)))
       where
-        by : {o : Option ℕ} (s : Option Slot) → rests_at s o ≡ Some f.number → o ≡ Some f.number
+        by : {o : Option ℕ} (s : Option Slot) → time_waits_at s o ≡ Some f.number → o ≡ Some f.number
         by None gives = absurd (none_some gives)
         by (Some Free) gives = absurd (none_some gives)
         by (Some (InUse u)) gives = absurd (none_some gives)
-        by (Some (Resting u since)) gives = gives
+        by (Some (InTimeWait u since)) gives = gives
 
-    -- where no slot has the tuple, no flow on it is in use or rests
+    -- where no slot has the tuple, no flow on it is in use or in TIME-WAIT
     pub none_used : is_used t flows ≡ false
     none_used = unused (owner t flows) refl (uses (owner t flows)) refl
 
-    pub none_rests : rests_among rests (owner t flows) ≡ false
-    none_rests = awake (owner t flows) refl (rests_among rests (owner t flows)) refl
+    pub none_rests : is_among_time_waits time_waits (owner t flows) ≡ false
+    none_rests = awake (owner t flows) refl (is_among_time_waits time_waits (owner t flows)) refl
 
   -- the part in a slot that has a tuple
   part_in : (k : ℕ) (s : Slot) → slice_get table.slots k ≡ Some s → (s ≡ Free → ⊥) → (p : P) × (slice_get parts k ≡ Some (Some p))
@@ -161,16 +161,16 @@ module _ {P : Type 0} (number : P → ℕ) (Follows : P → Story → Type 0) (t
   slot_used k t at =
       let part = part_in k (InUse t) at (λ is. cc) in
       let seat = seats.seated k part.0 part.1 in
-      let of_it = subst (λ (s : Slot). IsSlotOf rests seat.0 s) (some_same seat.1 (InUse t) (sym seat.5 ∙ at)) seat.6 in
+      let of_it = subst (λ (s : Slot). IsSlotOf time_waits seat.0 s) (some_same seat.1 (InUse t) (sym seat.5 ∙ at)) seat.6 in
       (part.0, seat.0, part.1, seat.2, ap (λ u. owner u flows) (sym of_it.0) ∙ owner_at k part.0 seat.0 part.1 seat.2, of_it.1)
 
-  -- a slot at rest: so is the flow on its tuple
-  pub slot_rests : (k : ℕ) (t : Tuple) (since : ℕ) → slice_get table.slots k ≡ Some (Resting t since)
+  -- a slot in TIME-WAIT: so is the flow on its tuple
+  pub slot_rests : (k : ℕ) (t : Tuple) (since : ℕ) → slice_get table.slots k ≡ Some (InTimeWait t since)
       → (p : P) × (f : Flow) × (slice_get parts k ≡ Some (Some p)) × (flow_of (number p) flows ≡ Some f) × (owner t flows ≡ Some f) × (is_in_use f.story ≡ false) ×
-      (rests_among rests (owner t flows) ≡ true)
+      (is_among_time_waits time_waits (owner t flows) ≡ true)
   slot_rests k t since at =
-      let part = part_in k (Resting t since) at (λ is. cc) in
+      let part = part_in k (InTimeWait t since) at (λ is. cc) in
       let seat = seats.seated k part.0 part.1 in
-      let of_it = subst (λ (s : Slot). IsSlotOf rests seat.0 s) (some_same seat.1 (Resting t since) (sym seat.5 ∙ at)) seat.6 in
+      let of_it = subst (λ (s : Slot). IsSlotOf time_waits seat.0 s) (some_same seat.1 (InTimeWait t since) (sym seat.5 ∙ at)) seat.6 in
       let own : owner t flows ≡ Some seat.0 = ap (λ u. owner u flows) (sym of_it.0) ∙ owner_at k part.0 seat.0 part.1 seat.2 in
-      (part.0, seat.0, part.1, seat.2, own, of_it.2, ap (rests_among rests) own ∙ rests_any (record { number = seat.0.number; since = since }) rests of_it.1)
+      (part.0, seat.0, part.1, seat.2, own, of_it.2, ap (is_among_time_waits time_waits) own ∙ rests_any (record { number = seat.0.number; since = since }) time_waits of_it.1)

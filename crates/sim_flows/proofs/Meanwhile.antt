@@ -8,8 +8,8 @@ use Rattle.spec_flow.specs.Event.{EndFails, AsksAddress, Closes, At, Story}
 use Rattle.spec_flow.specs.Close.{must_part, waits_too_long, follows_reset, gives_up, host_failed, is_done, owes_reset}
 use Rattle.spec_flow.specs.Flow.{first_number, is_accepted, is_closed, syn_is_out}
 use Rattle.spec_flows.specs.Book.{doom, is_refused, joins_for, opens, port_of, tuple_for, turned, visits_for}
-use Rattle.spec_flows.specs.Doings.{Doing, Nothing, Comes, Goes, Seeks, Pauses, Joins, Visits, Calls, Shuts}
-use Rattle.spec_flows.specs.Flows.{Flow, Book, Scene, comes_directly, comes_last, flow_of, guest_is_known, is_numbered, is_on, is_strange, owner, seeks_for, sends, shuts, tell, uses, with_event}
+use Rattle.spec_flows.specs.Doings.{Doing, Nothing, Comes, Goes, Resolves, Pauses, Joins, Visits, Calls, Shuts}
+use Rattle.spec_flows.specs.Flows.{Flow, Book, Scene, comes_directly, comes_last, flow_of, guest_is_known, is_numbered, is_on, is_strange, owner, resolves_for, sends, shuts, tell, uses, with_event}
 use Rattle.spec_flows.specs.Segments.{OnTuple, same_tuple}
 
 -- ---- flows that owe nothing
@@ -132,15 +132,15 @@ one_more tuple f flows quiet is = by (is_on tuple f)
     by true = quiet
     by false = is
 
-seeks_tuple : (now guest : ℕ) (f : Flow) → (seeks_for now guest f).tuple ≡ f.tuple
-seeks_tuple now guest f = by (is_accepted f.story && (address f.tuple.guest == guest))
+resolves_tuple : (now guest : ℕ) (f : Flow) → (resolves_for now guest f).tuple ≡ f.tuple
+resolves_tuple now guest f = by (is_accepted f.story && (address f.tuple.guest == guest))
   where
     by : (b : Bool) → (if b then with_event now AsksAddress f else f).tuple ≡ f.tuple
     by true = refl
     by false = refl
 
-seeks_quiet : (now guest : ℕ) (f : Flow) → is_quiet f.story ≡ true → is_quiet (seeks_for now guest f).story ≡ true
-seeks_quiet now guest f is = by (is_accepted f.story && (address f.tuple.guest == guest))
+resolves_quiet : (now guest : ℕ) (f : Flow) → is_quiet f.story ≡ true → is_quiet (resolves_for now guest f).story ≡ true
+resolves_quiet now guest f is = by (is_accepted f.story && (address f.tuple.guest == guest))
   where
     by : (b : Bool) → is_quiet (if b then with_event now AsksAddress f else f).story ≡ true
     by true = is
@@ -190,7 +190,7 @@ module _ (config : Config) (sc : Scene) (b : Book) (tuple : Tuple) (free : is_fr
   meanwhile (Comes on) is = told_free tuple (is_on on.tuple) (with_event sc.moment (Arrives on.segment)) (λ f. refl) b.flows (λ f found quiet. quiet) free
   meanwhile (Goes on) is = subst (λ flows. is_free (owner tuple flows) ≡ true)
       (sym (told_same (is_on on.tuple) (sends sc.moment on.segment) b.flows (λ f found. strange_sends sc.moment on.segment f (is f found)))) free
-  meanwhile (Seeks guest) is = mapped_free tuple (seeks_for sc.moment guest) (seeks_tuple sc.moment guest) (seeks_quiet sc.moment guest) b.flows free
+  meanwhile (Resolves guest) is = mapped_free tuple (resolves_for sc.moment guest) (resolves_tuple sc.moment guest) (resolves_quiet sc.moment guest) b.flows free
   meanwhile Pauses is = free
   meanwhile (Joins socket) is = joins_free socket b.came is
   meanwhile (Visits listener socket peer) is = visits_free socket peer (port_of config listener)

@@ -20,8 +20,8 @@ use Rattle.spec_flow.specs.Host.{Confirmed, answered, is_acceptable}
 use Rattle.spec_flow.specs.Flow.{confirms, host, is_closed, next_number, our_number, push, syn_is_out}
 use Rattle.spec_flow.specs.Segments.{segment_of}
 use Rattle.spec_flows.specs.Flows.{Flow, with_event}
-use Rattle.spec_flows.specs.Lots.{is_mistaken}
-use Rattle.sim_connection.specs.Holding.{Holds, is_connects, is_live}
+use Rattle.spec_flows.specs.SegmentVerdicts.{is_mistaken}
+use Rattle.sim_connection.specs.Holding.{Holds, is_at_connecting, is_live}
 use Rattle.sim_connection.proofs.Arriving.{Means, is_greeted, is_heard, is_opened, means, resets, rests, turns_away as resets_ours, waits}
 use Rattle.sim_connection.proofs.Greeting.{waits_on}
 use Rattle.sim_connection.proofs.Unheeded.{answered_same}
@@ -29,7 +29,7 @@ use Rattle.flow_splice.specs.Follows.{Follows, FollowsAt}
 use Rattle.flow_splice.specs.Guests.{is_unfit, turns_away}
 use Rattle.flow_splice.specs.Splice.{Splice, is_in_use}
 use Rattle.flow_splice.specs.declared.Place.{Place}
-use Rattle.flow_splice.specs.declared.Place.TheVariants.{Empty, InUse, Resting}
+use Rattle.flow_splice.specs.declared.Place.TheVariants.{Empty, InUse, InTimeWait}
 
 -- ---- by the connection
 
@@ -107,7 +107,7 @@ module _ (c : Connection) (up : Upward) (down : Downward) (tcp : Tcp) (now : ℕ
       by true false same false rst ours = synchronized_fits
 
   -- an open connection turns a segment away exactly where our SYN is out and wasn't answered, and the segment acknowledges another number
-  unfit_is : is_live c.stage ≡ true → (is_connects c.stage ≡ true → has_gone c.sendings ≡ false) → is_unfit (change_at c up down tcp now) ≡ is_other
+  unfit_is : is_live c.stage ≡ true → (is_at_connecting c.stage ≡ true → has_gone c.sendings ≡ false) → is_unfit (change_at c up down tcp now) ≡ is_other
       (has_gone c.sendings && not (is_synchronized c.stage))
   unfit_is = by c.stage
     where
@@ -119,14 +119,14 @@ module _ (c : Connection) (up : Upward) (down : Downward) (tcp : Tcp) (now : ℕ
       not_yet true = refl
       not_yet false = refl
 
-      by : (st : Stage) → is_live st ≡ true → (is_connects st ≡ true → has_gone c.sendings ≡ false) → unfit (verdict_by st c up tcp) ≡ is_other (has_gone c.sendings && not (is_synchronized st))
-      by stage.Connects live unsent = early_fits ∙ not_out (has_gone c.sendings) (unsent refl)
-      by stage.Calls live unsent = calling_is
-      by stage.Answers live unsent = answering_is
+      by : (st : Stage) → is_live st ≡ true → (is_at_connecting st ≡ true → has_gone c.sendings ≡ false) → unfit (verdict_by st c up tcp) ≡ is_other (has_gone c.sendings && not (is_synchronized st))
+      by stage.Connecting live unsent = early_fits ∙ not_out (has_gone c.sendings) (unsent refl)
+      by stage.SynSent live unsent = calling_is
+      by stage.SynReceived live unsent = answering_is
       by stage.Synchronized live unsent = synchronized_fits ∙ not_yet (has_gone c.sendings)
-      by stage.Rests live unsent = absurd cc
+      by stage.TimeWait live unsent = absurd cc
       by (stage.Resets seq ack) live unsent = absurd cc
-      by stage.Gone live unsent = absurd cc
+      by stage.Closed live unsent = absurd cc
 
 -- ---- by the story
 
@@ -221,4 +221,4 @@ mistaken_is s p f tcp before now on ack_fits follows = by p.place p.shut follows
     by InUse false open_yet =
         let h = open_yet.holds in
         open_mistaken s p.conn p.up p.down f before now tcp on ack_fits h ∙ sym (unfit_is p.conn p.up p.down tcp now h.opened.live h.opened.unsent)
-    by (Resting since) b resting = closed_none resting.rests.over.closed
+    by (InTimeWait since) b in_time_wait = closed_none in_time_wait.time_waits.over.closed

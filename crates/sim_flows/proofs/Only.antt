@@ -9,7 +9,7 @@ use Rattle.spec_flow.specs.Event.{Segment, Arrives, Departs}
 use Rattle.spec_flow.specs.Close.{is_in_use, owes_reset, is_owed_reset}
 use Rattle.spec_flows.specs.Book.{turned, scene, book}
 use Rattle.spec_flows.specs.Flows.{Flow, Book, Scene, is_on, is_numbered, owner, flow_of, uses, used, tell, with_event, sends, shuts}
-use Rattle.spec_flows.specs.Doings.{Doing, Nothing, Comes, Goes, Seeks, Pauses, Joins, Visits, Calls, Shuts, doing}
+use Rattle.spec_flows.specs.Doings.{Doing, Nothing, Comes, Goes, Resolves, Pauses, Joins, Visits, Calls, Shuts, doing}
 use Rattle.spec_flows.specs.Touching.{has_number}
 use Rattle.spec_flows.proofs.Apart.{tell_apart, sends_number, found_told, own_told}
 use Rattle.sim_flows.specs.Only.{IsOf, AreOf, ids, one_if, Only}
@@ -194,7 +194,7 @@ module _ (config : Config) (scene : Scene) (number : ℕ) (book : Book) (differ 
   only_happens (Shuts socket) is =
       subst (λ n. Only number book.flows (tell (is_numbered n) (shuts scene book.came) book.flows)) (sym is) (on_socket (shuts scene book.came) (λ f. refl) (λ f. refl)
       (flow_of number book.flows) refl)
-  only_happens (Seeks guest) is = absurd is
+  only_happens (Resolves guest) is = absurd is
   only_happens Pauses is = absurd is
   only_happens (Joins socket) is = absurd is
   only_happens (Visits listener socket peer) is = absurd is

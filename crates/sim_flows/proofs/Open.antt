@@ -1,4 +1,4 @@
--- In a lawful record each open socket of a connection has a flow that isn't closed, unless its peer was refused; and the core has a slot for it.
+-- In a lawful trace each open socket of a connection has a flow that isn't closed, unless its peer was refused; and the core has a slot for it.
 use Rattle.std.proofs.Common.{◌≡◌, ℕ, ◌<◌, ◌==◌, ◌&&◌, ◌||◌, not, nat_lt, Bool, true, false, cond, List, [], ◌∷◌, length, map, is_some, slice_get, MatchOption, Option, Some, None}
 use Rattle.std.proofs.Common.{option_map, option_and_then, if◌then◌else◌, ◌⊎◌, inl, inr, refl, sym, ◌∙◌, ap, subst, arith}
 use Rattle.std.proofs.lemmas.Bool.Decides.{nat_tests}
@@ -18,12 +18,12 @@ use Rattle.spec_flow.specs.Event.{Event, Connects, Accepts, Arrives, Story}
 use Rattle.spec_flow.specs.Flow.{first_number, is_closed}
 use Rattle.spec_flow.specs.Settings.{Settings}
 use Rattle.spec_flows.specs.Book.{book, doom, is_refused, joins_for, opens, port_of, scene, tuple_for, turned, visits_for}
-use Rattle.spec_flows.specs.Doings.{Doing, Nothing, Comes, Goes, Seeks, Pauses, Joins, Visits, Calls, Shuts, doing}
-use Rattle.spec_flows.specs.Flows.{Flow, Book, Scene, flow_of, is_numbered, is_on, seeks_for, sends, shuts, tell, uses, with_event}
+use Rattle.spec_flows.specs.Doings.{Doing, Nothing, Comes, Goes, Resolves, Pauses, Joins, Visits, Calls, Shuts, doing}
+use Rattle.spec_flows.specs.Flows.{Flow, Book, Scene, flow_of, is_numbered, is_on, resolves_for, sends, shuts, tell, uses, with_event}
 use Rattle.spec_flows.specs.Laws.{flow_settings}
-use Rattle.spec_flows.specs.Lots.{asked_for, connects_to, due_by, lot}
+use Rattle.spec_flows.specs.SegmentVerdicts.{asked_for, connects_to, due_by, segment_verdict}
 use Rattle.spec_flows.specs.Segments.{OnTuple}
-use Rattle.spec_flows.proofs.Apart.{map_found, seeks_number, sends_number}
+use Rattle.spec_flows.proofs.Apart.{map_found, resolves_number, sends_number}
 use Rattle.sim_flows.specs.FlowsHold.{FlowsState}
 use Rattle.spec_run.specs.Laws.{Lawful, May, carries, joins}
 use Rattle.spec_run.proofs.Bools.{among_last, among_without, and_both, and_false, equal, first_of, or_false, same, second_of, turned as turned_about}
@@ -31,7 +31,7 @@ use Rattle.spec_run.proofs.OpenSockets.{joins_open, open_below, peer_next, peers
 use Rattle.flow_splice.specs.Follows.{Follows, FollowsAt}
 use Rattle.flow_splice.specs.Splice.{Splice, is_in_use, is_open}
 use Rattle.flow_splice.specs.declared.Place.{Place}
-use Rattle.flow_splice.specs.declared.Place.TheVariants.{Empty, InUse, Resting}
+use Rattle.flow_splice.specs.declared.Place.TheVariants.{Empty, InUse, InTimeWait}
 use Rattle.flow_splice.proofs.Opened.{open_is}
 use Rattle.sim_flows.specs.Core.{CoreHolds, number_of}
 use Rattle.sim_flows.proofs.Ending.{closed_has_none}
@@ -105,7 +105,7 @@ module _ (n : ℕ) (config : Config) (sc : Scene) (b : Book) (has : Has n b.flow
   flow_stays Nothing = has
   flow_stays (Comes on) = told_has n (with_event sc.moment (Arrives on.segment)) (λ f. refl) (is_on on.tuple) b.flows has
   flow_stays (Goes on) = told_has n (sends sc.moment on.segment) (sends_number sc.moment on.segment) (is_on on.tuple) b.flows has
-  flow_stays (Seeks guest) = mapped_has n (seeks_for sc.moment guest) (seeks_number sc.moment guest) b.flows has
+  flow_stays (Resolves guest) = mapped_has n (resolves_for sc.moment guest) (resolves_number sc.moment guest) b.flows has
   flow_stays Pauses = has
   flow_stays (Joins socket) = with_joined socket b.came
   flow_stays (Visits listener socket peer) = with_visit socket peer (port_of config listener)
@@ -120,7 +120,7 @@ IsMet config n b = Has n b.flows ⊎ ((b.doomed ≡ Some n) × (GivesNone config
 
 module _ (config : Config) (now socket : ℕ) (b : Book) where
   -- where a socket connects a guest's segment asked for that
-  opened_for : (doomed : Option ℕ) (came : Option OnTuple) (number : ℕ) (to : Endpoint) → due_by doomed (option_and_then (λ on. asked_for (lot config b on)) came) number ≡ Some (CallConnect socket to)
+  opened_for : (doomed : Option ℕ) (came : Option OnTuple) (number : ℕ) (to : Endpoint) → due_by doomed (option_and_then (λ on. asked_for (segment_verdict config b on)) came) number ≡ Some (CallConnect socket to)
       → Has socket (joins_for config now socket came b).flows
   opened_for (Some other) came number to is = cc
   opened_for None None number to is = absurd (none_some is)
@@ -168,7 +168,7 @@ not_true : (b : Bool) → not b ≡ true → b ≡ false
 not_true true is = absurd (true_false (sym is))
 not_true false is = refl
 
--- ---- the record
+-- ---- the trace
 
 -- where a call failed on a socket, or its peer was refused, its close is the next call
 close_comes : (config : Config) (past : List Entry) (n : ℕ) (call : Call) → May config past call → (book config past).doomed ≡ Some n → call ≡ CallClose n
@@ -290,7 +290,7 @@ open_place s p story now follows open_yet = by p.place p.shut follows
     by Empty shut h = absurd (true_false (sym h.over.closed ∙ open_yet))
     by InUse false h = refl
     by InUse true h = absurd (true_false (sym h.over.closed ∙ open_yet))
-    by (Resting since) shut h = absurd (true_false (sym h.rests.over.closed ∙ open_yet))
+    by (InTimeWait since) shut h = absurd (true_false (sym h.time_waits.over.closed ∙ open_yet))
 
 -- a flow that isn't closed has its slot, and is open there
 pub open_seat : (config : Config) (now : ℕ) (aged : Bool) (task : Option Call) (state : FlowsState Splice) (past : List Entry) (n : ℕ) (f : Flow) → CoreHolds config now aged task state past

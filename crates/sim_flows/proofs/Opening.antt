@@ -6,14 +6,14 @@ use Rattle.std.specs.Prelude.{filter_map}
 use Rattle.net_octets.specs.declared.Endpoint.{Endpoint}
 use Rattle.flow_table.specs.Slots.{Flows, flows}
 use Rattle.flow_table.specs.declared.Slot.{Slot}
-use Rattle.flow_table.specs.declared.Slot.TheVariants.{Free, InUse, Resting}
+use Rattle.flow_table.specs.declared.Slot.TheVariants.{Free, InUse, InTimeWait}
 use Rattle.spec_flows.specs.declared.Tuple.{Tuple}
 use Rattle.spec_flow.specs.Event.{Story}
 use Rattle.spec_flow.specs.Close.{is_in_use}
 use Rattle.slirp_settings.specs.Classes.{same_endpoint}
 use Rattle.spec_flows.specs.Segments.{same_tuple}
-use Rattle.spec_flows.specs.Flows.{Flow, Rest, owner, flow_of, uses}
-use Rattle.sim_flows.specs.Seats.{number_in, number_at, rests_at, count_used, in_use_slots, Seats}
+use Rattle.spec_flows.specs.Flows.{Flow, TimeWait, owner, flow_of, uses}
+use Rattle.sim_flows.specs.Seats.{number_in, number_at, time_waits_at, count_used, in_use_slots, Seats}
 use Rattle.sim_flows.proofs.Seats.{same_or_not, differ}
 use Rattle.sim_flows.proofs.Tables.{get_set_same, get_set_at, get_set_other}
 
@@ -54,7 +54,7 @@ used_put (s ∷ slots) (suc k) t at = ap (count_used s) (used_put slots k t at) 
     counts : (s : Slot) (n : ℕ) → count_used s (suc n) ≡ suc (count_used s n)
     counts Free n = refl
     counts (InUse t) n = refl
-    counts (Resting t since) n = refl
+    counts (InTimeWait t since) n = refl
 
 pub same_is : (t : Tuple) → same_tuple t t ≡ true
 same_is t = λ i. both_true (both_true (number_is t.guest.addr.0 i) (number_is t.guest.port i)) (both_true (number_is t.other.addr.0 i) (number_is t.other.port i))
@@ -77,12 +77,12 @@ none_some is = cc
 pub some_same : {X : Type 0} (x y : X) → Some x ≡ Some y → x ≡ y
 some_same x y is = cc
 
-module _ {P : Type 0} (number : P → ℕ) (Follows : P → Story → Type 0) (table : Flows) (parts : List (Option P)) (next : ℕ) (old : List Flow) (rests : List Rest) where
+module _ {P : Type 0} (number : P → ℕ) (Follows : P → Story → Type 0) (table : Flows) (parts : List (Option P)) (next : ℕ) (old : List Flow) (time_waits : List TimeWait) where
   -- The slot at k is free, and no slot has the tuple.
   pub seats_opened : (k : ℕ) (q : P) (f : Flow) → slice_get table.slots k ≡ Some Free → slice_get parts k ≡ Some None → f.number ≡ next → number q ≡ next → is_in_use f.story ≡ true → Follows q f.story
       → ((j n : ℕ) → number_at number parts j ≡ Some n → option_map (λ (g : Flow). g.tuple) (flow_of n old) ≡ Some f.tuple → ⊥)
-      → Seats number Follows table parts next old rests
-      → Seats number Follows (flows (set table.slots k (InUse f.tuple)) table.rest_order) (set parts k (Some q)) (suc next) (f ∷ old) rests
+      → Seats number Follows table parts next old time_waits
+      → Seats number Follows (flows (set table.slots k (InUse f.tuple)) table.time_wait_order) (set parts k (Some q)) (suc next) (f ∷ old) time_waits
   seats_opened k q f free none f_next q_next in_use follows nobody seats =
       let here_is : (f.number == next) ≡ true = ap (λ n. n == next) f_next ∙ number_is next in
       let others : (n : ℕ) → (n == next) ≡ false → flow_of n (f ∷ old) ≡ flow_of n old =
@@ -150,7 +150,7 @@ module _ {P : Type 0} (number : P → ℕ) (Follows : P → Story → Type 0) (t
               let had = seats.found n (sym (ap uses (others n other)) ∙ used_is) in
               (had.0, kept had.0 (elsewhere had.0 n had.1) ∙ had.1)
         ];
-        order = seats.order ∙ (λ i. filter_map (λ j. sym (as_before j) i) table.rest_order);
+        order = seats.order ∙ (λ i. filter_map (λ j. sym (as_before j) i) table.time_wait_order);
         counted = ap (λ b. length (cond b (f ∷ filter (λ (g : Flow). is_in_use g.story) old) (filter (λ (g : Flow). is_in_use g.story) old))) in_use ∙ ap suc seats.counted ∙ sym
             (used_put table.slots k f.tuple free);
         differ = (seats.fresh f.number (subst (λ n. next ≤ n) (sym f_next) (omega arith)), seats.differ);
@@ -182,12 +182,12 @@ module _ {P : Type 0} (number : P → ℕ) (Follows : P → Story → Type 0) (t
       by_test {t} {u} true is not = absurd (not (tuples_same t u is))
       by_test false is not = is
 
-      as_before : (j : ℕ) → rests_at (slice_get (set table.slots k (InUse f.tuple)) j) (number_at number (set parts k (Some q)) j) ≡ rests_at (slice_get table.slots j) (number_at number parts j)
+      as_before : (j : ℕ) → time_waits_at (slice_get (set table.slots k (InUse f.tuple)) j) (number_at number (set parts k (Some q)) j) ≡ time_waits_at (slice_get table.slots j) (number_at number parts j)
       as_before j = elim (same_or_not j k) [
         | inl same ↦
-            ap (λ s. rests_at s (number_at number (set parts k (Some q)) j)) (ap (λ i. slice_get (set table.slots k (InUse f.tuple)) i) same ∙ get_set_at table.slots k Free (InUse f.tuple) free)
-            ∙ sym (ap (λ s. rests_at s (number_at number parts j)) (ap (slice_get table.slots) same ∙ free))
+            ap (λ s. time_waits_at s (number_at number (set parts k (Some q)) j)) (ap (λ i. slice_get (set table.slots k (InUse f.tuple)) i) same ∙ get_set_at table.slots k Free (InUse f.tuple) free)
+            ∙ sym (ap (λ s. time_waits_at s (number_at number parts j)) (ap (slice_get table.slots) same ∙ free))
         | inr other ↦
-            ap (λ s. rests_at s (number_at number (set parts k (Some q)) j)) (get_set_other table.slots k j (InUse f.tuple) (differ j k other))
-            ∙ ap (λ n. rests_at (slice_get table.slots j) n) (ap (number_in number) (get_set_other parts k j (Some q) (differ j k other)))
+            ap (λ s. time_waits_at s (number_at number (set parts k (Some q)) j)) (get_set_other table.slots k j (InUse f.tuple) (differ j k other))
+            ∙ ap (λ n. time_waits_at (slice_get table.slots j) n) (ap (number_in number) (get_set_other parts k j (Some q) (differ j k other)))
       ]

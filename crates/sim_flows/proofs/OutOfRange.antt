@@ -5,7 +5,7 @@ use Rattle.world_face.specs.declared.Io.TheVariants.{Done}
 use Rattle.world_face.specs.declared.Joined.TheVariants.{Failed as JoinFailed}
 use Rattle.world_face.specs.declared.Waited.TheVariants.{Ready}
 use Rattle.world_face.specs.Journal.{Entry, Now, Wait, LinkRead, Connected, Close}
-use Rattle.world_face.specs.Frames.{spelling, missing, is_too_long, spelt_length}
+use Rattle.world_face.specs.Frames.{encoding, missing, is_too_long, encoded_length}
 use Rattle.tlv_table.specs.Reading.{read_on}
 use Rattle.slirp_settings.specs.Settings.{usual}
 use Rattle.spec_flows.specs.Book.{book}
@@ -31,7 +31,7 @@ astray =
     ∷ []
 
 astray_lawful : Lawful usual (run astray)
-unfolding missing spelling is_too_long spelt_length read_on
+unfolding missing encoding is_too_long encoded_length read_on
 astray_lawful = is_sound usual (run astray) refl
 
 -- what is left: the reset that the flow owes
@@ -39,7 +39,7 @@ abbrev its_reset : List ℕ
 its_reset = hex "52540012345652550a000202080045000028000000004006acbac00002070a00020f00500fa000000000000003e950140000cde10000"
 
 reset_left : left usual (run astray) ≡ its_reset ∷ []
-unfolding missing spelling is_too_long spelt_length read_on
+unfolding missing encoding is_too_long encoded_length read_on
 reset_left = refl
 
 -- whether it is strange to the flow of its tuple
@@ -48,5 +48,5 @@ strange_to on None = None
 strange_to on (Some f) = Some (is_strange on.segment f)
 
 not_strange : option_and_then (λ on. strange_to on (owner on.tuple (book usual (run astray)).flows)) (segment_in its_reset) ≡ Some false
-unfolding missing spelling is_too_long spelt_length read_on
+unfolding missing encoding is_too_long encoded_length read_on
 not_strange = refl

@@ -1,4 +1,4 @@
--- A flow gives way to a SYN: its close is the call that flows ask for, and the core's slots stand for the flows of the record then.
+-- A flow gives way to a SYN: its close is the call that flows ask for, and the core's slots stand for the flows of the trace then.
 use Rattle.std.proofs.Common.{◌≡◌, ℕ, ◌+◌, ◌&&◌, ◌||◌, not, nat_le, Bool, true, false, List, [], ◌∷◌, ◌++◌, slice_get, Option, Some, None, is_some, option_map, if◌then◌else◌, inr, refl, sym, ◌∙◌, ap, subst}
 use Rattle.std.specs.Prelude.{Contains}
 use Rattle.net_octets.specs.declared.Mac.{Mac}
@@ -46,7 +46,7 @@ gives_open now story is = by (is_closed story) (not (host_was_ended story && our
 module _ (config : Config) (state : FlowsState Splice) (past : List Entry) (now : ℕ) (k : ℕ) (p q : Splice)
     (holds : CoreHolds config now false (Some (CallClose (number_of p))) state past) (moment_is : moment past ≡ now) (lawful : Lawful config past) (work : InWork config past)
     (t : Tuple) (f : Flow) (at : slice_get state.slots k ≡ Some (Some p)) (slot : slice_get state.table.slots k ≡ Some (slot_at p.place t)) (face : q.face ≡ p.face)
-    (was : flow_of (number_of p) (book config past).flows ≡ Some f) (ends : f.tuple ≡ ends_of p.face) (once : Once state.table.rest_order)
+    (was : flow_of (number_of p) (book config past).flows ≡ Some f) (ends : f.tuple ≡ ends_of p.face) (once : Once state.table.time_wait_order)
     (learnt : (m : Mac) → q.mac ≡ Some m → Contains (taught config past) (f.tuple.guest.addr, m)) (doomed : (book config past).doomed ≡ Some (number_of p))
     (gives : may_give_way now f.story ≡ true) where
   abbrev pub directly : Bool
@@ -108,9 +108,9 @@ module _ (config : Config) (state : FlowsState Splice) (past : List Entry) (now 
     at = moment_is;
     asks = then_has.due;
     next = refl;
-    rests = λ was_open. rests_then config p.face f past work (Some (CallClose (number_of p))) has differ now directly ended known moment_is shuts_is;
+    time_waits = λ was_open. rests_then config p.face f past work (Some (CallClose (number_of p))) has differ now directly ended known moment_is shuts_is;
     rests_on = λ shut. never (sym shut ∙ open_yet);
-    rests_still = λ shut. never (sym shut ∙ open_yet);
+    stays_in_time_wait = λ shut. never (sym shut ∙ open_yet);
     since = λ was_open m is. since_now (is_done f.story && not (follows_reset directly f.story) && ended_first f.story) m is;
   }
     where

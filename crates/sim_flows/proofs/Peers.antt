@@ -3,7 +3,7 @@ use Rattle.std.proofs.Common.{◌≡◌, ℕ, zero, suc, ◌+◌, ◌==◌, ◌&
 use Rattle.std.proofs.Common.{◌∙◌, ap, subst, arith}
 use Rattle.std.proofs.lemmas.List.{length-map}
 use Rattle.flow_table.specs.declared.Slot.{Slot}
-use Rattle.flow_table.specs.declared.Slot.TheVariants.{Free, InUse, Resting}
+use Rattle.flow_table.specs.declared.Slot.TheVariants.{Free, InUse, InTimeWait}
 use Rattle.spec_flows.specs.declared.Tuple.{Tuple}
 use Rattle.world_face.specs.Journal.{Call, Entry}
 use Rattle.slirp_settings.specs.Addresses.{Config}
@@ -12,13 +12,13 @@ use Rattle.spec_flow.specs.Flow.{is_accepted}
 use Rattle.spec_trace.specs.Sockets.{is_among}
 use Rattle.spec_flows.specs.Book.{book}
 use Rattle.rules_flow.specs.Choices.{most_for_peers}
-use Rattle.spec_flows.specs.Flows.{Flow, Rest, flow_of, has_room_for_peer, uses}
+use Rattle.spec_flows.specs.Flows.{Flow, TimeWait, flow_of, has_room_for_peer, uses}
 use Rattle.spec_flows.specs.Said.{Differ}
 use Rattle.spec_run.proofs.Bools.{equal, same, turned}
 use Rattle.flow_splice.specs.Splice.{Splice}
 use Rattle.sim_flows.specs.Asked.{AreAsked, was_accepted}
 use Rattle.sim_flows.specs.Core.{CoreHolds, number_of}
-use Rattle.sim_flows.specs.FlowsHold.{FlowsState, rests_at}
+use Rattle.sim_flows.specs.FlowsHold.{FlowsState, time_waits_at}
 use Rattle.sim_flows.specs.Only.{one_if}
 use Rattle.sim_flows.specs.Peers.{is_for_peer, peer_slots, fits_peer}
 use Rattle.sim_flows.specs.Seats.{IsSlotOf, Once, number_at, number_in}
@@ -152,7 +152,7 @@ slots_counted (s ∷ slots) (x ∷ parts) = by s x (slots_counted slots parts)
     by (InUse t) (Some p) is = one p.accepted p is
     by (InUse t) None is = none (length (slot_numbers slots parts)) (peer_slots slots parts) is
     by Free x is = none (length (slot_numbers slots parts)) (peer_slots slots parts) is
-    by (Resting t since) x is = none (length (slot_numbers slots parts)) (peer_slots slots parts) is
+    by (InTimeWait t since) x is = none (length (slot_numbers slots parts)) (peer_slots slots parts) is
 
 -- the slot of a number among these
 record IsSlotFor (slots : List Slot) (parts : List (Option Splice)) (n : ℕ) : Type 0 where
@@ -186,7 +186,7 @@ among_slot n (s ∷ slots) (x ∷ parts) is = by s x is (λ among. among_slot n 
     by (InUse t) (Some p) is rest = one t p p.accepted refl is rest
     by (InUse t) None is rest = next_slot (InUse t) None slots parts n (rest is)
     by Free x is rest = next_slot Free x slots parts n (rest is)
-    by (Resting t since) x is rest = next_slot (Resting t since) x slots parts n (rest is)
+    by (InTimeWait t since) x is rest = next_slot (InTimeWait t since) x slots parts n (rest is)
 
 slot_among : (k : ℕ) (slots : List Slot) (parts : List (Option Splice)) (t : Tuple) (p : Splice) → slice_get slots k ≡ Some (InUse t) → slice_get parts k ≡ Some (Some p) → p.accepted ≡ true
     → is_among (number_of p) (slot_numbers slots parts) ≡ true
@@ -211,7 +211,7 @@ slot_among (suc k) (s ∷ slots) (x ∷ parts) t p at here is = by s x (slot_amo
     by (InUse u) (Some q) rest = one q q.accepted rest
     by (InUse u) None rest = rest
     by Free x rest = rest
-    by (Resting u since) x rest = rest
+    by (InTimeWait u since) x rest = rest
 
 slots_once : (slots : List Slot) (parts : List (Option Splice)) → ((k j n : ℕ) → number_at number_of parts k ≡ Some n → number_at number_of parts j ≡ Some n → k ≡ j) → Once
     (slot_numbers slots parts)
@@ -240,7 +240,7 @@ slots_once (s ∷ slots) (x ∷ parts) apart = by s x refl (slots_once slots par
     by (InUse t) (Some p) is rest = one p p.accepted is rest
     by (InUse t) None is rest = rest
     by Free y is rest = rest
-    by (Resting t since) y is rest = rest
+    by (InTimeWait t since) y is rest = rest
 
 -- ---- both
 
@@ -249,8 +249,8 @@ module _ (config : Config) (now : ℕ) (aged : Bool) (task : Option Call) (state
   abbrev flows : List Flow
   flows = (book config past).flows
 
-  abbrev rests : List Rest
-  rests = rests_at aged config past
+  abbrev time_waits : List TimeWait
+  time_waits = time_waits_at aged config past
 
   both : (a b : Bool) → a ≡ true → b ≡ true → (a && b) ≡ true
   both true true one two = refl
@@ -274,7 +274,7 @@ module _ (config : Config) (now : ℕ) (aged : Bool) (task : Option Call) (state
       let there = among_slot n state.table.slots state.slots is in
       let seat = holds.seats.seated there.slot there.part there.here in
       let used : is_in_use seat.0.story ≡ true =
-      (subst (λ (s : Slot). IsSlotOf rests seat.0 s) (some_same seat.1 (InUse there.tuple) (sym seat.5 ∙ there.in_use)) seat.6).1 in
+      (subst (λ (s : Slot). IsSlotOf time_waits seat.0 s) (some_same seat.1 (InUse there.tuple) (sym seat.5 ∙ there.in_use)) seat.6).1 in
       subst (λ m. is_among m (peer_numbers flows) ≡ true) there.numbered
       (peer_among (number_of there.part) flows seat.0 seat.2
       (both (is_in_use seat.0.story) (is_accepted seat.0.story) used (sym (began_so there.slot there.part seat.0 there.here seat.2) ∙ there.accepted)))
@@ -284,10 +284,10 @@ module _ (config : Config) (now : ℕ) (aged : Bool) (task : Option Call) (state
   part_there n k (Some None) is = absurd (none_some is)
   part_there n k None is = absurd (none_some is)
 
-  slot_there : (f : Flow) (s : Slot) → is_in_use f.story ≡ true → IsSlotOf rests f s → (t : Tuple) × (s ≡ InUse t)
+  slot_there : (f : Flow) (s : Slot) → is_in_use f.story ≡ true → IsSlotOf time_waits f s → (t : Tuple) × (s ≡ InUse t)
   slot_there f Free used is = absurd is
   slot_there f (InUse t) used is = (t, refl)
-  slot_there f (Resting t since) used is = absurd (true_false (sym used ∙ is.2))
+  slot_there f (InTimeWait t since) used is = absurd (true_false (sym used ∙ is.2))
 
   flow_has_slot : (n : ℕ) → is_among n (peer_numbers flows) ≡ true → is_among n (slot_numbers state.table.slots state.slots) ≡ true
   flow_has_slot n is =
@@ -310,6 +310,6 @@ module _ (config : Config) (now : ℕ) (aged : Bool) (task : Option Call) (state
       (slots_once state.table.slots state.slots holds.seats.numbers) flow_has_slot slot_has_flow
       ∙ slots_counted state.table.slots state.slots
 
-  -- there is room for the flow of a peer by the record as by the slots
+  -- there is room for the flow of a peer by the trace as by the slots
   pub room_recorded : has_room_for_peer config.flows flows ≡ fits_peer state
   room_recorded = λ i. nat_lt (holds.seats.counted i) (sym holds.slots i) && nat_lt (peers_counted i) (most_for_peers (sym holds.slots i))

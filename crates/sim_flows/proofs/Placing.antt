@@ -1,10 +1,10 @@
--- A flow of the record that is in use has a slot whose part follows its story.
+-- A flow of the trace that is in use has a slot whose part follows its story.
 use Rattle.std.proofs.Common.{◌≡◌, ℕ, ◌||◌, not, Bool, true, false, List, slice_get, Option, Some, None, refl, sym, ap, ◌∙◌, subst}
 use Rattle.flow_table.specs.Slots.{Flows}
 use Rattle.spec_flow.specs.Event.{Story}
 use Rattle.spec_flow.specs.Close.{is_in_use, owes_reset}
 use Rattle.spec_flow.specs.Flow.{is_closed}
-use Rattle.spec_flows.specs.Flows.{Flow, Rest, flow_of, uses}
+use Rattle.spec_flows.specs.Flows.{Flow, TimeWait, flow_of, uses}
 use Rattle.sim_flows.specs.Seats.{Seats, number_at, number_in}
 
 -- ---- a flow that isn't in use
@@ -22,8 +22,8 @@ some_is a b is = cc
 some_part : {A : Type 0} (a : A) → ◌≡◌ {A = Option A} None (Some a) → ⊥
 some_part a is = absurd cc
 
-module _ {P : Type 0} (number : P → ℕ) (Follows : P → Story → Type 0) (table : Flows) (parts : List (Option P)) (next : ℕ) (flows : List Flow) (rests : List Rest)
-    (seats : Seats number Follows table parts next flows rests) where
+module _ {P : Type 0} (number : P → ℕ) (Follows : P → Story → Type 0) (table : Flows) (parts : List (Option P)) (next : ℕ) (flows : List Flow) (time_waits : List TimeWait)
+    (seats : Seats number Follows table parts next flows time_waits) where
   -- the part of a flow
   pub record HasPart (n : ℕ) (f : Flow) : Type 0 where
     pub slot : ℕ

@@ -7,17 +7,17 @@ use Rattle.std.proofs.lemmas.Nat.{from_be_bytes-to_be_bytes_4}
 use Rattle.net_octets.specs.declared.Mac.{Mac}
 use Rattle.net_octets.specs.Kinds.{arp_kind, ipv4_kind, tcp_proto}
 use Rattle.net_octets.specs.Octets.{checksum, two, our_mac}
-use Rattle.world_face.specs.Frames.{spelling}
+use Rattle.world_face.specs.Frames.{encoding}
 use Rattle.slirp_settings.specs.Addresses.{Config}
 use Rattle.arp_table.specs.Arp.{arp_octets}
 use Rattle.ether_frame.specs.Ether.{Ether, ether_octets, read_ether}
-use Rattle.ether_frame.proofs.Spelling.{reads as reads_frame}
+use Rattle.ether_frame.proofs.Encoding.{reads as reads_frame}
 use Rattle.ipv4_head.specs.Ip.{Ip, ip_octets, read_ip, summed_head}
 use Rattle.ipv4_head.proofs.Plain.{written_is as datagram_is}
-use Rattle.ipv4_head.proofs.Spelling.{reads as reads_datagram}
+use Rattle.ipv4_head.proofs.Encoding.{reads as reads_datagram}
 use Rattle.tcp_segment.specs.declared.TheConstants.{SYN, FIN, RST, ACK}
 use Rattle.tcp_segment.specs.Tcp.{Tcp, Fits, has, mss_octets, options_octets, read_tcp, scale_octets, summed, tcp_length, tcp_octets, tcp_with, words_of}
-use Rattle.tcp_segment.proofs.Spelling.{length-segment, reads as reads_segment}
+use Rattle.tcp_segment.proofs.Encoding.{length-segment, reads as reads_segment}
 use Rattle.tcp_segment.proofs.Writing.{written_is as segment_is}
 use Rattle.spec_flow.specs.Event.{Segment}
 use Rattle.spec_flow.specs.Guest.{is_empty}
@@ -254,6 +254,6 @@ request_written face config vhost = ap (bytes_eq (request_frame face)) (sym (req
 
 -- ---- its length stands before it
 
-pub four_off : (frame : List ℕ) → drop 4 (spelling frame) ≡ frame
-unfolding spelling
+pub four_off : (frame : List ℕ) → drop 4 (encoding frame) ≡ frame
+unfolding encoding
 four_off frame = refl

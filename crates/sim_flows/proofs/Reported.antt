@@ -1,4 +1,4 @@
--- A flow was told what the host reported, or the time: what it made is lawful, and the core's slots stand for the flows of the record again.
+-- A flow was told what the host reported, or the time: what it made is lawful, and the core's slots stand for the flows of the trace again.
 use Rattle.std.proofs.Common.{◌≡◌, ℕ, Bool, true, false, List, ◌∷◌, ◌++◌, slice_get, Option, Some, None, refl, ◌∙◌, ap}
 use Rattle.std.specs.Prelude.{Contains}
 use Rattle.net_octets.specs.declared.Mac.{Mac}
@@ -31,7 +31,7 @@ use Rattle.sim_flows.proofs.Pumped.{Called, core_called, core_has, state_at}
 module _ (config : Config) (state : FlowsState Splice) (past : List Entry) (now : ℕ) (aged : Bool) (holds : CoreHolds config now aged None state past)
     (moment_is : moment past ≡ now) (lawful : Lawful config past) (work : InWork config past)
     (k : ℕ) (p q : Splice) (t : Tuple) (f : Flow) (at : slice_get state.slots k ≡ Some (Some p)) (slot : slice_get state.table.slots k ≡ Some (slot_at p.place t)) (same : q.face ≡ p.face)
-    (was : flow_of (number_of p) (book config past).flows ≡ Some f) (ends : f.tuple ≡ ends_of p.face) (once : Once state.table.rest_order)
+    (was : flow_of (number_of p) (book config past).flows ≡ Some f) (ends : f.tuple ≡ ends_of p.face) (once : Once state.table.time_wait_order)
     (learnt : (m : Mac) → q.mac ≡ Some m → Contains (taught config past) (f.tuple.guest.addr, m))
     (mac : Option Mac) (ident : ℕ) (made : List Entry) (beats : Story) (follows : Following config now q (beats ++ f.story)) where
   abbrev pub ended : Bool
@@ -68,9 +68,9 @@ module _ (config : Config) (state : FlowsState Splice) (past : List Entry) (now 
       at = told.called.at;
       asks = told.called.has.due ∙ well (follows_well config now q (beats ++ f.story) follows) (number_of p);
       next = told.called.next;
-      rests = told.called.rests;
+      time_waits = told.called.time_waits;
       rests_on = told.called.rests_on;
-      rests_still = told.called.rests_still;
+      stays_in_time_wait = told.called.stays_in_time_wait;
       since = told.called.since;
     }
 
@@ -93,9 +93,9 @@ module _ (config : Config) (state : FlowsState Splice) (past : List Entry) (now 
       at = ticked.at;
       asks = ticked.has.due ∙ well (follows_well config now q (beats ++ f.story) follows) (number_of p);
       next = ticked.next;
-      rests = ticked.rests;
+      time_waits = ticked.time_waits;
       rests_on = ticked.rests_on;
-      rests_still = ticked.rests_still;
+      stays_in_time_wait = ticked.stays_in_time_wait;
       since = ticked.since;
     }
 

@@ -10,13 +10,13 @@ use Rattle.spec_flow.specs.Close.{is_in_use}
 use Rattle.spec_flow.specs.Flow.{is_accepted}
 use Rattle.spec_flow.specs.Settings.{Settings}
 use Rattle.spec_flows.specs.Book.{book}
-use Rattle.spec_flows.specs.Flows.{Flow, Rest, flow_of, seeks_for, with_event}
-use Rattle.spec_flows.proofs.Apart.{map_found, seeks_number}
+use Rattle.spec_flows.specs.Flows.{Flow, TimeWait, flow_of, resolves_for, with_event}
+use Rattle.spec_flows.proofs.Apart.{map_found, resolves_number}
 use Rattle.spec_flows.specs.Segments.{asked_in}
 use Rattle.flow_table.specs.Slots.{Flows}
 use Rattle.spec_trace.specs.Sockets.{is_among}
 use Rattle.sim_flows.specs.Seats.{Seats}
-use Rattle.sim_flows.proofs.Seeking.{seats_asked}
+use Rattle.sim_flows.proofs.Resolving.{seats_asked}
 use Rattle.sim_flows.proofs.Seats.{differ, same_or_not, seats_one}
 use Rattle.sim_flows.proofs.Tables.{get_set_other, get_set_same}
 use Rattle.spec_run.specs.Answers.{left}
@@ -161,7 +161,7 @@ raised_sum n asks (m ∷ ns) among = by (m == n) refl (λ more. raised_sum n ask
 -- ---- the flows that were accepted for a guest, when one is asked for
 
 module _ (now guest : ℕ) where
-  by_asking : (Q : Flow → Type 0) (f : Flow) → Q (with_event now AsksAddress f) → Q f → Q (seeks_for now guest f)
+  by_asking : (Q : Flow → Type 0) (f : Flow) → Q (with_event now AsksAddress f) → Q f → Q (resolves_for now guest f)
   by_asking Q f asked unasked = by_test (is_accepted f.story && (address f.tuple.guest == guest))
     where
       by_test : (b : Bool) → Q (if b then with_event now AsksAddress f else f)
@@ -171,15 +171,15 @@ module _ (now guest : ℕ) where
   abbrev is_for : ℕ → Flow → Bool
   is_for g f = is_accepted f.story && (address f.tuple.guest == g)
 
-  pub numbers_asked : (g : ℕ) (flows : List Flow) → accepted_numbers g (map (seeks_for now guest) flows) ≡ accepted_numbers g flows
+  pub numbers_asked : (g : ℕ) (flows : List Flow) → accepted_numbers g (map (resolves_for now guest) flows) ≡ accepted_numbers g flows
   numbers_asked g [] = refl
   numbers_asked g (f ∷ flows) =
-      ap (λ (b : Bool). map (λ (h : Flow). h.number) (if b then seeks_for now guest f ∷ accepted_for g (map (seeks_for now guest) flows) else accepted_for g
-      (map (seeks_for now guest) flows))) (by_asking (λ h. is_for g h ≡ is_for g f) f refl refl)
+      ap (λ (b : Bool). map (λ (h : Flow). h.number) (if b then resolves_for now guest f ∷ accepted_for g (map (resolves_for now guest) flows) else accepted_for g
+      (map (resolves_for now guest) flows))) (by_asking (λ h. is_for g h ≡ is_for g f) f refl refl)
       ∙ by_test (is_for g f) (numbers_asked g flows)
     where
-      by_test : (b : Bool) → accepted_numbers g (map (seeks_for now guest) flows) ≡ accepted_numbers g flows
-          → map (λ (h : Flow). h.number) (if b then seeks_for now guest f ∷ accepted_for g (map (seeks_for now guest) flows) else accepted_for g (map (seeks_for now guest) flows))
+      by_test : (b : Bool) → accepted_numbers g (map (resolves_for now guest) flows) ≡ accepted_numbers g flows
+          → map (λ (h : Flow). h.number) (if b then resolves_for now guest f ∷ accepted_for g (map (resolves_for now guest) flows) else accepted_for g (map (resolves_for now guest) flows))
           ≡ map (λ (h : Flow). h.number) (if b then f ∷ accepted_for g flows else accepted_for g flows)
       by_test true rest = λ i. by_asking (λ (h : Flow). h.number ≡ f.number) f refl refl i ∷ rest i
       by_test false rest = rest
@@ -231,7 +231,7 @@ module _ (config : Config) (past : List Entry) (parts : List (Option Splice)) (k
 
   -- and once it has asked the count goes on
   module _ (e : Entry) (guest : ℕ) (frame : List ℕ) (out : goes_out e past ≡ Some frame) (asked : asked_in frame ≡ Some guest) (nothing : left config past ≡ []) (now : ℕ)
-      (told : (book config (e ∷ past)).flows ≡ map (seeks_for now guest) (book config past).flows) (among : is_among (number_of p) (accepted_numbers guest (book config past).flows) ≡ true) where
+      (told : (book config (e ∷ past)).flows ≡ map (resolves_for now guest) (book config past).flows) (among : is_among (number_of p) (accepted_numbers guest (book config past).flows) ≡ true) where
     requests_are : requests config (e ∷ past) ≡ guest ∷ requests config past
     requests_are =
         ap (λ o. requests_by (left config past) o (requests config past)) out
@@ -361,16 +361,16 @@ asked_begun config past e parts n k q called numbered new silent grown fresh whi
 -- ---- the slots stand for the flows
 
 -- The flow of a slot asked for its guest, and all that were accepted for that guest are told: the slots go on to stand for the flows.
-pub seats_sought : (s : Settings) (now guest : ℕ) (table : Flows) (parts : List (Option Splice)) (next : ℕ) (flows : List Flow) (rests : List Rest) (k : ℕ) (p q : Splice) (f : Flow)
+pub seats_resolved : (s : Settings) (now guest : ℕ) (table : Flows) (parts : List (Option Splice)) (next : ℕ) (flows : List Flow) (time_waits : List TimeWait) (k : ℕ) (p q : Splice) (f : Flow)
     → slice_get parts k ≡ Some (Some p) → number_of q ≡ number_of p → flow_of (number_of p) flows ≡ Some f → is_in_use f.story ≡ true → (is_accepted f.story && (address f.tuple.guest == guest)) ≡ true
     → Follows s q (At now AsksAddress ∷ f.story) now
-    → Seats number_of (λ x story. Follows s x story now) table parts next flows rests
-    → Seats number_of (λ x story. Follows s x story now) table (set parts k (Some q)) next (map (seeks_for now guest) flows) rests
-seats_sought s now guest table parts next flows rests k p q f at same_number was used mine follows seats =
-    let told : flow_of (number_of p) (map (seeks_for now guest) flows) ≡ Some (with_event now AsksAddress f) =
-    map_found (number_of p) (seeks_for now guest) (seeks_number now guest) flows ∙ ap (option_map (seeks_for now guest)) was ∙ ap
+    → Seats number_of (λ x story. Follows s x story now) table parts next flows time_waits
+    → Seats number_of (λ x story. Follows s x story now) table (set parts k (Some q)) next (map (resolves_for now guest) flows) time_waits
+seats_resolved s now guest table parts next flows time_waits k p q f at same_number was used mine follows seats =
+    let told : flow_of (number_of p) (map (resolves_for now guest) flows) ≡ Some (with_event now AsksAddress f) =
+    map_found (number_of p) (resolves_for now guest) (resolves_number now guest) flows ∙ ap (option_map (resolves_for now guest)) was ∙ ap
     (λ (b : Bool). Some (if b then with_event now AsksAddress f else f)) mine in
-    seats_one number_of (λ x story. Follows s x story now) table parts next (map (seeks_for now guest) flows) (map (seeks_for now guest) flows) rests k p q
+    seats_one number_of (λ x story. Follows s x story now) table parts next (map (resolves_for now guest) flows) (map (resolves_for now guest) flows) time_waits k p q
     (with_event now AsksAddress f) (with_event now AsksAddress f)
     at same_number told used told used follows (record { same = refl; apart = λ other not. refl; differ = λ is. is; used = refl })
-    (seats_asked now guest number_of (λ x story. Follows s x story now) table parts next flows rests (λ x story is. asked_follows s x story now now (omega arith) is) seats)
+    (seats_asked now guest number_of (λ x story. Follows s x story now) table parts next flows time_waits (λ x story is. asked_follows s x story now now (omega arith) is) seats)

@@ -15,12 +15,12 @@ use Rattle.tcp_segment.specs.declared.TheConstants.{ACK}
 use Rattle.tcp_segment.specs.Tcp.{Tcp, has, read_tcp, tcp_octets}
 use Rattle.spec_flows.specs.declared.Tuple.{Tuple}
 use Rattle.spec_flow.specs.Event.{Segment}
-use Rattle.spec_flows.specs.Lots.{reset_to}
+use Rattle.spec_flows.specs.SegmentVerdicts.{reset_to}
 use Rattle.spec_flows.specs.Segments.{OnTuple, from_guest, segment_by, segment_in, tcp_of, to_guest}
 use Rattle.spec_trace.specs.Packets.{Datagram, Packet, Unheard, ArpPacket, Message, DatagramPacket, Segment as SegmentPacket}
-use Rattle.spec_run.specs.Answers.{Serving, answers_of, served_file, told_of_files, Answer, ArpAnswer, IpAnswer, arp_reply, frames_for, is_untold, left, no_network, owed_for_fate}
+use Rattle.spec_run.specs.Answers.{Serving, answers_of, served_file, told_of_files, Answer, ArpAnswer, IpAnswer, arp_reply, frames_for, is_untold, left, no_network, owed_for_verdict}
 use Rattle.spec_run.specs.Answers.{owed_for_icmp, owed_for_packet, owed_for_segment, part_frame, reply_for, told_about, uncut}
-use Rattle.spec_run.specs.Datagrams.{Fate, Ignored, Refused, ForLeases, ForFiles, GoesTo, fate}
+use Rattle.spec_run.specs.Datagrams.{DatagramVerdict, Ignored, Refused, ForLeases, ForFiles, GoesTo, datagram_verdict}
 use Rattle.spec_run.specs.Leasing.{Sending, lease_reply}
 use Rattle.rules_tftp.specs.Transfers.{Said}
 use Rattle.rules_dns.specs.Questions.{is_answered}
@@ -35,7 +35,7 @@ use Rattle.spec_run.proofs.Owing.{next_left, out_six}
 use Rattle.spec_run.proofs.ReadBack.{only_cut, unbroken_is}
 use Rattle.spec_run.proofs.Reading.{AllAnswers, SixAnswer, all_if, carried_ip}
 use Rattle.spec_run.proofs.Strays.{both_tests, carries_one, read_field}
-use Rattle.spec_run.proofs.Spelt.{spelt}
+use Rattle.spec_run.proofs.Encoded.{encoded}
 use Rattle.sim_flows.proofs.Within.{AreEnds, EndsOf, IsTuple, ends_last}
 
 -- ---- which answers carry segments
@@ -83,12 +83,12 @@ by_files : (o : Option OnTuple) (config : Config) (said : Option Said) → AllAn
 by_files o config None = tt
 by_files o config (Some said) = (no_datagram o _ _ _, tt)
 
-by_fate : (o : Option OnTuple) (config : Config) (s : Serving) (d : Datagram) (what : Fate) → AllAnswers (IsFor o) (owed_for_fate config s d what)
-by_fate o config s d Ignored = tt
-by_fate o config s d Refused = by_told o config _ d
-by_fate o config s d ForLeases = by_sendings o (lease_reply config s.now s.leases d)
-by_fate o config s d ForFiles = by_files o config (served_file config s d).told
-by_fate o config s d (GoesTo to) = tt
+by_datagram_verdict : (o : Option OnTuple) (config : Config) (s : Serving) (d : Datagram) (what : DatagramVerdict) → AllAnswers (IsFor o) (owed_for_verdict config s d what)
+by_datagram_verdict o config s d Ignored = tt
+by_datagram_verdict o config s d Refused = by_told o config _ d
+by_datagram_verdict o config s d ForLeases = by_sendings o (lease_reply config s.now s.leases d)
+by_datagram_verdict o config s d ForFiles = by_files o config (served_file config s d).told
+by_datagram_verdict o config s d (GoesTo to) = tt
 
 this_reset : (on : OnTuple) → ResetOf (Some on) (address on.tuple.other) (address on.tuple.guest) (tcp_octets (address on.tuple.other) (address on.tuple.guest) (reset_to on.tuple on.segment))
 this_reset on = record { on = on; is = refl; other_end = refl; guest_end = refl; whole = refl }
@@ -102,7 +102,7 @@ by_packet config s stray Unheard = tt
 by_packet config s stray (ArpPacket arp) = all_if (IsFor (if stray then None else None)) (not arp.is_reply && is_answered_for config arp.target) (arp_reply arp ∷ []) [] (tt, tt) tt
 by_packet config s stray (Message mac ip message) =
     all_if (IsFor (if stray then None else None)) (is_ours config ip.to) (owed_for_icmp mac ip message) [] (by_icmp (if stray then None else None) mac ip message) tt
-by_packet config s stray (DatagramPacket d) = by_fate (if stray then None else None) config s d (fate config d)
+by_packet config s stray (DatagramPacket d) = by_datagram_verdict (if stray then None else None) config s d (datagram_verdict config d)
 by_packet config s stray (SegmentPacket mac ip tcp) = by_segment stray (from_guest mac ip tcp)
 
 by_reply : (o : Option OnTuple) (config : Config) (peer : Endpoint) (octets : List ℕ) (port : Option Endpoint) (mac : Option (List ℕ)) → AllAnswers (IsFor o) (reply_for config peer octets port mac)
@@ -139,7 +139,7 @@ ip_back : (ident proto source guest : ℕ) (body : List ℕ) (ip : Ip) → sourc
     (ip_octets ident 0 proto source guest body) ≡ Some ip → IpBack source guest body ip
 ip_back ident proto source guest body ip source_fits guest_fits fits is =
     let octets = ip_octets ident 0 proto source guest body in
-    let found = spelt octets ip is in
+    let found = encoded octets ip is in
     let size : two_at octets 2 ≡ 20 + length body = from_be_bytes-to_be_bytes_2 (20 + length body) fits in
     let rest : 20 + length body - 20 ≡ length body = omega arith in
     record {

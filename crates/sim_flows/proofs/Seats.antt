@@ -4,14 +4,14 @@ use Rattle.std.proofs.lemmas.Bool.Decides.{nat_tests}
 use Rattle.std.specs.Prelude.{filter_map}
 use Rattle.flow_table.specs.Slots.{Flows}
 use Rattle.flow_table.specs.declared.Slot.{Slot}
-use Rattle.flow_table.specs.declared.Slot.TheVariants.{Free, InUse, Resting}
+use Rattle.flow_table.specs.declared.Slot.TheVariants.{Free, InUse, InTimeWait}
 use Rattle.spec_flows.specs.declared.Tuple.{Tuple}
 use Rattle.spec_flow.specs.Event.{Story}
 use Rattle.spec_flow.specs.Close.{is_in_use}
 use Rattle.spec_flows.specs.Segments.{same_tuple}
-use Rattle.spec_flows.specs.Flows.{Flow, Rest, owner, flow_of, uses, used}
+use Rattle.spec_flows.specs.Flows.{Flow, TimeWait, owner, flow_of, uses, used}
 use Rattle.sim_flows.specs.Only.{ids, one_if, Only}
-use Rattle.sim_flows.specs.Seats.{IsSlotOf, number_in, number_at, rests_at, resting_numbers, Seats}
+use Rattle.sim_flows.specs.Seats.{IsSlotOf, number_in, number_at, time_waits_at, numbers_in_time_wait, Seats}
 use Rattle.sim_flows.proofs.Only.{number_of_found, head_same}
 use Rattle.sim_flows.proofs.Tables.{get_set_same, get_set_at, get_set_other}
 
@@ -62,10 +62,10 @@ owner_id t (f ∷ a) (g ∷ b) same =
     by_test true number rest = ap Some number
     by_test false number rest = rest
 
-pub slot_kept : (rests : List Rest) (f g : Flow) (s : Slot) → g.number ≡ f.number → g.tuple ≡ f.tuple → is_in_use f.story ≡ true → is_in_use g.story ≡ true → IsSlotOf rests f s → IsSlotOf rests g s
-slot_kept rests f g Free number tuple was uses is = is
-slot_kept rests f g (InUse t) number tuple was uses is = (tuple ∙ is.0, uses)
-slot_kept rests f g (Resting t since) number tuple was uses is = absurd (true_false (sym was ∙ is.2))
+pub slot_kept : (time_waits : List TimeWait) (f g : Flow) (s : Slot) → g.number ≡ f.number → g.tuple ≡ f.tuple → is_in_use f.story ≡ true → is_in_use g.story ≡ true → IsSlotOf time_waits f s → IsSlotOf time_waits g s
+slot_kept time_waits f g Free number tuple was uses is = is
+slot_kept time_waits f g (InUse t) number tuple was uses is = (tuple ∙ is.0, uses)
+slot_kept time_waits f g (InTimeWait t since) number tuple was uses is = absurd (true_false (sym was ∙ is.2))
   where
     true_false : true ≡ false → ⊥
     true_false is = cc
@@ -83,20 +83,20 @@ number_put number parts k p q at same j = elim (same_or_not j k) [
 ]
 
 resting_put : {P : Type 0} (number : P → ℕ) (table : Flows) (parts parts_new : List (Option P)) → ((j : ℕ) → number_at number parts_new j ≡ number_at number parts j)
-    → resting_numbers number table parts_new ≡ resting_numbers number table parts
-resting_put number table parts parts_new same = λ i. filter_map (λ k. rests_at (slice_get table.slots k) (same k i)) table.rest_order
+    → numbers_in_time_wait number table parts_new ≡ numbers_in_time_wait number table parts
+resting_put number table parts parts_new same = λ i. filter_map (λ k. time_waits_at (slice_get table.slots k) (same k i)) table.time_wait_order
 
 used_kept : (new_used old_used : ℕ) (o n : Option Flow) → new_used + one_if (uses o) ≡ old_used + one_if (uses n) → uses o ≡ true → uses n ≡ true → new_used ≡ old_used
 used_kept new_used old_used o n is was now =
     let before : new_used + 1 ≡ old_used + 1 = sym (ap (λ b. new_used + one_if b) was) ∙ is ∙ ap (λ b. old_used + one_if b) now in
     omega (arith, before)
 
-module _ {P : Type 0} (number : P → ℕ) (Follows : P → Story → Type 0) (table : Flows) (parts : List (Option P)) (next : ℕ) (old new : List Flow) (rests : List Rest) where
+module _ {P : Type 0} (number : P → ℕ) (Follows : P → Story → Type 0) (table : Flows) (parts : List (Option P)) (next : ℕ) (old new : List Flow) (time_waits : List TimeWait) where
   -- The flow of a slot is in use and stays in use.
   pub seats_one : (k : ℕ) (p q : P) (f g : Flow) → slice_get parts k ≡ Some (Some p) → number q ≡ number p
       → flow_of (number p) old ≡ Some f → is_in_use f.story ≡ true → flow_of (number p) new ≡ Some g → is_in_use g.story ≡ true → Follows q g.story
       → Only (number p) old new
-      → Seats number Follows table parts next old rests → Seats number Follows table (set parts k (Some q)) next new rests
+      → Seats number Follows table parts next old time_waits → Seats number Follows table (set parts k (Some q)) next new time_waits
   seats_one k p q f g at same was was_used is is_used follows only seats =
       let stays : (n : ℕ) → (n == number p) ≡ false → flow_of n new ≡ flow_of n old = only.apart in
       let owners : (t : Tuple) → option_map (λ (h : Flow). h.number) (owner t new) ≡ option_map (λ (h : Flow). h.number) (owner t old) = λ t. owner_id t new old only.same in
@@ -117,7 +117,7 @@ module _ {P : Type 0} (number : P → ℕ) (Follows : P → Story → Type 0) (t
                 g_number ∙ sym same ∙ sym (ap number one),
                 subst (λ (x : P). Follows x g.story) (sym one) follows,
                 ap (λ i. slice_get table.slots i) at_k ∙ seat.5,
-                slot_kept rests f g seat.1 (g_number ∙ sym (number_of_found (number p) old f was)) tuple was_used is_used (subst (λ (x : Flow). IsSlotOf rests x seat.1) is_f seat.6),
+                slot_kept time_waits f g seat.1 (g_number ∙ sym (number_of_found (number p) old f was)) tuple was_used is_used (subst (λ (x : Flow). IsSlotOf time_waits x seat.1) is_f seat.6),
               )
           | inr other ↦
               let was_here : slice_get parts j ≡ Some (Some r) = sym (get_set_other parts k j (Some q) (differ j k other)) ∙ here in

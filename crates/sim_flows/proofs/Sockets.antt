@@ -1,4 +1,4 @@
--- In a lawful record each flow that isn't closed has its socket, which is open and a connection's; one that is closed has none.
+-- In a lawful trace each flow that isn't closed has its socket, which is open and a connection's; one that is closed has none.
 use Rattle.std.proofs.Common.{◌≡◌, ℕ, ◌<◌, ◌==◌, ◌&&◌, ◌||◌, not, Bool, true, false, List, [], ◌∷◌, ◌++◌, length, Option, Some, None, if◌then◌else◌, refl, sym, ◌∙◌, ap, subst, arith}
 use Rattle.std.proofs.lemmas.Bool.Decides.{nat_tests}
 use Rattle.net_octets.specs.declared.Endpoint.{Endpoint}
@@ -18,12 +18,12 @@ use Rattle.spec_trace.specs.Sockets.{Kind, Listener, Flow as AFlow, is_among, is
 use Rattle.spec_flow.specs.Event.{Segment, Event, Connects, Accepts, Arrives, Departs, AsksAddress, At, Story, Closes}
 use Rattle.spec_flow.specs.Flow.{first_number, is_accepted, is_closed}
 use Rattle.spec_flows.specs.Book.{book, doom, is_refused, joins_for, opens, port_of, scene, tuple_for, turned, visits_for}
-use Rattle.spec_flows.specs.Doings.{Doing, Nothing, Comes, Goes, Seeks, Pauses, Joins, Visits, Calls, Shuts, by_call, comes, doing, doing_by, goes, seeks, joined as joined_by, read_by}
+use Rattle.spec_flows.specs.Doings.{Doing, Nothing, Comes, Goes, Resolves, Pauses, Joins, Visits, Calls, Shuts, by_call, comes, doing, doing_by, goes, resolves, joined as joined_by, read_by}
 use Rattle.spec_flows.specs.Doings.{written_by, ended_by, joins as joined_one, visits}
-use Rattle.spec_flows.specs.Flows.{Flow, Book, Scene, flow_of, is_on, is_numbered, seeks_for, sends, shuts, tell, with_event, is_strange}
+use Rattle.spec_flows.specs.Flows.{Flow, Book, Scene, flow_of, is_on, is_numbered, resolves_for, sends, shuts, tell, with_event, is_strange}
 use Rattle.spec_flows.specs.Said.{Differ, Each}
 use Rattle.spec_flows.specs.Segments.{OnTuple, asked_in, segment_came, segment_in}
-use Rattle.spec_flows.proofs.Apart.{seeks_number, sends_number}
+use Rattle.spec_flows.proofs.Apart.{resolves_number, sends_number}
 use Rattle.spec_flows.proofs.Keeping.{are_kept}
 use Rattle.spec_flows.proofs.Lists.{each_as, each_map, each_numbered, each_told, found_number, each_both, each_found}
 use Rattle.spec_run.specs.Laws.{Lawful, May, joins}
@@ -50,12 +50,12 @@ comes_opens : (o : Option OnTuple) → opened_by (comes o) ≡ None
 comes_opens None = refl
 comes_opens (Some on) = refl
 
-seeks_opens : (o : Option ℕ) → opened_by (seeks o) ≡ None
-seeks_opens None = refl
-seeks_opens (Some guest) = refl
+resolves_opens : (o : Option ℕ) → opened_by (resolves o) ≡ None
+resolves_opens None = refl
+resolves_opens (Some guest) = refl
 
 goes_opens : (o : Option OnTuple) (asked : Option ℕ) → opened_by (goes o asked) ≡ None
-goes_opens None asked = seeks_opens asked
+goes_opens None asked = resolves_opens asked
 goes_opens (Some on) asked = refl
 
 -- no frame opens one
@@ -140,12 +140,12 @@ comes_shuts : (o : Option OnTuple) (n : ℕ) → shut_by (comes o) n ≡ false
 comes_shuts None n = refl
 comes_shuts (Some on) n = refl
 
-seeks_shuts : (o : Option ℕ) (n : ℕ) → shut_by (seeks o) n ≡ false
-seeks_shuts None n = refl
-seeks_shuts (Some guest) n = refl
+resolves_shuts : (o : Option ℕ) (n : ℕ) → shut_by (resolves o) n ≡ false
+resolves_shuts None n = refl
+resolves_shuts (Some guest) n = refl
 
 goes_shuts : (o : Option OnTuple) (asked : Option ℕ) (n : ℕ) → shut_by (goes o asked) n ≡ false
-goes_shuts None asked n = seeks_shuts asked n
+goes_shuts None asked n = resolves_shuts asked n
 goes_shuts (Some on) asked n = refl
 
 false_true : {b : Bool} → b ≡ false → b ≡ true → ⊥
@@ -231,12 +231,12 @@ comes_on : (o : Option OnTuple) → calls_shut (comes o) ≡ false
 comes_on None = refl
 comes_on (Some on) = refl
 
-seeks_on : (o : Option ℕ) → calls_shut (seeks o) ≡ false
-seeks_on None = refl
-seeks_on (Some guest) = refl
+resolves_on : (o : Option ℕ) → calls_shut (resolves o) ≡ false
+resolves_on None = refl
+resolves_on (Some guest) = refl
 
 goes_on_then : (o : Option OnTuple) (asked : Option ℕ) → calls_shut (goes o asked) ≡ false
-goes_on_then None asked = seeks_on asked
+goes_on_then None asked = resolves_on asked
 goes_on_then (Some on) asked = refl
 
 by_any : (came : Option Arrival) (went : Option (List ℕ)) (e : Entry) → calls_shut (doing_by came went e) ≡ false
@@ -253,8 +253,8 @@ sends_same now seg f = by_test (is_strange seg f)
     by_test true = refl
     by_test false = refl
 
-seeks_same : (now guest : ℕ) (f : Flow) → is_closed (seeks_for now guest f).story ≡ is_closed f.story
-seeks_same now guest f = by_test (is_accepted f.story && (address f.tuple.guest == guest))
+resolves_same : (now guest : ℕ) (f : Flow) → is_closed (resolves_for now guest f).story ≡ is_closed f.story
+resolves_same now guest f = by_test (is_accepted f.story && (address f.tuple.guest == guest))
   where
     by_test : (t : Bool) → is_closed (if t then with_event now AsksAddress f else f).story ≡ is_closed f.story
     by_test true = refl
@@ -300,9 +300,9 @@ module _ (P Q : Flow → Type 0) (config : Config) (sc : Scene) (b : Book) where
   turn (Comes on) differ calm stays opened shut each = one_told (λ f g. stays f g refl) (is_on on.tuple) (with_event sc.moment (Arrives on.segment)) (λ f. refl) (λ f. refl) each
   turn (Goes on) differ calm stays opened shut each =
       one_told (λ f g. stays f g refl) (is_on on.tuple) (sends sc.moment on.segment) (sends_number sc.moment on.segment) (sends_same sc.moment on.segment) each
-  turn (Seeks guest) differ calm stays opened shut each =
-      each_map P Q (seeks_for sc.moment guest)
-      (λ f has. stays f (seeks_for sc.moment guest f) refl (seeks_number sc.moment guest f) (seeks_same sc.moment guest f) has) b.flows each
+  turn (Resolves guest) differ calm stays opened shut each =
+      each_map P Q (resolves_for sc.moment guest)
+      (λ f has. stays f (resolves_for sc.moment guest f) refl (resolves_number sc.moment guest f) (resolves_same sc.moment guest f) has) b.flows each
   turn Pauses differ calm stays opened shut each = all_stay (λ f g. stays f g refl) each
   turn (Joins socket) differ calm stays opened shut each = with_joined (λ f g. stays f g refl) socket (opened socket refl) each b.came
   turn (Visits listener socket peer) differ calm stays opened shut each = with_visit (λ f g. stays f g refl) socket peer (opened socket refl) each (port_of config listener)
@@ -312,7 +312,7 @@ module _ (P Q : Flow → Type 0) (config : Config) (sc : Scene) (b : Book) where
       each_numbered P Q socket (shuts sc b.came) (λ f other has. stays f f other refl refl has) b.flows differ
       (λ f found has. shut f (shuts sc b.came f) (ap (λ n. n == socket) (found_number socket b.flows f found) ∙ same socket) refl refl has) each
 
--- ---- the record
+-- ---- the trace
 
 -- the socket of a flow is open, and a connection's, where the flow is open, and else it isn't open
 pub record InStep (past : List Entry) (f : Flow) : Type 0 where

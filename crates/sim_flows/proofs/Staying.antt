@@ -16,7 +16,7 @@ use Rattle.sim_flows.proofs.Unclosed.{none_must_close}
 use Rattle.flow_splice.specs.Follows.{Follows, FollowsAt}
 use Rattle.flow_splice.specs.Splice.{Splice}
 use Rattle.flow_splice.specs.declared.Place.{Place}
-use Rattle.flow_splice.specs.declared.Place.TheVariants.{Empty, InUse, Resting}
+use Rattle.flow_splice.specs.declared.Place.TheVariants.{Empty, InUse, InTimeWait}
 use Rattle.sim_flows.specs.Core.{CoreHolds, Following, mac_of, number_of}
 use Rattle.sim_flows.proofs.Options.{true_false}
 
@@ -32,7 +32,7 @@ follows_stays s p story now h = by p.place p.shut h
     by Empty b q = closed_stays story q.over.closed
     by InUse true q = closed_stays story q.over.closed
     by InUse false q = q.holds.goes.free
-    by (Resting since) b q = closed_stays story q.rests.over.closed
+    by (InTimeWait since) b q = closed_stays story q.time_waits.over.closed
 
 pub core_stays : (config : Config) (now : ℕ) (aged : Bool) (task : Option Call) (state : FlowsState Splice) (past : List Entry) → CoreHolds config now aged task state past → NoneMustClose config past
 core_stays config now aged task state past holds =

@@ -32,10 +32,10 @@ use Rattle.spec_flow.specs.Dutiful.{Must as MustOfOne}
 use Rattle.spec_flow.specs.Flow.{host, is_accepted, is_closed, next_number, our_number, syn_is_out, their_number}
 use Rattle.spec_flow.specs.Host.{answered as answered_yet, sent}
 use Rattle.spec_flows.specs.Book.{book, is_young, quiet, scene, turned}
-use Rattle.spec_flows.specs.Doings.{Doing, Seeks, comes, doing, doing_by, ended_by, goes, joined, read_by, seeks, visits, written_by}
-use Rattle.spec_flows.specs.Flows.{Flow, Book, Rest, Scene, flow_of, is_on, is_resting, is_strange, is_used, owner, sends, used}
+use Rattle.spec_flows.specs.Doings.{Doing, Resolves, comes, doing, doing_by, ended_by, goes, joined, read_by, resolves, visits, written_by}
+use Rattle.spec_flows.specs.Flows.{Flow, Book, TimeWait, Scene, flow_of, is_on, has_time_wait, is_strange, is_used, owner, sends, used}
 use Rattle.spec_flows.specs.Laws.{MaySend, SendsOn, MayShut, WritesBy, MustSend, flow_settings}
-use Rattle.spec_flows.specs.Lots.{Lot, OfFlow, Dropped, GetsReset, due_for_flows, is_mistaken, is_opening, is_reset, is_reset_by, is_to_many, lot_by}
+use Rattle.spec_flows.specs.SegmentVerdicts.{SegmentVerdict, OfFlow, Dropped, GetsReset, due_for_flows, is_mistaken, is_opening, is_reset, is_reset_by, is_to_many, verdict_by_policy}
 use Rattle.spec_flows.specs.Said.{ConnectsAsAsked}
 use Rattle.spec_flows.specs.Segments.{OnTuple, asked_in, from_guest, segment_by, segment_came, segment_in}
 use Rattle.spec_flows.proofs.Laws.{connects_as_asked}
@@ -61,12 +61,12 @@ use Rattle.spec_run.proofs.Bools.{first_of, second_of}
 use Rattle.spec_run.proofs.Owing.{Begins, Next, Beside, none_stays, others_stay, out_by}
 use Rattle.spec_run.proofs.Steps.{errand_asks, errand_is}
 use Rattle.spec_run.proofs.Strays.{left_resets}
-use Rattle.sim_flows.specs.FlowsHold.{FlowsHold, FlowsState, rests_at}
+use Rattle.sim_flows.specs.FlowsHold.{FlowsHold, FlowsState, time_waits_at}
 use Rattle.sim_flows.specs.Seats.{Seats}
 use Rattle.sim_flows.proofs.Holding.{taught_on}
 use Rattle.sim_flows.proofs.Meanwhile.{IsMeanwhile, is_apart, is_free, meanwhile, quiet_owes, strange_sends, told_same, unused_free}
 use Rattle.sim_flows.proofs.Resets.{Answering, HasEnds, answered, left_answers}
-use Rattle.sim_flows.proofs.Sought.{holds_sought}
+use Rattle.sim_flows.proofs.Sought.{holds_resolved}
 use Rattle.sim_flows.proofs.Within.{AreEnds}
 use Rattle.sim_flows.proofs.Options.{none_some, some_same, true_false}
 use Rattle.spec_run.proofs.Joining.{settled_named}
@@ -86,11 +86,11 @@ mistaken_ack seg (Some f) is =
 reset_why : (config : Config) (b : Book) (on : OnTuple) → is_reset config b on ≡ true → (on.segment.ack ≡ true) ⊎ (is_used on.tuple b.flows ≡ false)
 reset_why config b on reset = by (is_used on.tuple b.flows) refl reset
   where
-    other : Lot
+    other : SegmentVerdict
     other = if on.segment.rst || is_to_many config on.tuple.other then Dropped
-        else (if is_opening on.segment then lot_by (target config OverTcp on.tuple.other) (nat_lt (used b.flows) config.flows) else GetsReset)
+        else (if is_opening on.segment then verdict_by_policy (target config OverTcp on.tuple.other) (nat_lt (used b.flows) config.flows) else GetsReset)
 
-    by : (t : Bool) → is_used on.tuple b.flows ≡ t → is_reset_by (if t || is_resting on.tuple b then OfFlow else other) (is_mistaken on.segment (owner on.tuple b.flows)) ≡ true →
+    by : (t : Bool) → is_used on.tuple b.flows ≡ t → is_reset_by (if t || has_time_wait on.tuple b then OfFlow else other) (is_mistaken on.segment (owner on.tuple b.flows)) ≡ true →
         (on.segment.ack ≡ true) ⊎ (is_used on.tuple b.flows ≡ false)
     by true is reset = inl (mistaken_ack on.segment (owner on.tuple b.flows) reset)
     by false is reset = inr is
@@ -99,13 +99,13 @@ reset_why config b on reset = by (is_used on.tuple b.flows) refl reset
 asks_none : (config : Config) (b : Book) (to : Endpoint) (asked : ConnectsAsAsked config b to) → is_reset config b asked.on ≡ false
 asks_none config b to asked =
     let on = asked.on in
-    by (is_used on.tuple b.flows) (is_resting on.tuple b) (on.segment.rst || is_to_many config on.tuple.other) (is_opening on.segment) (nat_lt (used b.flows) config.flows)
+    by (is_used on.tuple b.flows) (has_time_wait on.tuple b) (on.segment.rst || is_to_many config on.tuple.other) (is_opening on.segment) (nat_lt (used b.flows) config.flows)
     (target config OverTcp on.tuple.other) (is_mistaken on.segment (owner on.tuple b.flows))
     asked.free asked.awake asked.opening asked.target
   where
-    by : (used resting many opening room : Bool) (v : Verdict) (mistaken : Bool) → used ≡ false → resting ≡ false → opening ≡ true → v ≡ Go to
-        → is_reset_by (if used || resting then OfFlow else (if many then Dropped else (if opening then lot_by v room else GetsReset))) mistaken ≡ false
-    by true resting many opening room v mistaken u r o t = cc
+    by : (used in_time_wait many opening room : Bool) (v : Verdict) (mistaken : Bool) → used ≡ false → in_time_wait ≡ false → opening ≡ true → v ≡ Go to
+        → is_reset_by (if used || in_time_wait then OfFlow else (if many then Dropped else (if opening then verdict_by_policy v room else GetsReset))) mistaken ≡ false
+    by true in_time_wait many opening room v mistaken u r o t = cc
     by false true many opening room v mistaken u r o t = cc
     by false false true opening room v mistaken u r o t = refl
     by false false false false room v mistaken u r o t = cc
@@ -232,12 +232,12 @@ module _ (config : Config) (past : List Entry) (octets : List ℕ) (answer : Io)
   abbrev the_write : Entry
   the_write = LinkWrite octets answer
 
-  seeks_meanwhile : (o : Option ℕ) → IsMeanwhile (book config past) (seeks o)
-  seeks_meanwhile None = tt
-  seeks_meanwhile (Some guest) = tt
+  resolves_meanwhile : (o : Option ℕ) → IsMeanwhile (book config past) (resolves o)
+  resolves_meanwhile None = tt
+  resolves_meanwhile (Some guest) = tt
 
   goes_meanwhile : (frame : List ℕ) (rest : List (List ℕ)) (o : Option OnTuple) → left config past ≡ frame ∷ rest → segment_in frame ≡ o → IsMeanwhile (book config past) (goes o (asked_in frame))
-  goes_meanwhile frame rest None is read = seeks_meanwhile (asked_in frame)
+  goes_meanwhile frame rest None is read = resolves_meanwhile (asked_in frame)
   goes_meanwhile frame rest (Some on) is read = λ f owned. strange_by config past frame rest on f fits lawful.1 ends calm is read owned
 
   -- a packet of a file begins to go again, or what came last is as it was
@@ -536,7 +536,7 @@ module _ (config : Config) (past : List Entry) (frame : List ℕ) (rest : List (
   IsSame d = turned config (scene config past) d (book config past) ≡ quiet (book config past)
 
   AsksForOne : Doing → Type 0
-  AsksForOne d = (guest : ℕ) × (d ≡ Seeks guest)
+  AsksForOne d = (guest : ℕ) × (d ≡ Resolves guest)
 
   goes_either : (o : Option OnTuple) (asked : Option ℕ) → segment_in frame ≡ o → IsSame (goes o asked) ⊎ AsksForOne (goes o asked)
   unfolding IsSame AsksForOne
@@ -563,13 +563,13 @@ module _ (config : Config) (past : List Entry) (frame : List ℕ) (rest : List (
         → FlowsHold number mac F config aged task state past → FlowsHold number mac F config aged None state (e ∷ past)
     holds_quiet e new next at holds =
         let flows_are : (book config (e ∷ past)).flows ≡ (book config past).flows = ap (λ (b : Book). b.flows) new in
-        let rests_are : rests_at aged config (e ∷ past) ≡ rests_at aged config past =
-        ap (λ (b : Book). if aged then filter (is_young (moment (e ∷ past))) b.rests else b.rests) new ∙ ap
-        (λ (m : ℕ). if aged then filter (is_young m) (book config past).rests else (book config past).rests) at in
+        let rests_are : time_waits_at aged config (e ∷ past) ≡ time_waits_at aged config past =
+        ap (λ (b : Book). if aged then filter (is_young (moment (e ∷ past))) b.time_waits else b.time_waits) new ∙ ap
+        (λ (m : ℕ). if aged then filter (is_young m) (book config past).time_waits else (book config past).time_waits) at in
         record {
-          seats = subst (λ (n : ℕ). Seats number F state.table state.slots n (book config (e ∷ past)).flows (rests_at aged config (e ∷ past))) (sym next)
-              (subst (λ (r : List Rest). Seats number F state.table state.slots (next_socket past) (book config (e ∷ past)).flows r) (sym rests_are)
-              (subst (λ (l : List Flow). Seats number F state.table state.slots (next_socket past) l (rests_at aged config past)) (sym flows_are) holds.seats));
+          seats = subst (λ (n : ℕ). Seats number F state.table state.slots n (book config (e ∷ past)).flows (time_waits_at aged config (e ∷ past))) (sym next)
+              (subst (λ (r : List TimeWait). Seats number F state.table state.slots (next_socket past) (book config (e ∷ past)).flows r) (sym rests_are)
+              (subst (λ (l : List Flow). Seats number F state.table state.slots (next_socket past) l (time_waits_at aged config past)) (sym flows_are) holds.seats));
           slots = holds.slots;
           opened = ap (λ (l : List Flow). length l) flows_are ∙ holds.opened;
           asked = ap (λ b. due_for_flows config b (next_socket (e ∷ past))) new;
@@ -582,5 +582,5 @@ module _ (config : Config) (past : List Entry) (frame : List ℕ) (rest : List (
     unfolding IsSame AsksForOne
     holds_answered on octets answer begins holds = elim (write_either octets answer begins (tail past)) [
       | inl same ↦ holds_quiet (LinkWrite octets answer) same refl refl holds
-      | inr one ↦ holds_sought number mac F config aged task state past (LinkWrite octets answer) one.0 holds on one.1 refl refl
+      | inr one ↦ holds_resolved number mac F config aged task state past (LinkWrite octets answer) one.0 holds on one.1 refl refl
     ]

@@ -12,7 +12,7 @@ use Rattle.spec_flows.specs.Book.{book}
 use Rattle.spec_flows.specs.Flows.{Flow, flow_of}
 use Rattle.spec_flows.specs.Laws.{flow_settings}
 use Rattle.spec_flows.specs.Taught.{taught}
-use Rattle.sim_flows.specs.FlowsHold.{FlowsState, rests_at}
+use Rattle.sim_flows.specs.FlowsHold.{FlowsState, time_waits_at}
 use Rattle.sim_flows.proofs.Seats.{differ, same_or_not, seats_one}
 use Rattle.sim_flows.proofs.Tables.{get_set_other, get_set_same}
 use Rattle.flow_splice.specs.Sends.{learnt}
@@ -51,7 +51,7 @@ module _ (config : Config) (now : ℕ) (aged : Bool) (task : Option Call) (state
   pub core_told : CoreHolds config now aged task state_told past
   core_told = record {
     seats = seats_one number_of (Following config now) state.table state.slots (next_number past) (book config past).flows (book config past).flows
-        (rests_at aged config past) k p told f f at refl was used was used follows
+        (time_waits_at aged config past) k p told f f at refl was used was used follows
         (record { same = refl; apart = λ other not. refl; differ = λ is. is; used = refl }) holds.seats;
     slots = holds.slots;
     opened = holds.opened;

@@ -9,10 +9,10 @@ use Rattle.spec_flow.specs.Close.{is_in_use, owes_reset}
 use Rattle.spec_flow.specs.Dutiful.{MustClose}
 use Rattle.spec_flow.specs.Flow.{is_closed}
 use Rattle.spec_flows.specs.Book.{book}
-use Rattle.spec_flows.specs.Flows.{Flow, Rest, flow_of, uses}
+use Rattle.spec_flows.specs.Flows.{Flow, TimeWait, flow_of, uses}
 use Rattle.spec_flows.specs.Laws.{NoneMustClose}
 use Rattle.spec_trace.specs.Sockets.{next_number}
-use Rattle.sim_flows.specs.FlowsHold.{FlowsHold, FlowsState, rests_at}
+use Rattle.sim_flows.specs.FlowsHold.{FlowsHold, FlowsState, time_waits_at}
 use Rattle.sim_flows.specs.Seats.{Seats, number_in}
 
 -- a flow that must be closed is in use
@@ -20,7 +20,7 @@ open_in_use : (story : Story) → is_closed story ≡ false → is_in_use story 
 open_in_use story is = ap (λ b. not b || owes_reset story) is
 
 module _ {P : Type 0} (number : P → ℕ) (Follows : P → Story → Type 0) (stay : (p : P) (story : Story) → Follows p story → MustClose story → ⊥) where
-  module _ (table : Flows) (parts : List (Option P)) (next : ℕ) (flows : List Flow) (rests : List Rest) (seats : Seats number Follows table parts next flows rests) where
+  module _ (table : Flows) (parts : List (Option P)) (next : ℕ) (flows : List Flow) (time_waits : List TimeWait) (seats : Seats number Follows table parts next flows time_waits) where
     -- each flow in use has a part, which follows its story
     none_of_seats : (n : ℕ) (f : Flow) → flow_of n flows ≡ Some f → MustClose f.story → ⊥
     none_of_seats n f found must =
@@ -44,4 +44,4 @@ module _ {P : Type 0} (number : P → ℕ) (Follows : P → Story → Type 0) (s
   pub none_must_close : (mac : P → Option Mac) (config : Config) (aged : Bool) (task : Option Call) (state : FlowsState P) (past : List Entry) →
       FlowsHold number mac Follows config aged task state past → NoneMustClose config past
   none_must_close mac config aged task state past holds =
-      none_of_seats state.table state.slots (next_number past) (book config past).flows (rests_at aged config past) holds.seats
+      none_of_seats state.table state.slots (next_number past) (book config past).flows (time_waits_at aged config past) holds.seats

@@ -5,15 +5,15 @@ use Rattle.flow_table.specs.declared.Slot.{Slot}
 use Rattle.flow_table.specs.declared.Slot.TheVariants.{Free}
 use Rattle.spec_flows.specs.declared.Tuple.{Tuple}
 use Rattle.spec_flow.specs.Event.{Story}
-use Rattle.spec_flows.specs.Flows.{Flow, Rest, flow_of, owner, uses}
+use Rattle.spec_flows.specs.Flows.{Flow, TimeWait, flow_of, owner, uses}
 use Rattle.sim_flows.specs.Only.{Only}
 use Rattle.sim_flows.specs.Seats.{IsSlotOf, number_in, number_at, Seats}
 use Rattle.sim_flows.proofs.Opening.{none_some, some_same}
 use Rattle.sim_flows.proofs.Seats.{same_or_not, differ, found_id, owner_id}
 use Rattle.sim_flows.proofs.Tables.{get_set_at, get_set_other}
 
-module _ {P : Type 0} (number : P → ℕ) (Follows : P → Story → Type 0) (table : Flows) (parts : List (Option P)) (next : ℕ) (old new : List Flow) (rests : List Rest) (k : ℕ) (p : P)
-    (at : slice_get parts k ≡ Some (Some p)) (unused : uses (flow_of (number p) new) ≡ false) (only : Only (number p) old new) (seats : Seats number Follows table parts next old rests) where
+module _ {P : Type 0} (number : P → ℕ) (Follows : P → Story → Type 0) (table : Flows) (parts : List (Option P)) (next : ℕ) (old new : List Flow) (time_waits : List TimeWait) (k : ℕ) (p : P)
+    (at : slice_get parts k ≡ Some (Some p)) (unused : uses (flow_of (number p) new) ≡ false) (only : Only (number p) old new) (seats : Seats number Follows table parts next old time_waits) where
   here : number_at number parts k ≡ Some (number p)
   here = ap (number_in number) at
 
@@ -47,7 +47,7 @@ module _ {P : Type 0} (number : P → ℕ) (Follows : P → Story → Type 0) (t
   -- each other part has its flow and its slot, and another number
   pub seated_others : (j : ℕ) (r : P) → slice_get (set parts k None) j ≡ Some (Some r)
       → (f : Flow) × (s : Slot) × (flow_of (number r) new ≡ Some f) × (f.number ≡ number r) × Follows r f.story ×
-      (slice_get (set table.slots k Free) j ≡ Some s) × IsSlotOf rests f s × ((number r == number p) ≡ false)
+      (slice_get (set table.slots k Free) j ≡ Some s) × IsSlotOf time_waits f s × ((number r == number p) ≡ false)
   seated_others j r is =
       let other = elsewhere j (number r) (ap (number_in number) is) in
       let was : slice_get parts j ≡ Some (Some r) = sym (get_set_other parts k j None (differ j k other)) ∙ is in

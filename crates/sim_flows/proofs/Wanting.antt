@@ -1,4 +1,4 @@
--- What is waited for of the parts of a core is what is to be waited for of the flows of the record.
+-- What is waited for of the parts of a core is what is to be waited for of the flows of the trace.
 use Rattle.std.proofs.Common.{◌≡◌, ℕ, zero, suc, ◌<◌, ◌==◌, ◌&&◌, ◌||◌, not, nat_lt, Bool, true, false, List, [], ◌∷◌, length, slice_get, slice_index_or, Option, Some, None, Contains}
 use Rattle.std.proofs.Common.{refl, sym, ap, ◌∙◌, subst, arith}
 use Rattle.poll_list.specs.Listing.{reads, same_who, writes}
@@ -13,7 +13,7 @@ use Rattle.spec_flow.specs.Dutiful.{MayWaitToWrite, must_wait_to_write, waits_to
 use Rattle.spec_flow.specs.Flow.{guest, has_connected, is_accepted, is_closed, is_connecting}
 use Rattle.spec_flow.specs.Guest.{ackd, has_ended, written}
 use Rattle.spec_flows.specs.Book.{book}
-use Rattle.spec_flows.specs.Flows.{Flow, Rest, flow_of}
+use Rattle.spec_flows.specs.Flows.{Flow, TimeWait, flow_of}
 use Rattle.spec_flows.specs.Laws.{flow_settings}
 use Rattle.sim_flows.specs.Seats.{Seats}
 use Rattle.spec_run.proofs.Bools.{equal, first_of, same}
@@ -105,8 +105,8 @@ module _ {P : Type 0} (number : P → ℕ) (wants_to_read wants_to_write : P →
 
   -- ---- the wants of the parts
 
-  module _ (config : Config) (Follows : P → Story → Type 0) (table : Flows) (parts : List (Option P)) (next : ℕ) (past : List Entry) (rests : List Rest)
-      (seats : Seats number Follows table parts next (book config past).flows rests)
+  module _ (config : Config) (Follows : P → Story → Type 0) (table : Flows) (parts : List (Option P)) (next : ℕ) (past : List Entry) (time_waits : List TimeWait)
+      (seats : Seats number Follows table parts next (book config past).flows time_waits)
       (by_reads : (k : ℕ) (p : P) (story : Story) → slice_get parts k ≡ Some (Some p) → Follows p story → waits_to_read (flow_settings config) story ≡ wants_to_read p)
       (by_must : (k : ℕ) (p : P) (story : Story) → slice_get parts k ≡ Some (Some p) → Follows p story → must_wait_to_write story ≡ true → wants_to_write p ≡ true)
       (by_may : (k : ℕ) (p : P) (story : Story) → slice_get parts k ≡ Some (Some p) → Follows p story → wants_to_write p ≡ true → MayWaitToWrite story)
@@ -126,8 +126,8 @@ module _ {P : Type 0} (number : P → ℕ) (wants_to_read wants_to_write : P →
         slot = only found.0 found.1
 
         by : (o : Option Flow) → flow_of n (book config past).flows ≡ o → reads_flow config o ≡ true
-        by None none = absurd (no_flow number Follows table parts next (book config past).flows rests seats n slot.0 slot.1 none slot.2 (part_has n slot.1 found.0 slot.3 found.2))
-        by (Some f) at = by_reads slot.0 slot.1 f.story slot.2 (flow_at number Follows table parts next (book config past).flows rests seats n f slot.0 slot.1 at slot.2
+        by None none = absurd (no_flow number Follows table parts next (book config past).flows time_waits seats n slot.0 slot.1 none slot.2 (part_has n slot.1 found.0 slot.3 found.2))
+        by (Some f) at = by_reads slot.0 slot.1 f.story slot.2 (flow_at number Follows table parts next (book config past).flows time_waits seats n f slot.0 slot.1 at slot.2
             (part_has n slot.1 found.0 slot.3 found.2))
             ∙ sym (ap (λ (w : Want). w.read) slot.3) ∙ found.3
 
@@ -137,12 +137,12 @@ module _ {P : Type 0} (number : P → ℕ) (wants_to_read wants_to_write : P →
         by : (o : Option Flow) → flow_of n (book config past).flows ≡ o → reads_flow config o ≡ true → reads (OnTcp n) wants ≡ true
         by None none it = absurd cc
         by (Some f) at it =
-            let part = placed number Follows table parts next (book config past).flows rests seats n f at (reads_open config f.story it) in
+            let part = placed number Follows table parts next (book config past).flows time_waits seats n f at (reads_open config f.story it) in
             let reading = sym (by_reads part.slot part.part f.story part.here part.follows) ∙ it in
             let there = all part.slot part.part part.here (or_left (wants_to_read part.part) (wants_to_write part.part) reading) in
             one_read n wants (want part.part) there.0 there.1 there.2 (ap (λ (m : ℕ). n == m) part.numbered ∙ same n) reading
 
-    -- octets of a host are waited for exactly where the record says so
+    -- octets of a host are waited for exactly where the trace says so
     pub flows_read : (n : ℕ) → reads (OnTcp n) wants ≡ is_read config past (OnTcp n)
     flows_read n = alike (reads (OnTcp n) wants) (reads_flow config (flow_of n (book config past).flows)) (read_then n) (then_read n)
 
@@ -153,7 +153,7 @@ module _ {P : Type 0} (number : P → ℕ) (wants_to_read wants_to_write : P →
         by : (o : Option Flow) → flow_of n (book config past).flows ≡ o → writes_flow o ≡ true → writes (OnTcp n) wants ≡ true
         by None none it = absurd cc
         by (Some f) at it =
-            let part = placed number Follows table parts next (book config past).flows rests seats n f at (writes_open f.story it) in
+            let part = placed number Follows table parts next (book config past).flows time_waits seats n f at (writes_open f.story it) in
             let writing = by_must part.slot part.part f.story part.here part.follows it in
             let there = all part.slot part.part part.here (or_right (wants_to_read part.part) (wants_to_write part.part) writing) in
             one_written n wants (want part.part) there.0 there.1 there.2 (ap (λ (m : ℕ). n == m) part.numbered ∙ same n) writing
@@ -168,7 +168,7 @@ module _ {P : Type 0} (number : P → ℕ) (wants_to_read wants_to_write : P →
         slot = only found.0 found.1
 
         by : (o : Option Flow) → flow_of n (book config past).flows ≡ o → MayWriteFlow o
-        by None none = no_flow number Follows table parts next (book config past).flows rests seats n slot.0 slot.1 none slot.2 (part_has n slot.1 found.0 slot.3 found.2)
-        by (Some f) at = by_may slot.0 slot.1 f.story slot.2 (flow_at number Follows table parts next (book config past).flows rests seats n f slot.0 slot.1 at slot.2
+        by None none = no_flow number Follows table parts next (book config past).flows time_waits seats n slot.0 slot.1 none slot.2 (part_has n slot.1 found.0 slot.3 found.2)
+        by (Some f) at = by_may slot.0 slot.1 f.story slot.2 (flow_at number Follows table parts next (book config past).flows time_waits seats n f slot.0 slot.1 at slot.2
             (part_has n slot.1 found.0 slot.3 found.2))
             (sym (ap (λ (w : Want). w.write) slot.3) ∙ found.3)

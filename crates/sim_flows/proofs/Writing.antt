@@ -20,7 +20,7 @@ use Rattle.spec_flows.specs.Book.{book, quiet, scene, turned}
 use Rattle.spec_flows.specs.Doings.{Nothing, Goes, doing, doing_by, goes}
 use Rattle.spec_flows.specs.Flows.{Flow, flow_of, is_on, is_strange, owner, sends, with_event}
 use Rattle.spec_flows.specs.Laws.{MaySend, SendsOn, WritesBy, MustSend, flow_settings}
-use Rattle.spec_flows.specs.Lots.{due_for_flows}
+use Rattle.spec_flows.specs.SegmentVerdicts.{due_for_flows}
 use Rattle.spec_flows.specs.Said.{Differ}
 use Rattle.spec_flows.specs.Segments.{OnTuple, asked_in, segment_in}
 use Rattle.spec_flows.specs.Taught.{is_pair, taught}
@@ -49,7 +49,7 @@ pub record CarriesOf (config : Config) (face : Face) (f : Flow) (to : Mac) (seg 
   pub written : is_written config (identification past) frame (on_ends face to seg) (ip_in frame) ≡ true
   pub learnt : list_any (is_pair (address face.guest) to.0) (taught config past) ≡ true
   pub latest : is_latest to.0 (learnt_for face.guest.addr (known config past)) ≡ true
-  pub speaks : speaks_yet seg (book config past).rests f ≡ true
+  pub speaks : speaks_yet seg (book config past).time_waits f ≡ true
 
 -- the flow after its segment was offered
 abbrev pub offered_flow : Io → ℕ → Segment → Flow → Flow
@@ -94,8 +94,8 @@ module _ (config : Config) (face : Face) (f : Flow) (past : List Entry) (has : H
     sends_it : (o : Option OnTuple) → o ≡ Some (on_ends face to seg) → sends_segment config past frame o ≡ true
     sends_it o on =
         ap (sends_segment config past frame) on
-        ∙ and_both (is_own seg (book config past).rests (owner (ends_of face) (book config past).flows)) (is_well_sent config past frame (on_ends face to seg))
-        (ap (is_own seg (book config past).rests) (owner_is differ) ∙ and_both (not (is_strange seg f)) (speaks_yet seg (book config past).rests f) (ap not (not_strange seg may)) carries.speaks)
+        ∙ and_both (is_own seg (book config past).time_waits (owner (ends_of face) (book config past).flows)) (is_well_sent config past frame (on_ends face to seg))
+        (ap (is_own seg (book config past).time_waits) (owner_is differ) ∙ and_both (not (is_strange seg f)) (speaks_yet seg (book config past).time_waits f) (ap not (not_strange seg may)) carries.speaks)
         (and_both (list_any (is_pair (address face.guest) to.0) (taught config past) && is_latest to.0 (learnt_for face.guest.addr (known config past)))
         (is_written config (identification past) frame (on_ends face to seg) (ip_in frame))
         (and_both (list_any (is_pair (address face.guest) to.0) (taught config past)) (is_latest to.0 (learnt_for face.guest.addr (known config past))) carries.learnt carries.latest) carries.written)
@@ -147,7 +147,7 @@ module _ (config : Config) (face : Face) (f : Flow) (past : List Entry) (has : H
         writes config past octets framed (due_is config past work ∙ has.due ∙ ap (λ b. close_if b face.number) may.closes_after_failure)
         (none_must_close config face f past work has must.closes_after_reset) (ap is_working work.working) (begins nothing) work.open_yet (writes_it, must_write must)
 
-    -- ---- what the record has of the flow then
+    -- ---- what the trace has of the flow then
 
     none_opens : (answer : Io) → doing config past (LinkWrite octets answer) ≡ doing_by None (begun_by answer octets) (LinkWrite octets answer)
     none_opens answer = ap (λ t. doing_by None (opens (LinkWrite octets answer) t) (LinkWrite octets answer)) none

@@ -11,20 +11,20 @@ use Rattle.spec_flow.specs.Lawful.{IsLawful}
 use Rattle.spec_flow.specs.Dutiful.{IsDutiful, MustClose}
 use Rattle.spec_flow.specs.Close.{host_failed}
 use Rattle.spec_flow.specs.Flow.{is_closed}
-use Rattle.spec_flows.specs.Book.{book, rest}
-use Rattle.spec_flows.specs.Flows.{Flow, Rest, flow_of, owner}
-use Rattle.spec_flows.specs.Lots.{Lot, Dropped, GetsReset, due_for_flows, is_opening, is_to_many, lot_by}
+use Rattle.spec_flows.specs.Book.{book, time_wait}
+use Rattle.spec_flows.specs.Flows.{Flow, TimeWait, flow_of, owner}
+use Rattle.spec_flows.specs.SegmentVerdicts.{SegmentVerdict, Dropped, GetsReset, due_for_flows, is_opening, is_to_many, verdict_by_policy}
 use Rattle.spec_flows.specs.Segments.{OnTuple}
 use Rattle.host_policy.specs.Targets.{target}
 use Rattle.slirp_settings.specs.declared.Proto.TheVariants.{Tcp as OverTcp}
 use Rattle.spec_run.specs.Errands.{errand_left}
 use Rattle.spec_run.specs.Laws.{due_for_services, is_closing, joins}
 use Rattle.flow_table.specs.declared.Slot.{Slot}
-use Rattle.flow_table.specs.declared.Slot.TheVariants.{Free as FreeSlot, InUse as SlotInUse, Resting as SlotResting}
+use Rattle.flow_table.specs.declared.Slot.TheVariants.{Free as FreeSlot, InUse as SlotInUse, InTimeWait as SlotInTimeWait}
 use Rattle.spec_flows.specs.declared.Tuple.{Tuple}
 use Rattle.flow_splice.specs.Splice.{Face}
 use Rattle.flow_splice.specs.declared.Place.{Place}
-use Rattle.flow_splice.specs.declared.Place.TheVariants.{Empty, InUse, Resting}
+use Rattle.flow_splice.specs.declared.Place.TheVariants.{Empty, InUse, InTimeWait}
 
 -- it is in a turn; no datagram asks for a call, nor a service, and the closing hasn't begun
 pub record InWork (config : Config) (past : List Entry) : Type 0 where
@@ -56,16 +56,16 @@ pub record HasFlowOf (asks : Option Call) (config : Config) (face : Face) (f : F
 abbrev pub HasFlow : Config → Face → Flow → List Entry → Type 0
 HasFlow config face f past = HasFlowOf (close_if (host_failed f.story) face.number) config face f past
 
--- a flow that came to rest is the last of those that rest
-abbrev pub with_rest : Option ℕ → ℕ → List Rest → List Rest
-with_rest None number rests = rests
-with_rest (Some since) number rests = rests ++ rest number since ∷ []
+-- a flow that entered TIME-WAIT is the last of those in TIME-WAIT
+abbrev pub with_time_wait : Option ℕ → ℕ → List TimeWait → List TimeWait
+with_time_wait None number time_waits = time_waits
+with_time_wait (Some since) number time_waits = time_waits ++ time_wait number since ∷ []
 
 -- the slot at a place of a flow between two ends
 abbrev pub slot_at : Place → Tuple → Slot
 slot_at Empty t = FreeSlot
 slot_at InUse t = SlotInUse t
-slot_at (Resting since) t = SlotResting t since
+slot_at (InTimeWait since) t = SlotInTimeWait t since
 
 -- the flow with these events more
 abbrev pub with_beats : Flow → Story → Flow
@@ -76,7 +76,7 @@ abbrev pub IsLast : List Want → List Want → Type 0
 IsLast items all = (before : List Want) × (all ≡ before ++ items)
 
 -- what becomes of a segment without a flow, where there is room for one more or not
-abbrev pub lot_without : Config → (room : Bool) → OnTuple → Lot
-lot_without config room on =
+abbrev pub verdict_without_flow : Config → (room : Bool) → OnTuple → SegmentVerdict
+verdict_without_flow config room on =
     if on.segment.rst || is_to_many config on.tuple.other then Dropped
-    else (if is_opening on.segment then lot_by (target config OverTcp on.tuple.other) room else GetsReset)
+    else (if is_opening on.segment then verdict_by_policy (target config OverTcp on.tuple.other) room else GetsReset)

@@ -7,7 +7,7 @@ use Rattle.std.proofs.lemmas.Bool.Decides.{nat_tests}
 use Rattle.std.proofs.lemmas.Option.{slice_get-get_or}
 use Rattle.seq_space.specs.Places.{place}
 use Rattle.sim_halves.specs.Received.{next_octets}
-use Rattle.spec_flow.specs.Guest.{Up, Came, Carries, EndsAt, Honest, Asks, written, begins, first_of, from_zero, ackd}
+use Rattle.spec_flow.specs.Guest.{Up, Came, Carries, EndsAt, Conforming, Asks, written, begins, first_of, from_zero, ackd}
 use Rattle.spec_flow.specs.Lawful.{AtPlaces}
 use Rattle.spec_flow.proofs.Streams.{earlier, carried_length}
 use Rattle.spec_flow.proofs.Acks.{same_place}
@@ -97,18 +97,18 @@ closed_fin (pos e) k t a low is ends =
 module _ (ring : ℕ) (past : List Up) (first t h : ℕ) (kept : List ℕ) (n : ℕ) (xs : List ℕ) (fin : Bool) (fits : n < 2 ^ 32) (known : first_of past ≡ first)
     (counted : t ≡ length kept) (all : t ≡ length (written past) + h) (within : h ≤ ring) where
   -- while the end is open
-  pub came_asked : (took : Bool) (m : ℕ) → (Honest past → AtPlaces (Carries past) kept) → ackd past ≤ t
+  pub came_asked : (took : Bool) (m : ℕ) → (Conforming past → AtPlaces (Carries past) kept) → ackd past ≤ t
       → min (length (next_octets (place n first t) xs t)) (ring - h) ≤ m
-      → (Honest (Came n xs fin true ∷ past) → (i : ℕ) → EndsAt (Came n xs fin true ∷ past) i → t ≤ i → t + m ≤ i)
-      → (IsTrue fin → (place n first t +ℤ pos (length xs)) ≡ pos (t + m) → Honest (Came n xs fin true ∷ past) → took ≡ true)
-      → Honest (Came n xs fin true ∷ past) → ((a : ℕ) → Asks ring past a → a ≤ t)
+      → (Conforming (Came n xs fin true ∷ past) → (i : ℕ) → EndsAt (Came n xs fin true ∷ past) i → t ≤ i → t + m ≤ i)
+      → (IsTrue fin → (place n first t +ℤ pos (length xs)) ≡ pos (t + m) → Conforming (Came n xs fin true ∷ past) → took ≡ true)
+      → Conforming (Came n xs fin true ∷ past) → ((a : ℕ) → Asks ring past a → a ≤ t)
       → (a : ℕ) → Asks ring (Came n xs fin true ∷ past) a → a ≤ (if took then t + m + 1 else t + m)
-  came_asked took m carried low few no_octet ends honest old a (inl (heard, b, inl is)) =
+  came_asked took m carried low few no_octet ends conforming old a (inl (heard, b, inl is)) =
       let w : ℕ = length (written past) in
-      let long = carried_length past kept (carried (earlier (Came n xs fin true) past honest)) in
+      let long = carried_length past kept (carried (earlier (Came n xs fin true) past conforming)) in
       elim (cases_lt 0 (length xs + (if fin then 1 else 0))) [
         | inl some ↦
-            let same : begins past n ≡ place n first t = same_place past n xs fin true t fits honest.near (omega arith) low some ∙ ap (λ (f : ℕ). place n f t) known in
+            let same : begins past n ≡ place n first t = same_place past n xs fin true t fits conforming.near (omega arith) low some ∙ ap (λ (f : ℕ). place n f t) known in
             let low_place = moved_on (begins past n) (place n first t) (ackd past) t same b low in
             let bound = asked_open ring (place n first t +ℤ pos (length xs)) t (length (next_octets (place n first t) xs t)) m w h
             (λ after. next_length (place n first t) xs t low_place after) few all within in
@@ -119,30 +119,30 @@ module _ (ring : ℕ) (past : List Up) (first t h : ℕ) (kept : List ℕ) (n : 
             let bound : e ≤ t = from_zero_low (begins past n +ℤ pos (length xs)) t (empty_end (begins past n) (length xs) (ackd past) t b low (no_octets fin (length xs) none)) in
             no_more took t m a (omega arith)
       ]
-  came_asked took m carried low few no_octet ends honest old a (inl (heard, b, inr (f, room, is))) =
-      let long = carried_length past kept (carried (earlier (Came n xs fin true) past honest)) in
+  came_asked took m carried low few no_octet ends conforming old a (inl (heard, b, inr (f, room, is))) =
+      let long = carried_length past kept (carried (earlier (Came n xs fin true) past conforming)) in
       let some : 0 < length xs + (if fin then 1 else 0) = rw f (omega arith) in
-      let same : begins past n ≡ place n first t = same_place past n xs fin true t fits honest.near (omega arith) low some ∙ ap (λ (g : ℕ). place n g t) known in
+      let same : begins past n ≡ place n first t = same_place past n xs fin true t fits conforming.near (omega arith) low some ∙ ap (λ (g : ℕ). place n g t) known in
       let low_place = moved_on (begins past n) (place n first t) (ackd past) t same b low in
       asked_fin ring (place n first t +ℤ pos (length xs)) t (length (next_octets (place n first t) xs t)) m (length (written past)) h a took
       (λ after. next_length (place n first t) xs t low_place after) few all within
       (subst (λ (o : ℤ). (o +ℤ pos (length xs)) ≤ℤ pos (length (written past) + ring)) same room)
       (is ∙ ap (λ (o : ℤ). o +ℤ pos (length xs) +ℤ pos 1) same)
       (λ after. last_place (place n first t +ℤ pos (length xs)) t m after
-      (λ i at. no_octet honest i (inl (f, ap (λ (o : ℤ). o +ℤ pos (length xs)) same ∙ at, omega (arith, ints, low, at, after))) (omega (arith, ints, at, after))))
-      (λ at. ends f at honest)
-  came_asked took m carried low few no_octet ends honest old a (inr more) = let before = old a more in no_more took t m a (omega arith)
+      (λ i at. no_octet conforming i (inl (f, ap (λ (o : ℤ). o +ℤ pos (length xs)) same ∙ at, omega (arith, ints, low, at, after))) (omega (arith, ints, at, after))))
+      (λ at. ends f at conforming)
+  came_asked took m carried low few no_octet ends conforming old a (inr more) = let before = old a more in no_more took t m a (omega arith)
 
   -- once it was taken
-  pub closed_asked : ackd past ≤ t + 1 → EndsAt past t → Honest (Came n xs fin true ∷ past) → ((a : ℕ) → Asks ring past a → a ≤ t + 1)
+  pub closed_asked : ackd past ≤ t + 1 → EndsAt past t → Conforming (Came n xs fin true ∷ past) → ((a : ℕ) → Asks ring past a → a ≤ t + 1)
       → (a : ℕ) → Asks ring (Came n xs fin true ∷ past) a → a ≤ t + 1
-  closed_asked low end honest old a (inl (heard, b, inl is)) =
+  closed_asked low end conforming old a (inl (heard, b, inl is)) =
       let e : ℕ = from_zero (begins past n +ℤ pos (length xs)) in
       let bound : e ≤ t + 1 = closed_end (begins past n) (length xs) (ackd past) t b low
       (λ i j at inside later.
       let x : ℕ = get_or xs j 0 in
-      honest.within t i x (inr end) (inl (later, octet_from (begins past n) xs i j x (slice_get-get_or xs j 0 inside) at))) in
+      conforming.within t i x (inr end) (inl (later, octet_from (begins past n) xs i j x (slice_get-get_or xs j 0 inside) at))) in
       omega arith
-  closed_asked low end honest old a (inl (heard, b, inr (f, room, is))) =
-      closed_fin (begins past n +ℤ pos (length xs)) (ackd past) t a low is (λ i at later. honest.ends i t (inl (f, at, later)) (inr end))
-  closed_asked low end honest old a (inr more) = old a more
+  closed_asked low end conforming old a (inl (heard, b, inr (f, room, is))) =
+      closed_fin (begins past n +ℤ pos (length xs)) (ackd past) t a low is (λ i at later. conforming.ends i t (inl (f, at, later)) (inr end))
+  closed_asked low end conforming old a (inr more) = old a more

@@ -3,7 +3,7 @@ use Rattle.std.proofs.Common.{refl, ◌≡◌, ℕ, ◌+◌, ◌^◌, ◌<◌, �
 use Rattle.std.proofs.lemmas.Int.{ints}
 use Rattle.seq_space.specs.Places.{place}
 use Rattle.seq_space.proofs.Numbers.{place_is, place_only}
-use Rattle.spec_flow.specs.Guest.{Up, Known, Came, Acked, Wrote, Ended, AckIsDue, ack_is_due, is_empty, Honest, begins, top, first_of, ackd}
+use Rattle.spec_flow.specs.Guest.{Up, Known, Came, Acked, Wrote, Ended, AckIsDue, ack_is_due, is_empty, Conforming, begins, top, first_of, ackd}
 use Rattle.sim_halves.specs.Received.{Received, places_taken}
 
 -- what is due by the flow's own count is due
@@ -11,7 +11,7 @@ due_of : (past : List Up) → ack_is_due past ≡ true → AckIsDue past
 due_of [] is = absurd cc
 due_of (Came n xs fin heeded ∷ past) is = by heeded (fin || not (is_empty xs)) (ack_is_due past) is (due_of past)
   where
-    by : (h s r : Bool) → ((h && s) || r) ≡ true → (r ≡ true → AckIsDue past) → (IsTrue h × (IsTrue s ⊎ (Honest past × (begins past n <ℤ pos (ackd past))))) ⊎ AckIsDue past
+    by : (h s r : Bool) → ((h && s) || r) ≡ true → (r ≡ true → AckIsDue past) → (IsTrue h × (IsTrue s ⊎ (Conforming past × (begins past n <ℤ pos (ackd past))))) ⊎ AckIsDue past
     by true true r is old = inl (refl, inl refl)
     by true false r is old = inr (old is)
     by false s r is old = inr (old is)
@@ -62,7 +62,7 @@ pub came_due : (past : List Up) (r : Received) (n : ℕ) (xs : List ℕ) (fin he
     → (now_owed ≡ false → (owed ≡ false) × (heeded ≡ true → (length xs ≡ 0) × (fin ≡ false) × (place n r.first r.taken <ℤ pos (places_taken r) → ⊥)))
     → (owed ≡ false → AckIsDue past → ⊥) → now_owed ≡ false → AckIsDue (Came n xs fin heeded ∷ past) → ⊥
 came_due past r n xs fin heeded owed now_owed fits first low acked quiet old none (inl (heard, inl some)) = let q = (quiet none).1 heard in empty_is xs fin q.0 q.1 some
-came_due past r n xs fin heeded owed now_owed fits first low acked quiet old none (inl (heard, inr (honest, before))) =
+came_due past r n xs fin heeded owed now_owed fits first low acked quiet old none (inl (heard, inr (conforming, before))) =
     let q = (quiet none).1 heard in
     q.2 (before_taken n r.first r.taken (top past) (ackd past) (places_taken r) fits low acked (places_few r) (subst (λ (f : ℕ). place n f (top past) <ℤ pos (ackd past)) first before))
 came_due past r n xs fin heeded owed now_owed fits first low acked quiet old none (inr more) = old (quiet none).0 more

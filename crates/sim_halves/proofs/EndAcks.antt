@@ -5,10 +5,10 @@ use Rattle.std.specs.List.{list_any}
 use Rattle.std.proofs.lemmas.Bool.Decides.{nat_tests}
 use Rattle.seq_space.specs.Places.{number_of, steps_up}
 use Rattle.spec_flow.specs.Event.{Segment, Departs, At, Story}
-use Rattle.spec_flow.specs.Guest.{Up, Acked, Honest, first_of, ackd}
+use Rattle.spec_flow.specs.Guest.{Up, Acked, Conforming, first_of, ackd}
 use Rattle.spec_flow.specs.Flow.{guest, their_number, acknowledges, push}
 use Rattle.spec_flow.specs.Close.{after_fins, fin_was_acknowledged, ended_first, fin_is_out}
-use Rattle.spec_flow.proofs.GuestLaws.{honest_before}
+use Rattle.spec_flow.proofs.GuestLaws.{conforming_before}
 use Rattle.spec_flow.proofs.Scaled.{OpensOnce}
 use Rattle.spec_flow.proofs.Sides.{guest_acked}
 use Rattle.spec_flow.proofs.Streams.{length_within}
@@ -88,13 +88,13 @@ module _ (past : Story) (p : Part) (sure ours_first : Bool) (last m : ℕ) (seg 
         here : seg.acknowledgement ≡ number_of p.received.first (p.received.taken + 1)
         here = number ∙ ap (λ (t : ℕ). number_of p.received.first t) (all_places p.received.ended ended)
 
-    -- and where it isn't, an honest guest's end isn't acknowledged now
-    not_sure : Honest (guest past) → p.received.ended ≡ false → IsTrue (list_any (nat_eq seg.acknowledgement) (after_fins past)) → ⊥
-    not_sure honest ended is =
+    -- and where it isn't, a conforming guest's end isn't acknowledged now
+    not_sure : Conforming (guest past) → p.received.ended ≡ false → IsTrue (list_any (nat_eq seg.acknowledgement) (after_fins past)) → ⊥
+    not_sure conforming ended is =
         let o = of_end past once seg.acknowledgement is in
         let same_first : o.0 ≡ p.received.first = some_same o.0 p.received.first (sym o.1 ∙ known) in
-        let low = near_end (guest past) o.2 honest.near o.3 in
-        let within = length_within (so_far p (guest past)) o.2 (λ i x at. honest.within o.2 i x o.3 (f.carried honest i x at)) in
+        let low = near_end (guest past) o.2 conforming.near o.3 in
+        let within = length_within (so_far p (guest past)) o.2 (λ i x at. conforming.within o.2 i x o.3 (f.carried conforming i x at)) in
         let taken = open_places p.received.ended ended in
         let a = f.acknowledged in
         last_number p.received.first p.received.taken o.2 (ackd (guest past))
@@ -114,7 +114,7 @@ module _ (past : Story) (p : Part) (sure ours_first : Bool) (last m : ℕ) (seg 
       fin = e.fin;
       was_sure = λ is. by_sure sure p.received.ended is (λ before. or_right (seg.ack && not seg.rst && list_any (nat_eq seg.acknowledgement) (after_fins past)) (fin_was_acknowledged past)
           (e.was_sure before)) sure_now;
-      is_sure = λ honest is. by_ended p.received.ended refl (honest_before (At m (Departs seg)) past honest) is;
+      is_sure = λ conforming is. by_ended p.received.ended refl (conforming_before (At m (Departs seg)) past conforming) is;
       at = ap (λ (g : List Up). number_of (first_of g) (ackd g)) acked_now ∙ number_after (first_of (guest past)) (ackd (guest past)) seg.acknowledgement small;
       order = order_now;
     }
@@ -138,11 +138,11 @@ module _ (past : Story) (p : Part) (sure ours_first : Bool) (last m : ℕ) (seg 
         last_part true false z is = absurd cc
         last_part false y z is = absurd cc
 
-        by_ended : (b : Bool) → p.received.ended ≡ b → Honest (guest past) → IsTrue (fin_was_acknowledged (At m (Departs seg) ∷ past)) → (sure || b) ≡ true
-        by_ended true ended honest is = or_none sure
-        by_ended false ended honest is = split (seg.ack && not seg.rst && list_any (nat_eq seg.acknowledgement) (after_fins past)) (fin_was_acknowledged past) is
-            (λ here. absurd (not_sure honest ended (last_part seg.ack (not seg.rst) (list_any (nat_eq seg.acknowledgement) (after_fins past)) here)))
-            (λ there. or_left sure false (e.is_sure honest there))
+        by_ended : (b : Bool) → p.received.ended ≡ b → Conforming (guest past) → IsTrue (fin_was_acknowledged (At m (Departs seg) ∷ past)) → (sure || b) ≡ true
+        by_ended true ended conforming is = or_none sure
+        by_ended false ended conforming is = split (seg.ack && not seg.rst && list_any (nat_eq seg.acknowledgement) (after_fins past)) (fin_was_acknowledged past) is
+            (λ here. absurd (not_sure conforming ended (last_part seg.ack (not seg.rst) (list_any (nat_eq seg.acknowledgement) (after_fins past)) here)))
+            (λ there. or_left sure false (e.is_sure conforming there))
 
         moved : nat_lt (ackd (guest past)) (ackd (guest (At m (Departs seg) ∷ past))) ≡ not (nat_eq seg.acknowledgement last)
         moved = ap (λ (g : List Up). nat_lt (ackd (guest past)) (ackd g)) acked_now ∙ moves_if (first_of (guest past)) (ackd (guest past)) seg.acknowledgement small ∙ ap
@@ -165,7 +165,7 @@ module _ (past : Story) (p : Part) (sure ours_first : Bool) (last m : ℕ) (seg 
     kept_low = λ i x is. rw same (e.kept_low i x is);
     fin = e.fin;
     was_sure = λ is. or_right (seg.ack && not seg.rst && list_any (nat_eq seg.acknowledgement) (after_fins past)) (fin_was_acknowledged past) (e.was_sure is);
-    is_sure = λ honest is. e.is_sure (honest_before (At m (Departs seg)) past honest) (only_old seg.ack (not seg.rst) (list_any (nat_eq seg.acknowledgement) (after_fins past))
+    is_sure = λ conforming is. e.is_sure (conforming_before (At m (Departs seg)) past conforming) (only_old seg.ack (not seg.rst) (list_any (nat_eq seg.acknowledgement) (after_fins past))
         (fin_was_acknowledged past) none is);
     at = rw same e.at;
     order = ap (λ (g : List Up). if nat_lt (ackd (guest past)) (ackd g) then fin_is_out past else ended_first past) same ∙ still (ackd (guest past)) (fin_is_out past) (ended_first past) ∙ e.order;

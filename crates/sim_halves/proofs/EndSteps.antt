@@ -9,7 +9,7 @@ use Rattle.spec_flow.specs.Event.{Segment, Arrives, At, Story}
 use Rattle.spec_flow.specs.Guest.{Came, top, first_of, ackd, ends, from_zero}
 use Rattle.spec_flow.specs.Flow.{guest, their_number, is_closed, is_heeded}
 use Rattle.spec_flow.specs.Close.{after_fins}
-use Rattle.spec_flow.proofs.GuestLaws.{honest_before}
+use Rattle.spec_flow.proofs.GuestLaws.{conforming_before}
 use Rattle.sim_halves.specs.Received.{Has}
 use Rattle.sim_halves.specs.Part.{Part}
 use Rattle.sim_halves.specs.Ends.{Ends}
@@ -48,7 +48,7 @@ module _ (past : Story) (p : Part) (sure ours_first : Bool) (last m : ℕ) (seg 
     kept_low = λ i x is. rw same (e.kept_low i x is);
     fin = λ is. fins_stay m past seg _ (e.fin is);
     was_sure = e.was_sure;
-    is_sure = λ honest is. e.is_sure (honest_before (At m (Arrives seg)) past honest) is;
+    is_sure = λ conforming is. e.is_sure (conforming_before (At m (Arrives seg)) past conforming) is;
     at = rw same e.at;
     order = e.order;
   }
@@ -61,7 +61,7 @@ module _ (past : Story) (p : Part) (sure ours_first : Bool) (last m : ℕ) (seg 
     kept_low = λ i x is. let below = e.kept_low i x is in rw same (omega (arith, below));
     fin = λ is. fins_stay m past seg _ (e.fin is);
     was_sure = e.was_sure;
-    is_sure = λ honest is. e.is_sure (honest_before (At m (Arrives seg)) past honest) is;
+    is_sure = λ conforming is. e.is_sure (conforming_before (At m (Arrives seg)) past conforming) is;
     at = rw same e.at;
     order = e.order;
   }
@@ -142,7 +142,7 @@ module _ (past : Story) (p q : Part) (sure ours_first : Bool) (last m : ℕ) (se
     kept_low = λ i x is. has_low i x (is_kept i x is);
     fin = fin_next counts none acked takes;
     was_sure = e.was_sure;
-    is_sure = λ honest is. e.is_sure (honest_before (At m (Arrives seg)) past honest) is;
+    is_sure = λ conforming is. e.is_sure (conforming_before (At m (Arrives seg)) past conforming) is;
     at = rw same e.at;
     order = e.order;
   }

@@ -88,7 +88,7 @@ module _ (past : Story) (m : ℕ) (seg : Segment) (none : their_syn past ≡ Non
         kept_low = λ i x is. absurd (no_kept i x is);
         fin = λ is. let not_it = sym is ∙ open_end in absurd cc;
         was_sure = λ is. absurd cc;
-        is_sure = λ honest is. let not_it = sym is ∙ u.sure in absurd cc;
+        is_sure = λ conforming is. let not_it = sym is ∙ u.sure in absurd cc;
         at = ap (λ (g : List Up). number_of (first_of g) (ackd g)) begun;
         order = u.order;
       }

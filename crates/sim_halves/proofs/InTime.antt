@@ -6,8 +6,8 @@ use Rattle.spec_flow.specs.Event.{Segment, AsksAddress, Connects, Accepts, Depar
 use Rattle.spec_flow.specs.Host.{answered, acked}
 use Rattle.spec_flow.specs.Flow.{host, add_if, holds, sendings, syn_sendings, acknowledged_at, oldest, oldest_sendings, oldest_sent_again, is_under_way, is_closed, opened_at, is_accepted, syn_is_out, newest_of}
 use Rattle.spec_flow.specs.Close.{asked_at, gives_up, times_asked, finds_no_guest}
-use Rattle.spec_flow.specs.Dutiful.{waits_since, moment_if, oldest_unheard, back_off, resend_deadline, seeks_guest, waits_for_window, AreAhead}
-use Rattle.sim_halves.specs.Resends.{Seeks, least_wait, Timer, Off, Until, Expired, Resends, first_time}
+use Rattle.spec_flow.specs.Dutiful.{waits_since, moment_if, oldest_unheard, back_off, resend_deadline, resolves_guest, waits_for_window, AreAhead}
+use Rattle.sim_halves.specs.Resends.{Resolves, least_wait, Timer, Off, Until, Expired, Resends, first_time}
 use Rattle.sim_halves.proofs.Moments.{both_ahead}
 use Rattle.sim_halves.proofs.Resent.{rests_now}
 use Rattle.sim_halves.proofs.Timers.{wait_low, gives_up_at, in_time}
@@ -44,8 +44,8 @@ abbrev pub HasCalled : Story → Type 0
 HasCalled past = IsTrue (is_accepted past && not (is_closed past)) → IsTrue (syn_is_out past)
 
 -- so its guest's address isn't asked for
-pub seeks_none : (past : Story) → HasCalled past → seeks_guest past ≡ false
-seeks_none past called = by (is_accepted past) (syn_is_out past) (is_closed past) called
+pub resolves_none : (past : Story) → HasCalled past → resolves_guest past ≡ false
+resolves_none past called = by (is_accepted past) (syn_is_out past) (is_closed past) called
   where
     by : (a b c : Bool) → (IsTrue (a && not c) → IsTrue b) → (a && not b && not c) ≡ false
     by false b c f = refl
@@ -53,7 +53,7 @@ seeks_none past called = by (is_accepted past) (syn_is_out past) (is_closed past
     by true false true f = refl
     by true false false f = let not_it = f refl in cc
 
-pub none_asked : (past : Story) (now : ℕ) → seeks_guest past ≡ false → AreAhead now (moment_if (seeks_guest past && nat_lt 0 (times_asked past)) (asked_at past + 60000))
+pub none_asked : (past : Story) (now : ℕ) → resolves_guest past ≡ false → AreAhead now (moment_if (resolves_guest past && nat_lt 0 (times_asked past)) (asked_at past + 60000))
 none_asked past now none = rw none tt
 
 -- where a closed window is waited for within a minute since the newest event, that is ahead
@@ -68,9 +68,9 @@ window_ahead past now soon = by (waits_for_window past) soon
 pub all_in_time : (past : Story) (now : ℕ) (timer : Timer) (k w : ℕ) → Resends past now timer k w → (is_under_way past ≡ true → timer ≡ Expired → ⊥) →
     ((at : ℕ) → timer ≡ Until at → now < at) → (waits_for_window past ≡ true → now < newest_moment past + 60000) → HasCalled past → AreAhead now (resend_deadline past)
 all_in_time past now timer k w r sent_all before watched called =
-    both_ahead now (moment_if (is_under_way past && not (is_closed past)) (waits_since past + 60000) ++ moment_if (seeks_guest past && nat_lt 0 (times_asked past)) (asked_at past + 60000)) _
+    both_ahead now (moment_if (is_under_way past && not (is_closed past)) (waits_since past + 60000) ++ moment_if (resolves_guest past && nat_lt 0 (times_asked past)) (asked_at past + 60000)) _
     (both_ahead now (moment_if (is_under_way past && not (is_closed past)) (waits_since past + 60000)) _
-    (by (is_under_way past) (is_closed past) (λ under. by_timer timer refl under)) (none_asked past now (seeks_none past called)))
+    (by (is_under_way past) (is_closed past) (λ under. by_timer timer refl under)) (none_asked past now (resolves_none past called)))
     (window_ahead past now watched)
   where
     by_timer : (t : Timer) → timer ≡ t → is_under_way past ≡ true → now < waits_since past + 60000
@@ -156,15 +156,15 @@ accepts m ours = rests_now (At m (Accepts ours) ∷ []) m 1000 Off (omega arith)
 
 -- ---- requests for the guest's address
 
-pub asks_first : (past : Story) (m w : ℕ) → opened_at past ≤ m → 1000 ≤ w → w ≤ 60000 → Seeks (At m AsksAddress ∷ past) 1 (m + w)
+pub asks_first : (past : Story) (m w : ℕ) → opened_at past ≤ m → 1000 ≤ w → w ≤ 60000 → Resolves (At m AsksAddress ∷ past) 1 (m + w)
 asks_first past m w on low high = record { many = omega arith; from = omega (arith, on, low); soon = omega (arith, high) }
 
 -- at its moment it is asked again, after a longer wait
-pub asks_again : (past : Story) (count at m w : ℕ) → at ≤ m → least_wait count ≤ w → w ≤ 60000 → Seeks past count at → Seeks (At m AsksAddress ∷ past) (suc count) (m + w)
+pub asks_again : (past : Story) (count at m w : ℕ) → at ≤ m → least_wait count ≤ w → w ≤ 60000 → Resolves past count at → Resolves (At m AsksAddress ∷ past) (suc count) (m + w)
 asks_again past count at m w due low high a = record { many = omega (arith, a.many); from = omega (arith, a.from, due, low); soon = omega (arith, high) }
 
 -- nine requests and the last wait: the guest isn't found
-pub not_found : (past : Story) (at now : ℕ) → Seeks past 9 at → at ≤ now → is_accepted past ≡ true → syn_is_out past ≡ false → IsTrue (finds_no_guest false now past)
+pub not_found : (past : Story) (at now : ℕ) → Resolves past 9 at → at ≤ now → is_accepted past ≡ true → syn_is_out past ≡ false → IsTrue (finds_no_guest false now past)
 not_found past at now a due accepted unsent = by (is_accepted past) (syn_is_out past) accepted unsent
   where
     yes_it : (m n : ℕ) → m ≤ n → nat_le m n ≡ true
@@ -180,6 +180,6 @@ not_found past at now a due accepted unsent = by (is_accepted past) (syn_is_out 
     by b c is no_it = rw (is, no_it, many, late) refl
 
 -- and no wait is cut short in its first second
-pub not_before : (past : Story) (count at : ℕ) → 0 < count → Seeks past count at → opened_at past + 1000 ≤ at
+pub not_before : (past : Story) (count at : ℕ) → 0 < count → Resolves past count at → opened_at past + 1000 ≤ at
 not_before past zero at some a = absurd (omega (arith, some))
 not_before past (suc k) at some a = let more = wait_low k in omega (arith, a.from, more)

@@ -6,7 +6,7 @@ use Rattle.std.proofs.lemmas.Bool.Decides.{nat_tests}
 use Rattle.seq_space.specs.Places.{number_of}
 use Rattle.spec_flow.specs.Settings.{Settings}
 use Rattle.spec_flow.specs.Event.{Segment, Arrives, At, Story}
-use Rattle.spec_flow.specs.Guest.{Up, Known, Came, Acked, Wrote, Ended, is_empty, ack_is_due, ackd, first_of, HasCome, Honest, written}
+use Rattle.spec_flow.specs.Guest.{Up, Known, Came, Acked, Wrote, Ended, is_empty, ack_is_due, ackd, first_of, HasCome, Conforming, written}
 use Rattle.spec_flow.specs.Flow.{guest, their_number, our_number, next_number}
 use Rattle.spec_flow.specs.Close.{IsReset, newest_rst, is_fatal, follows_reset}
 use Rattle.spec_flow.specs.Lawful.{HasOwnCause}
@@ -22,16 +22,16 @@ use Rattle.sim_halves.proofs.Wanting.{in_front, front_ended, open_places}
 ended_places : (b : Bool) (t : ℕ) → b ≡ true → (if b then t + 1 else t) ≡ t + 1
 ended_places b t is = rw is refl
 
-pub taken_came : (ring : ℕ) (past : List Up) (p : Part) → Follows ring p past → Honest past → HasCome past (places_taken p.received)
-taken_came ring past p f honest = by p.received.ended refl
+pub taken_came : (ring : ℕ) (past : List Up) (p : Part) → Follows ring p past → Conforming past → HasCome past (places_taken p.received)
+taken_came ring past p f conforming = by p.received.ended refl
   where
     by : (b : Bool) → p.received.ended ≡ b → HasCome past (places_taken p.received)
     by true ended =
-        let end = front_ended ring past p f honest ended in
+        let end = front_ended ring past p f conforming ended in
         let places = ended_places p.received.ended p.received.taken ended in
         inr (end.0, omega (arith, places, end.1))
     by false open_end =
-        let seen = in_front ring past p f honest in
+        let seen = in_front ring past p f conforming in
         let places = open_places p.received.ended p.received.taken open_end in
         inl (omega (arith, places, seen, f.taken, counted))
       where
@@ -51,7 +51,7 @@ module _ (s : Settings) (m : ℕ) (past : Story) (seg : Segment) (rst : seg.rst 
   pub reset_closes : (p : Part) (ended known : Bool) (now : ℕ) → their_number past ≡ Some p.received.first → Follows s.ring p (guest past)
       → seg.number ≡ number_of p.received.first (places_taken p.received) → HasOwnCause true ended known now (At m (Arrives seg) ∷ past)
   reset_closes p ended known now theirs f number =
-      reset_by ended known now (rw theirs (λ honest. (places_taken p.received, f.acknowledged, taken_came s.ring (guest past) p f honest, number)))
+      reset_by ended known now (rw theirs (λ conforming. (places_taken p.received, f.acknowledged, taken_came s.ring (guest past) p f conforming, number)))
 
   -- or, before the guest's SYN is known, where it acknowledges ours
   pub reset_turns_away : (ended known : Bool) (now : ℕ) → their_number past ≡ None → seg.ack ≡ true → seg.acknowledgement ≡ next_number (our_number past) →

@@ -1,13 +1,13 @@
--- What a flow knows of the two ends: the first condition of a close, and rests.
+-- What a flow knows of the two ends: the first condition of a close, and TIME-WAITs.
 use Rattle.std.proofs.Common.{refl, ◌≡◌, ℕ, ◌+◌, [], ◌∷◌, length, arith, Option, Some, None, Bool, true, false, not, ◌&&◌, if◌then◌else◌, IsTrue, nat_eq, ap, sym, ◌∙◌, length-drop}
 use Rattle.std.specs.Option.{unwrap_or}
 use Rattle.seq_space.specs.Places.{number_of}
 use Rattle.spec_flow.specs.Event.{Segment, Event, Connects, Accepts, Arrives, Departs, Closes, At, Story}
-use Rattle.spec_flow.specs.Guest.{Honest, first_of, ackd}
+use Rattle.spec_flow.specs.Guest.{Conforming, first_of, ackd}
 use Rattle.spec_flow.specs.Host.{acked, got}
 use Rattle.spec_flow.specs.Flow.{guest, host, their_number}
-use Rattle.spec_flow.specs.Close.{fin_was_acknowledged, ended_first, host_was_ended, our_fin_is_acked, is_done, follows_reset, rests_since, ends_rest, renews, renewed}
-use Rattle.spec_flow.proofs.GuestLaws.{honest_before}
+use Rattle.spec_flow.specs.Close.{fin_was_acknowledged, ended_first, host_was_ended, our_fin_is_acked, is_done, follows_reset, in_time_wait_since, ends_time_wait, renews, renewed}
+use Rattle.spec_flow.proofs.GuestLaws.{conforming_before}
 use Rattle.sim_halves.specs.Received.{Received}
 use Rattle.sim_halves.specs.Part.{Part}
 use Rattle.sim_halves.specs.Sends.{Outward, Keeps}
@@ -35,7 +35,7 @@ quiet_ends past p q sure ours_first last m any calm r k e = record {
   kept_low = λ i x is. e.kept_low i x (k i x is);
   fin = λ is. rw r (e.fin (sym (ap (λ (x : Received). x.ended) r) ∙ is));
   was_sure = e.was_sure;
-  is_sure = λ honest is. e.is_sure (honest_before (At m any) past honest) is;
+  is_sure = λ conforming is. e.is_sure (conforming_before (At m any) past conforming) is;
   at = e.at;
   order = e.order;
 }
@@ -62,24 +62,24 @@ pub done_is : (past : Story) (p : Part) (sure ours_first : Bool) (last : ℕ) �
     sure ≡ true → IsTrue (is_done past)
 done_is past p sure ours_first last e ended ours it = all_true (host_was_ended past) (our_fin_is_acked past) (fin_was_acknowledged past) ended ours (e.was_sure it)
 
--- and with an honest guest one that is done takes itself for it
-pub is_done_then : (past : Story) (p : Part) (sure ours_first : Bool) (last : ℕ) → Ends past p sure ours_first last → Honest (guest past) → IsTrue (is_done past)
+-- and with a conforming guest one that is done takes itself for it
+pub is_done_then : (past : Story) (p : Part) (sure ours_first : Bool) (last : ℕ) → Ends past p sure ours_first last → Conforming (guest past) → IsTrue (is_done past)
     → (host_was_ended past ≡ true) × (our_fin_is_acked past ≡ true) × (sure ≡ true)
-is_done_then past p sure ours_first last e honest is =
-    let t = three (host_was_ended past) (our_fin_is_acked past) (fin_was_acknowledged past) is in (t.0, t.1, e.is_sure honest t.2)
+is_done_then past p sure ours_first last e conforming is =
+    let t = three (host_was_ended past) (our_fin_is_acked past) (fin_was_acknowledged past) is in (t.0, t.1, e.is_sure conforming t.2)
 
--- ---- rests
+-- ---- TIME-WAITs
 
--- a flow that is closed when it is done rests where we ended first
-pub closes_to_rest : (past : Story) (p : Part) (sure ours_first : Bool) (last m : ℕ) (directly ended known : Bool) → Ends past p sure ours_first last
-    → is_done past ≡ true → follows_reset directly past ≡ false → rests_since (At m (Closes directly ended known) ∷ past) ≡ (if ours_first then Some m else None)
-closes_to_rest past p sure ours_first last m directly ended known e done plain = by (is_done past) (follows_reset directly past) (ended_first past) done plain e.order
+-- a flow that is closed when it is done is in TIME-WAIT where we ended first
+pub closes_to_time_wait : (past : Story) (p : Part) (sure ours_first : Bool) (last m : ℕ) (directly ended known : Bool) → Ends past p sure ours_first last
+    → is_done past ≡ true → follows_reset directly past ≡ false → in_time_wait_since (At m (Closes directly ended known) ∷ past) ≡ (if ours_first then Some m else None)
+closes_to_time_wait past p sure ours_first last m directly ended known e done plain = by (is_done past) (follows_reset directly past) (ended_first past) done plain e.order
   where
     by : (a b c : Bool) → a ≡ true → b ≡ false → c ≡ ours_first → (if a && not b && c then Some m else None) ≡ (if ours_first then Some m else None)
     by a b c x y z = rw (x, y, z) refl
 
--- any other close makes no rest
-pub closes_for_good : (past : Story) (m : ℕ) (directly ended known : Bool) → (is_done past && not (follows_reset directly past)) ≡ false → rests_since
+-- any other close makes no TIME-WAIT
+pub closes_for_good : (past : Story) (m : ℕ) (directly ended known : Bool) → (is_done past && not (follows_reset directly past)) ≡ false → in_time_wait_since
     (At m (Closes directly ended known) ∷ past) ≡ None
 closes_for_good past m directly ended known none = by (is_done past) (not (follows_reset directly past)) (ended_first past) none
   where
@@ -88,7 +88,7 @@ closes_for_good past m directly ended known none = by (is_done past) (not (follo
     by true false c is = refl
     by false b c is = refl
 
--- the next number of a rest is the one that was acknowledged last
+-- the next number of a TIME-WAIT is the one that was acknowledged last
 pub rest_next : (past : Story) (p : Part) (sure ours_first : Bool) (last f : ℕ) → Ends past p sure ours_first last → their_number past ≡ Some f → first_of (guest past) ≡ f
     → number_of (unwrap_or (their_number past) 0) (ackd (guest past)) ≡ last
 rest_next past p sure ours_first last f e known same = by (their_number past) known
@@ -96,10 +96,10 @@ rest_next past p sure ours_first last f e known same = by (their_number past) kn
     by : (o : Option ℕ) → o ≡ Some f → number_of (unwrap_or o 0) (ackd (guest past)) ≡ last
     by o is = rw is (ap (λ (n : ℕ). number_of n (ackd (guest past))) (sym same) ∙ e.at)
 
--- a rest goes on, begins anew or ends by what arrives
-pub rest_goes_on : (past : Story) (m since : ℕ) (seg : Segment) → rests_since past ≡ Some since → rests_since (At m (Arrives seg) ∷ past) ≡
-    (if ends_rest past seg then None else Some (if renews seg then m else since))
-rest_goes_on past m since seg is = by (ends_rest past seg) (renews seg) (rests_since past) is
+-- a TIME-WAIT goes on, begins anew or ends by what arrives
+pub rest_goes_on : (past : Story) (m since : ℕ) (seg : Segment) → in_time_wait_since past ≡ Some since → in_time_wait_since (At m (Arrives seg) ∷ past) ≡
+    (if ends_time_wait past seg then None else Some (if renews seg then m else since))
+rest_goes_on past m since seg is = by (ends_time_wait past seg) (renews seg) (in_time_wait_since past) is
   where
     by : (a b : Bool) (o : Option ℕ) → o ≡ Some since → (if a then None else renewed b m o) ≡ (if a then None else Some (if b then m else since))
     by true b o is = refl
@@ -115,7 +115,7 @@ opens_ends m ours syn p none open_yet no_kept = record {
   kept_low = λ i x is. absurd (no_kept i x is);
   fin = λ is. let not_it = sym is ∙ open_yet in absurd cc;
   was_sure = λ is. absurd cc;
-  is_sure = λ honest is. absurd cc;
+  is_sure = λ conforming is. absurd cc;
   at = refl;
   order = refl;
 }

@@ -5,7 +5,7 @@ use Rattle.std.proofs.lemmas.List.{take-take}
 use Rattle.seq_space.specs.Places.{number_of}
 use Rattle.sim_halves.specs.Upward.{upward}
 use Rattle.sim_halves.specs.Received.{Received, places_taken, IsAckOwed}
-use Rattle.spec_flow.specs.Guest.{Up, Asks, HasCome, IsAcknowledged, has_ended, front, Known, Came, Acked, Wrote, Ended, Brought, EndsAt, Honest, written, ackd}
+use Rattle.spec_flow.specs.Guest.{Up, Asks, HasCome, IsAcknowledged, has_ended, front, Known, Came, Acked, Wrote, Ended, Brought, EndsAt, Conforming, written, ackd}
 use Rattle.spec_flow.specs.Lawful.{AtPlaces, IsPrefixOf}
 use Rattle.spec_flow.proofs.Lists.{slice_get_front}
 use Rattle.spec_flow.proofs.Streams.{earlier, carried_prefix}
@@ -18,8 +18,8 @@ use Rattle.sim_halves.specs.Follows.{Follows, so_far, IsAnswered}
 -- an acknowledgement of what was taken
 pub acked : (ring : ℕ) (p : Part) (past : List Up) (number room : ℕ) → room + length p.up.held ≡ ring → number ≡ number_of p.received.first (places_taken p.received)
     → Follows ring p past → Follows ring (record p { ack_owed = false }) (Acked number ∷ past)
-    × (Honest past → HasCome past (ackd (Acked number ∷ past)))
-    × (Honest past → (a : ℕ) → IsAcknowledged (Acked number ∷ past) a → room + a ≡ length (written past) + ring)
+    × (Conforming past → HasCome past (ackd (Acked number ∷ past)))
+    × (Conforming past → (a : ℕ) → IsAcknowledged (Acked number ∷ past) a → room + a ≡ length (written past) + ring)
 acked ring p past number room whole is f = (
   record {
     first = f.first;
@@ -28,15 +28,15 @@ acked ring p past number room whole is f = (
     acknowledged = rw (is, f.first) (acked_within p.received.first (ackd past) (places_taken p.received) f.acknowledged);
     told = f.told;
     brought = f.brought;
-    carried = λ honest. f.carried (earlier (Acked number) past honest);
-    end = λ ended honest. f.end ended (earlier (Acked number) past honest);
+    carried = λ conforming. f.carried (earlier (Acked number) past conforming);
+    end = λ ended conforming. f.end ended (earlier (Acked number) past conforming);
     kept_brought = f.kept_brought;
-    kept_carried = λ honest. f.kept_carried (earlier (Acked number) past honest);
+    kept_carried = λ conforming. f.kept_carried (earlier (Acked number) past conforming);
     size = f.size;
     within = f.within;
-    asked = λ honest a asks. f.asked (earlier (Acked number) past honest) a asks;
-    settled = λ owed honest.
-        let before = earlier (Acked number) past honest in
+    asked = λ conforming a asks. f.asked (earlier (Acked number) past conforming) a asks;
+    settled = λ owed conforming.
+        let before = earlier (Acked number) past conforming in
         let all : ackd (Acked number ∷ past) ≡ places_taken p.received = rw f.taken (acked_all past (so_far p past) p.received.ended number f.carried
         (rw (← f.taken) f.acknowledged) (rw (f.first, ← f.taken) is) before) in
         rw all (omega arith);
@@ -56,7 +56,7 @@ moved w held k n few =
 pub wrote : (ring : ℕ) (p : Part) (past : List Up) (k n : ℕ) → n ≤ k → k ≤ length p.up.held
     → Follows ring p past
     → Follows ring (record p { up = upward (drop n p.up.held) (p.up.written + n) p.up.size }) (Wrote (take k p.up.held) n ∷ past)
-    × (Honest past → IsPrefixOf (written past ++ take k p.up.held) (front past)) × AtPlaces (Brought past) (written past ++ take k p.up.held)
+    × (Conforming past → IsPrefixOf (written past ++ take k p.up.held) (front past)) × AtPlaces (Brought past) (written past ++ take k p.up.held)
 wrote ring p past k n few within f =
     let held : List ℕ = p.up.held in
     let same : (written past ++ take n (take k held)) ++ drop n held ≡ written past ++ held = moved (written past) held k n few in
@@ -69,23 +69,23 @@ wrote ring p past k n few within f =
         acknowledged = f.acknowledged;
         told = f.told;
         brought = rw same f.brought;
-        carried = λ honest. rw same (f.carried (earlier (Wrote (take k held) n) past honest));
-        end = λ ended honest. rw same (f.end ended (earlier (Wrote (take k held) n) past honest));
+        carried = λ conforming. rw same (f.carried (earlier (Wrote (take k held) n) past conforming));
+        end = λ ended conforming. rw same (f.end ended (earlier (Wrote (take k held) n) past conforming));
         kept_brought = f.kept_brought;
-        kept_carried = λ honest. f.kept_carried (earlier (Wrote (take k held) n) past honest);
+        kept_carried = λ conforming. f.kept_carried (earlier (Wrote (take k held) n) past conforming);
         size = f.size;
         within = omega (arith, length-drop n held, f.within);
-        asked = λ honest. f.asked (earlier (Wrote (take k held) n) past honest);
-        settled = λ owed honest. f.settled owed (earlier (Wrote (take k held) n) past honest);
+        asked = λ conforming. f.asked (earlier (Wrote (take k held) n) past conforming);
+        settled = λ owed conforming. f.settled owed (earlier (Wrote (take k held) n) past conforming);
       },
-      λ honest. carried_prefix past (written past ++ take k held) (λ i x e. f.carried honest i x (rw (← whole) (slice_get_front (written past ++ take k held) (drop k held) i x e))) honest,
+      λ conforming. carried_prefix past (written past ++ take k held) (λ i x e. f.carried conforming i x (rw (← whole) (slice_get_front (written past ++ take k held) (drop k held) i x e))) conforming,
       λ i x e. f.brought i x (rw (← whole) (slice_get_front (written past ++ take k held) (drop k held) i x e)),
     )
 
 -- the end, once all is written
 pub told_the_end : (ring : ℕ) (p : Part) (past : List Up) → p.up.held ≡ [] → p.received.ended ≡ true → p.told_end ≡ false
     → Follows ring p past → Follows ring (record p { told_end = true }) (Ended ∷ past)
-    × (has_ended past ≡ false) × (Honest past → EndsAt past (length (written past)))
+    × (has_ended past ≡ false) × (Conforming past → EndsAt past (length (written past)))
 told_the_end ring p past empty ended not f =
     let same : length (written past ++ p.up.held) ≡ length (written past) = omega (arith, length-append (written past) p.up.held, ap length empty) in (
       record {
@@ -95,17 +95,17 @@ told_the_end ring p past empty ended not f =
         acknowledged = f.acknowledged;
         told = refl;
         brought = f.brought;
-        carried = λ honest. f.carried (earlier Ended past honest);
-        end = λ is honest. f.end is (earlier Ended past honest);
+        carried = λ conforming. f.carried (earlier Ended past conforming);
+        end = λ is conforming. f.end is (earlier Ended past conforming);
         kept_brought = f.kept_brought;
-        kept_carried = λ honest. f.kept_carried (earlier Ended past honest);
+        kept_carried = λ conforming. f.kept_carried (earlier Ended past conforming);
         size = f.size;
         within = f.within;
-        asked = λ honest. f.asked (earlier Ended past honest);
-        settled = λ owed honest. f.settled owed (earlier Ended past honest);
+        asked = λ conforming. f.asked (earlier Ended past conforming);
+        settled = λ owed conforming. f.settled owed (earlier Ended past conforming);
       },
       sym f.told ∙ not,
-      λ honest. rw same at (f.end ended honest),
+      λ conforming. rw same at (f.end ended conforming),
     )
 
 -- a segment that isn't heeded changes nothing
@@ -117,14 +117,14 @@ passed ring p past n xs fin f = record {
   acknowledged = f.acknowledged;
   told = f.told;
   brought = λ i x e. inr (f.brought i x e);
-  carried = λ honest i x e. inr (f.carried (earlier (Came n xs fin false) past honest) i x e);
-  end = λ is honest. inr (f.end is (earlier (Came n xs fin false) past honest));
+  carried = λ conforming i x e. inr (f.carried (earlier (Came n xs fin false) past conforming) i x e);
+  end = λ is conforming. inr (f.end is (earlier (Came n xs fin false) past conforming));
   kept_brought = λ i x e. inr (f.kept_brought i x e);
-  kept_carried = λ honest i x e. inr (f.kept_carried (earlier (Came n xs fin false) past honest) i x e);
+  kept_carried = λ conforming i x e. inr (f.kept_carried (earlier (Came n xs fin false) past conforming) i x e);
   size = f.size;
   within = f.within;
-  asked = λ honest a asks. still ring past n xs fin (places_taken p.received) a (f.asked (earlier (Came n xs fin false) past honest)) asks;
-  settled = λ owed honest. f.settled owed (earlier (Came n xs fin false) past honest);
+  asked = λ conforming a asks. still ring past n xs fin (places_taken p.received) a (f.asked (earlier (Came n xs fin false) past conforming)) asks;
+  settled = λ owed conforming. f.settled owed (earlier (Came n xs fin false) past conforming);
 }
   where
     still : (ring : ℕ) (past : List Up) (n : ℕ) (xs : List ℕ) (fin : Bool) (m a : ℕ) → ((a : ℕ) → Asks ring past a → a ≤ m) → Asks ring (Came n xs fin false ∷ past) a → a ≤ m
@@ -140,19 +140,19 @@ opened ring number tuple first = record {
   acknowledged = omega arith;
   told = refl;
   brought = λ i x e. absurd cc;
-  carried = λ honest i x e. absurd cc;
-  end = λ is honest. absurd cc;
+  carried = λ conforming i x e. absurd cc;
+  end = λ is conforming. absurd cc;
   kept_brought = λ i x e. absurd cc;
-  kept_carried = λ honest i x e. absurd cc;
+  kept_carried = λ conforming i x e. absurd cc;
   size = refl;
   within = omega arith;
-  asked = λ honest a asks. absurd asks;
-  settled = λ owed honest. omega arith;
+  asked = λ conforming a asks. absurd asks;
+  settled = λ owed conforming. omega arith;
 }
 
 -- where no acknowledgement is owed, all that was asked for was acknowledged
 pub answered : (ring : ℕ) (p : Part) (past : List Up) → Follows ring p past → p.ack_owed ≡ false → IsAnswered ring past
-answered ring p past f none honest a asks = let have = f.asked honest a asks in let all = f.settled none honest in omega arith
+answered ring p past f none conforming a asks = let have = f.asked conforming a asks in let all = f.settled none conforming in omega arith
 
 empty_length : (n : ℕ) → (0 < n → ⊥) → n ≡ 0
 empty_length zero not = refl

@@ -26,8 +26,8 @@ module _ (s : Settings) (p : Part) (m : ℕ) (past : Story) where
       let step = acked s.ring p (guest past) seg.acknowledgement room whole is f in
       let same = guest_acked m past seg ack rst known in (
         subst (λ (g : List Up). Follows s.ring (record p { ack_owed = false }) g) (sym same) step.0,
-        λ plain. (ack ∙ sym known, λ has honest. step.1 honest),
-        λ plain honest a h. (room, step.2 honest a (subst (λ (g : List Up). IsAcknowledged g a) same h), window),
+        λ plain. (ack ∙ sym known, λ has conforming. step.1 conforming),
+        λ plain conforming a h. (room, step.2 conforming a (subst (λ (g : List Up). IsAcknowledged g a) same h), window),
       )
 
   -- octets that are held may be offered

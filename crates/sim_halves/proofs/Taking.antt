@@ -7,7 +7,7 @@ use Rattle.std.proofs.lemmas.Option.{slice_get_within, slice_get-get_or}
 use Rattle.seq_space.specs.Places.{place}
 use Rattle.seq_space.proofs.Numbers.{place_is}
 use Rattle.sim_halves.specs.Received.{next_octets, Has}
-use Rattle.spec_flow.specs.Guest.{Up, octet_at, Came, Brought, Carries, EndsAt, Honest, written, first_of, ackd}
+use Rattle.spec_flow.specs.Guest.{Up, octet_at, Came, Brought, Carries, EndsAt, Conforming, written, first_of, ackd}
 use Rattle.spec_flow.specs.Lawful.{AtPlaces}
 use Rattle.spec_flow.proofs.Lists.{slice_get_append, slice_get_take}
 use Rattle.spec_flow.proofs.Streams.{octet_at_pos, earlier, carried_length}
@@ -31,7 +31,7 @@ octet_found : (o : ℤ) (xs : List ℕ) (i x : ℕ) → octet_at o xs i ≡ Some
 octet_found (pos o) xs i x e = let at = octet_at_pos o i x xs e in (i - o, at.1, omega (arith, ints, at.0))
 octet_found (negsuc n) xs i x e = (i + suc n, e, omega (arith, ints))
 
--- what the receiver has for a place was brought, and for an honest guest it is carried
+-- what the receiver has for a place was brought, and for a conforming guest it is carried
 module _ (past : List Up) (first t : ℕ) (so_far : List ℕ) (kept : ℕ → Option ℕ) (n : ℕ) (xs : List ℕ) (fin : Bool) (fits : n < 2 ^ 32) (known : first_of past ≡ first)
     (counted : t ≡ length so_far) where
   pub has_brought : ((i x : ℕ) → kept i ≡ Some x → Brought past i x) → (i x : ℕ) → Has kept (place n first t) xs t i x → Brought (Came n xs fin true ∷ past) i x
@@ -40,22 +40,22 @@ module _ (past : List Up) (first t : ℕ) (so_far : List ℕ) (kept : ℕ → Op
       let found = octet_found (place n first t) xs i x at in
       inl (found.0, found.1, rw known (number_from n first t i found.0 (place n first t) (place_is n first t fits) found.2))
 
-  pub has_carried : (Honest past → AtPlaces (Carries past) so_far) → (Honest past → (i x : ℕ) → kept i ≡ Some x → Carries past i x) → ackd past ≤ t
-      → Honest (Came n xs fin true ∷ past) → (i x : ℕ) → Has kept (place n first t) xs t i x → Carries (Came n xs fin true ∷ past) i x
-  has_carried carried is_kept low honest i x (inl is) = inr (is_kept (earlier (Came n xs fin true) past honest) i x is)
-  has_carried carried is_kept low honest i x (inr (high, at)) =
+  pub has_carried : (Conforming past → AtPlaces (Carries past) so_far) → (Conforming past → (i x : ℕ) → kept i ≡ Some x → Carries past i x) → ackd past ≤ t
+      → Conforming (Came n xs fin true ∷ past) → (i x : ℕ) → Has kept (place n first t) xs t i x → Carries (Came n xs fin true ∷ past) i x
+  has_carried carried is_kept low conforming i x (inl is) = inr (is_kept (earlier (Came n xs fin true) past conforming) i x is)
+  has_carried carried is_kept low conforming i x (inr (high, at)) =
       let found = octet_found (place n first t) xs i x at in
       let some = slice_get_within xs found.0 x found.1 in
-      let long = carried_length past so_far (carried (earlier (Came n xs fin true) past honest)) in
-      let same = same_place past n xs fin true t fits honest.near (omega arith) low (omega arith) in
+      let long = carried_length past so_far (carried (earlier (Came n xs fin true) past conforming)) in
+      let same = same_place past n xs fin true t fits conforming.near (omega arith) low (omega arith) in
       inl (omega arith, rw (same, known) at)
 
-  pub came_end : (Honest past → AtPlaces (Carries past) so_far) → ackd past ≤ t → (m : ℕ) → IsTrue fin → (place n first t +ℤ pos (length xs)) ≡ pos (t + m)
-      → Honest (Came n xs fin true ∷ past) → EndsAt (Came n xs fin true ∷ past) (t + m)
-  came_end carried low m ends at honest =
-      let long = carried_length past so_far (carried (earlier (Came n xs fin true) past honest)) in
+  pub came_end : (Conforming past → AtPlaces (Carries past) so_far) → ackd past ≤ t → (m : ℕ) → IsTrue fin → (place n first t +ℤ pos (length xs)) ≡ pos (t + m)
+      → Conforming (Came n xs fin true ∷ past) → EndsAt (Came n xs fin true ∷ past) (t + m)
+  came_end carried low m ends at conforming =
+      let long = carried_length past so_far (carried (earlier (Came n xs fin true) past conforming)) in
       let some : 0 < length xs + (if fin then 1 else 0) = fin_counts fin (length xs) ends in
-      let same = same_place past n xs fin true t fits honest.near (omega arith) low some in
+      let same = same_place past n xs fin true t fits conforming.near (omega arith) low some in
       inl (ends, rw (same, known) at, omega arith)
 
 -- a list and what comes next
@@ -85,16 +85,16 @@ module _ (ring : ℕ) (past : List Up) (number tuple first t : ℕ) (held : List
         acknowledged = rw add-zero f.acknowledged;
         told = f.told;
         brought = rw same (λ i x e. inr (f.brought i x e));
-        carried = λ honest. rw same (λ i x e. inr (f.carried (earlier (Came n xs fin true) past honest) i x e));
-        end = λ is honest. rw same (inr (f.end refl (earlier (Came n xs fin true) past honest)));
+        carried = λ conforming. rw same (λ i x e. inr (f.carried (earlier (Came n xs fin true) past conforming) i x e));
+        end = λ is conforming. rw same (inr (f.end refl (earlier (Came n xs fin true) past conforming)));
         kept_brought = λ i x e. inr (f.kept_brought i x (same_kept i x e));
-        kept_carried = λ honest i x e. inr (f.kept_carried (earlier (Came n xs fin true) past honest) i x (same_kept i x e));
+        kept_carried = λ conforming i x e. inr (f.kept_carried (earlier (Came n xs fin true) past conforming) i x (same_kept i x e));
         size = f.size;
         within = rw append-nil f.within;
-        asked = λ honest a asks.
+        asked = λ conforming a asks.
             rw add-zero (closed_asked ring past first t (length held) (written past ++ held) n xs fin fits f.first f.taken (f.taken ∙ length-append (written past) held) f.within
-            f.acknowledged (rw (← f.taken) at (f.end refl (earlier (Came n xs fin true) past honest))) honest (f.asked (earlier (Came n xs fin true) past honest)) a asks);
-        settled = λ is honest. rw add-zero (f.settled (quiet is) (earlier (Came n xs fin true) past honest));
+            f.acknowledged (rw (← f.taken) at (f.end refl (earlier (Came n xs fin true) past conforming))) conforming (f.asked (earlier (Came n xs fin true) past conforming)) a asks);
+        settled = λ is conforming. rw add-zero (f.settled (quiet is) (earlier (Came n xs fin true) past conforming));
       }
 
   -- while it is open, at least the octets that come next and fit are, and then those that were kept
@@ -104,18 +104,18 @@ module _ (ring : ℕ) (past : List Up) (number tuple first t : ℕ) (held : List
       → length held + length ys ≤ size
       → (took : Bool)
       → (took ≡ true → IsTrue fin × ((place n first t +ℤ pos (length xs)) ≡ pos (t + length ys)))
-      → (IsTrue fin → (place n first t +ℤ pos (length xs)) ≡ pos (t + length ys) → Honest (Came n xs fin true ∷ past) → took ≡ true)
+      → (IsTrue fin → (place n first t +ℤ pos (length xs)) ≡ pos (t + length ys) → Conforming (Came n xs fin true ∷ past) → took ≡ true)
       → (new_owed : Bool) → (new_owed ≡ false → (owed ≡ false) × (length ys ≡ 0) × (fin ≡ false))
       → Follows ring (part number tuple first t false held w size told owed kept) past
       → Follows ring (part number tuple first (t + length ys) (false || took) (held ++ ys) w size told new_owed now_kept) (Came n xs fin true ∷ past)
   came_open ys is_kept new enough fit took ends ends_back new_owed quiet f =
       let same : written past ++ (held ++ ys) ≡ (written past ++ held) ++ ys = sym (append_assoc (written past) held ys) in
       let long : t + length ys ≡ length (written past ++ (held ++ ys)) = omega (arith, ap length same, length-append (written past ++ held) ys, f.taken) in
-      let has : Honest (Came n xs fin true ∷ past) → (i x : ℕ) → Has kept (place n first t) xs t i x → Carries (Came n xs fin true ∷ past) i x =
+      let has : Conforming (Came n xs fin true ∷ past) → (i x : ℕ) → Has kept (place n first t) xs t i x → Carries (Came n xs fin true ∷ past) i x =
       has_carried past first t (written past ++ held) kept n xs fin fits f.first f.taken f.carried f.kept_carried f.acknowledged in
-      let all : Honest (Came n xs fin true ∷ past) → AtPlaces (Carries (Came n xs fin true ∷ past)) ((written past ++ held) ++ ys) = λ honest.
-      both_parts (Carries (Came n xs fin true ∷ past)) (written past ++ held) ys t f.taken (λ i x e. inr (f.carried (earlier (Came n xs fin true) past honest) i x e))
-      (λ k x at. has honest (t + k) x (new k x at)) in
+      let all : Conforming (Came n xs fin true ∷ past) → AtPlaces (Carries (Came n xs fin true ∷ past)) ((written past ++ held) ++ ys) = λ conforming.
+      both_parts (Carries (Came n xs fin true ∷ past)) (written past ++ held) ys t f.taken (λ i x e. inr (f.carried (earlier (Came n xs fin true) past conforming) i x e))
+      (λ k x at. has conforming (t + k) x (new k x at)) in
       record {
         first = f.first;
         count = f.count;
@@ -124,32 +124,32 @@ module _ (ring : ℕ) (past : List Up) (number tuple first t : ℕ) (held : List
         told = f.told;
         brought = rw same (both_parts (Brought (Came n xs fin true ∷ past)) (written past ++ held) ys t f.taken (λ i x e. inr (f.brought i x e))
             (λ k x at. has_brought past first t (written past ++ held) kept n xs fin fits f.first f.taken f.kept_brought (t + k) x (new k x at)));
-        carried = λ honest. rw same (all honest);
-        end = λ is honest.
+        carried = λ conforming. rw same (all conforming);
+        end = λ is conforming.
             let this = ends is in
-            rw (← long) (came_end past first t (written past ++ held) kept n xs fin fits f.first f.taken f.carried f.acknowledged (length ys) this.0 this.1 honest);
+            rw (← long) (came_end past first t (written past ++ held) kept n xs fin fits f.first f.taken f.carried f.acknowledged (length ys) this.0 this.1 conforming);
         kept_brought = λ i x e. has_brought past first t (written past ++ held) kept n xs fin fits f.first f.taken f.kept_brought i x (is_kept i x e);
-        kept_carried = λ honest i x e. has honest i x (is_kept i x e);
+        kept_carried = λ conforming i x e. has conforming i x (is_kept i x e);
         size = f.size;
         within = omega (arith, length-append held ys, f.size, fit);
-        asked = λ honest a asks.
+        asked = λ conforming a asks.
             came_asked ring past first t (length held) (written past ++ held) n xs fin fits f.first f.taken (f.taken ∙ length-append (written past) held) f.within took (length ys)
             f.carried f.acknowledged (omega (arith, enough, f.size))
-            (λ honest i end low.
+            (λ conforming i end low.
             elim (cases_lt i (t + length ys)) [
               | inl inside ↦
                   let here : i - t < length ys = omega (arith, inside, low) in
                   let at = slice_get-get_or ys (i - t) 0 here in
-                  let octet = has honest (t + (i - t)) (get_or ys (i - t) 0) (new (i - t) (get_or ys (i - t) 0) at) in
+                  let octet = has conforming (t + (i - t)) (get_or ys (i - t) 0) (new (i - t) (get_or ys (i - t) 0) at) in
                   let there : t + (i - t) ≡ i = omega (arith, low) in
-                  let less = honest.within i i (get_or ys (i - t) 0) end (subst (λ (j : ℕ). Carries (Came n xs fin true ∷ past) j (get_or ys (i - t) 0)) there octet) in
+                  let less = conforming.within i i (get_or ys (i - t) 0) end (subst (λ (j : ℕ). Carries (Came n xs fin true ∷ past) j (get_or ys (i - t) 0)) there octet) in
                   absurd (omega (arith, less))
               | inr past_it ↦ past_it
             ])
-            ends_back honest (f.asked (earlier (Came n xs fin true) past honest)) a asks;
-        settled = λ is honest.
+            ends_back conforming (f.asked (earlier (Came n xs fin true) past conforming)) a asks;
+        settled = λ is conforming.
             let q = quiet is in
-            let had = f.settled q.0 (earlier (Came n xs fin true) past honest) in
+            let had = f.settled q.0 (earlier (Came n xs fin true) past conforming) in
             let still : took ≡ false = not_fin took fin q.2 (λ h. (ends h).0) in
             rw (still, q.1) (rw add-zero had);
       }
@@ -179,7 +179,7 @@ came ring past p q n xs fin fits took ys is closed open_yet ends quiet f = rw is
     by_ended false over f =
         let c = open_yet over in
         came_open ring past p.number p.tuple p.received.first p.received.taken p.up.held p.up.written p.up.size p.told_end p.ack_owed p.kept q.kept n xs fin fits ys c.0 c.1 c.2 c.3
-        took (λ is. let e = ends.0 is in (e.0, e.2)) (λ h at honest. ends.1 (h, over, at)) q.ack_owed quiet f
+        took (λ is. let e = ends.0 is in (e.0, e.2)) (λ h at conforming. ends.1 (h, over, at)) q.ack_owed quiet f
 
 -- what comes next in a segment, the receiver has
 pub next_has : (kept : ℕ → Option ℕ) (o : ℤ) (xs : List ℕ) (t m k x : ℕ) → slice_get (take m (next_octets o xs t)) k ≡ Some x → Has kept o xs t (t + k) x

@@ -7,7 +7,7 @@ use Rattle.std.specs.Option.{unwrap_or}
 use Rattle.seq_space.specs.Places.{number_of}
 use Rattle.spec_flow.specs.Settings.{Settings}
 use Rattle.spec_flow.specs.Event.{Story}
-use Rattle.spec_flow.specs.Guest.{Up, EndsAt, Honest, IsAcknowledged, ackd, front, written, has_ended}
+use Rattle.spec_flow.specs.Guest.{Up, EndsAt, Conforming, IsAcknowledged, ackd, front, written, has_ended}
 use Rattle.spec_flow.specs.Host.{acked, got, got_end, owned}
 use Rattle.spec_flow.specs.Flow.{guest, host, their_number, is_closed, is_connecting}
 use Rattle.spec_flow.specs.Close.{before}
@@ -49,47 +49,47 @@ module _ (ring : ℕ) (past : List Up) (p : Part) (f : Follows ring p past) wher
           let places = open_places p.received.ended p.received.taken is in
           absurd (omega (arith, f.acknowledged, places, counted, none, more))
 
-  -- what was taken of an honest guest is in its front
-  pub in_front : Honest past → length (written past) + length p.up.held ≤ length (front past)
-  in_front honest = let seen = carried_seen past (so_far p past) (f.carried honest) honest in omega (arith, seen, length-append (written past) p.up.held)
+  -- what was taken of a conforming guest is in its front
+  pub in_front : Conforming past → length (written past) + length p.up.held ≤ length (front past)
+  in_front conforming = let seen = carried_seen past (so_far p past) (f.carried conforming) conforming in omega (arith, seen, length-append (written past) p.up.held)
 
   -- what was written and is held begins what it sent
-  pub begins_front : Honest past → IsPrefixOf (written past ++ p.up.held) (front past)
-  begins_front honest = carried_prefix past (so_far p past) (f.carried honest) honest
+  pub begins_front : Conforming past → IsPrefixOf (written past ++ p.up.held) (front past)
+  begins_front conforming = carried_prefix past (so_far p past) (f.carried conforming) conforming
 
   -- and where its end was taken, it is the front
-  pub front_ended : Honest past → p.received.ended ≡ true → EndsAt past (length (front past)) × (length (front past) ≡ p.received.taken)
-  front_ended honest ended =
-      let end = f.end ended honest in
-      let few = length_within (front past) (length (so_far p past)) (λ i x at. honest.within (length (so_far p past)) i x end (front_carried past i x at)) in
-      let seen = carried_seen past (so_far p past) (f.carried honest) honest in
+  pub front_ended : Conforming past → p.received.ended ≡ true → EndsAt past (length (front past)) × (length (front past) ≡ p.received.taken)
+  front_ended conforming ended =
+      let end = f.end ended conforming in
+      let few = length_within (front past) (length (so_far p past)) (λ i x at. conforming.within (length (so_far p past)) i x end (front_carried past i x at)) in
+      let seen = carried_seen past (so_far p past) (f.carried conforming) conforming in
       let same : length (so_far p past) ≡ length (front past) = omega (arith, few, seen) in
       (subst (λ (n : ℕ). EndsAt past n) same end, omega (arith, same, f.taken))
 
-  -- what was acknowledged of an honest guest is written or held
-  pub acknowledged_few : Honest past → (a : ℕ) → IsAcknowledged past a → a ≤ length (written past) + length p.up.held
-  acknowledged_few honest a acked = by p.received.ended refl acked
+  -- what was acknowledged of a conforming guest is written or held
+  pub acknowledged_few : Conforming past → (a : ℕ) → IsAcknowledged past a → a ≤ length (written past) + length p.up.held
+  acknowledged_few conforming a acked = by p.received.ended refl acked
     where
       by : (b : Bool) → p.received.ended ≡ b → IsAcknowledged past a → a ≤ length (written past) + length p.up.held
-      by true ended (inl (is, low)) = let least = low (length (so_far p past)) (f.end ended honest) in omega (arith, least, length-append (written past) p.up.held)
-      by true ended (inr (end, few)) = let same = honest.ends a (length (so_far p past)) end (f.end ended honest) in omega (arith, same, length-append (written past) p.up.held)
+      by true ended (inl (is, low)) = let least = low (length (so_far p past)) (f.end ended conforming) in omega (arith, least, length-append (written past) p.up.held)
+      by true ended (inr (end, few)) = let same = conforming.ends a (length (so_far p past)) end (f.end ended conforming) in omega (arith, same, length-append (written past) p.up.held)
       by false open_end (inl (is, low)) = let places = open_places p.received.ended p.received.taken open_end in omega (arith, is, f.acknowledged, places, counted)
       by false open_end (inr (end, few)) = let places = open_places p.received.ended p.received.taken open_end in omega (arith, few, f.acknowledged, places, counted)
 
   -- where all that came was acknowledged, it is all that was taken
-  all_taken : Honest past
+  all_taken : Conforming past
       → ((ackd past ≡ length (front past)) × (EndsAt past (length (front past)) → ⊥)) ⊎ (EndsAt past (length (front past)) × (ackd past ≡ length (front past) + 1))
       → ackd past ≡ places_taken p.received
-  all_taken honest (inl (all, no_end)) = by p.received.ended refl
+  all_taken conforming (inl (all, no_end)) = by p.received.ended refl
     where
       by : (b : Bool) → p.received.ended ≡ b → ackd past ≡ places_taken p.received
-      by true ended = absurd (no_end (front_ended honest ended).0)
+      by true ended = absurd (no_end (front_ended conforming ended).0)
       by false open_end =
           let places = open_places p.received.ended p.received.taken open_end in
-          let seen = in_front honest in
+          let seen = in_front conforming in
           omega (arith, all, f.acknowledged, places, counted, seen)
-  all_taken honest (inr (end, all)) =
-      let seen = in_front honest in
+  all_taken conforming (inr (end, all)) =
+      let seen = in_front conforming in
       let few = places_few p.received.ended p.received.taken in
       omega (arith, all, f.acknowledged, counted, seen, few)
 
@@ -108,20 +108,20 @@ module _ (s : Settings) (past : Story) (p : Part) (f : Follows s.ring p (guest p
 
   -- and where one of these is so, it may be
   pub may_want : is_closed past ≡ false → (is_connecting past ≡ true) ⊎ ((0 < length p.up.held) ⊎ ((p.received.ended ≡ true) × (p.told_end ≡ false))) → MayWaitToWrite past
-  may_want open_yet (inl connecting) = (open_yet, λ honest. inl connecting)
-  may_want open_yet (inr (inl some)) = (open_yet, λ honest. let seen = in_front s.ring (guest past) p f honest in inr (inl (omega (arith, seen, some))))
-  may_want open_yet (inr (inr (ended, not_told))) = (open_yet, λ honest. inr (inr ((front_ended s.ring (guest past) p f honest ended).0, sym f.told ∙ not_told)))
+  may_want open_yet (inl connecting) = (open_yet, λ conforming. inl connecting)
+  may_want open_yet (inr (inl some)) = (open_yet, λ conforming. let seen = in_front s.ring (guest past) p f conforming in inr (inl (omega (arith, seen, some))))
+  may_want open_yet (inr (inr (ended, not_told))) = (open_yet, λ conforming. inr (inr ((front_ended s.ring (guest past) p f conforming ended).0, sym f.told ∙ not_told)))
 
   -- all that is held, up to what a call takes, is enough to be offered
   pub offers : OffersEnough past (take (min 16384 (length p.up.held)) p.up.held)
   offers =
       let long = length-take (min 16384 (length p.up.held)) p.up.held in
-      (omega (arith, long), λ honest a acked. let few = acknowledged_few s.ring (guest past) p f honest a acked in omega (arith, long, few))
+      (omega (arith, long), λ conforming a acked. let few = acknowledged_few s.ring (guest past) p f conforming a acked in omega (arith, long, few))
 
 -- a reset after which the close must come is at the number after all that was taken
 pub reset_at_next : (s : Settings) (past : Story) (p : Part) → Follows s.ring p (guest (before past)) → (close : MustClose past) → close.0.number ≡ number_of p.received.first (places_taken p.received)
-reset_at_next s past p f (seg, newest, open_yet, honest, known, number, all) =
-    let places = all_taken s.ring (guest (before past)) p f honest all in
+reset_at_next s past p f (seg, newest, open_yet, conforming, known, number, all) =
+    let places = all_taken s.ring (guest (before past)) p f conforming all in
     number ∙ ap (λ (a : ℕ). number_of (unwrap_or (their_number (before past)) 0) a) places ∙ ap (λ (n : ℕ). number_of n (places_taken p.received)) (by (their_number (before past)) refl known)
   where
     by : (o : Option ℕ) → their_number (before past) ≡ o → is_some o ≡ true → unwrap_or o 0 ≡ p.received.first

@@ -3,7 +3,7 @@ use Rattle.std.specs.Prelude.{◌≡◌, ℕ, ◌+◌, ◌<◌, ◌≤◌, List,
 use Rattle.std.specs.List.{list_any}
 use Rattle.seq_space.specs.Places.{number_of}
 use Rattle.spec_flow.specs.Event.{Story}
-use Rattle.spec_flow.specs.Guest.{Up, top, first_of, ackd, ack_is_due, Honest}
+use Rattle.spec_flow.specs.Guest.{Up, top, first_of, ackd, ack_is_due, Conforming}
 use Rattle.spec_flow.specs.Flow.{guest}
 use Rattle.spec_flow.specs.Close.{after_fins, fin_was_acknowledged, ended_first}
 use Rattle.sim_halves.specs.Received.{Received, places_taken}
@@ -15,7 +15,7 @@ pub record Ends (past : Story) (p : Part) (sure ours_first : Bool) (last : ℕ) 
   pub kept_low : (i x : ℕ) → p.kept i ≡ Some x → i < top (guest past)
   pub fin : p.received.ended ≡ true → IsTrue (list_any (nat_eq (number_of p.received.first (p.received.taken + 1))) (after_fins past))
   pub was_sure : sure ≡ true → IsTrue (fin_was_acknowledged past)
-  pub is_sure : Honest (guest past) → IsTrue (fin_was_acknowledged past) → sure ≡ true
+  pub is_sure : Conforming (guest past) → IsTrue (fin_was_acknowledged past) → sure ≡ true
   pub at : number_of (first_of (guest past)) (ackd (guest past)) ≡ last
   pub order : ended_first past ≡ ours_first
 

@@ -52,7 +52,7 @@ pub record Resends (past : Story) (now : ℕ) (timer : Timer) (k w : ℕ) : Type
 
 -- An accepted flow asks for the guest's address, in place of its SYN: it asked so often, and waits for the answer until a moment, a
 -- minute at most after it was asked for last.
-pub record Seeks (past : Story) (count at : ℕ) : Type 0 where
+pub record Resolves (past : Story) (count at : ℕ) : Type 0 where
   pub many : count ≤ times_asked past
   pub from : opened_at past + least_waits count ≤ at
   pub soon : at ≤ asked_at past + 60000

@@ -1,4 +1,4 @@
--- What the network sees of a record has the waits, the octets of the link and the failures of the link and of waits that the record has.
+-- What the network sees of a trace has the waits, the octets of the link and the failures of the link and of waits that the trace has.
 use Rattle.std.proofs.Common.{◌≡◌, ℕ, ◌+◌, ◌≤◌, ◌==◌, Bool, true, false, cond, List, [], ◌∷◌, ◌++◌, refl, ◌∙◌, ap, arith}
 use Rattle.std.proofs.lemmas.Bool.Decides.{nat_tests}
 use Rattle.spec_trace.specs.Moments.{waits}

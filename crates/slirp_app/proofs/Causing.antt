@@ -65,9 +65,9 @@ no_text words forwards _ (inl is) = absurd (other 0 _ is refl refl)
 no_text words forwards _ (inr is) = absurd (other 12 _ is refl refl)
 
 -- the outcome that has a status
-is_misspelt : (outcome : Outcome) → code_of outcome ≡ 4 → (line : ℕ) × (outcome ≡ ScheduleLine line)
-is_misspelt (ScheduleLine line) is = (line, refl)
-is_misspelt _ is = absurd (other 4 _ is refl refl)
+is_misencoded : (outcome : Outcome) → code_of outcome ≡ 4 → (line : ℕ) × (outcome ≡ ScheduleLine line)
+is_misencoded (ScheduleLine line) is = (line, refl)
+is_misencoded _ is = absurd (other 4 _ is refl refl)
 
 is_divergence : (outcome : Outcome) → code_of outcome ≡ 5 → (divergence : Divergence) × (outcome ≡ Diverged divergence)
 is_divergence (Diverged divergence) is = (divergence, refl)
@@ -121,7 +121,7 @@ end_of_control (EndTurns n) is = cc
 end_of_control (EndRefused n) is = cc
 end_of_control EndControl is = refl
 
--- the same record, of which more is known
+-- the same trace, of which more is known
 replayed_as : (config : Config) (status : ℕ) (schedule : List ℕ) (old new : Option (List ℕ)) (P Q : List Entry → Type 0) → Replayed config status schedule old new P →
     ((journal : List Entry) → P journal → Q journal) → Replayed config status schedule old new Q
 replayed_as config status schedule old new P Q ran here =
@@ -131,7 +131,7 @@ module _ (config : Config) (world world_new : Telling) (file : List ℕ) (old ne
   abbrev By_calls : Outcome → Type 0
   By_calls outcome = Makes world world_new (λ made. Follows (MayFetch file) made × Caused config outcome made old new)
 
-  -- of the record of a run
+  -- of the trace of a run
   of_run : (outcome : Outcome) (status : ℕ) (P : List ℕ → List Entry → Type 0) (Q : List ℕ → List Entry → Type 0) → By_calls outcome → IsTrue (is_read (code_of outcome))
       → ((schedule : List ℕ) → Came config outcome schedule old new → Replayed config status schedule old new (Q schedule))
       → ((schedule : List ℕ) (journal : List Entry) → Q schedule journal → P schedule journal) → RanOn config world world_new status old new P
@@ -159,17 +159,17 @@ module _ (config : Config) (world world_new : Telling) (file : List ℕ) (old ne
   unreadable outcome makes is = unreadable_by outcome makes (is_no_schedule outcome is)
 
   -- a line that has no reading
-  pub misspelt : (outcome : Outcome) → By_calls outcome → IsTrue (is_read (code_of outcome)) → Makes world world_new (λ made. (code_of outcome ≡ 4) ↔ (line : ℕ) × IsFirstUnread
+  pub misencoded : (outcome : Outcome) → By_calls outcome → IsTrue (is_read (code_of outcome)) → Makes world world_new (λ made. (code_of outcome ≡ 4) ↔ (line : ℕ) × IsFirstUnread
       (octets_read made) line)
-  misspelt outcome makes read = makes_as world world_new _ _ makes (λ made holds. (
-    (λ is. let at = is_misspelt outcome is in (at.0, holds.1.first at.0 at.1)),
-    (λ at. ap code_of (holds.1.misspelt read at.0 at.1)),
+  misencoded outcome makes read = makes_as world world_new _ _ makes (λ made holds. (
+    (λ is. let at = is_misencoded outcome is in (at.0, holds.1.first at.0 at.1)),
+    (λ at. ap code_of (holds.1.misencoded read at.0 at.1)),
   ))
 
   pub named : (Told : Outcome → Type 0) (outcome : Outcome) → By_calls outcome → Told outcome → code_of outcome ≡ 4 → Makes world world_new
       (λ made. (line : ℕ) × IsFirstUnread (octets_read made) line × Told (ScheduleLine line))
   named Told outcome makes told is =
-      let at = is_misspelt outcome is in
+      let at = is_misencoded outcome is in
       makes_as world world_new _ _ makes (λ made holds. (at.0, holds.1.first at.0 at.1, subst Told at.1 told))
 
   abbrev AtEnd : ℕ → List ℕ → List Entry → Type 0
@@ -320,7 +320,7 @@ module _ (config : Config) (world world_new : Telling) (file : List ℕ) (old ne
     calls = makes_as world world_new _ _ makes (λ made ran. ran.0);
     unreadable = unreadable outcome makes;
     whole = λ is. makes_as world world_new _ _ makes (λ made ran. ran.1.whole is);
-    misspelt = misspelt outcome makes;
+    misencoded = misencoded outcome makes;
     named = named Told outcome makes told;
     ran = ran outcome makes;
     diverged = diverged Told outcome makes told;

@@ -9,7 +9,7 @@ use Rattle.spec_trace.specs.Shape.{By, Cause, Refused, Phase, Opening, Started, 
 use Rattle.spec_run.specs.Laws.{Finished, Lawful, May}
 use Rattle.spec_run.proofs.Bools.{first_of}
 use Rattle.world_face.specs.Faults.{failures, link_failed, socket_failed, wait_failed}
-use Rattle.world_face.specs.Frames.{Ending, LinkEnded, LinkCut, LongFrame, LinkFailed, Stopped, WaitFailed, MayFrame, ending, is_too_long, partial, read_ending, spelt_length}
+use Rattle.world_face.specs.Frames.{Ending, LinkEnded, LinkCut, LongFrame, LinkFailed, Stopped, WaitFailed, MayFrame, ending, is_too_long, partial, read_ending, encoded_length}
 use Rattle.world_face.specs.Journal.{Entry, Follows, call_of, Now, Wait, LinkRead, LinkWrite, Listen, UdpOpen}
 use Rattle.world_face.specs.declared.Io.{Io}
 use Rattle.world_face.specs.declared.Io.TheVariants.{Done as IoDone, End as IoEnd, NotYet, Failed as IoFailed}
@@ -19,7 +19,7 @@ use Rattle.world_face.specs.declared.Waited.TheVariants.{Ready, Stop, Failed as 
 use Rattle.world_face.proofs.Counting.{some_failed}
 use Rattle.world_face.proofs.Following.{follows_as, follows_before}
 use Rattle.slirp_app.specs.Ran.{EndsBy}
-use Rattle.slirp_app.specs.Untroubled.{Untroubled, link_ended, link_octets, spelt, tells_end}
+use Rattle.slirp_app.specs.Untroubled.{Untroubled, link_ended, link_octets, encoded, tells_end}
 use Rattle.slirp_app.proofs.Apart.{before_first}
 use Rattle.slirp_app.proofs.Carried.{cut_ended, no_frame_cut, no_long_frame}
 use Rattle.slirp_app.proofs.Ending.{ends_by}
@@ -125,7 +125,7 @@ none_failed of journal later past e none is fails =
 read_failed : (answer : Io) (octets : List ℕ) → read_ending answer octets ≡ Some LinkFailed → answer ≡ IoFailed
 read_failed (IoDone n) octets is = absurd (by (is_too_long octets) is)
   where
-    by : (too : Bool) → cond too (Some (LongFrame (spelt_length octets))) None ≡ Some LinkFailed → ⊥
+    by : (too : Bool) → cond too (Some (LongFrame (encoded_length octets))) None ≡ Some LinkFailed → ⊥
     by true is = cc
     by false is = cc
 read_failed IoEnd [] is = cc
@@ -147,7 +147,7 @@ fails_link _ so_far is = cc
 read_waits : (answer : Io) (octets : List ℕ) → read_ending answer octets ≡ Some WaitFailed → ⊥
 read_waits (IoDone n) octets is = by (is_too_long octets) is
   where
-    by : (too : Bool) → cond too (Some (LongFrame (spelt_length octets))) None ≡ Some WaitFailed → ⊥
+    by : (too : Bool) → cond too (Some (LongFrame (encoded_length octets))) None ≡ Some WaitFailed → ⊥
     by true is = cc
     by false is = cc
 read_waits IoEnd [] is = cc
@@ -248,7 +248,7 @@ module _ (config : Config) (journal : List Entry) (allowed : AreRightReads journ
   uncut n by =
       let at = came_then (LinkCut n) by in
       let ended : link_ended journal ≡ true = subst (λ j. link_ended j ≡ true) (sym by.is) (ended_on by.later (by.entry ∷ by.past) (cut_ended by.entry by.past n by.ends)) in
-      let all : link_octets journal ≡ spelt u.frames = sym (append-nil (link_octets journal)) ∙ ap (λ l. link_octets journal ++ l) (sym (u.whole ended)) ∙ u.came in
+      let all : link_octets journal ≡ encoded u.frames = sym (append-nil (link_octets journal)) ∙ ap (λ l. link_octets journal ++ l) (sym (u.whole ended)) ∙ u.came in
       no_frame_cut by.entry by.past u.frames n at.allowed_then at.framed_then u.may_come (at.octets ∙ all) by.ends
 
   not_long : (n : ℕ) → EndsBy (LongFrame n) journal → ⊥

@@ -1,4 +1,4 @@
--- What fits the text of a record, line by line, is the first part of that record.
+-- What fits the text of a trace, line by line, is the first part of that trace.
 use Rattle.std.proofs.Common.{◌≡◌, ◌≢◌, ℕ, Bool, true, false, cond, List, [], ◌∷◌, ◌++◌, length, codes, decimal, refl, sym, ◌∙◌, ap, subst, arith}
 use Rattle.std.proofs.lemmas.List.{append-nil, append_assoc, append_cancel_left, append_cancel_right, length-append}
 use Rattle.replay.proofs.Bodies.{row_body, row_form, said_plain, some_line, some_row}
@@ -14,7 +14,7 @@ use Rattle.replay.specs.Names.{name_of, name_text}
 use Rattle.replay.specs.Pieces.{lines_text}
 use Rattle.replay.specs.Range.{InRange, IsSayable}
 use Rattle.replay.specs.Rows.{AreReadable, FitsBefore, IsReadable, Row, TakesAll, entries_of, row_text, said_answer, said_call, schedule_text, turned_text}
-use Rattle.replay.specs.Spelling.{is_write}
+use Rattle.replay.specs.Encoding.{is_write}
 use Rattle.replay.specs.Text.{answer_text, call_text, hexadecimal, line_text, text, timeout_text, wants_text, written_text}
 use Rattle.spec_replay.proofs.Calls.{same_call}
 use Rattle.spec_replay.proofs.Lines.{one_text}
@@ -86,9 +86,9 @@ unstarred row c range is = by row.starred refl
     by false starred = refl
     by true starred =
         let name = name_text (name_of (call_of row.entry)) in
-        let spelt : name_text (name_of (call_of row.entry)) ++ 32 ∷ 42 ∷ 32 ∷ [] ≡ name_text (name_of c) ++ 32 ∷ args_text c =
+        let encoded : name_text (name_of (call_of row.entry)) ++ 32 ∷ 42 ∷ 32 ∷ [] ≡ name_text (name_of c) ++ 32 ∷ args_text c =
         sym (append_assoc name (32 ∷ 42 ∷ []) (32 ∷ [])) ∙ ap (λ b. cond b (name ++ codes " *") (call_text (call_of row.entry)) ++ 32 ∷ []) (sym starred) ∙ is ∙ named c in
-        absurd (no_star c range (parts_once 32 is_word refl name (name_text (name_of c)) (42 ∷ 32 ∷ []) (args_text c) (name_word (name_of (call_of row.entry))) (name_word (name_of c)) spelt).1)
+        absurd (no_star c range (parts_once 32 is_word refl name (name_text (name_of c)) (42 ∷ 32 ∷ []) (args_text c) (name_word (name_of (call_of row.entry))) (name_word (name_of c)) encoded).1)
 
 uncounted : (row : Row) (e : Entry) → (row.all ≡ true → TakesAll row.entry) → call_of row.entry ≡ call_of e → said_answer row ≡ answer_text e → row.all ≡ false
 uncounted row e takes calls is = by row.all refl
@@ -172,7 +172,7 @@ another [] e left call readable allowed is none same = some_line e left is
 another (row ∷ rows) e left call readable allowed is none same = refuses_another row e call (first_line row (schedule_text rows) e left readable.0
     (sayable e allowed) is).says allowed (none row refl) same
 
--- ---- a record in the order of its calls
+-- ---- a trace in the order of its calls
 
 -- entries in the order of their calls, onto what came before them
 abbrev pub onto : List Entry → List Entry → List Entry
@@ -219,7 +219,7 @@ first_part whole [] rest all readable is = record { back = in_order whole []; is
 first_part whole (row ∷ rows) rest all readable is = next_part whole row rows rest all readable.0 (first_part whole rows (row_text row ++ rest) all readable.1
     (sym (append_assoc (turned_text rows) (row_text row) rest) ∙ is))
 
--- the record goes on by these from where the journal ends, and their lines are left
+-- the trace goes on by these from where the journal ends, and their lines are left
 pub record GoesOn (journal whole : List Entry) (rest : List ℕ) : Type 0 where
   pub back : List Entry
   pub is : whole ≡ onto back journal

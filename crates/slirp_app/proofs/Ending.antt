@@ -1,4 +1,4 @@
--- The end that a record of calls tells.
+-- The end that a trace of calls tells.
 use Rattle.std.proofs.Common.{◌≡◌, ◌⊎◌, inl, inr, ℕ, ◌+◌, ◌<◌, ◌≤◌, Bool, true, false, cond, List, [], ◌∷◌, ◌++◌, length, Option, Some, None, refl, sym, ap, subst, arith}
 use Rattle.std.proofs.lemmas.Bool.Decides.{nat_tests}
 use Rattle.std.specs.Prelude.{nat_lt, nat_le, ◌&&◌, ◌||◌}
@@ -7,7 +7,7 @@ use Rattle.serve_loop.specs.Ends.{end_of}
 use Rattle.spec_run.specs.Laws.{Finished, Lawful}
 use Rattle.spec_trace.specs.Shape.{By, Refused, Phase, Opening, Started, Woken, Working, Over, is_over, may_turn, phase, phase_by, phase_after}
 use Rattle.spec_trace.specs.Moments.{waits}
-use Rattle.world_face.specs.Frames.{Ending, LinkEnded, LinkCut, LongFrame, LinkFailed, Stopped, WaitFailed, ending, partial, read_ending, spelt_length, is_too_long}
+use Rattle.world_face.specs.Frames.{Ending, LinkEnded, LinkCut, LongFrame, LinkFailed, Stopped, WaitFailed, ending, partial, read_ending, encoded_length, is_too_long}
 use Rattle.world_face.specs.Journal.{Entry, Now, Wait, LinkOpen, LinkRead, LinkWrite, Connect, Connected, Listen, Accept, TcpRead, TcpWrite, TcpEnd, Close, UdpOpen, UdpSend, UdpRecv}
 use Rattle.world_face.specs.Journal.{FileLen, FileRead}
 use Rattle.world_face.specs.declared.Io.{Io}
@@ -87,16 +87,16 @@ ends_by config why (e ∷ past) is = ended_now why e past (either (over_now why 
     either (inr b) f = inr (f b)
 
 -- a length that is too great
-over : (octets : List ℕ) → is_too_long octets ≡ true → 69632 < spelt_length octets
+over : (octets : List ℕ) → is_too_long octets ≡ true → 69632 < encoded_length octets
 unfolding is_too_long
 over octets is = by_length (nat_lt (length octets) 4) is
   where
-    by_length : (short : Bool) → cond short false (nat_lt 69632 (spelt_length octets)) ≡ true → 69632 < spelt_length octets
+    by_length : (short : Bool) → cond short false (nat_lt 69632 (encoded_length octets)) ≡ true → 69632 < encoded_length octets
     by_length true is = cc
     by_length false is = grind (arith, nat_tests)
 
-long : (octets : List ℕ) (n : ℕ) (too : Bool) → is_too_long octets ≡ too → cond too (Some (LongFrame (spelt_length octets))) None ≡ Some (LongFrame n) → 69632 < n
-long octets n true too is = let same : spelt_length octets ≡ n = cc in subst (λ m. 69632 < m) same (over octets too)
+long : (octets : List ℕ) (n : ℕ) (too : Bool) → is_too_long octets ≡ too → cond too (Some (LongFrame (encoded_length octets))) None ≡ Some (LongFrame n) → 69632 < n
+long octets n true too is = let same : encoded_length octets ≡ n = cc in subst (λ m. 69632 < m) same (over octets too)
 long octets n false too is = cc
 
 long_read : (answer : Io) (octets : List ℕ) (n : ℕ) → read_ending answer octets ≡ Some (LongFrame n) → 69632 < n

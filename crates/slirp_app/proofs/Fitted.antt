@@ -2,7 +2,7 @@
 use Rattle.std.proofs.Common.{◌≡◌, ℕ, ◌+◌, ◌-◌, ◌≤◌, ltb, Bool, true, false, cond, ◌&&◌, List, [], ◌∷◌, ◌++◌, length, map, reverse, Option, Some, None, sym, ◌∙◌, ap, subst, refl, arith, length-append}
 use Rattle.std.proofs.Common.{length-drop, append-nil}
 use Rattle.std.proofs.lemmas.Bool.Decides.{nat_tests}
-use Rattle.world_face.specs.Frames.{Ending, LinkCut, LinkEnded, LinkFailed, LongFrame, is_too_long, is_whole, missing, partial, partial_after, read_ending, rest_after, spelt_length, tail, MayOffer}
+use Rattle.world_face.specs.Frames.{Ending, LinkCut, LinkEnded, LinkFailed, LongFrame, is_too_long, is_whole, missing, partial, partial_after, read_ending, rest_after, encoded_length, tail, MayOffer}
 use Rattle.world_face.specs.Journal.{Entry, Place, AreAllowed, Close, Now, Wait, LinkOpen, LinkRead, LinkWrite, Listen, UdpOpen, count_of, MayRead}
 use Rattle.world_face.specs.declared.Io.{Io}
 use Rattle.world_face.specs.declared.Io.TheVariants.{Done, End, NotYet, Failed}
@@ -102,9 +102,9 @@ module _ (config : Config) (asked : ℕ) (octets : List ℕ) (past : List Entry)
   abbrev Stands : Io → Type 0
   Stands answer = is_over (phase config (LinkRead asked answer octets ∷ past)) ≡ false
 
-  done_read : (n : ℕ) (long : Bool) → is_too_long so_far ≡ long → is_over (phase_after (LinkRead asked (Done n) octets) (cond long (Some (LongFrame (spelt_length so_far))) None)
+  done_read : (n : ℕ) (long : Bool) → is_too_long so_far ≡ long → is_over (phase_after (LinkRead asked (Done n) octets) (cond long (Some (LongFrame (encoded_length so_far))) None)
       (phase config past)) ≡ false → is_too_long so_far ≡ false
-  done_read n true is going = ended (phase config past) (LongFrame (spelt_length so_far)) going
+  done_read n true is going = ended (phase config past) (LongFrame (encoded_length so_far)) going
   done_read n false is going = is
 
   end_read : (got : List ℕ) → is_over (phase_after (LinkRead asked End octets) (read_ending End got) (phase config past)) ≡ false → is_too_long so_far ≡ false
@@ -144,7 +144,7 @@ room_by false false n size fine is small = let most : size ≤ 69632 = grind (ar
 
 room : (octets : List ℕ) → is_too_long octets ≡ false → length octets ≤ 69636 → length octets + missing octets ≤ 69636
 unfolding is_too_long missing
-room octets fine small = room_by (ltb (length octets) 4) (ltb 69632 (spelt_length octets)) (length octets) (spelt_length octets) fine refl small
+room octets fine small = room_by (ltb (length octets) 4) (ltb 69632 (encoded_length octets)) (length octets) (encoded_length octets) fine refl small
 
 within : (asked : ℕ) (answer : Io) → MayRead asked answer → count_of answer ≤ asked
 within asked (Done n) may = omega (arith, may)

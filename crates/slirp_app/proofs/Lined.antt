@@ -262,7 +262,7 @@ alike r s readable readable_s is =
       waits = wait_named r.entry ∙ ap of_wait name ∙ sym (wait_named s.entry);
     }
 
--- ---- two records whose lines have one text
+-- ---- two traces whose lines have one text
 
 abbrev AreAlike : List Entry → List Entry → Type 0
 AreAlike [] [] = Unit {0}

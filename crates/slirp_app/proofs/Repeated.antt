@@ -1,4 +1,4 @@
--- A record that is replayed without divergence prints itself.
+-- A trace that is replayed without divergence prints itself.
 use Rattle.std.proofs.Common.{◌≡◌, ◌≢◌, ℕ, List, [], ◌∷◌, ◌++◌, IsTrue, true, Option, Some, None, refl, sym, ◌∙◌, ap, subst, arith}
 use Rattle.slirp_settings.specs.Addresses.{Config}
 use Rattle.replay.specs.Fitting.{FitsNone}
@@ -55,7 +55,7 @@ spent_where config (Over (By Stopped)) is = absurd (other 10 _ is refl refl)
 spent_where config (Over (By WaitFailed)) is = absurd (other 10 _ is refl refl)
 spent_where config (Over (Refused forward)) is = absurd (other 10 _ is refl refl)
 
--- ---- what a replay of a record prints
+-- ---- what a replay of a trace prints
 
 abbrev pub PrintsAll : Config → ℕ → (whole : List Entry) (old new : Option (List ℕ)) → Type 0
 PrintsAll config status whole old new = (new ≡ added (text whole ++ end_line status) old) × Finished config whole × (status ≡ code_of (outcome_of (end_of config (phase config whole))))

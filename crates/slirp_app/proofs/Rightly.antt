@@ -1,4 +1,4 @@
--- What a World may answer to reads on the link, in a record and in what the network sees of it.
+-- What a World may answer to reads on the link, in a trace and in what the network sees of it.
 use Rattle.std.proofs.Common.{Bool, true, false, cond, List, [], ◌∷◌, ◌++◌}
 use Rattle.world_face.specs.Journal.{Allowed, AreAllowed, Entry, LinkRead}
 use Rattle.rules_control.specs.Apart.{is_on_control, seen, without_control}

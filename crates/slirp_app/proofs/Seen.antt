@@ -10,7 +10,7 @@ use Rattle.world_face.specs.Frames.{LinkEnded, LinkCut, LongFrame, LinkFailed, S
 use Rattle.world_face.specs.Journal.{Entry}
 use Rattle.rules_control.specs.Apart.{without_control}
 use Rattle.control.proofs.Reading.{reading}
-use Rattle.spec_control.specs.Desk.{Desk, Reads, by_control, desk, with_changes}
+use Rattle.spec_control.specs.ControlServer.{ControlServer, Reads, by_control, control_server, with_changes}
 use Rattle.spec_control.specs.Laws.{Refuses}
 use Rattle.control_loop.specs.Runs.{IsRefused, IsRun, RunsTo, RunsWith, Serves, seen_by_network}
 use Rattle.serve_loop.specs.Ends.{end_of}
@@ -34,7 +34,7 @@ pub data RanTo (control : Option Endpoint) (config : Config) (end : End) (run : 
   Unserved : Refuses config run → end ≡ ControlRefused → RanTo control config end run
 
 -- where a run stands doesn't depend on what was added and taken back
-same_phase : (config : Config) (d : Desk) (past : List Entry) → phase (with_changes config d) past ≡ phase config past
+same_phase : (config : Config) (d : ControlServer) (past : List Entry) → phase (with_changes config d) past ≡ phase config past
 same_phase config d [] = refl
 same_phase config d (e ∷ past) = ap (phase_after e (ending e (partial past))) (same_phase config d past)
 
@@ -43,7 +43,7 @@ ran_with at read config end run (Serves by ends) = BySight (record {
   its = by_control read config run;
   lawful = by.lawful;
   finished = by.finished;
-  same = same_phase config (desk read config run) (without_control run);
+  same = same_phase config (control_server read config run) (without_control run);
   turns = refl;
   ends = ends;
 })

@@ -62,7 +62,7 @@ captured world world_new noted config at done outcome old new passed opens given
     makes_as world world_new (λ made. made ≡ noted) (CapturesAt config at outcome old new) passed (λ made is. subst (CapturesAt config at outcome old new) (sym is)
     (record { done = done; opens = opens; given = given }))
 
--- a run that a World with a record of it served
+-- a run that a World with a trace of it served
 pub run_recorded : {W K : Type 0} (tells : W → Telling) (config : Config) (done outcome : Outcome) (failed : Bool) (world world_new : W) (sink : K) (before after : Option (List ℕ))
     (faults faults_new : ℕ)
     (counts counts_new : Counts) (fresh : Written K) (tap tap_new : Tapped W (Written K)) (book : Written K)

@@ -17,7 +17,7 @@ use Rattle.app_edges.specs.declared.outcome.Outcome.{Outcome}
 use Rattle.app_edges.specs.declared.outcome.Outcome.TheVariants.{Done, Usage, BadConfig, ScheduleRead, ScheduleTooLarge, ScheduleLine, Diverged, FrameTooLong, FrameCut, LinkFault}
 use Rattle.app_edges.specs.declared.outcome.Outcome.TheVariants.{WaitFault, TurnsSpent, ListenRefused, SinkFault, NoMemory, ControlRefused}
 
--- Where a run was made, a record of it was put. It diverged, or came to its end.
+-- Where a run was made, a trace of it was put. It diverged, or came to its end.
 abbrev pub Came : Config → Outcome → (schedule : List ℕ) → (old new : Option (List ℕ)) → Type 0
 Came config Done schedule old new = Replayed config 0 schedule old new (ComesTo config Done)
 Came config (Usage stop) schedule old new = Unit {0}
@@ -46,7 +46,7 @@ pub record Caused (config : Config) (outcome : Outcome) (made : List Entry) (old
   pub whole : IsTrue (is_read (code_of outcome)) → IsWhole made
   pub came : IsTrue (is_read (code_of outcome)) → Came config outcome (octets_read made) old new
   pub first : (line : ℕ) → outcome ≡ ScheduleLine line → IsFirstUnread (octets_read made) line
-  pub misspelt : IsTrue (is_read (code_of outcome)) → (line : ℕ) → IsFirstUnread (octets_read made) line → outcome ≡ ScheduleLine line
+  pub misencoded : IsTrue (is_read (code_of outcome)) → (line : ℕ) → IsFirstUnread (octets_read made) line → outcome ≡ ScheduleLine line
 
 -- FILE is missing, has over 64 MiB, 67,108,864 octets, which is ours, or ended before its length
 abbrev pub is_unfit : FileSize → Bool
@@ -67,6 +67,6 @@ is_short _ = false
 abbrev pub CannotRead : (old new : Telling) (made : List Entry) → Type 0
 CannotRead old new made = Rose old.faults.file new.faults.file ⊎ (is_short made ≡ true)
 
--- A run was made with these settings on what was read of FILE, and P holds of the schedule and of the run's record.
+-- A run was made with these settings on what was read of FILE, and P holds of the schedule and of the run's trace.
 abbrev pub RanOn : (config : Config) (world world_new : Telling) (status : ℕ) (old new : Option (List ℕ)) (P : List ℕ → List Entry → Type 0) → Type 0
 RanOn config world world_new status old new P = Makes world world_new (λ made. IsWhole made × Replayed config status (octets_read made) old new (P (octets_read made)))

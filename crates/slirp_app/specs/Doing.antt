@@ -45,9 +45,9 @@ pub record ReplaysFile (file : Word) (config : Config) (status : ℕ) (world wor
   -- else, 13 aside, as many octets were read as FILE's length says
   pub whole : IsTrue (is_read status) → Makes world world_new IsWhole
   -- 4 comes exactly where a line of FILE has no reading, and the text has the first such line
-  pub misspelt : IsTrue (is_read status) → Makes world world_new (λ made. (status ≡ 4) ↔ (line : ℕ) × IsFirstUnread (octets_read made) line)
+  pub misencoded : IsTrue (is_read status) → Makes world world_new (λ made. (status ≡ 4) ↔ (line : ℕ) × IsFirstUnread (octets_read made) line)
   pub named : status ≡ 4 → Makes world world_new (λ made. (line : ℕ) × IsFirstUnread (octets_read made) line × Told (ScheduleLine line))
-  -- a run's record was put and then the status; but for 5 it is that of a whole run, and the status is that of the end to which it came
+  -- a run's trace was put and then the status; but for 5 it is that of a whole run, and the status is that of the end to which it came
   pub ran : IsTrue (is_run status) → RanOn config world world_new status old new (λ schedule journal. status ≢ 5 → (end : End) × IsRun config end journal ×
       (status ≡ code_of (outcome_of end)))
   -- with 5 it ceased at the call that comes next and fits no line, and the text names the line, the call, and the call of the line

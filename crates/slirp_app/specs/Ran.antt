@@ -12,7 +12,7 @@ use Rattle.replay.specs.Text.{text}
 use Rattle.replay.specs.declared.Divergence.{Divergence}
 use Rattle.app_edges.specs.Texts.{end_line}
 
--- There is one record of calls: it was put, and then the status; it fits the schedule's lines from the first; each answer is one that a World may give;
+-- There is one trace of calls: it was put, and then the status; it fits the schedule's lines from the first; each answer is one that a World may give;
 -- and these calls begin a run with these settings. P holds of it.
 pub record Replayed (config : Config) (status : ℕ) (schedule : List ℕ) (old new : Option (List ℕ)) (P : List Entry → Type 0) : Type 0 where
   pub journal : List Entry
@@ -35,7 +35,7 @@ pub record Ceased (config : Config) (schedule : List ℕ) (divergence : Divergen
   pub made : divergence.made ≡ name_of call
   pub wanted : divergence.wanted ≡ option_map (λ (row : Row). name_of (call_of row.entry)) (slice_get left 0)
 
--- an entry of the record ends a run for this cause
+-- an entry of the trace ends a run for this cause
 pub record EndsBy (why : Ending) (journal : List Entry) : Type 0 where
   pub later : List Entry
   pub past : List Entry

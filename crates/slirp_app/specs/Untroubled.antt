@@ -7,7 +7,7 @@ use Rattle.spec_run.specs.Laws.{Lawful}
 use Rattle.net_octets.specs.declared.Endpoint.{Endpoint}
 use Rattle.control_loop.specs.Runs.{BeginsRun}
 use Rattle.world_face.specs.Faults.{failures, link_failed, socket_failed, wait_failed}
-use Rattle.world_face.specs.Frames.{spelling}
+use Rattle.world_face.specs.Frames.{encoding}
 use Rattle.world_face.specs.Journal.{AreAllowed, Entry, LinkOpen, LinkRead, Place}
 use Rattle.world_face.specs.Limits.{most_from_link}
 use Rattle.world_face.specs.declared.Io.TheVariants.{End}
@@ -29,9 +29,9 @@ link_ended [] = false
 link_ended (e ∷ past) = if tells_end e then true else link_ended past
 
 -- frames, each after its length
-abbrev pub spelt : List (List ℕ) → List ℕ
-spelt [] = []
-spelt (frame ∷ frames) = spelling frame ++ spelt frames
+abbrev pub encoded : List (List ℕ) → List ℕ
+encoded [] = []
+encoded (frame ∷ frames) = encoding frame ++ encoded frames
 
 -- none is longer than one on the link may be, 69,632 octets
 abbrev pub MayCome : List (List ℕ) → Type 0
@@ -49,7 +49,7 @@ pub record Untroubled (config : Config) (journal : List Entry) : Type 0 where
   pub frames : List (List ℕ)
   pub may_come : MayCome frames
   pub left : List ℕ
-  pub came : link_octets journal ++ left ≡ spelt frames
+  pub came : link_octets journal ++ left ≡ encoded frames
   pub whole : link_ended journal ≡ true → left ≡ []
   -- no call on the link failed, and no wait
   pub link : failures link_failed journal ≡ 0
@@ -74,7 +74,7 @@ IsBegun (Some at) config journal = BeginsRun config journal
 abbrev pub CanBeFollowed : Config → List ℕ → Type 0
 CanBeFollowed config schedule = (journal : List Entry) → Fits journal schedule → AreAllowed journal → IsBegun config.control config journal → Untroubled config journal
 
--- the entries of a schedule's lines as a record, newest first, onto what came before them
+-- the entries of a schedule's lines as a trace, newest first, onto what came before them
 abbrev pub record_of : List Row → List Entry → List Entry
 record_of [] past = past
 record_of (row ∷ rows) past = record_of rows (row.entry ∷ past)
@@ -84,7 +84,7 @@ abbrev pub NoneComesLater : List Entry → Type 0
 NoneComesLater [] = Unit {0}
 NoneComesLater (e ∷ past) = (link_ended past ≡ true → link_octets (e ∷ past) ≡ link_octets past) × NoneComesLater past
 
--- each line of a schedule has a reading, and all lines by one of these readings are the record of an untroubled run
+-- each line of a schedule has a reading, and all lines by one of these readings are the trace of an untroubled run
 pub record SaysUntroubled (config : Config) (schedule : List ℕ) : Type 0 where
   pub rows : List Row
   pub readable : AreReadable rows

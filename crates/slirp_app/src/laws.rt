@@ -1,4 +1,4 @@
-// Laws of what the program comes to: where nothing happened to its outside that ends a run early, the run is made to its end; and a record that is replayed is
+// Laws of what the program comes to: where nothing happened to its outside that ends a run early, the run is made to its end; and a trace that is replayed is
 // made again. Each contract is proved though its body is empty.
 ghost use Rattle.std.specs.Prelude.{◌≡◌, ◌≢◌, ◌⊎◌, ℕ, ◌≤◌, ◌++◌, List, [], ◌∷◌, Option, Some, None, IsTrue};
 ghost use Rattle.slirp_settings.specs.Addresses.{Config};
@@ -51,7 +51,7 @@ pub fn a_link_that_is_served_untroubled_is_served_to_its_end()
 
 /// A schedule that can be followed is followed to its end: `replay FILE` comes to 0.
 pub fn a_schedule_that_can_be_followed_is_followed_to_its_end()
-    // The status of a run that was made and didn't diverge is 0 where its record is untroubled.
+    // The status of a run that was made and didn't diverge is 0 where its trace is untroubled.
     ensures run { (words : List (List ℕ)) (forwards : List Forward) (file : List ℕ) (config : Config) (status : ℕ) (world world_new : Telling) (old new err err_new : Option (List ℕ))
         (faults faults_new : ℕ)
         → ReplaysFile file config status world world_new old new (Got words forwards err err_new faults faults_new)
@@ -62,28 +62,28 @@ pub fn a_schedule_that_can_be_followed_is_followed_to_its_end()
         → ReplaysFile file config status world world_new old new (Got words forwards err err_new faults faults_new)
         → ¬ ((1 ≤ status) × (status ≤ 5)) → ((made : List Entry) → Told world world_new made → IsWhole made → CanBeFollowed config (octets_read made))
         → (status ≡ 0) ⊎ (status ≡ 12) ⊎ (status ≡ 13) }
-    // A schedule can be followed where its lines are the record of an untroubled run, whether the run gets to the last of them or ends before.
+    // A schedule can be followed where its lines are the trace of an untroubled run, whether the run gets to the last of them or ends before.
     ensures lines { (config : Config) (schedule : List ℕ) → SaysUntroubled config schedule → CanBeFollowed config schedule }
 {}
 
-/// A record, replayed with the same settings, prints itself where nothing diverged. The settings have no control.
+/// A trace, replayed with the same settings, prints itself where nothing diverged. The settings have no control.
 pub fn a_record_replays_to_itself()
-    // FILE has the lines of a lawful record: a replay with its settings that made a run, and neither diverged (5) nor spent its turns (10), made just its calls
-    // with their answers; so the record is that of a finished run, and the status is that of the end which it tells.
+    // FILE has the lines of a lawful trace: a replay with its settings that made a run, and neither diverged (5) nor spent its turns (10), made just its calls
+    // with their answers; so the trace is that of a finished run, and the status is that of the end which it tells.
     ensures itself { (words : List (List ℕ)) (forwards : List Forward) (file : List ℕ) (config : Config) (status : ℕ) (world world_new : Telling) (old new err err_new : Option (List ℕ))
         (faults faults_new : ℕ)
         (run : List Entry)
         → config.control ≡ None → ReplaysFile file config status world world_new old new (Got words forwards err err_new faults faults_new) → AreAllowed run → Lawful config run
         → IsTrue (is_run status) → status ≢ 5 → status ≢ 10 → Makes world world_new (λ made. octets_read made ≡ text run
         → (new ≡ added (text run ++ end_line status) old) × Finished config run × (status ≡ code_of (outcome_of (end_of config (phase config run))))) }
-    // One that spent its turns made the first calls of the record, those of a finished run with as many waits, and the record has no wait after them.
+    // One that spent its turns made the first calls of the trace, those of a finished run with as many waits, and the trace has no wait after them.
     ensures spent { (words : List (List ℕ)) (forwards : List Forward) (file : List ℕ) (config : Config) (status : ℕ) (world world_new : Telling) (old new err err_new : Option (List ℕ))
         (faults faults_new : ℕ)
         (run : List Entry)
         → config.control ≡ None → ReplaysFile file config status world world_new old new (Got words forwards err err_new faults faults_new) → AreAllowed run → Lawful config run
         → status ≡ 10 → Makes world world_new (λ made. octets_read made ≡ text run → (rest : List Entry) × (front : List Entry) × (run ≡ rest ++ front)
         × (new ≡ added (text front ++ end_line 10) old) × Finished config front × (waits front ≡ config.turns) × (waits run ≡ config.turns)) }
-    // One that diverged (5) made the first calls of the record, and ceased at a lawful call that isn't the record's next; of a finished record whose turns weren't spent.
+    // One that diverged (5) made the first calls of the trace, and ceased at a lawful call that isn't the trace's next; of a finished trace whose turns weren't spent.
     ensures diverged { (words : List (List ℕ)) (forwards : List Forward) (file : List ℕ) (config : Config) (status : ℕ) (world world_new : Telling) (old new err err_new : Option (List ℕ))
         (faults faults_new : ℕ) (run : List Entry)
         → config.control ≡ None → ReplaysFile file config status world world_new old new (Got words forwards err err_new faults faults_new) → AreAllowed run → Lawful config run → Finished config run

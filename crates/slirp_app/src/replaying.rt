@@ -53,7 +53,7 @@ fn replay<K: Sink>(alloc: Global, octets: Vec<u8>, config: &SlirpConfig, out: &m
     ensures came { Came (settings config.now) result octets.items (K.holds out.old) (K.holds out.new) }
     ensures nothing { IsTrue (is_unrun (code_of result)) → K.holds out.new ≡ K.holds out.old }
     ensures first { (line : ℕ) → result ≡ ScheduleLine line → IsFirstUnread octets.items line }
-    ensures misspelt { (line : ℕ) → IsFirstUnread octets.items line → (result ≡ ScheduleLine line) ⊎ (result ≡ OfMemory) }
+    ensures misencoded { (line : ℕ) → IsFirstUnread octets.items line → (result ≡ ScheduleLine line) ⊎ (result ≡ OfMemory) }
     ensures read { (code_of result ≢ 1) × (code_of result ≢ 2) × (result ≢ ScheduleRead) }
     ensures large { result ≡ ScheduleTooLarge → TakesTooMuch octets.items }
     ensures refused { code_of result ≡ 12 → Rose (K.faults out.old) (K.faults out.new) }

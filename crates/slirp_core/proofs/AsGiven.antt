@@ -27,8 +27,8 @@ use Rattle.rules_dhcp.specs.declared.Answer.{Answer as Served}
 use Rattle.rules_dhcp.specs.declared.Answer.TheVariants.{Silence, Offers, Lends, Informs, Refuses}
 use Rattle.rules_tftp.specs.Transfers.{Said}
 use Rattle.spec_run.specs.Answers.{Answer, ArpAnswer, IpAnswer, Serving, answers_of, frames_for, frames_of, owed_for_arp, owed_for_icmp, reply_for, told_of_files}
-use Rattle.spec_run.specs.Datagrams.{Fate, Ignored, Refused, ForLeases, ForFiles, GoesTo, fate, fate_by}
-use Rattle.spec_run.specs.Leasing.{lease_reply, leases_by_fate, sending_of}
+use Rattle.spec_run.specs.Datagrams.{DatagramVerdict, Ignored, Refused, ForLeases, ForFiles, GoesTo, datagram_verdict, datagram_verdict_by}
+use Rattle.spec_run.specs.Leasing.{lease_reply, leases_by_verdict, sending_of}
 use Rattle.slirp_core.specs.Fragments.{after_frame}
 use Rattle.slirp_core.specs.Holds.{as_given}
 use Rattle.slirp_core.specs.Packets.{is_message_to_us, is_segment, leases_with, owed_at_once, owed_at_once_by, owed_for, owed_for_arrived, owed_for_ether, owed_for_frame, owed_for_ip, request_by, request_for_udp}
@@ -63,19 +63,19 @@ module _ (config : Config) where
 
   -- ---- what becomes of a datagram
 
-  fate_by_is : (d : Datagram) (v : Verdict) → fate_by (as_given config) d v ≡ fate_by config d v
-  fate_by_is d (Go to) = refl
-  fate_by_is d (Denied rule) = refl
+  datagram_verdict_by_is : (d : Datagram) (v : Verdict) → datagram_verdict_by (as_given config) d v ≡ datagram_verdict_by config d v
+  datagram_verdict_by_is d (Go to) = refl
+  datagram_verdict_by_is d (Denied rule) = refl
 
-  fate_is : (d : Datagram) → fate (as_given config) d ≡ fate config d
-  fate_is d =
+  datagram_verdict_is : (d : Datagram) → datagram_verdict (as_given config) d ≡ datagram_verdict config d
+  datagram_verdict_is d =
       ap (λ f. if d.from.port == 0 then Ignored
       else (if (d.to.port == 67) && ((address d.to == config.vhost) || (address d.to == 0xffffffff)) then (if config.no_dhcp then Ignored else ForLeases)
       else (if (d.to.port == 69) && (address d.to == config.vhost) then ForFiles
-      else f))) (fate_by_is d (target config ByUdp d.to))
+      else f))) (datagram_verdict_by_is d (target config ByUdp d.to))
 
   pub request_as : (d : Option Datagram) → request_for_udp (as_given config) d ≡ request_for_udp config d
-  request_as d = (λ i. option_and_then (λ d. request_by d (fate_is d i)) d)
+  request_as d = (λ i. option_and_then (λ d. request_by d (datagram_verdict_is d i)) d)
 
   -- ---- leases
 
@@ -108,16 +108,16 @@ module _ (config : Config) where
   lease_is : (now : ℕ) (leases : List Lease) (d : Datagram) → lease_reply (as_given config) now leases d ≡ lease_reply config now leases d
   lease_is now leases d = (λ i. sending_of (reply_to_is now leases (read_message d.body) i) (replied_is now leases (read_message d.body) i))
 
-  lent_by_fate : (now : ℕ) (d : Datagram) (f : Fate) (leases : List Lease) → leases_by_fate (as_given config) now d f leases ≡ leases_by_fate config now d f leases
-  lent_by_fate now d Ignored leases = refl
-  lent_by_fate now d Refused leases = refl
-  lent_by_fate now d ForLeases leases = (λ i. (served_is now leases (read_message d.body) i).leases)
-  lent_by_fate now d ForFiles leases = refl
-  lent_by_fate now d (GoesTo to) leases = refl
+  leased_by_verdict : (now : ℕ) (d : Datagram) (f : DatagramVerdict) (leases : List Lease) → leases_by_verdict (as_given config) now d f leases ≡ leases_by_verdict config now d f leases
+  leased_by_verdict now d Ignored leases = refl
+  leased_by_verdict now d Refused leases = refl
+  leased_by_verdict now d ForLeases leases = (λ i. (served_is now leases (read_message d.body) i).leases)
+  leased_by_verdict now d ForFiles leases = refl
+  leased_by_verdict now d (GoesTo to) leases = refl
 
-  lent : (now : ℕ) (d : Option Datagram) (leases : List Lease) → leases_with (as_given config) now d leases ≡ leases_with config now d leases
-  lent now None leases = refl
-  lent now (Some d) leases = ap (λ f. leases_by_fate (as_given config) now d f leases) (fate_is d) ∙ lent_by_fate now d (fate config d) leases
+  leased : (now : ℕ) (d : Option Datagram) (leases : List Lease) → leases_with (as_given config) now d leases ≡ leases_with config now d leases
+  leased now None leases = refl
+  leased now (Some d) leases = ap (λ f. leases_by_verdict (as_given config) now d f leases) (datagram_verdict_is d) ∙ leased_by_verdict now d (datagram_verdict config d) leases
 
   -- ---- whom a frame makes known
 
@@ -137,7 +137,7 @@ module _ (config : Config) where
 
   -- ---- what a frame owes
 
-  at_once_by : (s : Serving) (d : Datagram) (f : Fate) → owed_at_once_by (as_given config) s d f ≡ owed_at_once_by config s d f
+  at_once_by : (s : Serving) (d : Datagram) (f : DatagramVerdict) → owed_at_once_by (as_given config) s d f ≡ owed_at_once_by config s d f
   at_once_by s d Ignored = refl
   at_once_by s d Refused = refl
   at_once_by s d ForLeases = ap answers_of (lease_is s.now s.leases d)
@@ -145,7 +145,7 @@ module _ (config : Config) where
   at_once_by s d (GoesTo to) = refl
 
   at_once : (s : Serving) (d : Datagram) → owed_at_once (as_given config) s d ≡ owed_at_once config s d
-  at_once s d = ap (owed_at_once_by (as_given config) s d) (fate_is d) ∙ at_once_by s d (fate config d)
+  at_once s d = ap (owed_at_once_by (as_given config) s d) (datagram_verdict_is d) ∙ at_once_by s d (datagram_verdict config d)
 
   by_ip : (s : Serving) (mac : List ℕ) (ip : Ip) → owed_for_ip (as_given config) s mac ip ≡ owed_for_ip config s mac ip
   by_ip s mac ip =
@@ -171,5 +171,5 @@ module _ (config : Config) where
         pending = answers_as refl slirp.sent (λ k. owed_for_frame k (serving_of slirp) waiting frame) (by_frame (serving_of slirp) waiting frame) i;
         known = known_by (read_ether frame) slirp.known i;
         fragments = parts;
-        leases = lent slirp.moment (udp_in config slirp.moment waiting frame) slirp.leases i;
+        leases = leased slirp.moment (udp_in config slirp.moment waiting frame) slirp.leases i;
       })

@@ -21,7 +21,7 @@ use Rattle.rules_dns.specs.Questions.{is_over as is_idle_question, numbers as qu
 use Rattle.rules_tftp.specs.Transfers.{Said, next_again, said_again}
 use Rattle.rules_tftp.proofs.Turning.{next_left}
 use Rattle.spec_flows.specs.Book.{book, is_young, scene}
-use Rattle.spec_flows.specs.Flows.{guest_is_known, has_room_for_peer, rests_among}
+use Rattle.spec_flows.specs.Flows.{guest_is_known, has_room_for_peer, is_among_time_waits}
 use Rattle.sim_flows.specs.Peers.{fits_peer}
 use Rattle.sim_flows.proofs.Peers.{room_recorded}
 use Rattle.spec_trace.specs.Sockets.{Kind, Association, DnsSocket, Forward as OfForward, Listener, Flow, is_among, is_association, is_forward, is_listener, kind_of, next_number, open_sockets}
@@ -53,7 +53,7 @@ use Rattle.spec_flow.specs.Event.{Story}
 use Rattle.spec_flow.specs.Flow.{is_closed}
 use Rattle.spec_flows.specs.Laws.{flow_settings}
 use Rattle.flow_splice.proofs.Promises.{waited_is}
-use Rattle.sim_flows.specs.FlowsHold.{rests_at}
+use Rattle.sim_flows.specs.FlowsHold.{time_waits_at}
 use Rattle.spec_trace.specs.Moments.{moment}
 use Rattle.sim_halves.proofs.Waiting.{settled_in_time}
 use Rattle.sim_flows.proofs.Placing.{each, not_in_use}
@@ -366,7 +366,7 @@ no_connecting false b is = ap not is
 
 closed_waits : (story : Story) (now : ℕ) → is_in_use story ≡ false → MayWait story now
 closed_waits story now unused = record {
-  closes = λ honest done. not_in_use story unused;
+  closes = λ conforming done. not_in_use story unused;
   connects = subst (λ ms. AreAhead now ms) (sym (closed_at_none story (not_in_use story unused))) tt;
   calls = first_true (is_closed story) (nat_le (oldest_unheard story) 9) (not_in_use story unused);
 }
@@ -377,7 +377,7 @@ closed_waits story now unused = record {
 each_waits : (config : Config) (at : Standing) (slirp : SlirpState) (link : LinkState) (past : List Entry) → Holds config at slirp (flowing true slirp.flows) link past →
     HaveTime slirp.moment slirp.flows.flows.slots → EachFlow config past (λ f. MayWait f.story (moment past))
 each_waits config at slirp link past holds early =
-    each number_of (Following config slirp.moment) slirp.flows.flows.table slirp.flows.flows.slots (next_number past) (book config past).flows (rests_at true config past) holds.flows.holds.seats
+    each number_of (Following config slirp.moment) slirp.flows.flows.table slirp.flows.flows.slots (next_number past) (book config past).flows (time_waits_at true config past) holds.flows.holds.seats
     (λ story. MayWait story (moment past))
     (λ k p story here follows. subst (λ (n : ℕ). MayWait story n) (sym holds.clock.moment)
     (waited_is (flow_settings config) p story slirp.moment follows (had k p here (is_open p) refl)))
@@ -392,8 +392,8 @@ each_settled : (config : Config) (at : Standing) (slirp : SlirpState) (link : Li
     AreClear slirp.known slirp.flows.flows → ((n : ℕ) → IsInTime slirp.moment slirp.flows.flows.slots n) → EachFlow config past (IsSettledNow config past)
 each_settled config at slirp link past holds are early n f found =
     let known = guest_is_known (scene config past) f in
-    subst (λ (m : ℕ). IsSettled (flow_settings config) f.story known (rests_among (filter (is_young m) (book config past).rests) (Some f)) m) (sym holds.clock.moment)
-    (settled_in_time (IsInTime slirp.moment slirp.flows.flows.slots n) (flow_settings config) f.story known (rests_among (filter (is_young slirp.moment) (book config past).rests)
+    subst (λ (m : ℕ). IsSettled (flow_settings config) f.story known (is_among_time_waits (filter (is_young m) (book config past).time_waits) (Some f)) m) (sym holds.clock.moment)
+    (settled_in_time (IsInTime slirp.moment slirp.flows.flows.slots n) (flow_settings config) f.story known (is_among_time_waits (filter (is_young slirp.moment) (book config past).time_waits)
     (Some f)) slirp.moment
     (are_settled config slirp.moment slirp.flows.flows past holds.clock.moment holds.flows.holds are.slots (subst (λ l. AreTold l slirp.flows.flows.slots)
     (sym holds.guests.known) are.told) are.clear n f found)

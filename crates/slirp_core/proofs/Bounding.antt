@@ -1,4 +1,4 @@
--- The core waits no longer than the record allows, and is woken for nothing else than what the record asks for.
+-- The core waits no longer than the trace allows, and is woken for nothing else than what the trace asks for.
 use Rattle.std.proofs.Common.{◌≡◌, ℕ, zero, suc, ◌+◌, ◌-◌, ◌<◌, ◌≤◌, ◌&&◌, not, cond, min, nat_le, nat_lt, Bool, true, false, is_some, List, [], ◌∷◌, ◌++◌, All, Any, filter, map}
 use Rattle.std.proofs.Common.{slice_get, Option, Some, None, option_map, inl, inr, refl, sym, ap, ◌∙◌, subst, arith}
 use Rattle.std.proofs.lemmas.Bool.Decides.{nat_tests}
@@ -17,8 +17,8 @@ use Rattle.spec_flow.specs.Close.{is_in_use}
 use Rattle.spec_flow.specs.Dutiful.{AreAhead, close_deadline, resend_deadline, wakes}
 use Rattle.spec_flow.specs.Event.{Story}
 use Rattle.spec_flow.specs.Bounds.{IsBy, IsFrom}
-use Rattle.spec_flows.specs.Book.{book, is_young as is_young_rest, longest_rest}
-use Rattle.spec_flows.specs.Flows.{Flow, Rest}
+use Rattle.spec_flows.specs.Book.{book, is_young as is_young_time_wait, longest_time_wait}
+use Rattle.spec_flows.specs.Flows.{Flow, TimeWait}
 use Rattle.spec_flows.specs.Laws.{flow_settings}
 use Rattle.spec_trace.specs.Fragments.{waiting}
 use Rattle.spec_trace.specs.Moments.{moment}
@@ -35,24 +35,24 @@ use Rattle.spec_run.proofs.KeptFiles.{now_is}
 use Rattle.spec_run.proofs.Listed.{AllQuestions}
 use Rattle.spec_run.proofs.Waiting.{IsUsed, are_waiting, same_waiting}
 use Rattle.stream_netdev.specs.State.{LinkState}
-use Rattle.sim_flows.specs.FlowsHold.{rests_at}
+use Rattle.sim_flows.specs.FlowsHold.{time_waits_at}
 use Rattle.flow_splice.proofs.Stages.{resends_none}
 use Rattle.flow_splice.specs.Splice.{Splice, is_open}
 use Rattle.flow_splice.specs.Wants.{due_of, HasTime}
 use Rattle.flow_splice.specs.declared.Place.{Place}
-use Rattle.flow_splice.specs.declared.Place.TheVariants.{Empty, InUse, Resting}
+use Rattle.flow_splice.specs.declared.Place.TheVariants.{Empty, InUse, InTimeWait}
 use Rattle.flow_splice.proofs.Promises.{settled_is, waited_is}
 use Rattle.sim_flows.specs.Core.{Following, number_of}
 use Rattle.sim_flows.proofs.Options.{true_false}
-use Rattle.spec_duties.specs.Times.{alarms, association_lives, deadlines, drops, file_alarms, lives, of_flows, question_lives, rest_ends, unless_blocked, wait_end}
+use Rattle.spec_duties.specs.Times.{alarms, association_lives, deadlines, drops, file_alarms, lives, of_flows, question_lives, time_wait_ends, unless_blocked, wait_end}
 use Rattle.spec_duties.proofs.Lives.{at_front, drops_from, lives_by, lives_from, used_by_now}
 use Rattle.spec_duties.proofs.Waited.{questions_by, questions_from}
 use Rattle.sim_halves.proofs.Moments.{by_both}
 use Rattle.sim_flows.proofs.Bounding.{by_any, by_earlier, flows_by, from_first, from_later, from_second}
 use Rattle.sim_flows.proofs.Placing.{each, not_in_use}
-use Rattle.tcp_flows.specs.Reading.{AllClear, IsDue, IsNextAfter, rest_end, time_at}
+use Rattle.tcp_flows.specs.Reading.{AllClear, IsDue, IsNextAfter, time_wait_end, time_at}
 use Rattle.tcp_flows.specs.Settled.{IsInTime}
-use Rattle.tcp_flows.specs.Waits.{IsForSome, IsInTimeAfter, IsInTimeFor, RestLater, RestOnce}
+use Rattle.tcp_flows.specs.Waits.{IsForSome, IsInTimeAfter, IsInTimeFor, TimeWaitLater, TimeWaitOnce}
 use Rattle.tcp_flows.proofs.Apart.{are_once, once_filter}
 use Rattle.tcp_flows.proofs.Ahead.{due_later, have_stories, story_ahead}
 use Rattle.tcp_flows.proofs.Awaiting.{same_later, closed_at_none}
@@ -124,8 +124,8 @@ by_next now (m ∷ ms) is = ((let low = is.0 in omega (arith, low)), by_next now
 
 module _ (config : Config) (now : ℕ) (blocked : Bool) (parts : List (Option Splice)) (past : List Entry) (due time : Option ℕ) (left : time ≡ option_map (λ at. at - now) due)
     (for_some : IsForSome config past due) where
-  part_later : moment past ≡ now → RestLater (moment past) parts → HaveTime now parts → ((n : ℕ) → IsInTime now parts n) → (at : ℕ) → IsDue parts at → now < at
-  part_later clock rests early timely at is = by is.some.1.place refl
+  part_later : moment past ≡ now → TimeWaitLater (moment past) parts → HaveTime now parts → ((n : ℕ) → IsInTime now parts n) → (at : ℕ) → IsDue parts at → now < at
+  part_later clock time_waits early timely at is = by is.some.1.place refl
     where
       some_at : (m : ℕ) → ◌≡◌ {A = Option ℕ} (Some m) (Some at) → m ≡ at
       some_at m is = cc
@@ -147,21 +147,21 @@ module _ (config : Config) (now : ℕ) (blocked : Bool) (parts : List (Option Sp
       by Empty place = let none = time_is Empty place in absurd cc
       by InUse place = due_later now p at (time_of_part (is_open p) refl)
           (λ open_yet. timely (number_of p) k p (record { here = is.some.2; open_yet = open_yet }) refl) (time_is InUse place)
-      by (Resting since) place =
-          let same = some_at (rest_end since) (time_is (Resting since) place) in
-          let late = rests k p since is.some.2 place in
+      by (InTimeWait since) place =
+          let same = some_at (time_wait_end since) (time_is (InTimeWait since) place) in
+          let late = time_waits k p since is.some.2 place in
           omega (arith, same, late, clock)
 
   -- what is due first suits them
-  pub suits_due : IsInTimeFor config parts past due → (RestOnce config past → IsBy due (rest_ends config past)) → RestLater (moment past) parts
+  pub suits_due : IsInTimeFor config parts past due → (TimeWaitOnce config past → IsBy due (time_wait_ends config past)) → TimeWaitLater (moment past) parts
       → ((at : ℕ) → due ≡ Some at → IsDue parts at × ((blocked && nat_le at now) ≡ false)) → SuitsFlows config now blocked parts past time
-  suits_due in_time rests rest_later first = record {
+  suits_due in_time time_waits rest_later first = record {
     later = λ clock early timely at is. later_by blocked refl clock early timely at (first at is);
     due = due;
     left = left;
     connects = λ ahead. in_time.connects;
     resends = λ free clear. in_time.resends clear;
-    rests = λ once ahead. rests once;
+    time_waits = λ once ahead. time_waits once;
     for_some = for_some;
   }
     where
@@ -182,15 +182,15 @@ module _ (config : Config) (now : ℕ) (blocked : Bool) (parts : List (Option Sp
       by false is more = absurd cc
 
   -- and where the link is blocked so does what is due first after now
-  pub suits_after : blocked ≡ true → IsInTimeAfter config now past due → (RestOnce config past → IsBy due (filter (nat_lt now) (rest_ends config past)))
+  pub suits_after : blocked ≡ true → IsInTimeAfter config now past due → (TimeWaitOnce config past → IsBy due (filter (nat_lt now) (time_wait_ends config past)))
       → IsNextAfter now parts due → SuitsFlows config now blocked parts past time
-  suits_after waits in_time rests next = record {
+  suits_after waits in_time time_waits next = record {
     later = λ clock early timely at is. after_at at (subst (λ (o : Option ℕ). IsNextAfter now parts o) is next);
     due = due;
     left = left;
     connects = λ ahead. subst (λ (ms : List ℕ). IsBy due ms) (same_later now (book config past).flows ahead) in_time;
     resends = λ free clear. absurd (true_false (sym waits ∙ free));
-    rests = λ once ahead. subst (λ (ms : List ℕ). IsBy due ms) (all_after (rest_ends config past) ahead) (rests once);
+    time_waits = λ once ahead. subst (λ (ms : List ℕ). IsBy due ms) (all_after (time_wait_ends config past) ahead) (time_waits once);
     for_some = for_some;
   }
     where
@@ -309,7 +309,7 @@ module _ (config : Config) (at : Standing) (slirp : SlirpState) (link : LinkStat
       by_next now (of_flows moments flows)
       (flows_by (Some (now + 1)) moments flows holds.flows.holds.seats.differ
       (λ n f found. next_by now (moments f.story)
-      (each number_of (Following config now) slirp.flows.flows.table slirp.flows.flows.slots (next_number past) flows (rests_at true config past) holds.flows.holds.seats
+      (each number_of (Following config now) slirp.flows.flows.table slirp.flows.flows.slots (next_number past) flows (time_waits_at true config past) holds.flows.holds.seats
       (λ story. AreAhead now (moments story)) of_part of_closed n f found)))
 
   -- no host had its time to connect
@@ -437,7 +437,7 @@ module _ (config : Config) (at : Standing) (slirp : SlirpState) (link : LinkStat
               from_left now (Some due) (Some left) (drops config past) (ap Some is.1)
               (drops_from due (waiting config past) is.0.one.0 is.0.one.1.0 (sym (ap (λ (sets : List PartSet). slice_get sets is.0.one.0) same_sets) ∙ first.0) low)
 
-      -- the files that the record knows of
+      -- the files that the trace knows of
       files_are : file_alarms config past ≡ filter (nat_lt now) (dues slirp.transfers)
       files_are =
           ap (λ (m : ℕ). filter (nat_lt (moment past)) (dues (ticked m (is_free (ledger config past)) (serving config past).files.transfers))) (sym (now_is config past))
@@ -467,35 +467,35 @@ module _ (config : Config) (at : Standing) (slirp : SlirpState) (link : LinkStat
           by (Some left) (due, is) =
               until_left now (Some due) (Some left) (filter (nat_lt now) (dues slirp.transfers)) (ap Some is.1) (all_later (dues slirp.transfers)) (later_by now due slirp.transfers is.0.2)
 
-      rest_once : RestOnce config past
-      rest_once = once_filter (is_young_rest (moment past)) (book config past).rests (are_once config past holds.lawful)
+      rest_once : TimeWaitOnce config past
+      rest_once = once_filter (is_young_time_wait (moment past)) (book config past).time_waits (are_once config past holds.lawful)
 
-      -- the rests that aren't over end later
-      rests_ahead : AreAhead now (rest_ends config past)
-      rests_ahead = subst (λ (n : ℕ). AreAhead n (rest_ends config past)) holds.clock.moment (young_ahead (moment past) (book config past).rests)
+      -- the TIME-WAITs that aren't over end later
+      rests_ahead : AreAhead now (time_wait_ends config past)
+      rests_ahead = subst (λ (n : ℕ). AreAhead n (time_wait_ends config past)) holds.clock.moment (young_ahead (moment past) (book config past).time_waits)
         where
-          young_ahead : (m : ℕ) (rests : List Rest) → AreAhead m (map (λ (r : Rest). r.since + longest_rest) (filter (is_young_rest m) rests))
+          young_ahead : (m : ℕ) (time_waits : List TimeWait) → AreAhead m (map (λ (r : TimeWait). r.since + longest_time_wait) (filter (is_young_time_wait m) time_waits))
           young_ahead m [] = tt
-          young_ahead m (r ∷ rests) = by (nat_lt m (r.since + longest_rest)) refl (young_ahead m rests)
+          young_ahead m (r ∷ time_waits) = by (nat_lt m (r.since + longest_time_wait)) refl (young_ahead m time_waits)
             where
-              by : (b : Bool) → nat_lt m (r.since + longest_rest) ≡ b → AreAhead m (map (λ (x : Rest). x.since + longest_rest) (filter (is_young_rest m) rests))
-                  → AreAhead m (map (λ (x : Rest). x.since + longest_rest) (cond b (r ∷ filter (is_young_rest m) rests) (filter (is_young_rest m) rests)))
+              by : (b : Bool) → nat_lt m (r.since + longest_time_wait) ≡ b → AreAhead m (map (λ (x : TimeWait). x.since + longest_time_wait) (filter (is_young_time_wait m) time_waits))
+                  → AreAhead m (map (λ (x : TimeWait). x.since + longest_time_wait) (cond b (r ∷ filter (is_young_time_wait m) time_waits) (filter (is_young_time_wait m) time_waits)))
               by true is more = (grind (arith, nat_tests, is), more)
               by false is more = more
 
       until_all : HaveTime now slirp.flows.flows.slots → (link.blocked ≡ false → AllClear slirp.flows.flows.slots × ((n : ℕ) → IsInTime now slirp.flows.flows.slots n)) → IsBy
           (wait_end now all) (deadlines config past)
       until_all early calm =
-          by_both (wait_end now all) (of_flows close_deadline flows ++ lives config past ++ rest_ends config past)
+          by_both (wait_end now all) (of_flows close_deadline flows ++ lives config past ++ time_wait_ends config past)
           (unless_blocked (is_blocked past) (of_flows resend_deadline flows ++ file_alarms config past))
-          (by_both (wait_end now all) (of_flows close_deadline flows ++ lives config past) (rest_ends config past)
+          (by_both (wait_end now all) (of_flows close_deadline flows ++ lives config past) (time_wait_ends config past)
           (by_both (wait_end now all) (of_flows close_deadline flows) (lives config past)
           (until_flows (of_flows close_deadline flows) (until_left now suits.due time.flows (of_flows close_deadline flows) suits.left (connects_ahead early)
           (suits.connects (connects_ahead early))))
           (by_both (wait_end now all) (association_lives config past) (question_lives config past)
           (until_datagrams (association_lives config past) (by_first now (time_left now slirp.associations) (question_left now slirp.questions) (association_lives config past) associations_until))
           (until_datagrams (question_lives config past) (by_second now (time_left now slirp.associations) (question_left now slirp.questions) (question_lives config past) questions_until))))
-          (until_flows (rest_ends config past) (until_left now suits.due time.flows (rest_ends config past) suits.left rests_ahead (suits.rests rest_once rests_ahead))))
+          (until_flows (time_wait_ends config past) (until_left now suits.due time.flows (time_wait_ends config past) suits.left rests_ahead (suits.time_waits rest_once rests_ahead))))
           (subst (λ (b : Bool). IsBy (wait_end now all) (unless_blocked b (of_flows resend_deadline flows ++ file_alarms config past))) (sym holds.keeps.blocked) (by_link link.blocked refl))
         where
           by_link : (b : Bool) → link.blocked ≡ b → IsBy (wait_end now all) (unless_blocked b (of_flows resend_deadline flows ++ file_alarms config past))
@@ -517,20 +517,20 @@ module _ (config : Config) (at : Standing) (slirp : SlirpState) (link : LinkStat
       of_fragments = of_sockets ++ drops config past
 
       abbrev of_rests : List ℕ
-      of_rests = of_fragments ++ rest_ends config past
+      of_rests = of_fragments ++ time_wait_ends config past
 
       from_sockets : (due : Option ℕ) → IsFrom due (lives config past) → IsFrom due (alarms config past)
       from_sockets due is =
-          from_first due of_rests (file_alarms config past) (from_first due of_fragments (rest_ends config past)
+          from_first due of_rests (file_alarms config past) (from_first due of_fragments (time_wait_ends config past)
           (from_first due of_sockets (drops config past) (from_second due awake (lives config past) is)))
 
       from_flows : IsFrom (wait_end now time.flows) (alarms config past)
       from_flows =
-          from_some (wait_end now time.flows) awake (rest_ends config past) (alarms config past) (from_left now suits.due time.flows (awake ++ rest_ends config past) suits.left suits.for_some)
+          from_some (wait_end now time.flows) awake (time_wait_ends config past) (alarms config past) (from_left now suits.due time.flows (awake ++ time_wait_ends config past) suits.left suits.for_some)
           (λ is. from_first (wait_end now time.flows) of_rests (file_alarms config past)
-          (from_first (wait_end now time.flows) of_fragments (rest_ends config past) (from_first (wait_end now time.flows) of_sockets (drops config past)
+          (from_first (wait_end now time.flows) of_fragments (time_wait_ends config past) (from_first (wait_end now time.flows) of_sockets (drops config past)
           (from_first (wait_end now time.flows) awake (lives config past) is))))
-          (λ is. from_first (wait_end now time.flows) of_rests (file_alarms config past) (from_second (wait_end now time.flows) of_fragments (rest_ends config past) is))
+          (λ is. from_first (wait_end now time.flows) of_rests (file_alarms config past) (from_second (wait_end now time.flows) of_fragments (time_wait_ends config past) is))
 
       from_all : AreFresh now slirp.fragments → IsFrom (wait_end now all) (alarms config past)
       from_all fresh =
@@ -543,7 +543,7 @@ module _ (config : Config) (at : Standing) (slirp : SlirpState) (link : LinkStat
           (from_sockets (wait_end now (question_left now slirp.questions)) (from_second (wait_end now (question_left now slirp.questions)) (association_lives config past)
           (question_lives config past) from_questions)))
           (from_first (wait_end now time.fragments) of_rests (file_alarms config past)
-          (from_first (wait_end now time.fragments) of_fragments (rest_ends config past) (from_second (wait_end now time.fragments) of_sockets (drops config past) (drops_left fresh)))))
+          (from_first (wait_end now time.fragments) of_fragments (time_wait_ends config past) (from_second (wait_end now time.fragments) of_sockets (drops config past) (drops_left fresh)))))
           from_flows)
           (from_second (wait_end now time.files) of_rests (file_alarms config past) files_left)
 
@@ -562,7 +562,7 @@ until_is config at slirp link past holds timeout times none_again early calm you
     (subst (λ (o : Option ℕ). IsBy (wait_end slirp.moment o) (deadlines config past)) (sym (times holds.guests.fragments.held holds.guests.fragments.is_held).is)
     (until_all config at slirp link past holds young_now recent timeout times none_again early calm))
 
--- And it is cut short for nothing else than what the record has a time for, where no fragments that wait are to be dropped yet.
+-- And it is cut short for nothing else than what the trace has a time for, where no fragments that wait are to be dropped yet.
 pub from_is : (config : Config) (at : Standing) (slirp : SlirpState) (link : LinkState) (past : List Entry) → Holds config at slirp (flowing true slirp.flows) link past
     → (timeout : Option ℕ) → ((held : List PartSet) → IsHeld slirp.fragments held → IsTimeout slirp link.blocked held timeout) →
     (slirp.pending ≡ [] → next_again slirp.moment slirp.transfers ≡ None) → AreFresh slirp.moment slirp.fragments

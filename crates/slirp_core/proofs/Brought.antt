@@ -1,4 +1,4 @@
--- What a frame asks for, against the record.
+-- What a frame asks for, against the trace.
 use Rattle.std.proofs.Common.{◌≡◌, ℕ, ◌==◌, Bool, true, false, List, [], ◌∷◌, ◌++◌, Option, Some, None, if◌then◌else◌, refl, sym, ◌∙◌, ap, subst, arith}
 use Rattle.std.proofs.lemmas.Bool.Decides.{nat_tests}
 use Rattle.std.specs.Option.{option_and_then}
@@ -73,7 +73,7 @@ module _ (config : Config) (count : ℕ) (wants : List Want) (item : Want) (item
   sets_wait : young slirp.moment holds.guests.fragments.held ≡ waiting config past
   sets_wait = ap (λ n. young n holds.guests.fragments.held) (sym holds.clock.moment) ∙ holds.guests.fragments.wait
 
-  -- what a frame is said to bring, by the settings and the sets of the core, is what it brings by those of the record
+  -- what a frame is said to bring, by the settings and the sets of the core, is what it brings by those of the trace
   of_frame : {A : Type 0} (of : Config → ℕ → List PartSet → List ℕ → A) (frame : List ℕ) → ((w : List PartSet) → of (as_given config) slirp.moment w frame ≡ of config slirp.moment w frame)
       → of slirp.config slirp.moment (young slirp.moment holds.guests.fragments.held) frame ≡ of config slirp.moment (waiting config past) frame
   of_frame of frame same =

@@ -35,7 +35,7 @@ use Rattle.sim_flows.specs.Core.{Following, number_of}
 use Rattle.sim_flows.proofs.Staying.{core_stays}
 use Rattle.sim_flows.specs.Seats.{Seats}
 use Rattle.spec_flows.specs.Book.{book, is_young}
-use Rattle.spec_flows.specs.Flows.{Rest}
+use Rattle.spec_flows.specs.Flows.{TimeWait}
 use Rattle.tcp_flows.specs.Runs.{Between, Broken, ClosesRising, IsIdle, IsIdlePump, Leaves, Learns, LeavesOthers, Pumps, Reports, Sendable, Ticks, Tells}
 use Rattle.tcp_flows.specs.Told.{ServesOnce}
 use Rattle.slirp_core.proofs.Given.{left_in_force}
@@ -163,7 +163,7 @@ not_ended config count slirp kept link past few turn holds = ap (λ p. is_over p
     not_all : nat_le config.turns (waits past) ≡ false
     not_all = let counted : waits past ≡ count = holds.clock.counted in grind (arith, nat_tests, few, counted)
 
--- the guests that are known are those of the record
+-- the guests that are known are those of the trace
 told_now : (config : Config) (slirp : SlirpState) (kept : Kept) (past : List Entry) → AreTold slirp.known kept.flows.slots → known config past ≡ slirp.known → AreTold
     (known config past) kept.flows.slots
 told_now config slirp kept past told is = subst (λ l. AreTold l kept.flows.slots) (sym is) told
@@ -211,7 +211,7 @@ ticked config count slirp kept new link past made Closes few told ticks allowed 
     (λ same. owed_aged config slirp (made ++ past) then_is.between.at (owed_on config false slirp past (made ++ past) same holds.answers.owed))
 
 -- and before the first wait, where there is no flow
-pub unticked : (config : Config) (at : Standing) (slirp : SlirpState) (kept : Kept) (link : LinkState) (past : List Entry) → (book config past).rests ≡ [] → Holds config at slirp
+pub unticked : (config : Config) (at : Standing) (slirp : SlirpState) (kept : Kept) (link : LinkState) (past : List Entry) → (book config past).time_waits ≡ [] → Holds config at slirp
     (flowing false kept) link past
     → Holds config at (without_over slirp) (flowing true kept) link past
 unticked config at slirp kept link past unrested holds = record {
@@ -233,7 +233,7 @@ unticked config at slirp kept link past unrested holds = record {
   forwards = holds.forwards;
   flows = record {
     holds = record {
-      seats = subst (λ (r : List Rest). Seats number_of (Following config slirp.moment) kept.flows.table kept.flows.slots (next_number past) (book config past).flows r)
+      seats = subst (λ (r : List TimeWait). Seats number_of (Following config slirp.moment) kept.flows.table kept.flows.slots (next_number past) (book config past).flows r)
           (unrested ∙ sym (ap (filter (is_young (moment past))) unrested)) holds.flows.holds.seats;
       slots = holds.flows.holds.slots;
       opened = holds.flows.holds.opened;

@@ -39,7 +39,7 @@ use Rattle.spec_run.proofs.Joining.{numbers_without}
 use Rattle.slirp_core.specs.Forwards.{ClosesForward}
 use Rattle.rules_forward.specs.Opened.{forward_sockets}
 use Rattle.slirp_core.specs.Firsts.{IsLeastOf}
-use Rattle.slirp_core.specs.Holds.{AfterClosing, AreOpen, AreTwo, Closing, ClosesAll, ClosesNext, ClosesOther, Holders, IsForwardFirst, IsOf, NoForwardFirst, Ran, carriers, Rests}
+use Rattle.slirp_core.specs.Holds.{AfterClosing, AreOpen, AreTwo, Closing, ClosesAll, ClosesNext, ClosesOther, Holders, IsForwardFirst, IsOf, NoForwardFirst, Ran, carriers, IsThrough}
 use Rattle.slirp_core.specs.Holds.{OverFor, AllWaited}
 use Rattle.slirp_core.proofs.Parts.{due_in_phase, due_is}
 use Rattle.slirp_core.proofs.Rising.{open_rise}
@@ -89,29 +89,29 @@ module _ (forwards : List ℕ) (o : Holders) (config : Config) (over : Phase) (p
   first_is : first (open_sockets past) ≡ Some n
   first_is = first_least (next_number past) n (open_sockets past) (open_rise config past closing.lawful) among least
 
-  place : Rests config past → (is_working (phase config past) || is_over (phase config past)) ≡ true
+  place : IsThrough config past → (is_working (phase config past) || is_over (phase config past)) ≡ true
   place (OverFor cause is) = ap (λ p. is_working p || is_over p) is
   place (AllWaited working) = ap (λ p. is_working p || is_over p) working
 
-  is_due : Rests config past → MayDue config past (CallClose n)
+  is_due : IsThrough config past → MayDue config past (CallClose n)
   is_due (OverFor cause ended) =
       this_one config past (CallClose n) (due_in_phase config past (Over cause) ended closing.served closing.idle
       ∙ ap (λ (o : Option Call). option_or o (due_for config (step config past) (next_number past))) (ap (option_map CallClose) first_is))
   is_due (AllWaited working) = any_one config past (CallClose n) (due_is config past NeedsNothing working closing.served closing.idle (ap (step_of config past) closing.errand))
 
   may_close : May config past (CallClose n)
-  may_close = may_close_least config past closing.lawful closing.ended n first_is (is_due closing.rests) (place closing.rests) (record { due = closing.idle; stay = closing.stay })
+  may_close = may_close_least config past closing.lawful closing.ended n first_is (is_due closing.through) (place closing.through) (record { due = closing.idle; stay = closing.stay })
 
-  rests_on : Rests config past → Rests config (Close n ∷ past)
-  rests_on (OverFor cause is) = OverFor cause is
-  rests_on (AllWaited working) = AllWaited working
+  through_on : IsThrough config past → IsThrough config (Close n ∷ past)
+  through_on (OverFor cause is) = OverFor cause is
+  through_on (AllWaited working) = AllWaited working
 
   closed : (left : List ℕ) (new : Holders) → AreTwo new → AreOpen left (carriers new) new.slots (Close n ∷ past) → Closing config over left new (Close n ∷ past)
   closed left new two open_now = record {
     lawful = (may_close, closing.lawful);
     ended = closing.ended;
     is = closing.is;
-    rests = rests_on closing.rests;
+    through = through_on closing.through;
     errand = closing.errand;
     served = quest_none config past closing.served;
     idle = refl;
@@ -312,7 +312,7 @@ module _ (config : Config) (over : Phase) (forwards : List ℕ) (o : Holders) (p
         empty [] is = is
         empty (x ∷ sockets) is = absurd (no_one x (now_open.each x (ap (is_among x) is ∙ ap (λ b. b || is_among x sockets) (same x))))
 
-    none_due : Rests config past → due config past ≡ None
+    none_due : IsThrough config past → due config past ≡ None
     none_due (OverFor cause is) =
         due_in_phase config past (Over cause) is closing.served closing.idle
         ∙ ap (λ (s : List ℕ). option_or (option_map CallClose (first s)) (due_for config (step config past) (next_number past))) shut ∙ ap
@@ -320,7 +320,7 @@ module _ (config : Config) (over : Phase) (forwards : List ℕ) (o : Holders) (p
     none_due (AllWaited working) = due_in_phase config past Working working closing.served closing.idle ∙ ap (λ s. due_for config s (next_number past)) (ap (step_of config past) closing.errand)
 
     pub all_closed : Ran config over past
-    all_closed = (closing.lawful, record { ended = closing.ended; none_due = none_due closing.rests; closed = shut }, closing.is)
+    all_closed = (closing.lawful, record { ended = closing.ended; none_due = none_due closing.through; closed = shut }, closing.is)
 
 -- ---- the socket of a forward is closed
 

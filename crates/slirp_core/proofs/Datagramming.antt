@@ -8,7 +8,7 @@ use Rattle.net_octets.specs.Kinds.{udp_proto}
 use Rattle.net_octets.specs.Octets.{IsOctets}
 use Rattle.slirp_settings.specs.Addresses.{Config}
 use Rattle.ipv4_head.specs.Ip.{Ip, IsIp, read_ip}
-use Rattle.ipv4_head.proofs.Spelling.{spelled}
+use Rattle.ipv4_head.proofs.Encoding.{encoding_of}
 use Rattle.udp_datagram.specs.Udp.{Udp, IsUdp, udp_with, read_udp}
 use Rattle.spec_trace.specs.Packets.{quoted, datagram_of, may_come}
 use Rattle.slirp_core.specs.Datagrams.{Lies}
@@ -17,7 +17,7 @@ use Rattle.slirp_core.specs.Packets.{udp_of}
 -- a packet that is read lies at the front of the octets
 pub read_lies : (octets : List ℕ) (ip : Ip) → IsOctets octets → read_ip octets ≡ Some ip → Lies octets ip.head ip.body
 read_lies octets ip fits is =
-    let g : IsIp octets ip = (spelled octets ip fits is).0 in
+    let g : IsIp octets ip = (encoding_of octets ip fits is).0 in
     let words : g.words < 16 = g.words_fit.1 in
     let five : 5 ≤ g.words = g.words_fit.0 in
     record {
@@ -29,7 +29,7 @@ read_lies octets ip fits is =
 
 pub read_head : (octets : List ℕ) (ip : Ip) → IsOctets octets → read_ip octets ≡ Some ip → 20 ≤ length ip.head
 read_head octets ip fits is =
-    let g : IsIp octets ip = (spelled octets ip fits is).0 in
+    let g : IsIp octets ip = (encoding_of octets ip fits is).0 in
     let five : 5 ≤ g.words = g.words_fit.0 in
     omega (arith, g.head_size)
 

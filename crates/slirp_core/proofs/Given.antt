@@ -1,4 +1,4 @@
--- The ports of the host that are given to guests: which calls leave them in force, and what the list of those that are says of the record.
+-- The ports of the host that are given to guests: which calls leave them in force, and what the list of those that are says of the trace.
 use Rattle.std.proofs.Common.{◌≡◌, ℕ, zero, suc, ◌+◌, ◌<◌, ◌≤◌, ◌==◌, ◌&&◌, ◌||◌, ◌⊎◌, not, nat_lt, Bool, true, false, List, [], ◌∷◌, ◌++◌, filter, find, slice_get, Option}
 use Rattle.std.proofs.Common.{Some, None, option_map, if◌then◌else◌, inl, inr, refl, sym, ◌∙◌, ap, subst, arith}
 use Rattle.std.proofs.lemmas.Bool.Decides.{nat_tests}

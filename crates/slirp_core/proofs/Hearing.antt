@@ -14,7 +14,7 @@ use Rattle.slirp_settings.specs.Addresses.{Config}
 use Rattle.spec_flows.specs.Book.{book, scene, turned}
 use Rattle.spec_flows.specs.Doings.{Comes as ComesOn}
 use Rattle.spec_flows.specs.Flows.{Book, owner, Flow}
-use Rattle.spec_flows.specs.Lots.{Lot, Dropped, AsksFor, GetsReset, asked_for, due_by, due_for_flows, is_mistaken, is_reset, is_reset_by, lot, NeedsRoom, giving_way, needs_room, quietest}
+use Rattle.spec_flows.specs.SegmentVerdicts.{SegmentVerdict, Dropped, AsksFor, GetsReset, asked_for, due_by, due_for_flows, is_mistaken, is_reset, is_reset_by, segment_verdict, NeedsRoom, giving_way, needs_room, quietest}
 use Rattle.spec_flows.specs.Segments.{OnTuple}
 use Rattle.spec_flows.specs.Taught.{taught}
 use Rattle.spec_trace.specs.Sockets.{Flow as FlowKind, is_among, kind_of, next_number, open_sockets, with_made}
@@ -33,12 +33,12 @@ use Rattle.slirp_core.proofs.Parts.{asks_nothing, keeps_by}
 use Rattle.rules_tftp.specs.Transfers.{Files}
 use Rattle.slirp_core.proofs.Services.{none_due_for_services, unheard}
 use Rattle.sim_flows.specs.Core.{Following, mac_of, number_of}
-use Rattle.sim_flows.specs.Stands.{lot_without}
+use Rattle.sim_flows.specs.Stands.{verdict_without_flow}
 use Rattle.sim_flows.proofs.Joined.{may_connect}
 use Rattle.sim_flows.proofs.Others.{holds_quiet}
 use Rattle.tcp_flows.specs.Kept.{Kept}
 use Rattle.tcp_flows.proofs.Asking.{asked_then}
-use Rattle.tcp_flows.specs.Runs.{Begins as BeginsFlow, Between, HasLot, Hears, IsHeard, Leaves}
+use Rattle.tcp_flows.specs.Runs.{Begins as BeginsFlow, Between, HasVerdict, Hears, IsHeard, Leaves}
 use Rattle.tcp_flows.specs.declared.guest.Heard.{Heard}
 use Rattle.tcp_flows.specs.declared.guest.Heard.TheVariants.{Taken, Strange, Alone}
 use Rattle.slirp_core.proofs.Called.{framed, guests_left, sockets_left}
@@ -69,7 +69,7 @@ kinds_joined number to answer past kinds n among = by (number == n) refl
     by false is = kinds n (before answer (turned_round is) among)
 
 module _ (config : Config) (at : Standing) (slirp : SlirpState) (kept : Kept) (link : LinkState) (c : Coming) (past : List Entry) (comes : Comes config at slirp kept link c past) where
-  -- ---- what the record says of the segment
+  -- ---- what the trace says of the segment
 
   then_book : book config past ≡ turned config (scene config comes.before) (ComesOn c.on) (book config comes.before)
   then_book = ap (book config) comes.is ∙ ap (λ d. turned config (scene config comes.before) d (book config comes.before)) comes.brings.comes
@@ -77,8 +77,8 @@ module _ (config : Config) (at : Standing) (slirp : SlirpState) (kept : Kept) (l
   came_is : (book config past).came ≡ Some c.on
   came_is = ap (λ (b : Book). b.came) then_book
 
-  abbrev the_lot : Lot
-  the_lot = lot config (book config past) c.on
+  abbrev the_verdict : SegmentVerdict
+  the_verdict = segment_verdict config (book config past) c.on
 
   doomed_is : (book config past).doomed ≡ giving_way config slirp.moment c.on (book config past)
   doomed_is =
@@ -86,21 +86,21 @@ module _ (config : Config) (at : Standing) (slirp : SlirpState) (kept : Kept) (l
       ∙ ap (λ m. giving_way config m c.on (book config past)) comes.brings.at_before
 
   -- where it doesn't need room none gives way
-  none_doomed : (l : Lot) → the_lot ≡ l → needs_room l ≡ false → (book config past).doomed ≡ None
+  none_doomed : (l : SegmentVerdict) → the_verdict ≡ l → needs_room l ≡ false → (book config past).doomed ≡ None
   none_doomed l is room =
       doomed_is ∙ ap (λ b. if b && not (list_any (λ (f : Flow). owes_reset f.story) (book config past).flows)
       then option_map (λ (f : Flow). f.number) (quietest slirp.moment (book config past).flows) else None) (ap needs_room is ∙ room)
 
-  due_as : (l : Lot) → the_lot ≡ l → needs_room l ≡ false → due_for_flows config (book config past) (next_number past) ≡ due_by None (asked_for l) (next_number past)
+  due_as : (l : SegmentVerdict) → the_verdict ≡ l → needs_room l ≡ false → due_for_flows config (book config past) (next_number past) ≡ due_by None (asked_for l) (next_number past)
   due_as l is room =
-      (λ i. due_by (none_doomed l is room i) (option_and_then (λ (on : OnTuple). asked_for (lot config (book config past) on)) (came_is i)) (next_number past))
+      (λ i. due_by (none_doomed l is room i) (option_and_then (λ (on : OnTuple). asked_for (segment_verdict config (book config past) on)) (came_is i)) (next_number past))
       ∙ ap (λ l. due_by None (asked_for l) (next_number past)) is
 
   -- what is owed for it by its lot
   owed_as : (b : Bool) → is_reset config (book config past) c.on ≡ b → left config past ≡ frames_of config slirp.sent (owed_for_segment b c.on)
   owed_as b is = comes.owed ∙ ap (λ b. frames_of config slirp.sent (owed_for_segment b c.on)) is
 
-  reset_by : (l : Lot) → the_lot ≡ l → is_reset config (book config past) c.on ≡ is_reset_by l (is_mistaken c.on.segment (owner c.on.tuple (book config past).flows))
+  reset_by : (l : SegmentVerdict) → the_verdict ≡ l → is_reset config (book config past) c.on ≡ is_reset_by l (is_mistaken c.on.segment (owner c.on.tuple (book config past).flows))
   reset_by l is = ap (λ l. is_reset_by l (is_mistaken c.on.segment (owner c.on.tuple (book config past).flows))) is
 
   -- the frames of the reset that answers it
@@ -156,7 +156,7 @@ module _ (config : Config) (at : Standing) (slirp : SlirpState) (kept : Kept) (l
 
   module _ (made : List Entry) (new : Kept) (allowed : AreAllowed made) where
     abbrev Told : Heard → List Entry → Type 0
-    Told heard l = IsHeard heard config slirp.moment new c.on l made × HasLot heard config new c.on l × Leaves config l made × (agenda (made ++ l) ≡ agenda l)
+    Told heard l = IsHeard heard config slirp.moment new c.on l made × HasVerdict heard config new c.on l × Leaves config l made × (agenda (made ++ l) ≡ agenda l)
 
     told : (heard : Heard) → Hears slirp.moment kept new c.on.tuple c.tcp heard made → Told heard past
     told heard hears = subst (Told heard) (sym comes.is) (hears config comes.newest comes.before c.on comes.brings)
@@ -172,13 +172,13 @@ module _ (config : Config) (at : Standing) (slirp : SlirpState) (kept : Kept) (l
     -- ---- it is one without a flow
 
     module _ (hears : Hears slirp.moment kept new c.on.tuple c.tcp Alone made) where
-      abbrev its : Lot
-      its = lot_without config (nat_lt (in_use_slots new.flows.table.slots) (length new.flows.table.slots)) c.on
+      abbrev its : SegmentVerdict
+      its = verdict_without_flow config (nat_lt (in_use_slots new.flows.table.slots) (length new.flows.table.slots)) c.on
 
       abbrev t : Told Alone past
       t = told Alone hears
 
-      then_between : (l : Lot) → its ≡ l → needs_room l ≡ false → Between config slirp.moment false (due_by None (asked_for l) (next_number past)) new past
+      then_between : (l : SegmentVerdict) → its ≡ l → needs_room l ≡ false → Between config slirp.moment false (due_by None (asked_for l) (next_number past)) new past
       then_between l is room = subst (λ d. Between config slirp.moment false d new past) (due_as l (t.1 ∙ is) room) t.0.1
 
       -- nothing is called
@@ -201,7 +201,7 @@ module _ (config : Config) (at : Standing) (slirp : SlirpState) (kept : Kept) (l
       pub alone_crowded : its ≡ NeedsRoom → (parted : Kept) (closes : List Entry) → AreAllowed closes → GivesWay slirp.moment new parted closes →
           Holds config at slirp (flowing false parted) link (closes ++ past)
       alone_crowded is parted closes fine gives =
-          let g = gives config past c.on (record { came = came_is; lot = t.1 ∙ is; doomed = doomed_is }) t.0.1 in
+          let g = gives config past c.on (record { came = came_is; segment_verdict = t.1 ∙ is; doomed = doomed_is }) t.0.1 in
           settles closes parted slirp.pending fine g.0 g.1 g.2 (owed_none (reset_by NeedsRoom (t.1 ∙ is)))
 
       -- ---- the host is to connect for it

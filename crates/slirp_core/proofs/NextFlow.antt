@@ -1,16 +1,16 @@
--- The next flow in use, by the slots and by the record.
+-- The next flow in use, by the slots and by the trace.
 use Rattle.std.proofs.Common.{◌≡◌, ℕ, ◌≤◌, Bool, true, false, List, Some, None, Option, slice_get, refl, sym, ◌∙◌, ap, subst}
 use Rattle.world_face.specs.Journal.{Call, Entry}
 use Rattle.slirp_settings.specs.Addresses.{Config}
 use Rattle.spec_flows.specs.declared.Tuple.{Tuple}
 use Rattle.spec_flow.specs.Close.{is_in_use as has_its_tuple}
 use Rattle.spec_flows.specs.Book.{book}
-use Rattle.spec_flows.specs.Flows.{Flow, Rest, flow_of, uses}
+use Rattle.spec_flows.specs.Flows.{Flow, TimeWait, flow_of, uses}
 use Rattle.flow_splice.specs.Splice.{Splice, is_in_use}
 use Rattle.flow_splice.specs.declared.Place.{Place}
-use Rattle.flow_splice.specs.declared.Place.TheVariants.{Empty, InUse, Resting}
+use Rattle.flow_splice.specs.declared.Place.TheVariants.{Empty, InUse, InTimeWait}
 use Rattle.sim_flows.specs.Core.{CoreHolds, ends_of, number_of}
-use Rattle.sim_flows.specs.FlowsHold.{FlowsState, rests_at}
+use Rattle.sim_flows.specs.FlowsHold.{FlowsState, time_waits_at}
 use Rattle.sim_flows.specs.Seats.{IsSlotOf, number_in}
 use Rattle.sim_flows.specs.Stands.{slot_at}
 use Rattle.sim_flows.proofs.Options.{some_same, true_false}
@@ -19,16 +19,16 @@ use Rattle.tcp_flows.specs.Reading.{HaveSlots, IsAbove}
 use Rattle.slirp_core.specs.NextFlow.{IsNextFlow}
 
 -- a slot in use is that of a flow that has these ends in use
-used_slot : (rests : List Rest) (f : Flow) (ends : Tuple) (p : Place) → is_in_use p ≡ true → IsSlotOf rests f (slot_at p ends) → (f.tuple ≡ ends) × (has_its_tuple f.story ≡ true)
-used_slot rests f ends Empty used is = absurd is
-used_slot rests f ends InUse used is = is
-used_slot rests f ends (Resting since) used is = absurd (true_false (sym used))
+used_slot : (time_waits : List TimeWait) (f : Flow) (ends : Tuple) (p : Place) → is_in_use p ≡ true → IsSlotOf time_waits f (slot_at p ends) → (f.tuple ≡ ends) × (has_its_tuple f.story ≡ true)
+used_slot time_waits f ends Empty used is = absurd is
+used_slot time_waits f ends InUse used is = is
+used_slot time_waits f ends (InTimeWait since) used is = absurd (true_false (sym used))
 
 -- and that of one that has its ends in use is in use
-slot_used : (rests : List Rest) (f : Flow) (ends : Tuple) (p : Place) → has_its_tuple f.story ≡ true → IsSlotOf rests f (slot_at p ends) → is_in_use p ≡ true
-slot_used rests f ends Empty used is = absurd is
-slot_used rests f ends InUse used is = refl
-slot_used rests f ends (Resting since) used is = absurd (true_false (sym used ∙ is.2))
+slot_used : (time_waits : List TimeWait) (f : Flow) (ends : Tuple) (p : Place) → has_its_tuple f.story ≡ true → IsSlotOf time_waits f (slot_at p ends) → is_in_use p ≡ true
+slot_used time_waits f ends Empty used is = absurd is
+slot_used time_waits f ends InUse used is = refl
+slot_used time_waits f ends (InTimeWait since) used is = absurd (true_false (sym used ∙ is.2))
 
 -- the part that has a number
 part_with : (n : ℕ) (o : Option (Option Splice)) → number_in number_of o ≡ Some n → (p : Splice) × (o ≡ Some (Some p)) × (number_of p ≡ n)
@@ -43,16 +43,16 @@ module _ (config : Config) (now : ℕ) (aged : Bool) (task : Option Call) (state
 
   -- the flow of a slot, and what its slot is of it
   flow_at : (k : ℕ) (p : Splice) → slice_get state.slots k ≡ Some (Some p)
-      → (f : Flow) × (flow_of (number_of p) flows ≡ Some f) × IsSlotOf (rests_at aged config past) f (slot_at p.place (ends_of p.face))
+      → (f : Flow) × (flow_of (number_of p) flows ≡ Some f) × IsSlotOf (time_waits_at aged config past) f (slot_at p.place (ends_of p.face))
   flow_at k p at =
       let seat = holds.seats.seated k p at in
-      (seat.0, seat.2, subst (IsSlotOf (rests_at aged config past) seat.0) (some_same seat.1 (slot_at p.place (ends_of p.face)) (sym seat.5 ∙ slots k p at)) seat.6)
+      (seat.0, seat.2, subst (IsSlotOf (time_waits_at aged config past) seat.0) (some_same seat.1 (slot_at p.place (ends_of p.face)) (sym seat.5 ∙ slots k p at)) seat.6)
 
   -- a slot in use has a flow that has its ends in use
   recorded_at : (k : ℕ) (p : Splice) → IsInUseAt state.slots k p → (f : Flow) × (flow_of (number_of p) flows ≡ Some f) × (f.tuple ≡ ends_of p.face) × (has_its_tuple f.story ≡ true)
   recorded_at k p at =
       let seat = flow_at k p at.here in
-      let used = used_slot (rests_at aged config past) seat.0 (ends_of p.face) p.place at.in_use seat.2 in
+      let used = used_slot (time_waits_at aged config past) seat.0 (ends_of p.face) p.place at.in_use seat.2 in
       (seat.0, seat.1, used.0, used.1)
 
   -- a flow that has its ends in use has a slot in use
@@ -62,7 +62,7 @@ module _ (config : Config) (now : ℕ) (aged : Bool) (task : Option Call) (state
       let part = part_with m (slice_get state.slots found.0) found.1 in
       let seat = flow_at found.0 part.0 part.1 in
       let its = ap uses (sym seat.1) ∙ ap (λ n. uses (flow_of n flows)) part.2 ∙ used in
-      (found.0, part.0, record { here = part.1; in_use = slot_used (rests_at aged config past) seat.0 (ends_of part.0.face) part.0.place its seat.2 }, part.2)
+      (found.0, part.0, record { here = part.1; in_use = slot_used (time_waits_at aged config past) seat.0 (ends_of part.0.face) part.0.place its seat.2 }, part.2)
 
   pub next_recorded : (last : Option ℕ) (result : Option (ℕ × Tuple)) → IsNextUse last result state.slots → IsNextFlow last result flows
   next_recorded last (Some next) is =

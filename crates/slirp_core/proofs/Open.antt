@@ -5,7 +5,7 @@ use Rattle.slirp_settings.specs.Addresses.{Config}
 use Rattle.spec_flow.specs.Flow.{is_closed}
 use Rattle.spec_flows.specs.Book.{book}
 use Rattle.spec_flows.specs.Flows.{Book, Flow, flow_of}
-use Rattle.spec_flows.specs.Lots.{connects_to, due_by, due_for_flows}
+use Rattle.spec_flows.specs.SegmentVerdicts.{connects_to, due_by, due_for_flows}
 use Rattle.spec_trace.specs.Sockets.{Kind, Association as OfAssociation, DnsSocket, Flow as OfFlow, Forward as OfForward, Listener, is_among, is_association, is_flow, kind_of, next_number, open_sockets}
 use Rattle.spec_run.specs.Datagrams.{Step}
 use Rattle.spec_run.specs.Laws.{Lawful, carries, joins}

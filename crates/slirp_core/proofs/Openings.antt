@@ -67,7 +67,7 @@ pub record Quiet (config : Config) (e : Entry) (past : List Entry) : Type 0 wher
   pub unasked : requests config (e ∷ past) ≡ requests config past
   pub moment : moment (e ∷ past) ≡ moment past
   pub unreported : agenda (e ∷ past) ≡ agenda past
-  pub unrested : (book config (e ∷ past)).rests ≡ (book config past).rests
+  pub unrested : (book config (e ∷ past)).time_waits ≡ (book config past).time_waits
   pub files : (serving config (e ∷ past)).files ≡ (serving config past).files
   pub again : (serving config (e ∷ past)).again ≡ (serving config past).again
 

@@ -29,7 +29,7 @@ nothing_left config aged slirp past none owed = (of_left config aged slirp past 
 
 -- ---- entries that leave it
 
--- the record has the same left, and the same of files
+-- the trace has the same left, and the same of files
 pub record SameLedger (config : Config) (past later : List Entry) : Type 0 where
   pub left : left config later ≡ left config past
   pub files : (serving config later).files ≡ (serving config past).files
@@ -126,7 +126,7 @@ owed_aged config slirp past at (inr f) = inr (record {
   files = (λ i. are_left (sym (now_is config past ∙ at) i) (f.files i)) ∙ sym (ap (λ o. ticked (serving config past).now (not (is_some o)) (serving config past).files.transfers) (f.on_its_way refl));
 })
 
--- a wait: what the core had sent on its way is on its way by the record
+-- a wait: what the core had sent on its way is on its way by the trace
 module _ (config : Config) (slirp : SlirpState) (past : List Entry) (wants : List Want) (timeout : Option ℕ) (answer : Waited) (ready : List Want) where
   abbrev transfers_then : Bool → List Transfer
   transfers_then free = ticked (serving config past).now free (serving config past).files.transfers

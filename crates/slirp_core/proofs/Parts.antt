@@ -14,7 +14,7 @@ use Rattle.rules_dns.specs.Questions.{ident_in, most_questions, numbers as quest
 use Rattle.rules_dns.specs.declared.Question.{Question}
 use Rattle.rules_forward.specs.Opened.{socket_for as port_for}
 use Rattle.spec_flows.specs.Book.{book}
-use Rattle.spec_flows.specs.Lots.{due_for_flows}
+use Rattle.spec_flows.specs.SegmentVerdicts.{due_for_flows}
 use Rattle.spec_trace.specs.Happenings.{happens}
 use Rattle.spec_trace.specs.Shape.{Phase, Working, phase, due_in, opened}
 use Rattle.spec_trace.specs.Moments.{waits}
@@ -120,7 +120,7 @@ pub forward_in : (config : Config) (at : Standing) (step : Step) (heard : Option
 forward_in config at step heard slirp f link past holds guest =
     forward_is config slirp.forwards past holds.lawful holds.forwards guest
 
--- what the lists ask for is what the record says
+-- what the lists ask for is what the trace says
 pub asked_for : (config : Config) (at : Standing) (s : Step) (heard : Option ℕ) (slirp : SlirpState) (f : Flowing) (link : LinkState) (past : List Entry) →
     HoldsOn config at s heard slirp f link past → step config past ≡ s
 asked_for config at s heard slirp f link past holds =
@@ -189,12 +189,12 @@ brings_none config (UdpSend socket to octets answer) past on = refl
 brings_none config (UdpRecv socket asked answer octets) past on = refl
 brings_none config _ past on = absurd on
 
-seeks_none : (config : Config) (e : Entry) (past : List Entry) → IsOnSocket e → (serving config (e ∷ past)).files ≡ (serving config past).files
-seeks_none config (Close socket) past on = refl
-seeks_none config (UdpOpen socket at answer) past on = refl
-seeks_none config (UdpSend socket to octets answer) past on = refl
-seeks_none config (UdpRecv socket asked answer octets) past on = refl
-seeks_none config _ past on = absurd on
+resolves_none : (config : Config) (e : Entry) (past : List Entry) → IsOnSocket e → (serving config (e ∷ past)).files ≡ (serving config past).files
+resolves_none config (Close socket) past on = refl
+resolves_none config (UdpOpen socket at answer) past on = refl
+resolves_none config (UdpSend socket to octets answer) past on = refl
+resolves_none config (UdpRecv socket asked answer octets) past on = refl
+resolves_none config _ past on = absurd on
 
 clock_stays : (at after : Standing) (slirp new : SlirpState) (e : Entry) (past : List Entry) → IsOnSocket e → new.moment ≡ slirp.moment → after.count ≡ at.count →
     OfClock at slirp past → OfClock after new (e ∷ past)
@@ -258,7 +258,7 @@ after_socket config at after step new_step heard new_heard slirp new f link e pa
   answers = changes.answers;
   guests = guests_stay config slirp new e past (brings_none config e past on) same_guests holds.guests;
   relayed = changes.relayed;
-  services = services_stay config slirp new e past (brings_none config e past on) (seeks_none config e past on) same_leases holds.services;
+  services = services_stay config slirp new e past (brings_none config e past on) (resolves_none config e past on) same_leases holds.services;
   forwards = subst (λ l. AreInForce config l (e ∷ past)) (sym same_forwards)
       (stays_in_force config slirp.forwards past holds.lawful holds.forwards e changes.may (is_other e past on changes.own turn.waited));
   flows = subst (λ m. OfFlows config f m (e ∷ past)) (sym same_moment) (flows_on config f slirp.moment e past on changes.own holds.lawful holds.flows);

@@ -7,7 +7,7 @@ use Rattle.std.proofs.lemmas.Bool.Decides.{nat_tests}
 use Rattle.world_face.specs.Journal.{Entry, Allowed, AreAllowed, LinkWrite}
 use Rattle.world_face.specs.declared.Io.{Io}
 use Rattle.world_face.specs.declared.Io.TheVariants.{Done, End, NotYet, Failed}
-use Rattle.world_face.specs.Frames.{LinkFailed, goes_out, tail, spelling, opens}
+use Rattle.world_face.specs.Frames.{LinkFailed, goes_out, tail, encoding, opens}
 use Rattle.slirp_settings.specs.Addresses.{Config}
 use Rattle.spec_run.specs.Sending.{requests, requests_by}
 use Rattle.spec_run.specs.Answers.{identification, datagrams_in, datagrams_out, with_datagrams, again_frames, left, serving, taken, is_first, is_out}
@@ -169,28 +169,28 @@ same_octets : (octets : List ℕ) → bytes_eq octets octets ≡ true
 same_octets [] = refl
 same_octets (x ∷ octets) = ap (λ b. b && bytes_eq octets octets) (same x) ∙ same_octets octets
 
-spelt : (frame : List ℕ) → drop 4 (spelling frame) ≡ frame
-unfolding spelling
-spelt frame = refl
+encoded : (frame : List ℕ) → drop 4 (encoding frame) ≡ frame
+unfolding encoding
+encoded frame = refl
 
-is_the_first : (frame : List ℕ) (rest : List (List ℕ)) → is_first (drop 4 (spelling frame)) (frame ∷ rest) ≡ true
-is_the_first frame rest = ap (λ f. bytes_eq f frame) (spelt frame) ∙ same_octets frame
+is_the_first : (frame : List ℕ) (rest : List (List ℕ)) → is_first (drop 4 (encoding frame)) (frame ∷ rest) ≡ true
+is_the_first frame rest = ap (λ f. bytes_eq f frame) (encoded frame) ∙ same_octets frame
 
 counts_on : (more out : ℕ) → (more + out) % 2 ^ 16 ≡ (more + out % 2 ^ 16) % 2 ^ 16
 counts_on more out = omega arith
 
 -- the frame may go out, flows are as they should be after it, and what is owed then is what the network has
 record Offers (config : Config) (f : Flowing) (slirp : SlirpState) (past : List Entry) (frame : List ℕ) (rest : List (List ℕ)) : Type 0 where
-  explained : is_explained config past (drop 4 (spelling frame)) ≡ true
-  goes : FlowsLetWrite config past (spelling frame)
-  flows : (a : Io) → OfFlows config f slirp.moment (LinkWrite (spelling frame) a ∷ past)
+  explained : is_explained config past (drop 4 (encoding frame)) ≡ true
+  goes : FlowsLetWrite config past (encoding frame)
+  flows : (a : Io) → OfFlows config f slirp.moment (LinkWrite (encoding frame) a ∷ past)
   owed : (a : Io) (next : SlirpState) → tail past ≡ [] → next.pending ≡ keep (offered a) (frame ∷ rest) → next.transfers ≡ slirp.transfers → IsOwed config f.aged next
-      (LinkWrite (spelling frame) a ∷ past)
+      (LinkWrite (encoding frame) a ∷ past)
 
 -- a write of the frame that is next
 pub after_offer : (config : Config) (at : Standing) (slirp new_slirp : SlirpState) (f : Flowing) (old new : LinkState) (made past : List Entry) (frame : List ℕ)
     (rest : List (List ℕ)) (result : Offered) (pumped : Pumped)
-    → old.tail ≡ [] → slirp.pending ≡ frame ∷ rest → Writes result (spelling frame) made
+    → old.tail ≡ [] → slirp.pending ≡ frame ∷ rest → Writes result (encoding frame) made
     → ((past : List Entry) → Keeps old past → Keeps new (made ++ past)) → pumped ≡ pumped_of result new.blocked
     → new_slirp ≡ record slirp { pending = keep result slirp.pending; sent = sent_after result slirp.pending slirp.sent }
     → AreAllowed made → Holds config at slirp f old past → AfterPump pumped config at new_slirp f new (made ++ past)
@@ -207,22 +207,22 @@ after_offer config at slirp new_slirp f old new made past frame rest result pump
     counted ∙ ap (λ r. sent_after r slirp.pending slirp.sent) was ∙ ap (λ p. sent_after (offered answer) p slirp.sent) is_pending ∙ ap (sent_after (offered answer) (frame ∷ rest))
     (sym holds.answers.sent) in
     subst Goal (sym is)
-    (subst (λ p. AfterPump p config at new_slirp f new (LinkWrite (spelling frame) answer ∷ past)) (sym (comes ∙ ap (λ r. pumped_of r new.blocked) was))
-    (after_write config at slirp new_slirp f old new past (spelling frame) answer new.blocked holds (in_turn holds.stands (λ u. cc (sym is_pending ∙ u.nothing))) k (subst AreAllowed is allowed).0
-    (ap (λ t. may_begin config past t (spelling frame)) tail_is ∙ (offers holds.answers.owed).explained) (offers holds.answers.owed).goes (offers holds.answers.owed).flows
+    (subst (λ p. AfterPump p config at new_slirp f new (LinkWrite (encoding frame) answer ∷ past)) (sym (comes ∙ ap (λ r. pumped_of r new.blocked) was))
+    (after_write config at slirp new_slirp f old new past (encoding frame) answer new.blocked holds (in_turn holds.stands (λ u. cc (sym is_pending ∙ u.nothing))) k (subst AreAllowed is allowed).0
+    (ap (λ t. may_begin config past t (encoding frame)) tail_is ∙ (offers holds.answers.owed).explained) (offers holds.answers.owed).goes (offers holds.answers.owed).flows
     (record {
-      sent = ap (λ t. with_datagrams (opens (LinkWrite (spelling frame) answer) t) (datagrams_out past) % 2 ^ 16) tail_is ∙ sent_by answer ∙ sym new_sent;
+      sent = ap (λ t. with_datagrams (opens (LinkWrite (encoding frame) answer) t) (datagrams_out past) % 2 ^ 16) tail_is ∙ sent_by answer ∙ sym new_sent;
       owed = (offers holds.answers.owed).owed answer new_slirp tail_is new_pending (ap (λ (s : SlirpState). s.transfers) changed);
     }) same))
   where
-    sent_by : (a : Io) → with_datagrams (opens (LinkWrite (spelling frame) a) []) (datagrams_out past) % 2 ^ 16 ≡ sent_after (offered a) (frame ∷ rest) (identification past)
-    sent_by (Done n) = ap (λ f. (datagrams_in f + datagrams_out past) % 2 ^ 16) (spelt frame) ∙ counts_on (datagrams_in frame) (datagrams_out past)
+    sent_by : (a : Io) → with_datagrams (opens (LinkWrite (encoding frame) a) []) (datagrams_out past) % 2 ^ 16 ≡ sent_after (offered a) (frame ∷ rest) (identification past)
+    sent_by (Done n) = ap (λ f. (datagrams_in f + datagrams_out past) % 2 ^ 16) (encoded frame) ∙ counts_on (datagrams_in frame) (datagrams_out past)
     sent_by End = refl
     sent_by NotYet = refl
     sent_by Failed = refl
 
-    left_by : (a : Io) (before again : List (List ℕ)) → before ≡ frame ∷ rest → taken (opens (LinkWrite (spelling frame) a) []) again before ≡ keep (offered a) (frame ∷ rest)
-    left_by (Done n) before again only = ap (taken (Some (drop 4 (spelling frame))) again) only ∙ ap (λ (b : Bool). if b then rest else frame ∷ rest) (is_the_first frame rest)
+    left_by : (a : Io) (before again : List (List ℕ)) → before ≡ frame ∷ rest → taken (opens (LinkWrite (encoding frame) a) []) again before ≡ keep (offered a) (frame ∷ rest)
+    left_by (Done n) before again only = ap (taken (Some (drop 4 (encoding frame))) again) only ∙ ap (λ (b : Bool). if b then rest else frame ∷ rest) (is_the_first frame rest)
     left_by End before again only = only
     left_by NotYet before again only = only
     left_by Failed before again only = only
@@ -232,13 +232,13 @@ after_offer config at slirp new_slirp f old new made past frame rest result pump
     offers_left l =
         let only : left config past ≡ frame ∷ rest = l.left ∙ is_pending in
         record {
-          explained = or_first (is_first (drop 4 (spelling frame)) (left config past)) (is_out (left config past) && is_beside config past (drop 4 (spelling frame)))
-              (ap (is_first (drop 4 (spelling frame))) only ∙ is_the_first frame rest);
-          goes = answer_goes config f slirp.moment past holds.lawful holds.allowed holds.flows frame rest only (spelling frame) (spelt frame);
-          flows = λ a. flows_answered config f slirp.moment past holds.lawful holds.allowed holds.flows holds.clock.moment frame rest only (spelling frame) a (spelt frame);
-          owed = λ a next tail_is pending transfers. inl (left_then config f.aged slirp next (LinkWrite (spelling frame) a) past
-              (files_stay config (spelling frame) a past frame rest only) (again_stays config (spelling frame) a past frame rest only) refl transfers
-              (ap (λ t. taken (opens (LinkWrite (spelling frame) a) t) (again_frames config (identification past) (serving config past)) (left config past)) tail_is
+          explained = or_first (is_first (drop 4 (encoding frame)) (left config past)) (is_out (left config past) && is_beside config past (drop 4 (encoding frame)))
+              (ap (is_first (drop 4 (encoding frame))) only ∙ is_the_first frame rest);
+          goes = answer_goes config f slirp.moment past holds.lawful holds.allowed holds.flows frame rest only (encoding frame) (encoded frame);
+          flows = λ a. flows_answered config f slirp.moment past holds.lawful holds.allowed holds.flows holds.clock.moment frame rest only (encoding frame) a (encoded frame);
+          owed = λ a next tail_is pending transfers. inl (left_then config f.aged slirp next (LinkWrite (encoding frame) a) past
+              (files_stay config (encoding frame) a past frame rest only) (again_stays config (encoding frame) a past frame rest only) refl transfers
+              (ap (λ t. taken (opens (LinkWrite (encoding frame) a) t) (again_frames config (identification past) (serving config past)) (left config past)) tail_is
               ∙ left_by a (left config past) (again_frames config (identification past) (serving config past)) only ∙ sym pending) l);
         }
 
@@ -247,27 +247,27 @@ after_offer config at slirp new_slirp f old new made past frame rest result pump
     offers_file file =
         let m : MayGoAgain config past file.said frame rest = record { nothing = file.left; may = file.may; frames = sym file.pending ∙ is_pending } in
         record {
-          explained = ap (is_explained config past) (spelt frame) ∙ is_explained_again config past file.said frame rest holds.flows.unit m;
-          goes = may_write_again config past file.said frame rest holds.flows.unit m (spelling frame) (spelt frame);
-          flows = λ a. flows_stay config f slirp.moment (LinkWrite (spelling frame) a) past (nothing_to_flows config past file.said frame rest holds.flows.unit m (spelling frame)
-              (spelt frame) a) (asks_nobody config past file.said frame rest holds.flows.unit m (spelling frame) (spelt frame) a) (omega arith) refl holds.flows;
+          explained = ap (is_explained config past) (encoded frame) ∙ is_explained_again config past file.said frame rest holds.flows.unit m;
+          goes = may_write_again config past file.said frame rest holds.flows.unit m (encoding frame) (encoded frame);
+          flows = λ a. flows_stay config f slirp.moment (LinkWrite (encoding frame) a) past (nothing_to_flows config past file.said frame rest holds.flows.unit m (encoding frame)
+              (encoded frame) a) (asks_nobody config past file.said frame rest holds.flows.unit m (encoding frame) (encoded frame) a) (omega arith) refl holds.flows;
           owed = λ a next tail_is pending transfers. by m a next tail_is pending transfers;
         }
       where
-        unless_out : (a : Io) (next : SlirpState) → goes_out (LinkWrite (spelling frame) a) past ≡ None → next.pending ≡ frame ∷ rest → next.transfers ≡ slirp.transfers →
-            IsOwed config f.aged next (LinkWrite (spelling frame) a ∷ past)
+        unless_out : (a : Io) (next : SlirpState) → goes_out (LinkWrite (encoding frame) a) past ≡ None → next.pending ≡ frame ∷ rest → next.transfers ≡ slirp.transfers →
+            IsOwed config f.aged next (LinkWrite (encoding frame) a ∷ past)
         unless_out a next none pending transfers =
-            owed_as config f.aged slirp next (LinkWrite (spelling frame) a ∷ past) (pending ∙ sym is_pending) transfers
-            (owed_on config f.aged slirp past (LinkWrite (spelling frame) a ∷ past) (unbegun config (spelling frame) a past none) (inr file))
+            owed_as config f.aged slirp next (LinkWrite (encoding frame) a ∷ past) (pending ∙ sym is_pending) transfers
+            (owed_on config f.aged slirp past (LinkWrite (encoding frame) a ∷ past) (unbegun config (encoding frame) a past none) (inr file))
 
         by : MayGoAgain config past file.said frame rest → (a : Io) (next : SlirpState) → tail past ≡ [] → next.pending ≡ keep (offered a) (frame ∷ rest) →
-            next.transfers ≡ slirp.transfers → IsOwed config f.aged next (LinkWrite (spelling frame) a ∷ past)
+            next.transfers ≡ slirp.transfers → IsOwed config f.aged next (LinkWrite (encoding frame) a ∷ past)
         by m (Done n) next tail_is pending transfers =
-            inl (again_gone config past file.said frame rest holds.flows.unit m (spelling frame) (Done n) holds.lawful (ap (opens (LinkWrite (spelling frame) (Done n))) tail_is
-            ∙ ap Some (spelt frame)) f.aged next pending file.on_its_way (transfers ∙ file.files))
-        by m End next tail_is pending transfers = unless_out End next (ap (opens (LinkWrite (spelling frame) End)) tail_is) pending transfers
-        by m NotYet next tail_is pending transfers = unless_out NotYet next (ap (opens (LinkWrite (spelling frame) NotYet)) tail_is) pending transfers
-        by m Failed next tail_is pending transfers = unless_out Failed next (ap (opens (LinkWrite (spelling frame) Failed)) tail_is) pending transfers
+            inl (again_gone config past file.said frame rest holds.flows.unit m (encoding frame) (Done n) holds.lawful (ap (opens (LinkWrite (encoding frame) (Done n))) tail_is
+            ∙ ap Some (encoded frame)) f.aged next pending file.on_its_way (transfers ∙ file.files))
+        by m End next tail_is pending transfers = unless_out End next (ap (opens (LinkWrite (encoding frame) End)) tail_is) pending transfers
+        by m NotYet next tail_is pending transfers = unless_out NotYet next (ap (opens (LinkWrite (encoding frame) NotYet)) tail_is) pending transfers
+        by m Failed next tail_is pending transfers = unless_out Failed next (ap (opens (LinkWrite (encoding frame) Failed)) tail_is) pending transfers
 
     offers : IsOwed config f.aged slirp past → Offers config f slirp past frame rest
     offers (inl l) = offers_left l

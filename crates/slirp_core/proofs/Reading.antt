@@ -27,11 +27,11 @@ use Rattle.spec_trace.specs.Shape.{Phase, Working, Over, By, phase, phase_after,
 use Rattle.spec_run.specs.Agenda.{agenda, all_wanted, behind, from, is_to_read, reads_on as goes_on_reading, wanted_of}
 use Rattle.rules_dhcp.specs.declared.Lease.{Lease}
 use Rattle.ipv4_reasm.specs.Areas.{Gathered}
-use Rattle.spec_run.specs.Answers.{Serving, files_after, files_by_fate, files_by_packet, frames_of, identification, is_out, ledger, left, left_after, owed_for_fate, owed_for_packet, serving, strays}
+use Rattle.spec_run.specs.Answers.{Serving, files_after, files_by_verdict, files_by_packet, frames_of, identification, is_out, ledger, left, left_after, owed_for_verdict, owed_for_packet, serving, strays}
 use Rattle.spec_run.specs.Leasing.{leases, leases_by, leases_by_packet}
 use Rattle.spec_run.specs.Asking.{step_of}
 use Rattle.spec_run.specs.Errands.{errand_after, errand_left}
-use Rattle.spec_run.specs.Datagrams.{Fate, Ignored, Refused, ForLeases, ForFiles, GoesTo, NeedsNothing, errand_by, errand_by_packet, fate}
+use Rattle.spec_run.specs.Datagrams.{DatagramVerdict, Ignored, Refused, ForLeases, ForFiles, GoesTo, NeedsNothing, errand_by, errand_by_packet, datagram_verdict}
 use Rattle.rules_tftp.specs.Transfers.{Files, settled}
 use Rattle.spec_run.specs.Laws.{Lawful, May, is_closing, joins}
 use Rattle.spec_trace.specs.Sockets.{next_number}
@@ -168,7 +168,7 @@ after_packet config s packet frame parts = record s {
 }
 
 -- where it is no segment, and no datagram for the server of files, it is answered at once, and nothing is sought
-once_by : (config : Config) (s : Serving) (d : Datagram) (f : Fate) → file_in (request_by d f) ≡ None → owed_for_fate config s d f ≡ owed_at_once_by config s d f
+once_by : (config : Config) (s : Serving) (d : Datagram) (f : DatagramVerdict) → file_in (request_by d f) ≡ None → owed_for_verdict config s d f ≡ owed_at_once_by config s d f
 once_by config s d Ignored none = refl
 once_by config s d Refused none = refl
 once_by config s d ForLeases none = refl
@@ -179,49 +179,49 @@ pub owed_once : (config : Config) (s : Serving) (b : Bool) (p : Packet) → segm
 owed_once config s b Unheard none unserved = refl
 owed_once config s b (ArpPacket arp) none unserved = refl
 owed_once config s b (Message mac ip message) none unserved = refl
-owed_once config s b (DatagramPacket d) none unserved = once_by config s d (fate config d) unserved
+owed_once config s b (DatagramPacket d) none unserved = once_by config s d (datagram_verdict config d) unserved
 owed_once config s b (Segment mac ip tcp) none unserved = cc
 
-unsought_by : (config : Config) (s : Serving) (d : Datagram) (f : Fate) → file_in (request_by d f) ≡ None → files_by_fate config s d f ≡ s.files
+unsought_by : (config : Config) (s : Serving) (d : Datagram) (f : DatagramVerdict) → file_in (request_by d f) ≡ None → files_by_verdict config s d f ≡ s.files
 unsought_by config s d Ignored none = refl
 unsought_by config s d Refused none = refl
 unsought_by config s d ForLeases none = refl
 unsought_by config s d ForFiles none = cc
 unsought_by config s d (GoesTo to) none = refl
 
-pub seeks_nothing : (config : Config) (s : Serving) (p : Packet) → file_in (request_by_packet config p) ≡ None → files_by_packet config s p ≡ s.files
-seeks_nothing config s Unheard none = refl
-seeks_nothing config s (ArpPacket arp) none = refl
-seeks_nothing config s (Message mac ip message) none = refl
-seeks_nothing config s (DatagramPacket d) none = unsought_by config s d (fate config d) none
-seeks_nothing config s (Segment mac ip tcp) none = refl
+pub resolves_nothing : (config : Config) (s : Serving) (p : Packet) → file_in (request_by_packet config p) ≡ None → files_by_packet config s p ≡ s.files
+resolves_nothing config s Unheard none = refl
+resolves_nothing config s (ArpPacket arp) none = refl
+resolves_nothing config s (Message mac ip message) none = refl
+resolves_nothing config s (DatagramPacket d) none = unsought_by config s d (datagram_verdict config d) none
+resolves_nothing config s (Segment mac ip tcp) none = refl
 
 -- what goes out of what a packet asks for
-errand_by_fate : (d : Datagram) (f : Fate) → errand_by d f ≡ errand_in (request_by d f)
-errand_by_fate d Ignored = refl
-errand_by_fate d Refused = refl
-errand_by_fate d ForLeases = refl
-errand_by_fate d ForFiles = refl
-errand_by_fate d (GoesTo to) = refl
+errand_by_verdict : (d : Datagram) (f : DatagramVerdict) → errand_by d f ≡ errand_in (request_by d f)
+errand_by_verdict d Ignored = refl
+errand_by_verdict d Refused = refl
+errand_by_verdict d ForLeases = refl
+errand_by_verdict d ForFiles = refl
+errand_by_verdict d (GoesTo to) = refl
 
 pub errand_is_in : (config : Config) (p : Packet) → errand_by_packet config p ≡ errand_in (request_by_packet config p)
 errand_is_in config Unheard = refl
 errand_is_in config (ArpPacket arp) = refl
 errand_is_in config (Message mac ip message) = refl
-errand_is_in config (DatagramPacket d) = errand_by_fate d (fate config d)
+errand_is_in config (DatagramPacket d) = errand_by_verdict d (datagram_verdict config d)
 errand_is_in config (Segment mac ip tcp) = refl
 
 -- a packet is this datagram, which is for the server of files
 pub record IsForFiles (config : Config) (d : Datagram) (p : Packet) : Type 0 where
   pub packet : p ≡ DatagramPacket d
-  pub fate : fate config d ≡ ForFiles
+  pub datagram_verdict : datagram_verdict config d ≡ ForFiles
 
-for_files_by : (config : Config) (d e : Datagram) (f : Fate) → fate config e ≡ f → file_in (request_by e f) ≡ Some d → IsForFiles config d (DatagramPacket e)
+for_files_by : (config : Config) (d e : Datagram) (f : DatagramVerdict) → datagram_verdict config e ≡ f → file_in (request_by e f) ≡ Some d → IsForFiles config d (DatagramPacket e)
 for_files_by config d e Ignored is file = cc
 for_files_by config d e Refused is file = cc
 for_files_by config d e ForLeases is file = cc
 for_files_by config d e (GoesTo to) is file = cc
-for_files_by config d e ForFiles is file = let same : e ≡ d = the_same file in record { packet = ap DatagramPacket same; fate = sym (ap (fate config) same) ∙ is }
+for_files_by config d e ForFiles is file = let same : e ≡ d = the_same file in record { packet = ap DatagramPacket same; datagram_verdict = sym (ap (datagram_verdict config) same) ∙ is }
   where
     the_same : Some e ≡ Some d → e ≡ d
     the_same is = cc
@@ -230,7 +230,7 @@ pub for_files : (config : Config) (d : Datagram) (p : Packet) → file_in (reque
 for_files config d Unheard is = cc
 for_files config d (ArpPacket arp) is = cc
 for_files config d (Message mac ip message) is = cc
-for_files config d (DatagramPacket e) is = for_files_by config d e (fate config e) refl is
+for_files config d (DatagramPacket e) is = for_files_by config d e (datagram_verdict config e) refl is
 for_files config d (Segment mac ip tcp) is = cc
 
 -- and which fragments wait
@@ -270,7 +270,7 @@ record Newest (config : Config) (count : ℕ) (wants : List Want) (item : Want) 
       (strays config (book config all) (packet_of config slirp.moment wait (arrived all))) (packet_of config slirp.moment wait (arrived all)))
   files_is : (serving config all).files ≡ files_by_packet config (serving_of slirp) (packet_of config slirp.moment wait (arrived all))
   idle : (serving config all).again ≡ None
-  lent : leases config all ≡ leases_by_packet config slirp.moment (packet_of config slirp.moment wait (arrived all)) slirp.leases
+  leased : leases config all ≡ leases_by_packet config slirp.moment (packet_of config slirp.moment wait (arrived all)) slirp.leases
   known_is : known config all ≡ with_frame config (arrived all) slirp.known
   counted : waits all ≡ count
   list : associations config all ≡ slirp.associations
@@ -314,7 +314,7 @@ newest config count wants item items slirp kept wait reads_it (LinkRead asked an
           ∙ (λ i. files_by_packet config (serving_is config slirp (made ++ past) quiet_before.clock quiet_before.serves quiet_before.idle quiet_before.files i)
           (packet_of config (quiet_before.clock i) (quiet_before.waits i) (arrives (LinkRead asked answer octets) (made ++ past))));
       idle = quiet_before.idle;
-      lent = lends (arrives (LinkRead asked answer octets) (made ++ past)) (leases config (made ++ past))
+      leased = lends (arrives (LinkRead asked answer octets) (made ++ past)) (leases config (made ++ past))
           ∙ (λ i. leases_by_packet config (quiet_before.clock i) (packet_of config (quiet_before.clock i) (quiet_before.waits i)
           (arrives (LinkRead asked answer octets) (made ++ past))) (quiet_before.serves.leases i));
       known_is = teaches (arrives (LinkRead asked answer octets) (made ++ past)) (known config (made ++ past)) ∙ ap
@@ -463,7 +463,7 @@ module _ (config : Config) (count : ℕ) (wants : List Want) (item : Want) (item
       let then_is = after_packet config slirp packet (hands answer new) new_slirp.fragments in
       let was = all.quiet_flows (ap segment_by arrived_is ∙ none) in
       let unsought : (serving config (made ++ past)).files ≡ settled slirp.transfers = all.files_is ∙ ap (files_by_packet config (serving_of slirp)) arrived_is
-      ∙ seeks_nothing config (serving_of slirp) packet unserved in
+      ∙ resolves_nothing config (serving_of slirp) packet unserved in
       subst (λ (s : SlirpState). HoldsAt config (standing count wants items) (asked_by config slirp (errand_by_packet config packet)) s (flowing false kept) new (made ++ past)) (sym is) (record {
         lawful = all.lawful;
         allowed = allowed_then made past allowed holds.allowed;
@@ -481,7 +481,7 @@ module _ (config : Config) (count : ℕ) (wants : List Want) (item : Want) (item
             (all.known_is ∙ ap (λ o. with_frame config o slirp.known) r.1.frame) refl refl
             (all.fragments then_is (subst (λ o. KeepsParts config slirp then_is o) (sym r.1.frame) (kept_as (hands answer new) new_slirp keeps)));
         relayed = record { list = all.list; questions = all.named; asks = ap (asked_by config slirp) (all.asks ∙ ap (errand_by_packet config) arrived_is); heard = all.heard };
-        services = record { leases = all.lent ∙ ap (λ p. leases_by_packet config slirp.moment p slirp.leases) arrived_is; quest = ap (λ (k : Files). k.quest) unsought };
+        services = record { leases = all.leased ∙ ap (λ p. leases_by_packet config slirp.moment p slirp.leases) arrived_is; quest = ap (λ (k : Files). k.quest) unsought };
         forwards = forwards_then;
         flows = record { holds = was.holds; asked = was.asked; settings = was.settings; unit = was.unit };
         sockets = all.sockets;
@@ -545,7 +545,7 @@ module _ (config : Config) (count : ℕ) (wants : List Want) (item : Want) (item
             (all.known_is ∙ ap (λ o. with_frame config o slirp.known) r.1.frame) refl refl
             (all.fragments then_is (subst (λ o. KeepsParts config slirp then_is o) (sym r.1.frame) (kept_as (hands answer new) new_slirp keeps)));
         relayed = record { list = all.list; questions = all.named; asks = ap (asked_by config slirp) unasked; heard = all.heard };
-        services = record { leases = all.lent ∙ ap (λ p. leases_by_packet config slirp.moment p slirp.leases) (arrived_is ∙ seg); quest = ap (λ (k : Files). k.quest) unsought };
+        services = record { leases = all.leased ∙ ap (λ p. leases_by_packet config slirp.moment p slirp.leases) (arrived_is ∙ seg); quest = ap (λ (k : Files). k.quest) unsought };
         forwards = forwards_then;
         learnt = all.taught_it mac ip tcp (arrived_is ∙ seg);
         unit = holds.flows.unit;
@@ -569,23 +569,23 @@ module _ (config : Config) (count : ℕ) (wants : List Want) (item : Want) (item
       let then_is = after_packet config slirp packet (hands answer new) new_slirp.fragments in
       let its = for_files config d packet file in
       let was = all.quiet_flows (ap segment_by (arrived_is ∙ its.packet)) in
-      let unasked : errand_left config (made ++ past) ≡ None = all.asks ∙ ap (errand_by_packet config) (arrived_is ∙ its.packet) ∙ ap (errand_by d) its.fate in
+      let unasked : errand_left config (made ++ past) ≡ None = all.asks ∙ ap (errand_by_packet config) (arrived_is ∙ its.packet) ∙ ap (errand_by d) its.datagram_verdict in
       subst (λ (s : SlirpState). AsksFile config (standing count wants items) s kept new d (made ++ past)) (sym is) (record {
         lawful = all.lawful;
         allowed = allowed_then made past allowed holds.allowed;
         keeps = r.0;
         sent = all.sent_is;
-        outcome = all.files_is ∙ ap (files_by_packet config (serving_of slirp)) (arrived_is ∙ its.packet) ∙ ap (files_by_fate config (serving_of slirp) d) its.fate;
+        outcome = all.files_is ∙ ap (files_by_packet config (serving_of slirp)) (arrived_is ∙ its.packet) ∙ ap (files_by_verdict config (serving_of slirp) d) its.datagram_verdict;
         owed = all.left_is ∙ ap (λ p. frames_of config slirp.sent (owed_for_packet config (serving_of slirp) (strays config (book config (made ++ past)) p) p)) (arrived_is ∙ its.packet)
-            ∙ ap (λ f. frames_of config slirp.sent (owed_for_fate config (serving_of slirp) d f)) its.fate;
+            ∙ ap (λ f. frames_of config slirp.sent (owed_for_verdict config (serving_of slirp) d f)) its.datagram_verdict;
         none = ap (λ p. frames_of config slirp.sent (owed_with config (serving_of slirp) p)) its.packet ∙ ap
-            (λ f. frames_of config slirp.sent (owed_at_once_by config (serving_of slirp) d f)) its.fate;
+            (λ f. frames_of config slirp.sent (owed_at_once_by config (serving_of slirp) d f)) its.datagram_verdict;
         again = all.idle;
         guests = guests_learn config slirp then_is (hands answer new) (made ++ past) holds.guests.settings
             (all.known_is ∙ ap (λ o. with_frame config o slirp.known) r.1.frame) refl refl
             (all.fragments then_is (subst (λ o. KeepsParts config slirp then_is o) (sym r.1.frame) (kept_as (hands answer new) new_slirp keeps)));
         relayed = record { list = all.list; questions = all.named; asks = ap (asked_by config slirp) unasked; heard = all.heard };
-        leases = all.lent ∙ ap (λ p. leases_by_packet config slirp.moment p slirp.leases) arrived_is;
+        leases = all.leased ∙ ap (λ p. leases_by_packet config slirp.moment p slirp.leases) arrived_is;
         forwards = forwards_then;
         flows = record { holds = was.holds; asked = was.asked; settings = was.settings; unit = was.unit };
         sockets = all.sockets;

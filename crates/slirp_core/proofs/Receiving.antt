@@ -1,12 +1,12 @@
--- What became of a segment that came, by the record.
+-- What became of a segment that came, by the trace.
 use Rattle.std.proofs.Common.{◌≡◌, ◌+◌, append-nil, List, [], ◌∷◌, ◌++◌, false, sym, ◌∙◌, ap, subst, inl, inr}
 use Rattle.net_octets.specs.declared.Mac.{Mac}
 use Rattle.world_face.specs.Journal.{AreAllowed, Connect, Entry}
 use Rattle.world_face.specs.declared.Made.TheVariants.{Done, Failed}
 use Rattle.slirp_settings.specs.Addresses.{Config}
-use Rattle.spec_flows.specs.Lots.{Lot, Dropped, AsksFor, GetsReset, NeedsRoom}
+use Rattle.spec_flows.specs.SegmentVerdicts.{SegmentVerdict, Dropped, AsksFor, GetsReset, NeedsRoom}
 use Rattle.spec_run.specs.Answers.{frames_of, reset_for}
-use Rattle.sim_flows.specs.Stands.{lot_without}
+use Rattle.sim_flows.specs.Stands.{verdict_without_flow}
 use Rattle.stream_netdev.specs.State.{LinkState}
 use Rattle.tcp_flows.specs.Kept.{Kept}
 use Rattle.tcp_flows.specs.Receiving.{IsLeft, Receives, Strays, has_room}
@@ -37,11 +37,11 @@ module _ (config : Config) (at : Standing) (slirp : SlirpState) (kept : Kept) (l
       after_is : s.after ≡ made
       after_is = sym (s.is ∙ ap (λ b. s.after ++ b) none ∙ append-nil s.after)
 
-      abbrev its : Config → Lot
-      its k = lot_without k (has_room s.between) c.on
+      abbrev its : Config → SegmentVerdict
+      its k = verdict_without_flow k (has_room s.between) c.on
 
-      by_settings : (lot : Lot) → its slirp.config ≡ lot → its config ≡ lot
-      by_settings lot is = ap its (sym comes.guests.settings) ∙ is
+      by_settings : (segment_verdict : SegmentVerdict) → its slirp.config ≡ segment_verdict → its config ≡ segment_verdict
+      by_settings segment_verdict is = ap its (sym comes.guests.settings) ∙ is
 
     -- nothing is owed for it
     pub settled : Receives Settled slirp.config slirp.moment slirp.number kept new c.on mac c.tcp made → Holds config at slirp (flowing false new) link (made ++ past)

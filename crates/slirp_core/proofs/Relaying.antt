@@ -31,7 +31,7 @@ use Rattle.rules_forward.specs.Opened.{socket_for as port_for}
 use Rattle.spec_trace.specs.Moments.{moment, waits}
 use Rattle.spec_flows.specs.Book.{book}
 use Rattle.spec_flows.specs.Flows.{is_it}
-use Rattle.spec_flows.specs.Lots.{due_for_flows}
+use Rattle.spec_flows.specs.SegmentVerdicts.{due_for_flows}
 use Rattle.spec_trace.specs.Shape.{due_in, phase, is_ended, is_over as is_run_over, is_working}
 use Rattle.spec_trace.specs.Sockets.{Association as OfAssociation, DnsSocket, Flow as OfFlow, Forward, Kind, Listener, datagram_kind, is_among, is_association, is_forward, kind_of, first}
 use Rattle.spec_trace.specs.Sockets.{next_number, open_sockets, with_made}
@@ -745,7 +745,7 @@ module _ (config : Config) (count : ℕ) (wants : List Want) (item : Want) (item
     unnamed : is_among socket (question_numbers slirp.questions) ≡ false
     unnamed = no_name config before slirp f link past NeedsNothing None holds socket among
 
-    -- the association has what the record says of its socket
+    -- the association has what the trace says of its socket
     says : SaysOf config past socket a
     says = says_of config past socket (associations config past) a (joined config past holds.lawful).kept (ap (numbered socket) holds.relayed.list ∙ is)
 

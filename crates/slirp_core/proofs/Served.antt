@@ -50,7 +50,7 @@ asks_reads listener number answer past (e ∷ later) =
     (some_reads (AListener listener) past (later ++ Accept listener number answer ∷ []))
     (asks_reads listener number answer past later)
 
--- ---- what the record takes is what the core hears
+-- ---- what the trace takes is what the core hears
 
 -- a port of the host is given to a guest for datagrams where its forward is for these
 given_for_datagrams : (o : Option Forward) → is_at Udp o ≡ is_some (option_and_then (λ (f : Forward). given_by f.proto f.guest) o)

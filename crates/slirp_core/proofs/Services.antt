@@ -15,7 +15,7 @@ use Rattle.spec_trace.specs.Happenings.{happens}
 use Rattle.spec_trace.specs.Moments.{moment}
 use Rattle.spec_trace.specs.Packets.{Datagram}
 use Rattle.spec_run.specs.Answers.{serving}
-use Rattle.spec_run.specs.Datagrams.{Errand, Fate, ForFiles, Ignored, ForLeases, GoesTo, Refused, asks_a_name, errand_by, errand_of, fate, opened_at}
+use Rattle.spec_run.specs.Datagrams.{Errand, DatagramVerdict, ForFiles, Ignored, ForLeases, GoesTo, Refused, asks_a_name, errand_by, errand_of, datagram_verdict, opened_at}
 use Rattle.spec_run.specs.Errands.{errand_left}
 use Rattle.spec_run.specs.Laws.{due_for_services}
 use Rattle.spec_run.specs.Leasing.{leases, leases_by}
@@ -46,16 +46,16 @@ pub asks_resolver : (config : Config) (past : List Entry) (errand : Errand) → 
 asks_resolver config past errand left name = to_resolver config errand name (errand_asks config past errand left).goes
 
 pub goes_as_question : (config : Config) (d : Datagram) (errand : Errand) → errand_of config d ≡ Some errand → asks_a_name config errand ≡ true → is_question errand.datagram.body ≡ true
-goes_as_question config d errand is name = by (fate config d) refl is
+goes_as_question config d errand is name = by (datagram_verdict config d) refl is
   where
-    by : (f : Fate) → fate config d ≡ f → errand_by d f ≡ Some errand → is_question errand.datagram.body ≡ true
+    by : (f : DatagramVerdict) → datagram_verdict config d ≡ f → errand_by d f ≡ Some errand → is_question errand.datagram.body ≡ true
     by Ignored goes is = cc
     by Refused goes is = cc
     by ForLeases goes is = cc
     by ForFiles goes is = cc
     by (GoesTo to) goes is =
         let whole : record { datagram = d; to = to } ≡ errand = the_errand is in
-        is_asked config errand name (ap (λ (e : Errand). fate config e.datagram) (sym whole) ∙ goes ∙ ap (λ (e : Errand). GoesTo e.to) whole)
+        is_asked config errand name (ap (λ (e : Errand). datagram_verdict config e.datagram) (sym whole) ∙ goes ∙ ap (λ (e : Errand). GoesTo e.to) whole)
       where
         the_errand : Some (record { datagram = d; to = to }) ≡ Some errand → record { datagram = d; to = to } ≡ errand
         the_errand is = cc

@@ -13,7 +13,7 @@ use Rattle.slirp_core.specs.State.{SlirpState}
 use Rattle.stream_netdev.specs.declared.Pumped.{Pumped}
 use Rattle.stream_netdev.specs.declared.Pumped.TheVariants.{Clear}
 
--- all flows of the record are settled where those of the slots are clear
+-- all flows of the trace are settled where those of the slots are clear
 pub pumped_settled : {a b : Telling} (config : Config) (at : Standing) (now : ℕ) (old new : SlirpState) (link next : LinkState) (result : Pumped) → result ≡ Clear → new.moment ≡ now
     → Brings a b (Holds config at old (flowing true old.flows) link) (AfterPump result config at new (flowing true new.flows) next)
     → HaveSlots new.flows.flows → AreTold new.known new.flows.flows.slots → AllClear new.flows.flows.slots

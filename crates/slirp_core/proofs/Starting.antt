@@ -26,7 +26,7 @@ use Rattle.spec_trace.specs.Happenings.{happens}
 use Rattle.spec_trace.specs.Sockets.{is_among, kind_of, next_number, open_sockets, with_made}
 use Rattle.spec_flows.specs.Book.{book}
 use Rattle.spec_flows.specs.Doings.{Nothing, doing}
-use Rattle.spec_flows.specs.Lots.{due_for_flows}
+use Rattle.spec_flows.specs.SegmentVerdicts.{due_for_flows}
 use Rattle.spec_run.specs.Agenda.{agenda}
 use Rattle.spec_run.specs.Answers.{identification, left, serving}
 use Rattle.rules_tftp.specs.Transfers.{Files}
@@ -43,7 +43,7 @@ use Rattle.stream_netdev.specs.State.{LinkState, under_way}
 use Rattle.slirp_core.specs.Forwards.{AreInForce, given_kind, with_numbers}
 use Rattle.rules_forward.specs.Opened.{forward_sockets}
 use Rattle.slirp_core.specs.Fragments.{IsHeld}
-use Rattle.slirp_core.specs.Holds.{Standing, after, Begins, Holders, Closing, asked_by, carriers, holders_of, holders_with, Ended, Flowing, Holds, IsOf, OfFlows, Opens, Rests, OverFor, as_given}
+use Rattle.slirp_core.specs.Holds.{Standing, after, Begins, Holders, Closing, asked_by, carriers, holders_of, holders_with, Ended, Flowing, Holds, IsOf, OfFlows, Opens, IsThrough, OverFor, as_given}
 use Rattle.slirp_core.specs.Holds.{AllWaited, Stands, Turns, flowing, is_ours}
 use Rattle.slirp_core.specs.State.{SlirpState}
 use Rattle.slirp_core.proofs.Guests.{guests_forget, guests_stay}
@@ -330,7 +330,7 @@ module _ (config : Config) (slirp : SlirpState) (link : LinkState) (past : List 
     lawful = (may_open_it Failed, opens.lawful);
     ended = ap (λ p. is_over p || nat_le config.turns (waits (opened_port Failed ∷ past))) phase_is;
     is = sym phase_is;
-    rests = OverFor (Refused slirp.number) phase_is;
+    through = OverFor (Refused slirp.number) phase_is;
     errand = errand_then config slirp.number f.host past nothing_left f.proto Failed;
     served = none_due_for_services config (opened_port Failed ∷ past) q.unheard (ap (λ (k : Files). k.quest) q.files ∙ opens.services.quest);
     idle = (flows_stay config (flowing false slirp.flows) slirp.moment (opened_port Failed) past q.silent q.unasked
@@ -435,7 +435,7 @@ ran config count why forwards o made ended = record {
   lawful = ended.lawful;
   ended = ap (λ p. is_over p || nat_le config.turns (waits made)) ended.over;
   is = refl;
-  rests = OverFor (By why) ended.over;
+  through = OverFor (By why) ended.over;
   errand = ended.errand;
   served = ended.served;
   idle = ended.idle;
@@ -456,7 +456,7 @@ spent config count slirp f link made some all holds = record {
   lawful = holds.lawful;
   ended = ap (λ b. is_over (phase config made) || b) none_left ∙ either (is_over (phase config made));
   is = refl;
-  rests = rests holds.stands;
+  through = through holds.stands;
   errand = errand_for config NeedsNothing None slirp made holds.relayed;
   served = none_due_for_services config made holds.relayed.heard holds.services.quest;
   idle = holds.flows.holds.asked;
@@ -468,6 +468,6 @@ spent config count slirp f link made some all holds = record {
     none_left : nat_le config.turns (waits made) ≡ true
     none_left = let counted : waits made ≡ count = holds.clock.counted in grind (arith, nat_tests, counted, all)
 
-    rests : Stands config NeedsNothing slirp f.kept link made → Rests config made
-    rests (Turns turn) = AllWaited turn.working
-    rests (Begins unbegun free unrested) = let none : waits made ≡ 0 = unbegun.unwaited in let counted : waits made ≡ count = holds.clock.counted in absurd (omega (arith, none, counted, some, all))
+    through : Stands config NeedsNothing slirp f.kept link made → IsThrough config made
+    through (Turns turn) = AllWaited turn.working
+    through (Begins unbegun free unrested) = let none : waits made ≡ 0 = unbegun.unwaited in let counted : waits made ≡ count = holds.clock.counted in absurd (omega (arith, none, counted, some, all))

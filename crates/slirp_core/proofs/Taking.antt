@@ -15,7 +15,7 @@ use Rattle.icmp_echo.specs.declared.IcmpView.{IcmpView}
 use Rattle.icmp_echo.specs.declared.IcmpView.TheVariants.{Echo, Unreachable, Other}
 use Rattle.udp_assoc.specs.Relays.{FitsRoom}
 use Rattle.udp_datagram.specs.Udp.{Udp, summed, udp_octets, udp_with, written_sum}
-use Rattle.udp_datagram.proofs.Spelling.{length-udp}
+use Rattle.udp_datagram.proofs.Encoding.{length-udp}
 use Rattle.rules_dhcp.specs.declared.Lease.{Lease}
 use Rattle.rules_dhcp.specs.declared.Message.{Message as ClientMessage}
 use Rattle.rules_dhcp.specs.Replies.{everybody, goes_to_all, is_silence, replied_octets, reply_octets, reply_to as lease_reply_to}
@@ -23,14 +23,14 @@ use Rattle.rules_dhcp.specs.Serving.{served}
 use Rattle.rules_tftp.specs.Saying.{IsFromServer, said_by}
 use Rattle.rules_udp.specs.declared.Reply.{Reply}
 use Rattle.rules_udp.specs.declared.Reply.TheVariants.{Nothing as ReplyNothing, Datagram as ADatagram, Unreachable as ReplyUnreachable}
-use Rattle.spec_run.specs.Leasing.{leases_by_fate, sending_of}
-use Rattle.spec_run.specs.Datagrams.{Fate, Ignored, Refused, ForLeases, ForFiles, GoesTo, fate}
+use Rattle.spec_run.specs.Leasing.{leases_by_verdict, sending_of}
+use Rattle.spec_run.specs.Datagrams.{DatagramVerdict, Ignored, Refused, ForLeases, ForFiles, GoesTo, datagram_verdict}
 use Rattle.spec_run.specs.Answers.{ArpAnswer, IpAnswer, answer_of, answers_of, datagram_frames, fits_datagram, is_untold, told_about, told_of_files, reply_at, frames_of, owed_for_icmp, request, reset_for}
 use Rattle.arp_table.specs.Arp.{everyone}
 use Rattle.tcp_segment.specs.Tcp.{Tcp, read_tcp, tcp_length, tcp_octets}
 use Rattle.spec_flows.specs.declared.Tuple.{Tuple}
 use Rattle.spec_flow.specs.Event.{Segment}
-use Rattle.spec_flows.specs.Lots.{reset_to}
+use Rattle.spec_flows.specs.SegmentVerdicts.{reset_to}
 use Rattle.spec_flows.specs.Segments.{OnTuple}
 use Rattle.spec_trace.specs.Packets.{Datagram}
 use Rattle.owed_frames.specs.Outgoing.{segment_octets}
@@ -134,31 +134,31 @@ module _ (s : SlirpState) (mac : List ℕ) (ip : Ip) where
 -- what a datagram of UDP asks for, by what becomes of it
 module _ (s : SlirpState) (d : Datagram) (config : Config) (at : Standing) (link : LinkState) (none : s.pending ≡ []) (past : List Entry)
     (came : RequestLeft config at (after_udp s d) link (request_of s.config d) past) where
-  abbrev AsksBy : Fate → Type 0
+  abbrev AsksBy : DatagramVerdict → Type 0
   AsksBy f = RequestLeft config at (record s {
     pending = frames_of s.config s.sent (owed_at_once_by s.config (serving_of s) d f);
-    leases = leases_by_fate s.config s.moment d f s.leases;
+    leases = leases_by_verdict s.config s.moment d f s.leases;
   }) link (request_by d f) past
 
-  by_fate : (f : Fate) → f ≡ fate s.config d → AsksBy f
-  by_fate f is = subst AsksBy (sym is) came
+  by_datagram_verdict : (f : DatagramVerdict) → f ≡ datagram_verdict s.config d → AsksBy f
+  by_datagram_verdict f is = subst AsksBy (sym is) came
 
-  pub ignored : Ignored ≡ fate s.config d → Holds config at s (flowing false s.flows) link past
-  ignored is = subst (λ p. Holds config at (record s { pending = p }) (flowing false s.flows) link past) (sym none) (by_fate Ignored is)
+  pub ignored : Ignored ≡ datagram_verdict s.config d → Holds config at s (flowing false s.flows) link past
+  ignored is = subst (λ p. Holds config at (record s { pending = p }) (flowing false s.flows) link past) (sym none) (by_datagram_verdict Ignored is)
 
-  pub refused : Refused ≡ fate s.config d → Holds config at (record s { pending = frames_of s.config s.sent (told_about s.config 10 d) }) (flowing false s.flows) link past
-  refused is = by_fate Refused is
+  pub refused : Refused ≡ datagram_verdict s.config d → Holds config at (record s { pending = frames_of s.config s.sent (told_about s.config 10 d) }) (flowing false s.flows) link past
+  refused is = by_datagram_verdict Refused is
 
-  pub is_for_leases : ForLeases ≡ fate s.config d → Holds config at (after_message s d) (flowing false s.flows) link past
-  is_for_leases is = by_fate ForLeases is
+  pub is_for_leases : ForLeases ≡ datagram_verdict s.config d → Holds config at (after_message s d) (flowing false s.flows) link past
+  is_for_leases is = by_datagram_verdict ForLeases is
 
-  pub is_for_files : ForFiles ≡ fate s.config d → AsksFile config at s s.flows link d past
-  is_for_files is = subst (λ p. AsksFile config at (record s { pending = p }) s.flows link d past) (sym none) (by_fate ForFiles is)
+  pub is_for_files : ForFiles ≡ datagram_verdict s.config d → AsksFile config at s s.flows link d past
+  is_for_files is = subst (λ p. AsksFile config at (record s { pending = p }) s.flows link d past) (sym none) (by_datagram_verdict ForFiles is)
 
-  pub goes_out : (to : Endpoint) → GoesTo to ≡ fate s.config d
+  pub goes_out : (to : Endpoint) → GoesTo to ≡ datagram_verdict s.config d
       → HoldsAt config at (asked_by config s (Some (record { datagram = d; to = to }))) s (flowing false s.flows) link past
   goes_out to is =
-      subst (λ p. HoldsAt config at (asked_by config s (Some (record { datagram = d; to = to }))) (record s { pending = p }) (flowing false s.flows) link past) (sym none) (by_fate (GoesTo to) is)
+      subst (λ p. HoldsAt config at (asked_by config s (Some (record { datagram = d; to = to }))) (record s { pending = p }) (flowing false s.flows) link past) (sym none) (by_datagram_verdict (GoesTo to) is)
 
 -- the frames of an answer that a datagram can carry
 pub frames_whole : (config : Config) (ident : ℕ) (to : List ℕ) (proto from guest : ℕ) (body : List ℕ) → length body ≤ 65515

@@ -22,7 +22,7 @@ use Rattle.host_policy.specs.Targets.{is_hidden, shown}
 use Rattle.world_face.specs.Tells.{Answers, Brings, Telling}
 use Rattle.world_face.proofs.Telling.{brings_one}
 use Rattle.spec_flows.specs.Laws.{MayShut, flow_settings}
-use Rattle.spec_flows.specs.Lots.{due_for_flows}
+use Rattle.spec_flows.specs.SegmentVerdicts.{due_for_flows}
 use Rattle.spec_trace.specs.Moments.{moment}
 use Rattle.spec_trace.specs.Shape.{is_ended, is_over, is_working}
 use Rattle.slirp_settings.specs.declared.Proto.TheVariants.{Tcp}

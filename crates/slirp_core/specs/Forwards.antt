@@ -1,4 +1,4 @@
--- Ports of the host that are given to guests: which forwards are in force by the record. Those of the settings have the first numbers, since they are opened before all other sockets.
+-- Ports of the host that are given to guests: which forwards are in force by the trace. Those of the settings have the first numbers, since they are opened before all other sockets.
 use Rattle.std.specs.Prelude.{◌≡◌, ℕ, ◌+◌, ◌||◌, Bool, true, false, List, [], ◌∷◌, ◌++◌, All, slice_get, Option, Some}
 use Rattle.std.specs.Option.{option_and_then}
 use Rattle.net_octets.specs.declared.Endpoint.{Endpoint}

@@ -28,6 +28,6 @@ pub record ClosesByKind (made : List Entry) : Type 0 where
   pub associations_rise : ClosesRising associations
   pub questions_rise : ClosesRising questions
 
--- where the core stands for a record, and another wait may come
+-- where the core stands for a trace, and another wait may come
 abbrev pub WhereItTicks : SlirpState → Type 0 → Type 0
 WhereItTicks slirp P = (config : Config) (count : ℕ) (link : LinkState) (past : List Entry) → count < config.turns → Holds config (after count) slirp (flowing false slirp.flows) link past → P

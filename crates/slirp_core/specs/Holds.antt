@@ -11,7 +11,7 @@ use Rattle.rules_dns.specs.declared.Question.{Question}
 use Rattle.rules_dns.specs.Questions.{numbers as question_numbers}
 use Rattle.spec_flows.specs.Book.{book}
 use Rattle.spec_flows.specs.Laws.{NoneMustClose}
-use Rattle.spec_flows.specs.Lots.{due_for_flows, is_reset}
+use Rattle.spec_flows.specs.SegmentVerdicts.{due_for_flows, is_reset}
 use Rattle.spec_flows.specs.Taught.{taught}
 use Rattle.flow_splice.specs.Splice.{Splice}
 use Rattle.spec_trace.specs.Guests.{known}
@@ -112,7 +112,7 @@ pub record OfRelay (config : Config) (step : Step) (on : Option ℕ) (slirp : Sl
   pub asks : asked_by config slirp (errand_left config past) ≡ step
   pub heard : answered config past ≡ on
 
--- what is kept of flows, and whether the rests that are over have ended
+-- what is kept of flows, and whether the TIME-WAITs that are over have ended
 pub record Flowing : Type 0 where
   pub kept : Kept
   pub aged : Bool
@@ -120,7 +120,7 @@ pub record Flowing : Type 0 where
 abbrev pub flowing : Bool → Kept → Flowing
 flowing aged kept = record { kept = kept; aged = aged }
 
--- the slots stand for the flows of the record, none of which asks for a call; no guest was asked for more often than the flows that were accepted for it may
+-- the slots stand for the flows of the trace, none of which asks for a call; no guest was asked for more often than the flows that were accepted for it may
 -- ask; and a frame has room for a header and a unit of 8 octets
 pub record OfFlows (config : Config) (f : Flowing) (now : ℕ) (past : List Entry) : Type 0 where
   pub holds : CoreHolds config now f.aged None f.kept.flows past
@@ -140,7 +140,7 @@ pub record OfSockets (next : ℕ) (past : List Entry) : Type 0 where
 -- a wait began this turn; or none came yet, and then there is no flow
 pub data Stands (config : Config) (step : Step) (slirp : SlirpState) (kept : Kept) (link : LinkState) (past : List Entry) : Type 0 where
   Turns : InTurn config past → Stands config step slirp kept link past
-  Begins : Unbegun config step slirp link past → NoneInSlots kept.flows.slots → (book config past).rests ≡ [] → Stands config step slirp kept link past
+  Begins : Unbegun config step slirp link past → NoneInSlots kept.flows.slots → (book config past).time_waits ≡ [] → Stands config step slirp kept link past
 
 -- Before the clock is asked: so many forwards are open, the first of the settings, and nothing else was done.
 pub record Opens (config : Config) (count : ℕ) (slirp : SlirpState) (link : LinkState) (past : List Entry) : Type 0 where
@@ -165,7 +165,7 @@ pub record Opens (config : Config) (count : ℕ) (slirp : SlirpState) (link : Li
   pub number : slirp.number ≡ count
   pub unreported : agenda past ≡ []
   pub none : NoneInSlots slirp.flows.flows.slots
-  pub unrested : (book config past).rests ≡ []
+  pub unrested : (book config past).time_waits ≡ []
   pub alone : slirp.associations ≡ []
   pub unnamed : slirp.questions ≡ []
   pub nothing : slirp.pending ≡ []
@@ -355,16 +355,16 @@ LeavesRest Blocked link = link.blocked ≡ true
 LeavesRest Failed link = Unit {0}
 
 -- an entry ended the run, or the host refused a forward; or it has made its last wait
-pub data Rests (config : Config) (past : List Entry) : Type 0 where
-  OverFor : (cause : Cause) → phase config past ≡ Over cause → Rests config past
-  AllWaited : phase config past ≡ Working → Rests config past
+pub data IsThrough (config : Config) (past : List Entry) : Type 0 where
+  OverFor : (cause : Cause) → phase config past ≡ Over cause → IsThrough config past
+  AllWaited : phase config past ≡ Working → IsThrough config past
 
 -- A run that has ended in this phase; only its sockets are to be closed, which are those of these forwards, those that carry datagrams, and those of flows.
 pub record Closing (config : Config) (over : Phase) (forwards : List ℕ) (o : Holders) (past : List Entry) : Type 0 where
   pub lawful : Lawful config past
   pub ended : is_ended config past ≡ true
   pub is : over ≡ phase config past
-  pub rests : Rests config past
+  pub through : IsThrough config past
   pub errand : errand_left config past ≡ None
   pub served : due_for_services config past ≡ None
   pub idle : due_for_flows config (book config past) (next_number past) ≡ None

@@ -1,4 +1,4 @@
--- Which frames are pending, and which transfers of files are kept, by the record.
+-- Which frames are pending, and which transfers of files are kept, by the trace.
 use Rattle.std.specs.Prelude.{◌≡◌, ℕ, ◌<◌, ◌⊎◌, not, Bool, true, false, is_some, List, [], length, Some, None}
 use Rattle.world_face.specs.Journal.{Entry}
 use Rattle.slirp_settings.specs.Addresses.{Config}
@@ -18,7 +18,7 @@ pub record OfLeft (config : Config) (aged : Bool) (slirp : SlirpState) (past : L
   pub again : (serving config past).again ≡ None
   pub files : slirp.transfers ≡ kept_by aged false (serving config past).now (serving config past).files.transfers
 
--- the packet of a file that goes again, of which no frame is out; only before a wait the record needn't say yet that it does
+-- the packet of a file that goes again, of which no frame is out; only before a wait the trace needn't say yet that it does
 pub record OfFile (config : Config) (aged : Bool) (slirp : SlirpState) (past : List Entry) : Type 0 where
   pub said : Said
   pub left : left config past ≡ []

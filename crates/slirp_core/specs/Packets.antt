@@ -13,13 +13,13 @@ use Rattle.udp_datagram.specs.Udp.{read_udp}
 use Rattle.spec_trace.specs.Fragments.{arrived}
 use Rattle.spec_trace.specs.Packets.{Packet, Unheard, ArpPacket, Message, DatagramPacket, Segment, Datagram, datagram_of, may_come}
 use Rattle.rules_dhcp.specs.declared.Lease.{Lease}
-use Rattle.spec_run.specs.Datagrams.{Errand, Fate, Ignored, Refused, ForLeases, ForFiles, GoesTo, fate}
-use Rattle.spec_run.specs.Leasing.{leases_by_fate}
+use Rattle.spec_run.specs.Datagrams.{Errand, DatagramVerdict, Ignored, Refused, ForLeases, ForFiles, GoesTo, datagram_verdict}
+use Rattle.spec_run.specs.Leasing.{leases_by_verdict}
 use Rattle.arp_table.specs.declared.ArpView.{ArpView}
 use Rattle.arp_table.specs.Arp.{Arp, arp_of, read_arp}
 use Rattle.icmp_echo.specs.declared.IcmpView.{IcmpView}
 use Rattle.icmp_echo.specs.declared.IcmpView.TheVariants.{Echo, Unreachable, Other}
-use Rattle.spec_run.specs.Answers.{Answer, ArpAnswer, Serving, owed_for_arp, owed_for_fate, owed_for_icmp}
+use Rattle.spec_run.specs.Answers.{Answer, ArpAnswer, Serving, owed_for_arp, owed_for_verdict, owed_for_icmp}
 
 abbrev pub packet_of : ArpView → Answer
 packet_of view = ArpAnswer view.target_mac.0 (arp_of view)
@@ -55,12 +55,12 @@ udp_of config mac ip =
     else None
 
 -- a datagram for the server of files is answered, if at all, when it is served
-abbrev pub owed_at_once_by : Config → Serving → Datagram → Fate → List Answer
+abbrev pub owed_at_once_by : Config → Serving → Datagram → DatagramVerdict → List Answer
 owed_at_once_by config serving d ForFiles = []
-owed_at_once_by config serving d f = owed_for_fate config serving d f
+owed_at_once_by config serving d f = owed_for_verdict config serving d f
 
 abbrev pub owed_at_once : Config → Serving → Datagram → List Answer
-owed_at_once config serving d = owed_at_once_by config serving d (fate config d)
+owed_at_once config serving d = owed_at_once_by config serving d (datagram_verdict config d)
 
 -- a segment is answered, if at all, when it is heard
 abbrev pub owed_for_ip : Config → Serving → List ℕ → Ip → List Answer
@@ -96,7 +96,7 @@ pub data Request : Type 0 where
   ToSend : Errand → Request
   ToServe : Datagram → Request
 
-abbrev pub request_by : Datagram → Fate → Option Request
+abbrev pub request_by : Datagram → DatagramVerdict → Option Request
 request_by d Ignored = None
 request_by d Refused = None
 request_by d ForLeases = None
@@ -104,7 +104,7 @@ request_by d ForFiles = Some (ToServe d)
 request_by d (GoesTo to) = Some (ToSend (record { datagram = d; to = to }))
 
 abbrev pub request_of : Config → Datagram → Option Request
-request_of config d = request_by d (fate config d)
+request_of config d = request_by d (datagram_verdict config d)
 
 abbrev pub request_for_udp : Config → Option Datagram → Option Request
 request_for_udp config d = option_and_then (request_of config) d
@@ -136,7 +136,7 @@ request_by_packet config _ = None
 
 abbrev pub leases_with : Config → ℕ → Option Datagram → List Lease → List Lease
 leases_with config now None leases = leases
-leases_with config now (Some d) leases = leases_by_fate config now d (fate config d) leases
+leases_with config now (Some d) leases = leases_by_verdict config now d (datagram_verdict config d) leases
 
 -- whom a frame makes known
 abbrev pub with_address : Config → ℕ → List ℕ → List (Ip4 × Mac) → List (Ip4 × Mac)

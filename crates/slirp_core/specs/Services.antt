@@ -1,4 +1,4 @@
--- What the services of the network keep of the record.
+-- What the services of the network keep of the trace.
 use Rattle.std.specs.Prelude.{◌≡◌, ℕ, ◌<◌, All, List}
 use Rattle.world_face.specs.Journal.{Entry}
 use Rattle.slirp_settings.specs.Addresses.{Config}

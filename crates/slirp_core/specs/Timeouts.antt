@@ -8,11 +8,11 @@ use Rattle.spec_flow.specs.Dutiful.{AreAhead, close_deadline, resend_deadline}
 use Rattle.spec_flow.specs.Bounds.{IsBy}
 use Rattle.spec_flows.specs.Book.{book}
 use Rattle.flow_splice.specs.Splice.{Splice}
-use Rattle.spec_duties.specs.Times.{of_flows, rest_ends}
+use Rattle.spec_duties.specs.Times.{of_flows, time_wait_ends}
 use Rattle.sim_flows.specs.Core.{CoreHolds}
 use Rattle.tcp_flows.specs.Reading.{AllClear, IsDue, IsDueAfter, NoneDue, NoneDueAfter}
 use Rattle.tcp_flows.specs.Settled.{HaveTime, IsInTime}
-use Rattle.tcp_flows.specs.Waits.{IsForSome, RestOnce}
+use Rattle.tcp_flows.specs.Waits.{IsForSome, TimeWaitOnce}
 use Rattle.spec_trace.specs.Moments.{moment}
 use Rattle.slirp_core.specs.Pumps.{question_left, time_left}
 use Rattle.slirp_core.specs.State.{SlirpState}
@@ -35,15 +35,15 @@ IsFlowTime blocked now parts None = NoneDue parts ⊎ (WaitForLink blocked now p
 IsFlowTime blocked now parts (Some left) =
     (at : ℕ) × ((IsDue parts at × ((blocked && nat_le at now) ≡ false)) ⊎ (WaitForLink blocked now parts × IsDueAfter now parts at)) × (left ≡ at - now)
 
--- By the record a wait that ends with this time suits the flows. It isn't too long for one that connects, if no host's time to connect is over, nor, where the
--- link isn't blocked and no flow owes a frame, for one that waits for its guest, nor for one that rests; and it isn't too short: something of a flow is to be
--- done by then, or a rest is over. Where no flow is late it is some time.
+-- By the trace a wait that ends with this time suits the flows. It isn't too long for one that connects, if no host's time to connect is over, nor, where the
+-- link isn't blocked and no flow owes a frame, for one that waits for its guest, nor for one that is in TIME-WAIT; and it isn't too short: something of a flow is to be
+-- done by then, or a TIME-WAIT is over. Where no flow is late it is some time.
 pub record SuitsFlows (config : Config) (now : ℕ) (blocked : Bool) (parts : List (Option Splice)) (past : List Entry) (time : Option ℕ) : Type 0 where
   pub due : Option ℕ
   pub left : time ≡ option_map (λ at. at - now) due
   pub connects : AreAhead now (of_flows close_deadline (book config past).flows) → IsBy due (of_flows close_deadline (book config past).flows)
   pub resends : blocked ≡ false → AllClear parts → IsBy due (of_flows resend_deadline (book config past).flows)
-  pub rests : RestOnce config past → AreAhead now (rest_ends config past) → IsBy due (rest_ends config past)
+  pub time_waits : TimeWaitOnce config past → AreAhead now (time_wait_ends config past) → IsBy due (time_wait_ends config past)
   pub for_some : IsForSome config past due
   pub later : moment past ≡ now → HaveTime now parts → (blocked ≡ false → (n : ℕ) → IsInTime now parts n) → (at : ℕ) → due ≡ Some at → now < at
 

@@ -33,7 +33,7 @@ pub struct DatagramView<'a> {
 
 /// What becomes of a datagram of a guest.
 #[derive(Clone, Copy)]
-pub enum Fate {
+pub enum DatagramVerdict {
     /// Nothing.
     Ignored,
     /// The guest is told that it may go nowhere.
@@ -100,47 +100,47 @@ fn may_come(policy: &Policy, from: Ip4, to_port: u16) -> bool
     policy.is_guest(from) || from == Ip4(0) && to_port == LEASES_PORT
 }
 
-impl Fate {
-    ghost use Rattle.spec_run.specs.Datagrams.{fate, fate_by};
-    ghost use Rattle.slirp_core.specs.Datagrams.{IsNamed, fate_of};
+impl DatagramVerdict {
+    ghost use Rattle.spec_run.specs.Datagrams.{datagram_verdict, datagram_verdict_by};
+    ghost use Rattle.slirp_core.specs.Datagrams.{IsNamed, datagram_verdict_of};
 
     /// What becomes of a datagram: nothing of one from port 0, nor of one to the server of leases where it isn't wanted; nor of one to the name server that is
     /// no question.
-    pub fn of(policy: &Policy, datagram: &DatagramView<'_>) -> Fate
-        ensures fate { fate_of result ≡ fate policy.now (datagram_of datagram.now) }
+    pub fn of(policy: &Policy, datagram: &DatagramView<'_>) -> DatagramVerdict
+        ensures datagram_verdict { datagram_verdict_of result ≡ datagram_verdict policy.now (datagram_of datagram.now) }
         ensures named { IsNamed policy.now datagram.now result }
     {
         let to = datagram.to;
         let ours = to.addr == policy.vhost();
         if datagram.from.port == 0 {
-            Fate::Ignored
+            DatagramVerdict::Ignored
         } else if to.port == LEASES_PORT && (ours || to.addr == ALL_HOSTS) {
             if policy.lends_addresses() {
-                Fate::Leases
+                DatagramVerdict::Leases
             } else {
-                Fate::Ignored
+                DatagramVerdict::Ignored
             }
         } else if to.port == FILES_PORT && ours {
-            Fate::Files
+            DatagramVerdict::Files
         } else {
-            Fate::by(policy, datagram, policy.target(Proto::Udp, to))
+            DatagramVerdict::by(policy, datagram, policy.target(Proto::Udp, to))
         }
     }
 
     // What becomes of one that no server of ours takes: to the name server go questions alone.
-    fn by(policy: &Policy, datagram: &DatagramView<'_>, verdict: Verdict) -> Fate
-        ensures fate { fate_of result ≡ fate_by policy.now (datagram_of datagram.now) verdict }
+    fn by(policy: &Policy, datagram: &DatagramView<'_>, verdict: Verdict) -> DatagramVerdict
+        ensures datagram_verdict { datagram_verdict_of result ≡ datagram_verdict_by policy.now (datagram_of datagram.now) verdict }
         ensures named { IsNamed policy.now datagram.now result }
     {
         let Verdict::Go(to) = verdict else {
-            return Fate::Refused;
+            return DatagramVerdict::Refused;
         };
         if !policy.is_name_server(datagram.to.addr) {
-            Fate::Out(to)
+            DatagramVerdict::Out(to)
         } else if is_question(datagram.body) {
-            Fate::Question(to)
+            DatagramVerdict::Question(to)
         } else {
-            Fate::Ignored
+            DatagramVerdict::Ignored
         }
     }
 }

@@ -7,8 +7,8 @@
 //! - `listen_all`: the settings' ports of the host are opened in order, each with the number of its place. The first that the host refuses is answered, the count of
 //!   the sockets' faults rose, and none behind it is opened (`makes`, `counted`).
 //! - `input`: after the reads that brought this frame all that it owes is owed, its datagram went out or was served, and its segment was taken by its flow (`makes`,
-//!   from `FrameCame`). A segment that its flow turns away, or that is none's, is answered by a reset, ignored or connected for as the laws say (`lot_without`), or a
-//!   flow gives way to it; a flow begins with the next number where the host connects (`take_segment`: `makes`, `number`). A message of a client of DHCP changes the
+//!   from `FrameCame`). A segment goes to `TcpFlows::receive`, and one that is turned away there is answered by a reset (`take_segment`: `makes`,
+//!   `number`). A message of a client of DHCP changes the
 //!   leases, which are those of the trace, and owes its reply as the laws say (`take_message`). Calls on files are exactly those that a packet asks for (`take_file`:
 //!   `serves`).
 //! - `accept`: what it calls is lawful (`makes`); where a flow has room a peer is asked for on that listener, once (`asks`); one that came begins a flow with the

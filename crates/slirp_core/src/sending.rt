@@ -47,7 +47,7 @@ impl Slirp {
 
     /// Sends what is owed, until the link is blocked: the rest of the frame before, then the pending ones, then what the flows owe, by rising number. Before, link or
     /// not, the flows are told the hardware addresses of their guests.
-    /// Where all of it is out, each flow of the record is settled: it may be waited. What is under way goes again within a minute for each
+    /// Where all of it is out, each flow of the trace is settled: it may be waited. What is under way goes again within a minute for each
     /// flow whose timer wasn't due before.
     pub fn pump<W: World>(&mut self, world: &mut W, link: &mut Link) -> Pumped
         ensures makes { (config : Config) (at : Standing) (aged : Bool) → Brings (W.tells world.old) (W.tells world.new)
@@ -177,7 +177,7 @@ impl Slirp {
         ensures same { under_way link.new ≡ under_way link.old }
         ensures others { self.new ≡ record self.old { pending = self.new.pending; sent = self.new.sent } }
     {
-        let offered = link.offer(world, self.outgoing.spelt());
+        let offered = link.offer(world, self.outgoing.encoded());
         self.mark_out(offered);
         outcome(offered, link.blocked())
     }

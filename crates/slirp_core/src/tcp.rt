@@ -3,7 +3,7 @@ ghost use Rattle.std.specs.Prelude.{[], ◌≡◌, ◌≤◌, ◌+◌, ◌<◌, 
 ghost use Rattle.std.specs.Option.{option_map};
 ghost use Rattle.ipv4_head.specs.Ip.{Ip, ip_of};
 ghost use Rattle.tcp_segment.specs.Tcp.{numbers_of, read_tcp, tcp_of};
-ghost use Rattle.spec_flows.specs.Lots.{reset_to};
+ghost use Rattle.spec_flows.specs.SegmentVerdicts.{reset_to};
 ghost use Rattle.spec_flows.specs.Segments.{segment_of};
 ghost use Rattle.slirp_settings.specs.Addresses.{Config};
 ghost use Rattle.slirp_core.specs.Packets.{is_segment};
@@ -96,7 +96,7 @@ impl Slirp {
         ensures held { IfSome result (λ count. HasSocket number self.now.flows.flows.slots (λ p. (count ≡ min (length into.old) (length p.up.held))
             × (into.new ≡ take count p.up.held ++ drop count into.old))) }
         ensures unchanged { IfNone result (into.new ≡ into.old) }
-        // Of an honest guest they are what came from where the host stopped, and reach to what was acknowledged at least, where they fit.
+        // Of a conforming guest they are what came from where the host stopped, and reach to what was acknowledged at least, where they fit.
         ensures front { (config : Config) (at : Standing) (aged : Bool) (link : LinkState) (past : List Entry)
             → Holds config at self.now (flowing aged self.now.flows) link past
             → IfSome result (λ count. IsFrontOf config number (length into.old) count (take count into.new) past) }
@@ -108,7 +108,7 @@ impl Slirp {
     /// until the reset that it owes its guest is out. It looks at all flows.
     pub fn flow_after(&self, last: Option<u64>) -> Option<(u64, Tuple)>
         ensures drawn { IfSome result (λ next. next.0 < self.now.number) }
-        // By the record, between the calls of a turn.
+        // By the trace, between the calls of a turn.
         ensures next { (config : Config) (at : Standing) (link : LinkState) (past : List Entry)
             → Holds config at self.now (flowing false self.now.flows) link past → IsNextFlow last result (book config past).flows }
     {

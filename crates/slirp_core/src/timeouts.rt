@@ -48,7 +48,7 @@ impl Slirp {
     // How long it is until a flow is to be told the time. What is due already waits where the link is blocked, and isn't counted.
     pub(crate) fn time_of_flows(&self, blocked: bool) -> Option<u64>
         ensures time { IsFlowTime blocked self.now.moment self.now.flows.flows.slots result }
-        // By the record, a wait that ends with it suits the flows.
+        // By the trace, a wait that ends with it suits the flows.
         ensures suits { (config : Config) (before : ℕ) (past : List Entry) → CoreHolds config before true None self.now.flows.flows past
             → SuitsFlows config self.now.moment blocked self.now.flows.flows.slots past result }
     {

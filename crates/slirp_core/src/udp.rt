@@ -2,7 +2,7 @@
 ghost use Rattle.std.specs.Prelude.{[], ◌≡◌, ℕ, ◌+◌, ◌^◌, ◌<◌, ◌≤◌, is_some, length, true, false};
 ghost use Rattle.world_face.specs.Limits.{most_to_udp};
 
-use crate::datagrams::{DatagramView, Fate};
+use crate::datagrams::{DatagramVerdict, DatagramView};
 use crate::icmp::PROHIBITED;
 use crate::network::Slirp;
 use crate::sending::put_reply;
@@ -54,13 +54,13 @@ impl Slirp {
           transfers = self.new.transfers;
         } }
     {
-        match Fate::of(&self.policy, datagram) {
-            Fate::Ignored => {}
-            Fate::Refused => self.tell_about(PROHIBITED, datagram),
-            Fate::Leases => self.take_message(datagram),
-            Fate::Files => self.take_file(world, datagram),
-            Fate::Question(to) => self.ask(world, datagram, to),
-            Fate::Out(to) => self.send(world, datagram, to),
+        match DatagramVerdict::of(&self.policy, datagram) {
+            DatagramVerdict::Ignored => {}
+            DatagramVerdict::Refused => self.tell_about(PROHIBITED, datagram),
+            DatagramVerdict::Leases => self.take_message(datagram),
+            DatagramVerdict::Files => self.take_file(world, datagram),
+            DatagramVerdict::Question(to) => self.ask(world, datagram, to),
+            DatagramVerdict::Out(to) => self.send(world, datagram, to),
         }
     }
 

@@ -162,7 +162,7 @@ impl TurnWants {
         ensures items { (added : List AWant) × (self.new.items
             ≡ ((link_want read write ++ map listener_want listeners.now) ++ socket_wants read (sockets_of carriers.entry)) ++ added)
             × AreWantsOf flows.now.flows.slots added }
-        // By the record, what flows wait for is what a run waits for of its flows.
+        // By the trace, what flows wait for is what a run waits for of its flows.
         ensures waited_for { (config : Config) (before : ℕ) (aged : Bool) (past : List Entry) (added : List AWant)
             → CoreHolds config before aged None flows.now.flows past → AreWantsOf flows.now.flows.slots added → AreWaitedFor config past added }
         ensures once { TcpOnce self.new.items }
@@ -180,7 +180,7 @@ impl TurnWants {
         requires flows { length flows.now.flows.slots ≤ 4096 }
         requires numbers { (k : ℕ) (p : Splice) → slice_get flows.now.flows.slots k ≡ Some (Some p) → number_of p < below }
         ensures items { (added : List AWant) × (self.new.items ≡ self.old.items ++ added) × AreWantsOf flows.now.flows.slots added × (length added ≤ 4096) }
-        // By the record, what flows wait for is what a run waits for of its flows.
+        // By the trace, what flows wait for is what a run waits for of its flows.
         ensures waited_for { (config : Config) (before : ℕ) (aged : Bool) (past : List Entry) (added : List AWant)
             → CoreHolds config before aged None flows.now.flows past → AreWantsOf flows.now.flows.slots added → AreWaitedFor config past added }
         ensures wants { AreWants self.new.items }
@@ -268,7 +268,7 @@ impl Slirp {
         requires { 5153 ≤ wants.old.capacity }
         ensures timeout { (held : List PartSet) → IsHeld self.now.fragments held → IsTimeout self.now link.now.blocked held result }
         ensures items { WantsOf self.now link.now wants.new.items }
-        // By the record, what flows wait for is what a run waits for of its flows.
+        // By the trace, what flows wait for is what a run waits for of its flows.
         ensures waited_for { (config : Config) (before : ℕ) (aged : Bool) (past : List Entry) (added : List AWant)
             → CoreHolds config before aged None self.now.flows.flows past → AreWantsOf self.now.flows.flows.slots added → AreWaitedFor config past added }
         ensures once { TcpOnce wants.new.items }

@@ -78,6 +78,6 @@ is_answered_for config a = is_ours config a || list_any (λ f. address f.guest =
 abbrev pub is_guest : Config → ℕ → Bool
 is_guest config a = is_of_one_host config a && not (is_ours config a)
 
--- the 16 addresses that are lent to guests
+-- the 16 addresses that are leased to guests
 abbrev pub pool : Config → List ℕ
 pool config = map (λ k. config.dhcp_start + k) (0 ∷ 1 ∷ 2 ∷ 3 ∷ 4 ∷ 5 ∷ 6 ∷ 7 ∷ 8 ∷ 9 ∷ 10 ∷ 11 ∷ 12 ∷ 13 ∷ 14 ∷ 15 ∷ [])

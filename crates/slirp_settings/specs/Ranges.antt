@@ -63,7 +63,7 @@ are_forwards config list = nat_le (length list) 32 && list_all (is_forward confi
 abbrev pub same_guest_port : GuestFwd → GuestFwd → Bool
 same_guest_port f g = same_endpoint f.guest g.guest
 
--- guests reach a port of the host at an address of the network that no guest is lent
+-- guests reach a port of the host at an address of the network that no guest is leased
 abbrev pub is_guest_forward : Config → GuestFwd → Bool
 is_guest_forward config f =
     not (f.guest.port == 0) && not (f.host.port == 0)

@@ -26,7 +26,7 @@ pub struct SlirpConfig {
     pub vhost: Ip4,
     /// The address under which the name server is seen: the same, and another.
     pub vnameserver: Ip4,
-    /// The first of 16 addresses that are lent to guests by DHCP: each a guest's.
+    /// The first of 16 addresses that are leased to guests by DHCP: each a guest's.
     pub vdhcp_start: Ip4,
     /// The name that a guest is told for itself by DHCP, of octets 0x21 to 0x7E; none where it is empty, as the next three.
     pub vhostname: ArrayVec<u8, 127>,
@@ -56,9 +56,9 @@ pub struct SlirpConfig {
     pub outbound: Option<Ip4>,
     /// Whether no names are served.
     pub disable_dns: bool,
-    /// Whether no addresses are lent.
+    /// Whether no addresses are leased.
     pub disable_dhcp: bool,
-    /// The ports of the network that lead to a port which the host reaches: no port 0, at a guest's address that isn't lent, none twice, to an address that isn't in 0/8, 224/4 or 240/4.
+    /// The ports of the network that lead to a port which the host reaches: no port 0, at a guest's address that isn't leased, none twice, to an address that isn't in 0/8, 224/4 or 240/4.
     pub guestfwds: ArrayVec<GuestFwd, 16>,
     /// Where forwards are asked for while the network runs: no port 0, nor one of `forwards` with TCP.
     pub control: Option<Endpoint>,

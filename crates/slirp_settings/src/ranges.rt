@@ -46,7 +46,7 @@ const PREFIX_LENGTHS: [u32; 20] = [
     8, 9, 10, 11, 12, 13, 14, 15, 16, 17, 18, 19, 20, 21, 22, 23, 24, 25, 26, 27,
 ];
 
-/// How far the addresses that are lent to guests lie behind the first of them.
+/// How far the addresses that are leased to guests lie behind the first of them.
 const POOL: [u64; 16] = [0, 1, 2, 3, 4, 5, 6, 7, 8, 9, 10, 11, 12, 13, 14, 15];
 
 impl SlirpConfig {
@@ -131,7 +131,7 @@ impl SlirpConfig {
         }
     }
 
-    // Whether each address that is lent is a guest's.
+    // Whether each address that is leased is a guest's.
     fn lends_to_guests(&self) -> bool
         ensures { result ≡ list_all (is_guest (settings self.now)) (pool (settings self.now)) }
     {
@@ -192,12 +192,12 @@ impl SlirpConfig {
         f.guest.port != 0
             && f.host.port != 0
             && self.is_guest(f.guest.addr.0 as u64)
-            && !self.is_lent(f.guest.addr)
+            && !self.is_leased(f.guest.addr)
             && is_of_one(f.host.addr)
     }
 
-    // Whether the address is one of those that are lent to guests.
-    fn is_lent(&self, a: Ip4) -> bool
+    // Whether the address is one of those that are leased to guests.
+    fn is_leased(&self, a: Ip4) -> bool
         ensures { result ≡ list_any (λ b. b == a.0) (pool (settings self.now)) }
     {
         POOL.iter()

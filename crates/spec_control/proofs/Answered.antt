@@ -29,8 +29,8 @@ use Rattle.rules_control.specs.Talk.{Talk, after_accept, after_line, after_liste
 use Rattle.rules_control.specs.Talk.{want_by, with_kept, with_left}
 use Rattle.rules_control.specs.declared.Command.{Command}
 use Rattle.rules_control.specs.declared.Command.TheVariants.{Add, Remove, List as Lists, What}
-use Rattle.spec_control.specs.Desk.{Awaited, Nothing, Opening, Shutting, Desk, Reads, adds_unless, after_call, after_entry, answers, answers_line, awaits, desk, flows_in_use, is_its_own, is_peer}
-use Rattle.spec_control.specs.Desk.{opens_awaited, removes, serves, with_changes, with_talk}
+use Rattle.spec_control.specs.ControlServer.{Awaited, Nothing, Opening, Shutting, ControlServer, Reads, adds_unless, after_call, after_entry, answers, answers_line, awaits, control_server, flows_in_use, is_its_own, is_peer}
+use Rattle.spec_control.specs.ControlServer.{opens_awaited, removes, serves, with_changes, with_talk}
 use Rattle.spec_control.specs.Laws.{MayControl, MayWait, MayWhere, wants_of}
 use Rattle.spec_control.specs.Replies.{fault_text, forward_lines, flow_lines, reply_line}
 use Rattle.spec_control.proofs.Asked.{no_close}
@@ -48,7 +48,7 @@ Attends Nothing t = IsAnswered t
 Attends (Opening f) t = Unit {0}
 Attends (Shutting socket) t = IsAnswered t
 
-abbrev IsServed : Desk → Type 0
+abbrev IsServed : ControlServer → Type 0
 IsServed d = Attends d.awaited d.talk
 
 -- ---- a reply is left
@@ -69,15 +69,15 @@ list_left forwards flows = left_behind (forwards ++ flows) (reply_line (codes "o
 
 -- ---- a command's answer
 
-adds_attends : (o : Option FwdFault) (f : Forward) (d : Desk) → IsServed (adds_unless o f d)
+adds_attends : (o : Option FwdFault) (f : Forward) (d : ControlServer) → IsServed (adds_unless o f d)
 adds_attends (Some fault) f d = says_attends d.awaited (reply_line (fault_text fault)) d.talk (line_left (fault_text fault))
 adds_attends None f d = tt
 
-removes_attends : (o : Option ℕ) (proto : Proto) (host : Endpoint) (d : Desk) → IsServed (removes o proto host d)
+removes_attends : (o : Option ℕ) (proto : Proto) (host : Endpoint) (d : ControlServer) → IsServed (removes o proto host d)
 removes_attends None proto host d = says_attends d.awaited (reply_line (codes "not there")) d.talk refl
 removes_attends (Some socket) proto host d = says_attends (Shutting socket) (reply_line (codes "ok")) d.talk refl
 
-answers_attends : (config : Config) (past : List Entry) (command : Command) (d : Desk) → IsServed (answers config past command d)
+answers_attends : (config : Config) (past : List Entry) (command : Command) (d : ControlServer) → IsServed (answers config past command d)
 answers_attends config past (Add f) d = adds_attends (if is_its_own config f then Some Taken else fault_of config f d.forwards) f d
 answers_attends config past (Remove proto host) d = removes_attends (socket_at proto host d.forwards) proto host d
 answers_attends config past Lists d =
@@ -102,7 +102,7 @@ unserved_attends Nothing t none = λ out met. absurd (not_served (is_out t) (is_
 unserved_attends (Opening f) t none = tt
 unserved_attends (Shutting socket) t none = λ out met. absurd (not_served (is_out t) (is_some t.peer) none out met)
 
-serves_attends : (read : Reads) (config : Config) (past : List Entry) (d : Desk) → IsServed (serves read config past d)
+serves_attends : (read : Reads) (config : Config) (past : List Entry) (d : ControlServer) → IsServed (serves read config past d)
 serves_attends read config past d = by (is_out d.talk && is_some d.talk.peer) refl
   where
     line : (end : Option ℕ) → line_end d.talk.kept ≡ end → IsServed (answers_line read config past (option_map (line_and_rest d.talk.kept) end) d)
@@ -125,7 +125,7 @@ listened (Opening f) answer t had = tt
 listened (Shutting n) MadeDone t had = had
 listened (Shutting n) MadeFailed t had = had
 
-opened_attends : (awaited : Awaited) (answer : Made) (socket : ℕ) (d : Desk) → IsServed d → IsServed (opens_awaited awaited answer socket d)
+opened_attends : (awaited : Awaited) (answer : Made) (socket : ℕ) (d : ControlServer) → IsServed d → IsServed (opens_awaited awaited answer socket d)
 opened_attends Nothing answer socket d had = had
 opened_attends (Opening f) MadeDone socket d had = says_attends Nothing (reply_line (codes "ok")) d.talk refl
 opened_attends (Opening f) MadeFailed socket d had = says_attends Nothing (reply_line (fault_text Refused)) d.talk refl
@@ -149,19 +149,19 @@ abbrev Closing : Entry → Awaited → Type 0
 Closing (Close socket) awaited = NotOpening awaited
 Closing _ awaited = Unit {0}
 
-after_a_read : (read : Reads) (config : Config) (past : List Entry) (socket : ℕ) (kept : List ℕ) (d : Desk) (last : Bool)
+after_a_read : (read : Reads) (config : Config) (past : List Entry) (socket : ℕ) (kept : List ℕ) (d : ControlServer) (last : Bool)
     → IsServed (after_call read config past last socket (with_talk (if last then hung_up d.talk else with_kept kept d.talk) d))
 after_a_read read config past socket kept d true = over_attends (Shutting socket) d.talk
 after_a_read read config past socket kept d false = serves_attends read config past (with_talk (with_kept kept d.talk) d)
 
-after_a_write : (read : Reads) (config : Config) (past : List Entry) (socket : ℕ) (d : Desk) (answer : Io)
+after_a_write : (read : Reads) (config : Config) (past : List Entry) (socket : ℕ) (d : ControlServer) (answer : Io)
     → IsServed (after_call read config past (fails answer) socket (with_talk (after_write answer d.talk) d))
 after_a_write read config past socket d (Done n) = serves_attends read config past (with_talk (after_write (Done n) d.talk) d)
 after_a_write read config past socket d End = serves_attends read config past (with_talk (after_write End d.talk) d)
 after_a_write read config past socket d NotYet = serves_attends read config past (with_talk (after_write NotYet d.talk) d)
 after_a_write read config past socket d Failed = over_attends (Shutting socket) d.talk
 
-entry_attends : (read : Reads) (config : Config) (past : List Entry) (e : Entry) (d : Desk) → Closing e d.awaited → IsServed d → IsServed (after_entry read config past e d)
+entry_attends : (read : Reads) (config : Config) (past : List Entry) (e : Entry) (d : ControlServer) → Closing e d.awaited → IsServed d → IsServed (after_entry read config past e d)
 entry_attends read config past (Listen socket at answer) d calm had = by (is_controls socket)
   where
     by : (b : Bool) → IsServed (if b then with_talk (after_listen answer d.talk) d else opens_awaited d.awaited answer socket d)
@@ -191,21 +191,21 @@ entry_attends read config past (Close socket) d calm had = by (socket == listene
     by false false = calm_attends d.awaited d.talk calm had
 entry_attends read config past _ d calm had = had
 
--- ---- a record
+-- ---- a trace
 
 close_calm : (awaited : Awaited) (read : Reads) (config : Config) (past : List Entry) (socket : ℕ) → MayWhere awaited read config past (CallClose socket) → NotOpening awaited
 close_calm Nothing read config past socket may f is = cc
 close_calm (Opening g) read config past socket may f is = no_close g.proto (next_number (without_control past)) g socket may
 close_calm (Shutting n) read config past socket may f is = cc
 
-closes_calm : (read : Reads) (config : Config) (past : List Entry) (e : Entry) → Follows (MayControl read config) (e ∷ past) → Closing e (desk read config past).awaited
-closes_calm read config past (Close socket) follows = close_calm (desk read config past).awaited read config past socket follows.0
+closes_calm : (read : Reads) (config : Config) (past : List Entry) (e : Entry) → Follows (MayControl read config) (e ∷ past) → Closing e (control_server read config past).awaited
+closes_calm read config past (Close socket) follows = close_calm (control_server read config past).awaited read config past socket follows.0
 closes_calm read config past _ follows = tt
 
-attends : (read : Reads) (config : Config) (past : List Entry) → Follows (MayControl read config) past → IsServed (desk read config past)
+attends : (read : Reads) (config : Config) (past : List Entry) → Follows (MayControl read config) past → IsServed (control_server read config past)
 attends read config [] follows = λ out met. refl
 attends read config (e ∷ past) follows =
-    entry_attends read (with_changes config (desk read config past)) (without_control past) e (desk read config past) (closes_calm read config past e follows)
+    entry_attends read (with_changes config (control_server read config past)) (without_control past) e (control_server read config past) (closes_calm read config past e follows)
     (attends read config past follows.1)
 
 unawaited_attends : (awaited : Awaited) (t : Talk) → awaited ≡ Nothing → Attends awaited t → IsAnswered t
@@ -219,10 +219,10 @@ unawaited_attends (Shutting n) t is had = had
 open_is : (o : Option ℕ) (n : ℕ) → o ≡ Some n → is_some o ≡ true
 open_is o n is = ap is_some is
 
-pub line_answered : (read : Reads) (config : Config) (past : List Entry) (n : ℕ) → Follows (MayControl read config) past → (desk read config past).awaited ≡ Nothing
-    → (desk read config past).talk.peer ≡ Some n → is_out (desk read config past).talk ≡ true → has_line (desk read config past).talk.kept ≡ false
+pub line_answered : (read : Reads) (config : Config) (past : List Entry) (n : ℕ) → Follows (MayControl read config) past → (control_server read config past).awaited ≡ Nothing
+    → (control_server read config past).talk.peer ≡ Some n → is_out (control_server read config past).talk ≡ true → has_line (control_server read config past).talk.kept ≡ false
 line_answered read config past n follows none met out =
-    unawaited_attends (desk read config past).awaited (desk read config past).talk none (attends read config past follows) out (open_is (desk read config past).talk.peer n met)
+    unawaited_attends (control_server read config past).awaited (control_server read config past).talk none (attends read config past follows) out (open_is (control_server read config past).talk.peer n met)
 
 -- ---- where it waits
 
@@ -247,10 +247,10 @@ abbrev wants_by : Option ℕ → Talk → List Want
 wants_by peer t = option_map_or (λ want. want ∷ []) (want_by peer t) []
 
 pub wait_to_answer : (read : Reads) (config : Config) (past : List Entry) (wants : List Want) (timeout : Option ℕ) (n : ℕ) → Follows (MayControl read config) past
-    → MayControl read config past (CallWait wants timeout) → (desk read config past).talk.peer ≡ Some n → has_line (desk read config past).talk.kept ≡ true
+    → MayControl read config past (CallWait wants timeout) → (control_server read config past).talk.peer ≡ Some n → has_line (control_server read config past).talk.kept ≡ true
     → controls wants ≡ record { of = Connection n; read = false; write = true } ∷ []
 wait_to_answer read config past wants timeout n follows may met whole =
-    let t : Talk = (desk read config past).talk in
-    let calm = wait_calm (desk read config past).awaited read config past wants timeout may in
+    let t : Talk = (control_server read config past).talk in
+    let calm = wait_calm (control_server read config past).awaited read config past wants timeout may in
     let left = left_of (is_out t) (has_line t.kept) (λ out. line_answered read config past n follows calm.0 met out) whole in
     calm.1.own ∙ ap (λ (peer : Option ℕ). wants_by peer t) met ∙ ap (λ (out : Bool). record { of = Connection n; read = out; write = not out } ∷ []) left

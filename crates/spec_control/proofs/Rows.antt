@@ -16,7 +16,7 @@ use Rattle.slirp_settings.specs.declared.Proto.TheVariants.{Tcp}
 use Rattle.rules_control.specs.Apart.{without_control}
 use Rattle.rules_control.specs.Talk.{listener}
 use Rattle.rules_control.specs.declared.Command.TheVariants.{Add, Remove, List as Lists, What}
-use Rattle.spec_control.specs.Desk.{Nothing, Opening, Shutting, Reads, desk}
+use Rattle.spec_control.specs.ControlServer.{Nothing, Opening, Shutting, Reads, control_server}
 use Rattle.spec_control.specs.Laws.{MayControl, reported, wants_of}
 
 abbrev own : Endpoint
@@ -60,7 +60,7 @@ met = Accept listener peer (From (endpoint 0x7f000001 40000)) ∷ opened
 abbrev asked : List Entry
 asked = line 97 ∷ met
 
-opening_is_due : (desk read config asked).awaited ≡ Opening ssh
+opening_is_due : (control_server read config asked).awaited ≡ Opening ssh
 opening_is_due = refl
 
 it_comes_next : MayControl read config asked (CallListen 0 ssh.host)
@@ -69,13 +69,13 @@ it_comes_next = refl
 abbrev given : List Entry
 given = Listen 0 ssh.host MadeDone ∷ asked
 
-is_given : (desk read config given).forwards ≡ (ssh, 0) ∷ []
+is_given : (control_server read config given).forwards ≡ (ssh, 0) ∷ []
 is_given = refl
 
-is_added : (desk read config given).added ≡ (0, ssh) ∷ []
+is_added : (control_server read config given).added ≡ (0, ssh) ∷ []
 is_added = refl
 
-says_ok : (desk read config given).talk.left ≡ codes "ok" ++ 10 ∷ []
+says_ok : (control_server read config given).talk.left ≡ codes "ok" ++ 10 ∷ []
 says_ok = refl
 
 -- all that the network sees of it
@@ -86,69 +86,69 @@ seen = refl
 abbrev refused : List Entry
 refused = Listen 0 ssh.host MadeFailed ∷ asked
 
-is_refused : (desk read config refused).talk.left ≡ codes "refused" ++ 10 ∷ []
+is_refused : (control_server read config refused).talk.left ≡ codes "refused" ++ 10 ∷ []
 is_refused = refl
 
-no_forward : (desk read config refused).forwards ≡ []
+no_forward : (control_server read config refused).forwards ≡ []
 no_forward = refl
 
-used_up : (desk read config refused).added ≡ (0, ssh) ∷ []
+used_up : (control_server read config refused).added ≡ (0, ssh) ∷ []
 used_up = refl
 
 -- the same line again, once the reply is out; the control's own port; an address that isn't a guest's
-is_taken : (desk read config (line 97 ∷ wrote ∷ given)).talk.left ≡ codes "taken" ++ 10 ∷ []
+is_taken : (control_server read config (line 97 ∷ wrote ∷ given)).talk.left ≡ codes "taken" ++ 10 ∷ []
 is_taken = refl
 
-is_its_own : (desk read config (line 111 ∷ met)).talk.left ≡ codes "taken" ++ 10 ∷ []
+is_its_own : (control_server read config (line 111 ∷ met)).talk.left ≡ codes "taken" ++ 10 ∷ []
 is_its_own = refl
 
-is_no_guest : (desk read config (line 104 ∷ met)).talk.left ≡ codes "bad guest" ++ 10 ∷ []
+is_no_guest : (control_server read config (line 104 ∷ met)).talk.left ≡ codes "bad guest" ++ 10 ∷ []
 is_no_guest = refl
 
 -- nothing is there to be listed or taken back, and a line that asks for nothing
-none_listed : (desk read config (line 108 ∷ met)).talk.left ≡ codes "ok" ++ 10 ∷ []
+none_listed : (control_server read config (line 108 ∷ met)).talk.left ≡ codes "ok" ++ 10 ∷ []
 none_listed = refl
 
-not_there : (desk read config (line 114 ∷ met)).talk.left ≡ codes "not there" ++ 10 ∷ []
+not_there : (control_server read config (line 114 ∷ met)).talk.left ≡ codes "not there" ++ 10 ∷ []
 not_there = refl
 
-asks_nothing : (desk read config (line 120 ∷ met)).talk.left ≡ codes "what" ++ 10 ∷ []
+asks_nothing : (control_server read config (line 120 ∷ met)).talk.left ≡ codes "what" ++ 10 ∷ []
 asks_nothing = refl
 
 -- two lines in one read: the second is answered when the reply to the first is out
 abbrev both : List Entry
 both = TcpRead peer 129 (Done 4) (114 ∷ 10 ∷ 114 ∷ 10 ∷ []) ∷ wrote ∷ given
 
-close_is_due : (desk read config both).awaited ≡ Shutting 0
+close_is_due : (control_server read config both).awaited ≡ Shutting 0
 close_is_due = refl
 
 close_comes_next : MayControl read config both (CallClose 0)
 close_comes_next = refl
 
-is_taken_back : (desk read config both).removed ≡ 0 ∷ []
+is_taken_back : (control_server read config both).removed ≡ 0 ∷ []
 is_taken_back = refl
 
-last_not_there : (desk read config (wrote ∷ Close 0 ∷ both)).talk.left ≡ codes "not there" ++ 10 ∷ []
+last_not_there : (control_server read config (wrote ∷ Close 0 ∷ both)).talk.left ≡ codes "not there" ++ 10 ∷ []
 last_not_there = refl
 
 -- a connection that ended is closed next, and a reply that is left of it goes; then a peer is waited for
 abbrev left : List Entry
 left = TcpRead peer 129 End [] ∷ met
 
-its_close_is_due : (desk read config left).awaited ≡ Shutting peer
+its_close_is_due : (control_server read config left).awaited ≡ Shutting peer
 its_close_is_due = refl
 
-waits_for_a_peer : wants_of (desk read config (Close peer ∷ left)).talk ≡ record { of = Listener listener; read = true; write = false } ∷ []
+waits_for_a_peer : wants_of (control_server read config (Close peer ∷ left)).talk ≡ record { of = Listener listener; read = true; write = false } ∷ []
 waits_for_a_peer = refl
 
-nothing_is_due : (desk read config (Close peer ∷ left)).awaited ≡ Nothing
+nothing_is_due : (control_server read config (Close peer ∷ left)).awaited ≡ Nothing
 nothing_is_due = refl
 
 -- while a reply is left nothing is read
 abbrev waits : List Want
 waits = record { of = Connection peer; read = false; write = true } ∷ []
 
-waits_to_write : wants_of (desk read config given).talk ≡ waits
+waits_to_write : wants_of (control_server read config given).talk ≡ waits
 waits_to_write = refl
 
 -- what was reported in a direction that wasn't wanted asks for no call
@@ -169,7 +169,7 @@ broken = TcpWrite peer (codes "ok" ++ 10 ∷ []) Failed ∷ Listen 0 ssh.host Ma
 only_its_close : MayControl read config broken (CallClose peer)
 only_its_close = refl
 
-nothing_is_said : (desk read config broken).talk.left ≡ []
+nothing_is_said : (control_server read config broken).talk.left ≡ []
 nothing_is_said = refl
 
 -- a whole run up to the second peer, of which each call is one that may come: a connection ends, is closed, and another is accepted
@@ -220,7 +220,7 @@ each_may_come = (
   ),
 )
 
-the_second_is_there : (desk read config run).talk.peer ≡ Some (peer + 1)
+the_second_is_there : (control_server read config run).talk.peer ≡ Some (peer + 1)
 the_second_is_there = refl
 
 -- while the first is open no other may be

@@ -1,4 +1,4 @@
--- The network's calls leave the desk as it is.
+-- The network's calls leave the control server as it is.
 use Rattle.std.proofs.Common.{◌≡◌, ℕ, ◌+◌, ◌==◌, ◌&&◌, nat_le, Bool, true, false, is_some, List, [], ◌∷◌, ◌++◌, Option, Some, None, refl, sym, ◌∙◌, ap, arith, if◌then◌else◌}
 use Rattle.std.proofs.lemmas.Bool.Decides.{nat_tests}
 use Rattle.net_octets.specs.declared.Endpoint.{Endpoint}
@@ -20,48 +20,48 @@ use Rattle.rules_control.specs.Apart.{is_controls, is_on_control, without_contro
 use Rattle.rules_control.specs.Talk.{Talk, after_accept, after_line, after_listen, after_read, after_write, deaf, fails, first_line, hung_up, is_last, is_out, listener, next_peer, with_kept}
 use Rattle.rules_control.specs.declared.Command.{Command}
 use Rattle.rules_control.specs.declared.Command.TheVariants.{Add, Remove, List as Lists, What}
-use Rattle.spec_control.specs.Desk.{AreOffControl, Awaited, Nothing, Opening, Shutting, Desk, Reads, adds_unless, after_call, after_entry, answers, answers_line, awaits, desk, is_its_own, is_peer, opened, opens_awaited, removes, serves}
-use Rattle.spec_control.specs.Desk.{shut, with_changes, with_talk}
+use Rattle.spec_control.specs.ControlServer.{AreOffControl, Awaited, Nothing, Opening, Shutting, ControlServer, Reads, adds_unless, after_call, after_entry, answers, answers_line, awaits, control_server, is_its_own, is_peer, opened, opens_awaited, removes, serves}
+use Rattle.spec_control.specs.ControlServer.{shut, with_changes, with_talk}
 
 -- the connection has one of the control's numbers
 abbrev pub OwnPeer : Option ℕ → Type 0
 OwnPeer peer = (n : ℕ) → peer ≡ Some n → is_controls n ≡ true
 
-abbrev peer_of : Desk → Option ℕ
+abbrev peer_of : ControlServer → Option ℕ
 peer_of d = d.talk.peer
 
 -- ---- a command's answer leaves the connection
 
-adds_keeps : (o : Option FwdFault) (f : Forward) (d : Desk) → peer_of (adds_unless o f d) ≡ peer_of d
+adds_keeps : (o : Option FwdFault) (f : Forward) (d : ControlServer) → peer_of (adds_unless o f d) ≡ peer_of d
 adds_keeps (Some fault) f d = refl
 adds_keeps None f d = refl
 
-removes_keeps : (o : Option ℕ) (proto : Proto) (host : Endpoint) (d : Desk) → peer_of (removes o proto host d) ≡ peer_of d
+removes_keeps : (o : Option ℕ) (proto : Proto) (host : Endpoint) (d : ControlServer) → peer_of (removes o proto host d) ≡ peer_of d
 removes_keeps None proto host d = refl
 removes_keeps (Some socket) proto host d = refl
 
-answers_keep : (config : Config) (past : List Entry) (command : Command) (d : Desk) → peer_of (answers config past command d) ≡ peer_of d
+answers_keep : (config : Config) (past : List Entry) (command : Command) (d : ControlServer) → peer_of (answers config past command d) ≡ peer_of d
 answers_keep config past (Add f) d = adds_keeps (if is_its_own config f then Some Taken else fault_of config f d.forwards) f d
 answers_keep config past (Remove proto host) d = removes_keeps (socket_at proto host d.forwards) proto host d
 answers_keep config past Lists d = refl
 answers_keep config past What d = refl
 
-line_keeps : (read : Reads) (config : Config) (past : List Entry) (split : Option (List ℕ × List ℕ)) (d : Desk) → peer_of (answers_line read config past split d) ≡ peer_of d
+line_keeps : (read : Reads) (config : Config) (past : List Entry) (split : Option (List ℕ × List ℕ)) (d : ControlServer) → peer_of (answers_line read config past split d) ≡ peer_of d
 line_keeps read config past None d = refl
 line_keeps read config past (Some split) d = answers_keep config past (read split.0) (with_talk (after_line d.talk) d)
 
-serves_keeps : (read : Reads) (config : Config) (past : List Entry) (d : Desk) → peer_of (serves read config past d) ≡ peer_of d
+serves_keeps : (read : Reads) (config : Config) (past : List Entry) (d : ControlServer) → peer_of (serves read config past d) ≡ peer_of d
 serves_keeps read config past d = by (is_out d.talk && is_some d.talk.peer)
   where
     by : (b : Bool) → peer_of (if b then answers_line read config past (first_line d.talk.kept) d else d) ≡ peer_of d
     by true = line_keeps read config past (first_line d.talk.kept) d
     by false = refl
 
-call_keeps : (read : Reads) (config : Config) (past : List Entry) (last : Bool) (socket : ℕ) (d : Desk) → peer_of (after_call read config past last socket d) ≡ peer_of d
+call_keeps : (read : Reads) (config : Config) (past : List Entry) (last : Bool) (socket : ℕ) (d : ControlServer) → peer_of (after_call read config past last socket d) ≡ peer_of d
 call_keeps read config past true socket d = refl
 call_keeps read config past false socket d = serves_keeps read config past d
 
-opens_keeps : (awaited : Awaited) (answer : Made) (socket : ℕ) (d : Desk) → peer_of (opens_awaited awaited answer socket d) ≡ peer_of d
+opens_keeps : (awaited : Awaited) (answer : Made) (socket : ℕ) (d : ControlServer) → peer_of (opens_awaited awaited answer socket d) ≡ peer_of d
 opens_keeps Nothing answer socket d = refl
 opens_keeps (Opening f) MadeDone socket d = refl
 opens_keeps (Opening f) MadeFailed socket d = refl
@@ -103,7 +103,7 @@ listened_is_own : (answer : Made) (t : Talk) → OwnPeer t.peer → OwnPeer (aft
 listened_is_own MadeDone t own = own
 listened_is_own MadeFailed t own = own
 
-own_after : (read : Reads) (config : Config) (past : List Entry) (e : Entry) (d : Desk) → OwnPeer (peer_of d) → OwnPeer (peer_of (after_entry read config past e d))
+own_after : (read : Reads) (config : Config) (past : List Entry) (e : Entry) (d : ControlServer) → OwnPeer (peer_of d) → OwnPeer (peer_of (after_entry read config past e d))
 own_after read config past (Listen socket at answer) d own = by (is_controls socket)
   where
     by : (b : Bool) → OwnPeer (peer_of (if b then with_talk (after_listen answer d.talk) d else opens_awaited d.awaited answer socket d))
@@ -136,9 +136,9 @@ own_after read config past (Close socket) d own = by (socket == listener) (is_pe
     by false false = own
 own_after read config past _ d own = own
 
-pub own_peer : (read : Reads) (config : Config) (past : List Entry) → OwnPeer (peer_of (desk read config past))
+pub own_peer : (read : Reads) (config : Config) (past : List Entry) → OwnPeer (peer_of (control_server read config past))
 own_peer read config [] = none_is_own
-own_peer read config (e ∷ past) = own_after read (with_changes config (desk read config past)) (without_control past) e (desk read config past) (own_peer read config past)
+own_peer read config (e ∷ past) = own_after read (with_changes config (control_server read config past)) (without_control past) e (control_server read config past) (own_peer read config past)
 
 -- ---- a call off its numbers
 
@@ -152,7 +152,7 @@ pub no_peer : (socket : ℕ) (o : Option ℕ) → OwnPeer o → is_controls sock
 no_peer socket None own off = refl
 no_peer socket (Some peer) own off = not_own listener peer socket (own peer refl) off
 
-leaves : (read : Reads) (config : Config) (past : List Entry) (e : Entry) (d : Desk) → is_on_control e ≡ false → d.awaited ≡ Nothing → OwnPeer (peer_of d) → after_entry read config past e d ≡ d
+leaves : (read : Reads) (config : Config) (past : List Entry) (e : Entry) (d : ControlServer) → is_on_control e ≡ false → d.awaited ≡ Nothing → OwnPeer (peer_of d) → after_entry read config past e d ≡ d
 leaves read config past (Listen socket at answer) d off calm own =
     ap (λ (b : Bool). if b then with_talk (after_listen answer d.talk) d else opens_awaited d.awaited answer socket d) off ∙ ap (λ a. opens_awaited a answer socket d) calm
 leaves read config past (UdpOpen socket at answer) d off calm own = ap (λ a. opens_awaited a answer socket d) calm
@@ -168,10 +168,10 @@ leaves read config past (Close socket) d off calm own =
     ∙ ap (λ a. awaits a d) (sym calm)
 leaves read config past _ d off calm own = refl
 
-pub desk_stays : (read : Reads) (config : Config) (made past : List Entry) → AreOffControl made → (desk read config past).awaited ≡ Nothing → desk read config (made ++ past) ≡ desk read config past
-desk_stays read config [] past off calm = refl
-desk_stays read config (e ∷ made) past off calm =
-    let before = desk_stays read config made past off.1 calm in
-    leaves read (with_changes config (desk read config (made ++ past))) (without_control (made ++ past)) e (desk read config (made ++ past)) off.0 (ap (λ (d : Desk). d.awaited) before ∙ calm)
+pub control_server_stays : (read : Reads) (config : Config) (made past : List Entry) → AreOffControl made → (control_server read config past).awaited ≡ Nothing → control_server read config (made ++ past) ≡ control_server read config past
+control_server_stays read config [] past off calm = refl
+control_server_stays read config (e ∷ made) past off calm =
+    let before = control_server_stays read config made past off.1 calm in
+    leaves read (with_changes config (control_server read config (made ++ past))) (without_control (made ++ past)) e (control_server read config (made ++ past)) off.0 (ap (λ (d : ControlServer). d.awaited) before ∙ calm)
     (own_peer read config (made ++ past))
     ∙ before

@@ -3,7 +3,7 @@ use Rattle.std.specs.Prelude.{◌≡◌, ℕ, List, Option, Some}
 use Rattle.world_face.specs.Journal.{Entry, TcpRead, TcpWrite}
 use Rattle.rules_control.specs.Talk.{Talk, after_read, after_write, first_line}
 use Rattle.rules_control.specs.declared.Command.{Command}
-use Rattle.spec_control.specs.Desk.{Reads}
+use Rattle.spec_control.specs.ControlServer.{Reads}
 
 -- the octets of lines that are kept once an entry is there
 abbrev pub lines_after : Entry → Talk → List ℕ

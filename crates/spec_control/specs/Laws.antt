@@ -18,7 +18,7 @@ use Rattle.spec_duties.specs.Duties.{Dutiful}
 use Rattle.rules_control.specs.Talk.{Talk, free, is_out, listener, most_at_once, next_peer, want_of}
 use Rattle.rules_control.specs.Apart.{controls, is_controls, reported_of, without_control}
 use Rattle.rules_control.specs.Commands.{Means}
-use Rattle.spec_control.specs.Desk.{Awaited, Nothing, Opening, Shutting, Reads, by_control, desk}
+use Rattle.spec_control.specs.ControlServer.{Awaited, Nothing, Opening, Shutting, Reads, by_control, control_server}
 
 -- ---- what it waits for
 
@@ -62,22 +62,22 @@ pub record MayListen (read : Reads) (config : Config) (past : List Entry) (socke
 -- A peer is taken on the listener where none is connected, by the next number, for a report.
 pub record MayAccept (read : Reads) (config : Config) (past : List Entry) (from socket : ℕ) : Type 0 where
   pub on : from ≡ listener
-  pub number : socket ≡ next_peer (desk read config past).talk
-  pub alone : (desk read config past).talk.peer ≡ None
+  pub number : socket ≡ next_peer (control_server read config past).talk
+  pub alone : (control_server read config past).talk.peer ≡ None
   pub reported : reads (AListener from) (reported past) ≡ true
 
 -- What is free of a line is asked for, where no reply is left.
 pub record MayRead (read : Reads) (config : Config) (past : List Entry) (socket count : ℕ) : Type 0 where
-  pub peer : (desk read config past).talk.peer ≡ Some socket
-  pub out : is_out (desk read config past).talk ≡ true
-  pub asked : count ≡ free (desk read config past).talk.kept
+  pub peer : (control_server read config past).talk.peer ≡ Some socket
+  pub out : is_out (control_server read config past).talk ≡ true
+  pub asked : count ≡ free (control_server read config past).talk.kept
   pub reported : reads (Tcp socket) (reported past) ≡ true
 
 -- The front of what is left of the reply is offered.
 pub record MayWrite (read : Reads) (config : Config) (past : List Entry) (socket : ℕ) (octets : List ℕ) : Type 0 where
-  pub peer : (desk read config past).talk.peer ≡ Some socket
-  pub left : is_out (desk read config past).talk ≡ false
-  pub front : octets ≡ take most_at_once (desk read config past).talk.left
+  pub peer : (control_server read config past).talk.peer ≡ Some socket
+  pub left : is_out (control_server read config past).talk ≡ false
+  pub front : octets ≡ take most_at_once (control_server read config past).talk.left
   pub reported : writes (Tcp socket) (reported past) ≡ true
 
 -- Where no close is awaited its sockets are closed at the end alone, each once and by rising number: when none of the network's is open the listener, and then the connection.
@@ -88,7 +88,7 @@ first_open t = if t.listening then Some listener else t.peer
 pub record MayClose (read : Reads) (config : Config) (past : List Entry) (socket : ℕ) : Type 0 where
   pub ended : is_ended (by_control read config past) (without_control past) ≡ true
   pub others : open_sockets (without_control past) ≡ []
-  pub next : first_open (desk read config past).talk ≡ Some socket
+  pub next : first_open (control_server read config past).talk ≡ Some socket
 
 -- ---- calls of the network
 
@@ -106,11 +106,11 @@ MayOpen read config past at = (at.port == 0) ≡ false → is_opening (phase (by
 
 -- The clock is asked where the control listens, if the settings have one.
 abbrev pub MayAsk : Reads → Config → List Entry → Type 0
-MayAsk read config past = (desk read config past).talk.listening ≡ is_some config.control
+MayAsk read config past = (control_server read config past).talk.listening ≡ is_some config.control
 
 -- A wait is for what the control waits for, too, and comes when all that the one before reported of it was served.
 pub record MayWait (read : Reads) (config : Config) (past : List Entry) (wants : List Want) : Type 0 where
-  pub own : controls wants ≡ wants_of (desk read config past).talk
+  pub own : controls wants ≡ wants_of (control_server read config past).talk
   pub served : reported past ≡ []
 
 -- ---- all calls
@@ -146,7 +146,7 @@ MayWhere (Shutting socket) read config past call = call ≡ CallClose socket
 -- A call may come in a run with a control, by what the control has come to. That it may come in the network's run is said of what the network sees
 -- (`RunsBy`).
 abbrev pub MayControl : Reads → Config → List Entry → Call → Type 0
-MayControl read config past call = MayWhere (desk read config past).awaited read config past call
+MayControl read config past call = MayWhere (control_server read config past).awaited read config past call
 
 -- ---- a run
 
@@ -156,9 +156,9 @@ pub record RunsBy (read : Reads) (config : Config) (past : List Entry) : Type 0 
   pub lawful : Lawful (by_control read config past) (without_control past)
   pub dutiful : Dutiful (by_control read config past) (without_control past)
   pub finished : Finished (by_control read config past) (without_control past)
-  pub unawaited : (desk read config past).awaited ≡ Nothing
-  pub deaf : (desk read config past).talk.listening ≡ false
-  pub alone : (desk read config past).talk.peer ≡ None
+  pub unawaited : (control_server read config past).awaited ≡ Nothing
+  pub deaf : (control_server read config past).talk.listening ≡ false
+  pub alone : (control_server read config past).talk.peer ≡ None
 
 -- The host refused the control: all forwards were opened, its listener was refused, and each forward was closed.
 pub record Refuses (config : Config) (past : List Entry) : Type 0 where
@@ -170,6 +170,6 @@ pub record Refuses (config : Config) (past : List Entry) : Type 0 where
   pub lawful : Lawful config before
   pub opening : phase config before ≡ OpeningPorts (length config.forwards) []
 
--- whatever reads lines as they are meant; in a RULE without an address of a guest it is the first that is lent
+-- whatever reads lines as they are meant; in a RULE without an address of a guest it is the first that is leased
 abbrev pub IsReading : Config → Reads → Type 0
 IsReading config read = (line : List ℕ) → Means config.dhcp_start line (read line)

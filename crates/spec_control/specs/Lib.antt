@@ -1,4 +1,4 @@
-pub mod Desk
+pub mod ControlServer
 pub mod Laws
 pub mod Replies
 pub mod Asked

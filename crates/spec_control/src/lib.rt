@@ -1,7 +1,7 @@
 //! What a run with a control is: definitions over the trace of calls (`RunsBy`, `Refuses`), with rows, and laws. There is no code to run: each function here is a law.
 //!
 //! Proved: the calls of the network, on sockets that aren't the control's, leave the control server as it is where none of them is awaited
-//! (`the_calls_of_the_network_leave_the_desk_as_it_is`); a port of the host that is named, and that the settings don't have for the number of its socket, is opened
+//! (`the_calls_of_the_network_leave_the_control_server_as_it_is`); a port of the host that is named, and that the settings don't have for the number of its socket, is opened
 //! before the first wait alone (`named_ports_are_opened_at_first`: `listens`, `opens`); while the run goes on ports change for commands alone, each by the call that
 //! comes next (`ports_change_for_commands_alone`); each whole line of an open connection is answered (`each_whole_line_is_answered`; `answered`: where no reply is left
 //! and no call is awaited no whole line is kept; `waits`: where one is kept at a wait, the connection is waited for to write).
@@ -22,14 +22,14 @@ ghost use Rattle.rules_control.specs.Apart.{controls, is_controls, without_contr
 ghost use Rattle.rules_control.specs.Talk.{has_line, is_out};
 ghost use Rattle.rules_control.specs.declared.Command.TheVariants.{Add, Remove};
 ghost use Rattle.spec_control.specs.Asked.{IsAskedBy};
-ghost use Rattle.spec_control.specs.Desk.{AreOffControl, Nothing, Opening, Reads, Shutting, by_control, desk};
+ghost use Rattle.spec_control.specs.ControlServer.{AreOffControl, Nothing, Opening, Reads, Shutting, by_control, control_server};
 ghost use Rattle.spec_control.specs.Laws.{MayControl, is_given};
 
-/// The network's calls, on sockets that aren't the control's, leave the desk as it is where none of them is awaited: the connection, what is left of a
+/// The network's calls, on sockets that aren't the control's, leave the control server as it is where none of them is awaited: the connection, what is left of a
 /// reply, and which ports of the host are given to guests.
-pub fn the_calls_of_the_network_leave_the_desk_as_it_is()
+pub fn the_calls_of_the_network_leave_the_control_server_as_it_is()
     ensures { (read : Reads) (config : Config) (made past : List Entry) → AreOffControl made
-        → (desk read config past).awaited ≡ Nothing → desk read config (made ++ past) ≡ desk read config past }
+        → (control_server read config past).awaited ≡ Nothing → control_server read config (made ++ past) ≡ control_server read config past }
 {}
 
 /// A port of the host that is named, and that the settings don't have for the number of its socket, is opened while the settings' own are, before the
@@ -45,22 +45,22 @@ pub fn named_ports_are_opened_at_first()
 /// command is the first whole line of the connection, once no reply is left.
 pub fn ports_change_for_commands_alone()
     // A socket is awaited from the entry on with which the line came whole, or with which the reply before it was out.
-    ensures opening { (read : Reads) (config : Config) (past : List Entry) (e : Entry) (f : Forward) → (desk read config past).awaited ≡ Nothing
-        → (desk read config (e ∷ past)).awaited ≡ Opening f → IsAskedBy read e (desk read config past).talk (Add f) }
-    ensures removing { (read : Reads) (config : Config) (past : List Entry) (e : Entry) → (desk read config (e ∷ past)).removed ≢ (desk read config past).removed
-        → (proto : Proto) × (host : Endpoint) × IsAskedBy read e (desk read config past).talk (Remove proto host) }
+    ensures opening { (read : Reads) (config : Config) (past : List Entry) (e : Entry) (f : Forward) → (control_server read config past).awaited ≡ Nothing
+        → (control_server read config (e ∷ past)).awaited ≡ Opening f → IsAskedBy read e (control_server read config past).talk (Add f) }
+    ensures removing { (read : Reads) (config : Config) (past : List Entry) (e : Entry) → (control_server read config (e ∷ past)).removed ≢ (control_server read config past).removed
+        → (proto : Proto) × (host : Endpoint) × IsAskedBy read e (control_server read config past).talk (Remove proto host) }
     // No named port is opened but one that is awaited, and none that is given to a guest is closed.
     ensures listens { (read : Reads) (config : Config) (past : List Entry) (socket : ℕ) (at : Endpoint) → is_controls socket ≡ false → (at.port == 0) ≡ false
         → is_opening (phase (by_control read config past) (without_control past)) ≡ false → MayControl read config past (CallListen socket at)
-        → (f : Forward) × ((desk read config past).awaited ≡ Opening f) }
+        → (f : Forward) × ((control_server read config past).awaited ≡ Opening f) }
     ensures opens { (read : Reads) (config : Config) (past : List Entry) (socket : ℕ) (at : Endpoint) → (at.port == 0) ≡ false
         → is_opening (phase (by_control read config past) (without_control past)) ≡ false → MayControl read config past (CallUdpOpen socket at)
-        → (f : Forward) × ((desk read config past).awaited ≡ Opening f) }
+        → (f : Forward) × ((control_server read config past).awaited ≡ Opening f) }
     ensures closes { (read : Reads) (config : Config) (past : List Entry) (socket : ℕ) → is_controls socket ≡ false → is_given past socket ≡ true
         → is_ended (by_control read config past) (without_control past) ≡ false → MayControl read config past (CallClose socket)
-        → (desk read config past).awaited ≡ Shutting socket }
+        → (control_server read config past).awaited ≡ Shutting socket }
     // What is awaited comes next.
-    ensures next { (read : Reads) (config : Config) (past : List Entry) (call : Call) (f : Forward) → (desk read config past).awaited ≡ Opening f
+    ensures next { (read : Reads) (config : Config) (past : List Entry) (call : Call) (f : Forward) → (control_server read config past).awaited ≡ Opening f
         → MayControl read config past call → call ≡ opening_of f.proto (next_number (without_control past)) f }
 {}
 
@@ -68,9 +68,9 @@ pub fn ports_change_for_commands_alone()
 /// for which it asked. So before a wait each line that came whole is answered, or stands behind a reply of which more is offered once the connection takes it.
 pub fn each_whole_line_is_answered()
     ensures answered { (read : Reads) (config : Config) (past : List Entry) (socket : ℕ) → Follows (MayControl read config) past
-        → (desk read config past).awaited ≡ Nothing → (desk read config past).talk.peer ≡ Some socket → is_out (desk read config past).talk ≡ true
-        → has_line (desk read config past).talk.kept ≡ false }
+        → (control_server read config past).awaited ≡ Nothing → (control_server read config past).talk.peer ≡ Some socket → is_out (control_server read config past).talk ≡ true
+        → has_line (control_server read config past).talk.kept ≡ false }
     ensures waits { (read : Reads) (config : Config) (past : List Entry) (wants : List Want) (timeout : Option ℕ) (socket : ℕ)
-        → Follows (MayControl read config) past → MayControl read config past (CallWait wants timeout) → (desk read config past).talk.peer ≡ Some socket
-        → has_line (desk read config past).talk.kept ≡ true → controls wants ≡ record { of = Connection socket; read = false; write = true } ∷ [] }
+        → Follows (MayControl read config) past → MayControl read config past (CallWait wants timeout) → (control_server read config past).talk.peer ≡ Some socket
+        → has_line (control_server read config past).talk.kept ≡ true → controls wants ≡ record { of = Connection socket; read = false; write = true } ∷ [] }
 {}

@@ -23,7 +23,7 @@ use Rattle.spec_flows.specs.Laws.{flow_settings}
 use Rattle.spec_run.proofs.Bools.{equal, first_of, second_of}
 use Rattle.spec_duties.specs.Check.{is_some_time, all_flows, all_may, all_served, flows_are, implies, is_by, is_dutiful, is_from, is_must, is_settled_now, is_wanted, may_be_wanted, may_be_written}
 use Rattle.spec_duties.specs.Check.{may_write_flow, must_wait, reported, sockets_are, waits_for}
-use Rattle.spec_duties.specs.Duties.{Dutiful, Must as MustCome, MustWait, is_at_rest}
+use Rattle.spec_duties.specs.Duties.{Dutiful, Must as MustCome, MustWait, is_in_time_wait}
 use Rattle.spec_duties.specs.Serving.{AllServed, is_left_to_read, is_left_to_write}
 use Rattle.spec_duties.specs.Times.{alarms, deadlines, lives, wait_end}
 use Rattle.spec_duties.specs.Waiting.{is_all_sent, MayBeWritten, MayWriteFlow, WaitsFor, are_in_order, is_read, is_written, reads_flow, writes_flow}
@@ -317,7 +317,7 @@ module _ (config : Config) (past : List Entry) where
         served = served_all served;
         out = either (is_blocked past) (is_all_sent config past) out;
         settled = λ free number f found.
-            settled (flow_settings config) f.story (guest_is_known (scene config past) f) (is_at_rest config past f) (moment past)
+            settled (flow_settings config) f.story (guest_is_known (scene config past) f) (is_in_time_wait config past f) (moment past)
             (found_passes (is_settled_now config past) number (book config past).flows f (either (is_blocked past) (all_flows (is_settled_now config past) (book config past).flows) r.0 free) found);
         unused = ahead_is (moment past) (lives config past) r.2;
         closed = λ number f found. waits f.story (moment past) (found_passes (λ g. may_wait g.story (moment past)) number (book config past).flows f r.1 found);
@@ -332,9 +332,9 @@ module _ (config : Config) (past : List Entry) where
   must_come (CallWait wants timeout) is = wait_is wants timeout is
   must_come _ is = tt
 
--- ---- a record
+-- ---- a trace
 
--- a record that passes is dutiful
+-- a trace that passes is dutiful
 pub is_sound : (config : Config) (past : List Entry) → is_dutiful config past ≡ true → Dutiful config past
 is_sound config [] is = tt
 is_sound config (e ∷ past) is =

@@ -1,4 +1,4 @@
--- What a record goes on to be by calls that don't wait, and by a wait.
+-- What a trace goes on to be by calls that don't wait, and by a wait.
 use Rattle.std.proofs.Common.{◌≡◌, ℕ, ◌≤◌, Bool, true, false, List, [], ◌∷◌, ◌++◌, refl, sym, ◌∙◌, arith}
 use Rattle.world_face.specs.Journal.{Entry, Call, call_of, Follows, Now, Wait, LinkOpen, LinkRead, LinkWrite, Connect, Connected, Listen, Accept, TcpRead, TcpWrite, TcpEnd, Close, UdpOpen}
 use Rattle.world_face.specs.Journal.{UdpSend, UdpRecv, FileLen, FileRead}
@@ -8,7 +8,7 @@ use Rattle.spec_trace.specs.Moments.{waits, waits_after}
 use Rattle.spec_flow.proofs.Refuting.{never_false}
 use Rattle.spec_duties.specs.Duties.{Dutiful, Must}
 
--- ---- two laws of one record
+-- ---- two laws of one trace
 
 -- a run keeps two laws where each of its calls keeps both
 pub keeps_both : (One Other : List Entry → Call → Type 0) (past : List Entry) → Follows One past → Follows Other past → Follows (λ before call. One before call × Other before call) past

@@ -10,11 +10,11 @@ use Rattle.world_face.specs.Journal.{Entry, Wait}
 use Rattle.world_face.specs.declared.Waited.{Waited}
 use Rattle.slirp_settings.specs.Addresses.{Config}
 use Rattle.spec_trace.specs.Moments.{moment}
-use Rattle.spec_flow.specs.Dutiful.{AreAhead, moment_if, must_wait_to_write, oldest_unheard, resend_deadline, seeks_guest, waits_for_window, waits_since, waits_to_read}
+use Rattle.spec_flow.specs.Dutiful.{AreAhead, moment_if, must_wait_to_write, oldest_unheard, resend_deadline, resolves_guest, waits_for_window, waits_since, waits_to_read}
 use Rattle.spec_flow.specs.Event.{Story, newest_moment}
 use Rattle.spec_flow.specs.Close.{asked_at, is_deserted, is_done, last_at, patience_end, times_asked}
 use Rattle.spec_flow.specs.Lawful.{is_prompted}
-use Rattle.spec_flow.specs.Guest.{Honest}
+use Rattle.spec_flow.specs.Guest.{Conforming}
 use Rattle.spec_flow.specs.Flow.{guest, has_connected, host, is_accepted, is_closed, is_connecting, is_under_way, opened_at, syn_is_out}
 use Rattle.spec_flow.specs.Host.{acked, got, got_end}
 use Rattle.spec_flow.proofs.Refuting.{some_same}
@@ -184,14 +184,14 @@ deserted_in_time config past wants timeout socket f must found deserted answered
     omega (arith, low, quiet)
 
 pub closed_when_done : (config : Config) (past : List Entry) (wants : List Want) (timeout : Option ℕ) (socket : ℕ) (f : Flow) → MustWait config past wants timeout → flow_of socket
-    (book config past).flows ≡ Some f → Honest (guest f.story) → is_done f.story ≡ true → is_closed f.story ≡ true
-closed_when_done config past wants timeout socket f must found honest done = (must.closed socket f found).closes honest done
+    (book config past).flows ≡ Some f → Conforming (guest f.story) → is_done f.story ≡ true → is_closed f.story ≡ true
+closed_when_done config past wants timeout socket f must found conforming done = (must.closed socket f found).closes conforming done
 
 -- the moments of what goes again, but for questions about a closed window
 but_for_windows : (now : ℕ) (story : Story) → AreAhead now (resend_deadline story)
-    → AreAhead now (moment_if (is_under_way story && not (is_closed story)) (waits_since story + 60000) ++ moment_if (seeks_guest story && nat_lt 0 (times_asked story)) (asked_at story + 60000))
+    → AreAhead now (moment_if (is_under_way story && not (is_closed story)) (waits_since story + 60000) ++ moment_if (resolves_guest story && nat_lt 0 (times_asked story)) (asked_at story + 60000))
 but_for_windows now story ahead = ahead_first now (moment_if (is_under_way story && not (is_closed story)) (waits_since story + 60000)
-    ++ moment_if (seeks_guest story && nat_lt 0 (times_asked story)) (asked_at story + 60000)) _ ahead
+    ++ moment_if (resolves_guest story && nat_lt 0 (times_asked story)) (asked_at story + 60000)) _ ahead
 
 pub called_nine_times : (config : Config) (past : List Entry) (wants : List Want) (timeout : Option ℕ) (socket : ℕ) (f : Flow) → MustWait config past wants timeout
     → flow_of socket (book config past).flows ≡ Some f → is_closed f.story ≡ false → oldest_unheard f.story ≤ 9
@@ -206,7 +206,7 @@ pub asked_about_in_time : (config : Config) (past : List Entry) (wants : List Wa
 asked_about_in_time config past wants timeout socket f must free found waits =
     (subst (λ (b : Bool). AreAhead (moment past) (moment_if b (newest_moment f.story + 60000))) waits
     (ahead_second (moment past) (moment_if (is_under_way f.story && not (is_closed f.story)) (waits_since f.story + 60000)
-    ++ moment_if (seeks_guest f.story && nat_lt 0 (times_asked f.story)) (asked_at f.story + 60000)) _
+    ++ moment_if (resolves_guest f.story && nat_lt 0 (times_asked f.story)) (asked_at f.story + 60000)) _
     (must.settled free socket f found).resends)).0
 
 pub goes_again_in_time : (config : Config) (past : List Entry) (wants : List Want) (timeout : Option ℕ) (socket : ℕ) (f : Flow) → MustWait config past wants timeout →
@@ -221,13 +221,13 @@ goes_again_in_time config past wants timeout socket f must free found under = fi
 
 pub asked_in_time : (config : Config) (past : List Entry) (wants : List Want) (timeout : Option ℕ) (socket : ℕ) (f : Flow) → MustWait config past wants timeout →
     is_blocked past ≡ false → flow_of socket (book config past).flows ≡ Some f
-    → seeks_guest f.story ≡ true → (0 < times_asked f.story) × (moment past < asked_at f.story + 60000)
-asked_in_time config past wants timeout socket f must free found seeks =
+    → resolves_guest f.story ≡ true → (0 < times_asked f.story) × (moment past < asked_at f.story + 60000)
+asked_in_time config past wants timeout socket f must free found resolves =
     let settled = must.settled free socket f found in
-    let some = asked (is_accepted f.story) (syn_is_out f.story) (is_closed f.story) (guest_is_known (scene config past) f) (times_asked f.story) seeks settled.sends.syn in (
+    let some = asked (is_accepted f.story) (syn_is_out f.story) (is_closed f.story) (guest_is_known (scene config past) f) (times_asked f.story) resolves settled.sends.syn in (
       some,
       second_ahead (moment past) (is_under_way f.story && not (is_closed f.story)) (waits_since f.story + 60000)
-          (seeks_guest f.story && nat_lt 0 (times_asked f.story)) (asked_at f.story + 60000) (both (seeks_guest f.story) (times_asked f.story) seeks some) (but_for_windows (moment past) f.story settled.resends),
+          (resolves_guest f.story && nat_lt 0 (times_asked f.story)) (asked_at f.story + 60000) (both (resolves_guest f.story) (times_asked f.story) resolves some) (but_for_windows (moment past) f.story settled.resends),
     )
   where
     some_n : (n : ℕ) → nat_lt 0 n ≡ true → 0 < n

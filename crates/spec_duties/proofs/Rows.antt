@@ -10,7 +10,7 @@ use Rattle.world_face.specs.declared.Got.TheVariants.{From}
 use Rattle.world_face.specs.declared.FileSize.TheVariants.{Length}
 use Rattle.world_face.specs.declared.Waited.TheVariants.{Ready, Stop}
 use Rattle.world_face.specs.Journal.{Entry, Now, Wait, LinkRead, LinkWrite, Connected, TcpRead, TcpWrite, TcpEnd, Close, UdpOpen, UdpSend, UdpRecv, FileLen, FileRead}
-use Rattle.world_face.specs.Frames.{spelling, missing, is_too_long, spelt_length}
+use Rattle.world_face.specs.Frames.{encoding, missing, is_too_long, encoded_length}
 use Rattle.tlv_table.specs.Reading.{read_on}
 use Rattle.slirp_settings.specs.Addresses.{Config, endpoint}
 use Rattle.slirp_settings.specs.Settings.{usual}
@@ -46,17 +46,17 @@ asked_and_answered =
     ∷ []
 
 asked_and_answered_dutiful : Dutiful usual (run asked_and_answered)
-unfolding missing spelling is_too_long spelt_length read_on
+unfolding missing encoding is_too_long encoded_length read_on
 asked_and_answered_dutiful = is_sound usual (run asked_and_answered) refl
 
 -- A host connects at the second question; then the SYN-ACK is out, and goes out again within a second.
 late_dutiful : Dutiful usual (run late)
-unfolding missing spelling is_too_long spelt_length read_on
+unfolding missing encoding is_too_long encoded_length read_on
 late_dutiful = is_sound usual (run late) refl
 
 -- A connection fails: the guest gets its reset, and nothing is waited for any more.
 unconnected_dutiful : Dutiful usual (run unconnected)
-unfolding missing spelling is_too_long spelt_length read_on
+unfolding missing encoding is_too_long encoded_length read_on
 unconnected_dutiful = is_sound usual (run unconnected) refl
 
 -- A host does not connect: after 75,000 milliseconds the flow is given up.
@@ -73,7 +73,7 @@ connects_never =
     ∷ []
 
 connects_never_dutiful : Dutiful usual (run connects_never)
-unfolding missing spelling is_too_long spelt_length read_on
+unfolding missing encoding is_too_long encoded_length read_on
 connects_never_dutiful = is_sound usual (run connects_never) refl
 
 -- Twenty octets with the end fill the ring; the host takes twelve, and then the others and the end.
@@ -104,11 +104,11 @@ full_ring =
     ∷ []
 
 full_ring_dutiful : Dutiful narrow (run full_ring)
-unfolding missing spelling is_too_long spelt_length read_on
+unfolding missing encoding is_too_long encoded_length read_on
 full_ring_dutiful = is_sound narrow (run full_ring) refl
 
 full_ring_lawful : Lawful narrow (run full_ring)
-unfolding missing spelling is_too_long spelt_length read_on
+unfolding missing encoding is_too_long encoded_length read_on
 full_ring_lawful = is_lawful narrow (run full_ring) refl
 
 -- Two octets of an answer are taken: the link is waited for, and then the others go.
@@ -127,7 +127,7 @@ taken_in_part =
     ∷ []
 
 taken_in_part_dutiful : Dutiful usual (run taken_in_part)
-unfolding missing spelling is_too_long spelt_length read_on
+unfolding missing encoding is_too_long encoded_length read_on
 taken_in_part_dutiful = is_sound usual (run taken_in_part) refl
 
 -- Waits that report nothing, or what was not waited for, or a link that takes nothing.
@@ -156,12 +156,12 @@ taken_at_last =
     ∷ []
 
 taken_at_last_dutiful : Dutiful usual (run taken_at_last)
-unfolding missing spelling is_too_long spelt_length read_on
+unfolding missing encoding is_too_long encoded_length read_on
 taken_at_last_dutiful = is_sound usual (run taken_at_last) refl
 
 -- A SYN-ACK goes out nine times, each time after twice as long, up to a minute.
 given_up_dutiful : Dutiful usual (run given_up)
-unfolding missing spelling is_too_long spelt_length read_on
+unfolding missing encoding is_too_long encoded_length read_on
 given_up_dutiful = is_sound usual (run given_up) refl
 
 -- a folder is served
@@ -186,7 +186,7 @@ goes_again =
     ∷ []
 
 goes_again_dutiful : Dutiful with_files (run goes_again)
-unfolding missing spelling is_too_long spelt_length read_on digits
+unfolding missing encoding is_too_long encoded_length read_on digits
 goes_again_dutiful = is_sound with_files (run goes_again) refl
 
 -- a guest's window is closed, and three octets wait for it
@@ -197,5 +197,5 @@ window_closed = opened ++ LinkRead 4 (Done 4) (hex "00000036")
 
 -- Whether it is still closed is to be asked a second later.
 window_closed_dutiful : Dutiful usual (run (window_closed ++ Wait (want Link true false ∷ want (Tcp 0) true false ∷ []) (Some 1000) Stop [] ∷ Close 0 ∷ []))
-unfolding missing spelling is_too_long spelt_length read_on
+unfolding missing encoding is_too_long encoded_length read_on
 window_closed_dutiful = is_sound usual (run (window_closed ++ Wait (want Link true false ∷ want (Tcp 0) true false ∷ []) (Some 1000) Stop [] ∷ Close 0 ∷ [])) refl

@@ -17,9 +17,9 @@ use Rattle.spec_trace.specs.Happenings.{Arrival, happens}
 use Rattle.spec_flow.specs.Event.{Event, Accepts, Arrives, Departs, AsksAddress}
 use Rattle.spec_flow.specs.Flow.{is_accepted}
 use Rattle.spec_flows.specs.Book.{book, port_by, port_of, scene, turned, visits_for}
-use Rattle.spec_flows.specs.Doings.{Doing, Nothing, Comes, Goes, Seeks, Pauses, Joins, Visits, Calls, Shuts, by_call, comes, doing, doing_by, ended_by, goes, joined, joins, read_by}
+use Rattle.spec_flows.specs.Doings.{Doing, Nothing, Comes, Goes, Resolves, Pauses, Joins, Visits, Calls, Shuts, by_call, comes, doing, doing_by, ended_by, goes, joined, joins, read_by}
 use Rattle.spec_flows.specs.Doings.{visits, written_by}
-use Rattle.spec_flows.specs.Flows.{Book, Flow, Scene, flow_of, is_numbered, is_on, is_strange, seeks_for, sends, shuts, tell, with_event}
+use Rattle.spec_flows.specs.Flows.{Book, Flow, Scene, flow_of, is_numbered, is_on, is_strange, resolves_for, sends, shuts, tell, with_event}
 use Rattle.spec_flows.specs.Said.{Each}
 use Rattle.spec_flows.specs.Segments.{OnTuple, asked_in, segment_came, segment_in}
 use Rattle.spec_trace.specs.Shape.{GivesNone}
@@ -138,8 +138,8 @@ sent_ours now on f old = by (is_strange on.segment f)
     by true = old
     by false = old
 
-sought_ours : (now guest : ℕ) (f : Flow) → IsOurs f → IsOurs (seeks_for now guest f)
-sought_ours now guest f old = by _
+resolved_ours : (now guest : ℕ) (f : Flow) → IsOurs f → IsOurs (resolves_for now guest f)
+resolved_ours now guest f old = by _
   where
     by : (b : Bool) → IsOurs (if b then with_event now AsksAddress f else f)
     by true = old
@@ -153,7 +153,7 @@ unfolding calls_accept
 turns config sc Nothing b is none each = each
 turns config sc (Comes on) b is none each = each_told (is_on on.tuple) (with_event sc.moment (Arrives on.segment)) (λ f old. old) b.flows each
 turns config sc (Goes on) b is none each = each_told (is_on on.tuple) (sends sc.moment on.segment) (sent_ours sc.moment on) b.flows each
-turns config sc (Seeks guest) b is none each = each_mapped (seeks_for sc.moment guest) (sought_ours sc.moment guest) b.flows each
+turns config sc (Resolves guest) b is none each = each_mapped (resolves_for sc.moment guest) (resolved_ours sc.moment guest) b.flows each
 turns config sc Pauses b is none each = each
 turns config sc (Joins socket) b is none each = by b.came
   where

@@ -19,7 +19,7 @@ use Rattle.spec_run.proofs.Waiting.{IsUsed, are_waiting, same_waiting}
 use Rattle.spec_duties.specs.Times.{association_lives, lives, question_lives}
 use Rattle.spec_duties.proofs.Lives.{ahead_each, at_front, by_each, from_each, used_last}
 
--- what the record says of one with a number, and what holds of all
+-- what the trace says of one with a number, and what holds of all
 has_one : (past : List Entry) (P : Question → Type 0) (n : ℕ) (list : List Question) → AllQuestions (IsUsed past) list → All P list → is_among n (numbers list) ≡ true →
     (q : Question) × (used_at n past ≡ q.used) × P q
 has_one past P n [] used all among = absurd cc

@@ -8,7 +8,7 @@ use Rattle.world_face.specs.declared.Accepted.TheVariants.{From as Peer}
 use Rattle.world_face.specs.declared.Joined.TheVariants.{Yes}
 use Rattle.world_face.specs.declared.Waited.TheVariants.{Ready}
 use Rattle.world_face.specs.Journal.{Accept, Entry, Now, Wait, LinkRead, LinkWrite, Close, Connected, Listen, TcpEnd, TcpRead, TcpWrite, CallWait, CallLinkWrite, CallClose}
-use Rattle.world_face.specs.Frames.{spelling, missing, is_too_long, spelt_length}
+use Rattle.world_face.specs.Frames.{encoding, missing, is_too_long, encoded_length}
 use Rattle.tlv_table.specs.Reading.{read_on}
 use Rattle.slirp_settings.specs.Addresses.{Config, endpoint}
 use Rattle.slirp_settings.specs.Settings.{usual}
@@ -51,7 +51,7 @@ ten_acknowledged = run (opened ++ ten_taken ++ Wait (want Link true false ∷ wa
 
 -- The host takes nothing, and is not waited for.
 forgets_a_host_that_took_nothing : Must usual (run (TcpWrite 0 (hex "00010203040506070809") NotYet ∷ []) ++ ten_acknowledged) (CallWait (want Link true false ∷ want (Tcp 0) true false ∷ []) None) → ⊥
-unfolding missing spelling is_too_long spelt_length read_on
+unfolding missing encoding is_too_long encoded_length read_on
 forgets_a_host_that_took_nothing must = never (must.waits_for.to_write (Tcp 0) refl)
 
 -- three octets of the host were read, and the link took nothing of them; then it is free again
@@ -64,7 +64,7 @@ three_left = run (three_read ++ Wait (want Link true true ∷ want (Tcp 0) true 
 
 -- Octets that were not taken are counted as sent, and the run waits.
 counts_as_sent_what_was_not_taken : Must usual (three_left) (CallWait (want Link true false ∷ want (Tcp 0) true false ∷ []) (Some 1000)) → ⊥
-unfolding missing spelling is_too_long spelt_length read_on
+unfolding missing encoding is_too_long encoded_length read_on
 counts_as_sent_what_was_not_taken must = too_few ((must.settled refl 0 _ refl).sends.octets refl)
   where
     too_few : 3 ≤ 0 → ⊥
@@ -77,42 +77,42 @@ four_sent = run (tiny_opened ++ all_came ++ Wait (want Link true false ∷ want 
 
 -- A run waits for more of a host whose ring is full.
 always_waits_to_read : Must tiny (four_sent) (CallWait (want Link true false ∷ want (Tcp 0) true false ∷ []) (Some 1000)) → ⊥
-unfolding missing spelling is_too_long spelt_length read_on
+unfolding missing encoding is_too_long encoded_length read_on
 always_waits_to_read must = never_false (must.waits_for.to_read (Tcp 0))
 
 -- The link took two octets of an answer, and is not waited for.
 forgets_a_blocked_link : Must usual (run (take 6 taken_at_last)) (CallWait [] None) → ⊥
-unfolding missing spelling is_too_long spelt_length read_on
+unfolding missing encoding is_too_long encoded_length read_on
 forgets_a_blocked_link must = never (must.waits_for.to_write Link refl)
 
 -- Nothing of the answer went out, though the link is free.
 leaves_an_answer : Must usual (run (take 5 taken_at_last)) (CallWait (want Link true false ∷ []) None) → ⊥
-unfolding missing spelling is_too_long spelt_length read_on
+unfolding missing encoding is_too_long encoded_length read_on
 leaves_an_answer must = never (must.out refl)
 
 -- A peer spoke on a socket, and isn't heard.
 leaves_a_peer_unheard : Must usual (run (take 9 asked_and_answered)) (CallWait (want Link true false ∷ want (Udp 0) true false ∷ []) (Some 239985)) → ⊥
-unfolding missing spelling is_too_long spelt_length read_on
+unfolding missing encoding is_too_long encoded_length read_on
 leaves_a_peer_unheard must = never_false ((must.served (Udp 0)).reading)
 
 -- A host takes octets, and gets none.
 leaves_a_host_without_octets : Must usual ten_acknowledged (CallWait (want Link true false ∷ want (Tcp 0) true true ∷ []) None) → ⊥
-unfolding missing spelling is_too_long spelt_length read_on
+unfolding missing encoding is_too_long encoded_length read_on
 leaves_a_host_without_octets must = never_false ((must.served (Tcp 0)).writing)
 
 -- The length of a frame was read, and the frame isn't.
 stops_within_a_frame : Must usual (run (take 4 asked_and_answered)) (CallWait (want Link true false ∷ []) None) → ⊥
-unfolding missing spelling is_too_long spelt_length read_on
+unfolding missing encoding is_too_long encoded_length read_on
 stops_within_a_frame must = never_false ((must.served Link).reading)
 
 -- A run waits for no time, though nothing is to be done at any.
 never_sleeps : Must usual (run (take 1 taken_at_last)) (CallWait (want Link true false ∷ []) (Some 0)) → ⊥
-unfolding missing spelling is_too_long spelt_length read_on
+unfolding missing encoding is_too_long encoded_length read_on
 never_sleeps must = must.from
 
 -- A run waits for no time, though there is time for a host to connect.
 hardly_sleeps : Must usual (run (take 6 late)) (CallWait (want Link true false ∷ want (Tcp 0) false true ∷ []) (Some 0)) → ⊥
-unfolding missing spelling is_too_long spelt_length read_on
+unfolding missing encoding is_too_long encoded_length read_on
 hardly_sleeps must = too_soon must.from
   where
     too_soon : (76000 ≤ 1000) ⊎ ⊥ → ⊥
@@ -121,7 +121,7 @@ hardly_sleeps must = too_soon must.from
 
 -- A SYN-ACK does not go out again in a minute.
 never_sends_again : Must usual (run (take 11 given_up ++ Now 61010 ∷ [])) (CallWait (want Link true false ∷ want (Tcp 0) true false ∷ []) (Some 60000)) → ⊥
-unfolding missing spelling is_too_long spelt_length read_on
+unfolding missing encoding is_too_long encoded_length read_on
 never_sends_again must = too_late ((must.settled refl 0 _ refl).resends.0)
   where
     too_late : 61010 < 61010 → ⊥
@@ -129,12 +129,12 @@ never_sends_again must = too_late ((must.settled refl 0 _ refl).resends.0)
 
 -- A run waits without end, though a SYN-ACK is under way.
 sleeps_without_end : Must usual (run (take 10 given_up)) (CallWait (want Link true false ∷ want (Tcp 0) true false ∷ []) None) → ⊥
-unfolding missing spelling is_too_long spelt_length read_on
+unfolding missing encoding is_too_long encoded_length read_on
 sleeps_without_end must = must.until
 
 -- A packet of a file goes again in 5,000 milliseconds, and the wait is shorter.
 wakes_before_a_packet_is_due : Must with_files (run (take 8 goes_again)) (CallWait (want Link true false ∷ []) (Some 4999)) → ⊥
-unfolding missing spelling is_too_long spelt_length read_on digits
+unfolding missing encoding is_too_long encoded_length read_on digits
 wakes_before_a_packet_is_due must = too_soon must.from
   where
     too_soon : (5005 ≤ 5004) ⊎ ⊥ → ⊥
@@ -143,7 +143,7 @@ wakes_before_a_packet_is_due must = too_soon must.from
 
 -- A socket is open 240,000 milliseconds after its last use.
 keeps_an_idle_socket : Must usual (run (take 8 asked_and_answered ++ Now 240005 ∷ [])) (CallWait (want Link true false ∷ want (Udp 0) true false ∷ []) (Some 0)) → ⊥
-unfolding missing spelling is_too_long spelt_length read_on
+unfolding missing encoding is_too_long encoded_length read_on
 keeps_an_idle_socket must = too_late (must.unused.0)
   where
     too_late : 240005 < 240005 → ⊥
@@ -151,7 +151,7 @@ keeps_an_idle_socket must = too_late (must.unused.0)
 
 -- A host has not connected in 75,000 milliseconds.
 connects_for_ever : Must usual (run (take 7 late ++ Now 76000 ∷ [])) (CallWait (want Link true false ∷ want (Tcp 0) false true ∷ []) (Some 0)) → ⊥
-unfolding missing spelling is_too_long spelt_length read_on
+unfolding missing encoding is_too_long encoded_length read_on
 connects_for_ever must = too_late ((must.closed 0 _ refl).connects.0)
   where
     too_late : 76000 < 76000 → ⊥
@@ -160,12 +160,12 @@ connects_for_ever must = too_late ((must.closed 0 _ refl).connects.0)
 -- A port that is given to a guest is closed in the run.
 closes_a_listener : May forwarding (run (Listen 0 (endpoint 2130706433 5555) MadeDone ∷ Now 0 ∷ Wait (want Link true false ∷ want (Listener 0) true false ∷ []) None Ready
     (want (Listener 0) true false ∷ []) ∷ Now 5 ∷ [])) (CallClose 0) → ⊥
-unfolding missing spelling is_too_long spelt_length read_on
+unfolding missing encoding is_too_long encoded_length read_on
 closes_a_listener must = never must.socket
 
 -- A flow is closed when its SYN-ACK was not answered in a second.
 resets_at_the_first_expiry : May usual (run (take 12 given_up)) (CallClose 0) → ⊥
-unfolding missing spelling is_too_long spelt_length read_on
+unfolding missing encoding is_too_long encoded_length read_on
 resets_at_the_first_expiry must = never must.socket
 
 -- of three octets two went out, as many as the guest takes, and the host ended
@@ -176,12 +176,12 @@ one_unsent = run (opened ++ window_came ++ Wait (want Link true false ∷ want (
 
 -- A flow's end goes out, though an octet of it did not.
 ends_before_all_is_out : May usual (one_unsent) (CallLinkWrite (hex "0000003652540012345652550a000202080045000028000200004006acb8c00002070a00020f00500fa00003d093000003e95011fffffd4d0000")) → ⊥
-unfolding missing spelling is_too_long spelt_length read_on
+unfolding missing encoding is_too_long encoded_length read_on
 ends_before_all_is_out must = apart 2 3 refl (pos_same 2 3 (must.flows.touches.sends_end_after_all refl).1)
 
 -- A block of a file isn't acknowledged, and the run waits without end.
 sends_no_packet_again : Must with_files (run (take 8 goes_again)) (CallWait (want Link true false ∷ []) None) → ⊥
-unfolding missing spelling is_too_long spelt_length read_on digits
+unfolding missing encoding is_too_long encoded_length read_on digits
 sends_no_packet_again must = must.until
 
 -- it is to go again, and the link takes nothing of it
@@ -190,7 +190,7 @@ packet_blocked = take 10 goes_again ++ LinkWrite (hex "0000003152540012345652550
 
 -- A wait is cut short for it, though it waits for the link.
 wakes_for_a_packet_that_waits_for_the_link : Must with_files (run packet_blocked) (CallWait (want Link false true ∷ []) (Some 0)) → ⊥
-unfolding missing spelling is_too_long spelt_length read_on digits
+unfolding missing encoding is_too_long encoded_length read_on digits
 wakes_for_a_packet_that_waits_for_the_link must = too_soon must.from
   where
     too_soon : (10005 ≤ 5005) ⊎ ⊥ → ⊥
@@ -210,32 +210,32 @@ asked_once =
 
 -- It isn't asked for again, and the run waits without end.
 asks_a_guest_once : Must forwarding (run asked_once) (CallWait (want Link true false ∷ want (Listener 0) true false ∷ want (Tcp 1) true false ∷ []) None) → ⊥
-unfolding missing spelling is_too_long spelt_length read_on
+unfolding missing encoding is_too_long encoded_length read_on
 asks_a_guest_once must = must.until
 
 -- A minute later it wasn't asked for again, and the run waits.
 asks_no_more : Must forwarding (run (asked_once ++ Wait (want Link true false ∷ want (Listener 0) true false ∷ want (Tcp 1) true false ∷ []) (Some 1000) Ready [] ∷ Now 60005 ∷ []))
     (CallWait (want Link true false ∷ want (Listener 0) true false ∷ want (Tcp 1) true false ∷ []) (Some 0)) → ⊥
-unfolding missing spelling is_too_long spelt_length read_on
+unfolding missing encoding is_too_long encoded_length read_on
 asks_no_more must = too_late ((must.settled refl 1 _ refl).resends.0)
   where
     too_late : 60005 < 60005 → ⊥
     too_late is = absurd (omega (arith, is))
 
--- A flow rests, and the run waits without end.
+-- A flow is in TIME-WAIT, and the run waits without end.
 rests_for_ever : Must usual (run (both_came ++ TcpEnd 0 MadeDone ∷ Close 0 ∷ [])) (CallWait (want Link true false ∷ []) None) → ⊥
-unfolding missing spelling is_too_long spelt_length read_on
+unfolding missing encoding is_too_long encoded_length read_on
 rests_for_ever must = must.until
 
 -- Nothing asks whether it is open, and the run waits without end.
 asks_about_no_window : Must usual (run window_closed) (CallWait (want Link true false ∷ want (Tcp 0) true false ∷ []) None) → ⊥
-unfolding missing spelling is_too_long spelt_length read_on
+unfolding missing encoding is_too_long encoded_length read_on
 asks_about_no_window must = must.until
 
 -- A minute later it wasn't asked about, and the run waits.
 asks_about_it_late : Must usual (run (window_closed ++ Wait (want Link true false ∷ want (Tcp 0) true false ∷ []) (Some 60000) Ready [] ∷ Now 61030 ∷ []))
     (CallWait (want Link true false ∷ want (Tcp 0) true false ∷ []) (Some 60000)) → ⊥
-unfolding missing spelling is_too_long spelt_length read_on
+unfolding missing encoding is_too_long encoded_length read_on
 asks_about_it_late must = too_late ((must.settled refl 0 _ refl).resends.0)
   where
     too_late : 61030 < 61030 → ⊥
@@ -245,18 +245,18 @@ asks_about_it_late must = too_late ((must.settled refl 0 _ refl).resends.0)
 calls_a_tenth_time : Must usual (run (take 36 given_up ++ LinkWrite
     (hex "0000003a52540012345652550a00020208004500002c000900004006acadc00002070a00020f00500fa00003d090000003e96012ffffe5930000020405b4") (Done 62) ∷ []))
     (CallWait (want Link true false ∷ want (Tcp 0) true false ∷ []) (Some 60000)) → ⊥
-unfolding missing spelling is_too_long spelt_length read_on
+unfolding missing encoding is_too_long encoded_length read_on
 calls_a_tenth_time must = never (must.closed 0 _ refl).calls
 
 -- A guest's hardware address is waited for, and the run waits for no time.
 waits_for_no_time : Must forwarding (run (asked_once ++ Wait (want Link true false ∷ want (Listener 0) true false ∷ want (Tcp 1) true false ∷ []) (Some 1000) Ready [] ∷ Now 3005 ∷ []))
     (CallWait (want Link true false ∷ want (Listener 0) true false ∷ want (Tcp 1) true false ∷ []) (Some 0)) → ⊥
-unfolding missing spelling is_too_long spelt_length read_on
+unfolding missing encoding is_too_long encoded_length read_on
 waits_for_no_time must = must.some_time refl
 
 -- A SYN-ACK went out for the third time, and the wait is cut short after a second.
 wakes_too_often : Must usual (run (take 16 given_up)) (CallWait (want Link true false ∷ want (Tcp 0) true false ∷ []) (Some 1000)) → ⊥
-unfolding missing spelling is_too_long spelt_length read_on
+unfolding missing encoding is_too_long encoded_length read_on
 wakes_too_often must = too_soon must.from
   where
     too_soon : (8010 ≤ 5010) ⊎ ⊥ → ⊥

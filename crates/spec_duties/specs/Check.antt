@@ -1,4 +1,4 @@
--- A test that says of a record whether it is dutiful, by computing. It asks of every guest what the duties ask of an honest one.
+-- A test that says of a trace whether it is dutiful, by computing. It asks of every guest what the duties ask of a conforming one.
 use Rattle.std.specs.Prelude.{ℕ, ◌&&◌, ◌||◌, not, nat_le, nat_lt, Bool, true, false, List, [], ◌∷◌, Option, Some, None}
 use Rattle.poll_list.specs.Listing.{reads, writes}
 use Rattle.poll_list.specs.declared.Want.{Want}
@@ -13,7 +13,7 @@ use Rattle.spec_flow.specs.CheckDuty.{all_ahead, is_settled, may_wait, may_wait_
 use Rattle.spec_flows.specs.Book.{book, scene}
 use Rattle.spec_flows.specs.Flows.{Flow, flow_of, guest_is_known}
 use Rattle.spec_flows.specs.Laws.{flow_settings}
-use Rattle.spec_duties.specs.Duties.{is_at_rest}
+use Rattle.spec_duties.specs.Duties.{is_in_time_wait}
 use Rattle.spec_duties.specs.Serving.{is_left_to_read, is_left_to_write}
 use Rattle.spec_duties.specs.Times.{alarms, deadlines, lives, wait_end}
 use Rattle.spec_duties.specs.Waiting.{are_in_order, is_all_sent, is_read, is_written}
@@ -81,7 +81,7 @@ all_flows test [] = true
 all_flows test (f ∷ flows) = test f && all_flows test flows
 
 abbrev pub is_settled_now : Config → List Entry → Flow → Bool
-is_settled_now config past f = is_settled (flow_settings config) f.story (guest_is_known (scene config past) f) (is_at_rest config past f) (moment past)
+is_settled_now config past f = is_settled (flow_settings config) f.story (guest_is_known (scene config past) f) (is_in_time_wait config past f) (moment past)
 
 -- ---- times
 
@@ -113,7 +113,7 @@ abbrev pub is_must : Config → List Entry → Call → Bool
 is_must config past (CallWait wants timeout) = must_wait config past wants timeout
 is_must config past _ = true
 
--- ---- a record
+-- ---- a trace
 
 abbrev pub is_dutiful : Config → List Entry → Bool
 is_dutiful config [] = true

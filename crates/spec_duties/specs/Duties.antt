@@ -10,24 +10,24 @@ use Rattle.spec_trace.specs.Moments.{moment}
 use Rattle.spec_flow.specs.Dutiful.{AreAhead, IsSettled, MayWait}
 use Rattle.spec_flow.specs.Bounds.{IsBy, IsFrom}
 use Rattle.spec_flows.specs.Book.{book, is_young, scene}
-use Rattle.spec_flows.specs.Flows.{Flow, flow_of, guest_is_known, rests_among}
+use Rattle.spec_flows.specs.Flows.{Flow, flow_of, guest_is_known, is_among_time_waits}
 use Rattle.spec_flows.specs.Laws.{flow_settings}
 use Rattle.spec_duties.specs.Serving.{AllServed}
 use Rattle.spec_duties.specs.Times.{alarms, deadlines, lives, wait_end}
 use Rattle.spec_duties.specs.Waiting.{WaitsFor, is_all_sent}
 
--- this holds of each flow of the record
+-- this holds of each flow of the trace
 abbrev pub EachFlow : Config → List Entry → (Flow → Type 0) → Type 0
 EachFlow config past P = (number : ℕ) (f : Flow) → flow_of number (book config past).flows ≡ Some f → P f
 
 -- a flow is in TIME-WAIT at this wait
-abbrev pub is_at_rest : Config → List Entry → Flow → Bool
-is_at_rest config past f = rests_among (filter (is_young (moment past)) (book config past).rests) (Some f)
+abbrev pub is_in_time_wait : Config → List Entry → Flow → Bool
+is_in_time_wait config past f = is_among_time_waits (filter (is_young (moment past)) (book config past).time_waits) (Some f)
 
 -- What can go out of a flow is out, what came is acknowledged, the room is told, and what is under way goes again within a minute, as
 -- do a request for a guest's hardware address and a question about a closed window.
 abbrev pub IsSettledNow : Config → List Entry → Flow → Type 0
-IsSettledNow config past f = IsSettled (flow_settings config) f.story (guest_is_known (scene config past) f) (is_at_rest config past f) (moment past)
+IsSettledNow config past f = IsSettled (flow_settings config) f.story (guest_is_known (scene config past) f) (is_in_time_wait config past f) (moment past)
 
 -- A wait for these, no longer than this.
 pub record MustWait (config : Config) (past : List Entry) (wants : List Want) (timeout : Option ℕ) : Type 0 where

@@ -10,8 +10,8 @@ use Rattle.spec_trace.specs.Fragments.{waiting}
 use Rattle.spec_trace.specs.Moments.{moment}
 use Rattle.spec_flow.specs.Event.{Story}
 use Rattle.spec_flow.specs.Dutiful.{close_deadline, resend_deadline, wakes}
-use Rattle.spec_flows.specs.Book.{book, is_young, longest_rest}
-use Rattle.spec_flows.specs.Flows.{Flow, Rest}
+use Rattle.spec_flows.specs.Book.{book, is_young, longest_time_wait}
+use Rattle.spec_flows.specs.Flows.{Flow, TimeWait}
 use Rattle.spec_run.specs.Answers.{is_free, ledger, serving}
 use Rattle.spec_run.specs.Ports.{associations_open, used_at}
 use Rattle.spec_run.specs.Questions.{questions_open}
@@ -43,25 +43,25 @@ unless_blocked false moments = moments
 abbrev pub drops : Config → List Entry → List ℕ
 drops config past = map (λ (s : PartSet). s.since + 60000) (waiting config past)
 
--- and the flows that rest are through
-abbrev pub rest_ends : Config → List Entry → List ℕ
-rest_ends config past = map (λ (r : Rest). r.since + longest_rest) (filter (is_young (moment past)) (book config past).rests)
+-- and the flows in TIME-WAIT are through
+abbrev pub time_wait_ends : Config → List Entry → List ℕ
+time_wait_ends config past = map (λ (r : TimeWait). r.since + longest_time_wait) (filter (is_young (moment past)) (book config past).time_waits)
 
 -- when a packet of each file is due to go again, as this wait leaves them: it counts the packet that is on its way
 abbrev pub file_alarms : Config → List Entry → List ℕ
 file_alarms config past =
     filter (nat_lt (moment past)) (map (λ (t : Transfer). t.due) (ticked (moment past) (is_free (ledger config past)) (serving config past).files.transfers))
 
--- a wait doesn't pass the end of a host's time to connect, of an idle life or of a rest, nor, unless the link is blocked, a minute since what is under
+-- a wait doesn't pass the end of a host's time to connect, of an idle life or of a TIME-WAIT, nor, unless the link is blocked, a minute since what is under
 -- way or a request for a guest's hardware address went out, or since a window was found closed, nor the moment at which a packet of a file goes again
 abbrev pub deadlines : Config → List Entry → List ℕ
 deadlines config past =
-    of_flows close_deadline (book config past).flows ++ lives config past ++ rest_ends config past
+    of_flows close_deadline (book config past).flows ++ lives config past ++ time_wait_ends config past
     ++ unless_blocked (is_blocked past) (of_flows resend_deadline (book config past).flows ++ file_alarms config past)
 
 -- the moments for which a wait may be cut short
 abbrev pub alarms : Config → List Entry → List ℕ
-alarms config past = of_flows wakes (book config past).flows ++ lives config past ++ drops config past ++ rest_ends config past ++ file_alarms config past
+alarms config past = of_flows wakes (book config past).flows ++ lives config past ++ drops config past ++ time_wait_ends config past ++ file_alarms config past
 
 -- the moment at which a wait that begins now is over
 abbrev pub wait_end : ℕ → Option ℕ → Option ℕ

@@ -10,7 +10,7 @@
 //! - Unless the link is blocked, all is out that *Out* and *Settled* in docs/DEFINITIONS.md ask for: the answer to what came last (`answer`), packets of files that
 //!   go again (`files`), what was read, as far as the guest takes it (`octets`), acknowledgements (`acknowledged`, of a conforming guest; `answered`), resets
 //!   (`reset`), our SYN or a request for the guest's hardware address (`opens`, `calls`), news of the room (`told`), and in TIME-WAIT the last end's acknowledgement
-//!   (`rests`): `a_run_waits_only_where_all_is_out`.
+//!   (`time_waits`): `a_run_waits_only_where_all_is_out`.
 //! - Unless the link is blocked, the oldest number under way of a flow went out, or the one before it was acknowledged, less than 60,000 ms ago
 //!   (`what_is_under_way_goes_again_within_a_minute`); within that time a guest that a peer calls was asked for its hardware address, if that isn't known
 //!   (`a_guest_is_asked_again_within_a_minute`), and something happened to a flow whose guest's window is closed (`a_closed_window_is_asked_about_within_a_minute`). A
@@ -42,10 +42,10 @@ ghost use Rattle.slirp_settings.specs.Addresses.{Config};
 ghost use Rattle.spec_trace.specs.Moments.{moment, waits};
 ghost use Rattle.spec_trace.specs.Sockets.{is_among};
 ghost use Rattle.spec_flow.specs.Close.{asked_at, is_deserted, is_done, last_at, owes_reset, patience_end, times_asked};
-ghost use Rattle.spec_flow.specs.Dutiful.{ToldRoom, fin_is_answered, must_wait_to_write, oldest_unheard, seeks_guest, waits_for_window, waits_since, waits_to_read};
+ghost use Rattle.spec_flow.specs.Dutiful.{ToldRoom, fin_is_answered, must_wait_to_write, oldest_unheard, resolves_guest, waits_for_window, waits_since, waits_to_read};
 ghost use Rattle.spec_flow.specs.Event.{newest_moment};
 ghost use Rattle.spec_flow.specs.Flow.{guest, has_connected, host, is_accepted, is_closed, is_connecting, is_under_way, opened_at, syn_is_out};
-ghost use Rattle.spec_flow.specs.Guest.{AckIsDue, Asks, Honest, ackd};
+ghost use Rattle.spec_flow.specs.Guest.{AckIsDue, Asks, Conforming, ackd};
 ghost use Rattle.spec_flow.specs.Host.{acked, answered, got, owned, sent};
 ghost use Rattle.spec_flow.specs.Lawful.{is_prompted};
 ghost use Rattle.spec_flow.specs.Windows.{edge};
@@ -57,16 +57,16 @@ ghost use Rattle.spec_run.specs.Laws.{is_all_out, takes_peers};
 ghost use Rattle.spec_run.specs.Ports.{associations_open, used_at};
 ghost use Rattle.spec_run.specs.Questions.{questions_open};
 ghost use Rattle.spec_duties.specs.Check.{is_dutiful};
-ghost use Rattle.spec_duties.specs.Duties.{Dutiful, MustWait, is_at_rest};
+ghost use Rattle.spec_duties.specs.Duties.{Dutiful, MustWait, is_in_time_wait};
 ghost use Rattle.spec_duties.specs.Said.{Throughout, some_reads, some_writes};
 ghost use Rattle.spec_duties.specs.Times.{alarms, deadlines, wait_end};
 ghost use Rattle.spec_duties.specs.Waiting.{MayBeWritten, is_read, is_written, takes_datagrams};
 
 /// Where a run that does what it must waits and its link isn't blocked, the answer to what came last is out, and no packet of a file that
-/// is to go again is left; so is all that was read for each guest, as far as that takes it; what came of an honest guest and found room is
+/// is to go again is left; so is all that was read for each guest, as far as that takes it; what came of a conforming guest and found room is
 /// acknowledged, and each segment that asks for an acknowledgement got one; no reset is owed. Where a host has connected its SYN-ACK is out, and
 /// a guest that a peer calls was sent our SYN, or asked for its hardware address. A guest was told of its room, but for less than two segments
-/// (RFC 9293, 3.8.6.2.2), and at rest the last end was acknowledged (3.6.1).
+/// (RFC 9293, 3.8.6.2.2), and in TIME-WAIT the last end was acknowledged (3.6.1).
 pub fn a_run_waits_only_where_all_is_out()
     ensures answer { (config : Config) (later past : List Entry) (wants : List Want) (timeout : Option ℕ) (answer : Waited) (ready : List Want)
         → Dutiful config (later ++ Wait wants timeout answer ready ∷ past) → is_blocked past ≡ false → is_all_out config past ≡ true }
@@ -79,7 +79,7 @@ pub fn a_run_waits_only_where_all_is_out()
     ensures acknowledged { (config : Config) (later past : List Entry) (wants : List Want) (timeout : Option ℕ) (answer : Waited) (ready : List Want)
         (socket : ℕ) (f : Flow)
         → Dutiful config (later ++ Wait wants timeout answer ready ∷ past) → is_blocked past ≡ false → flow_of socket (book config past).flows ≡ Some f
-        → is_closed f.story ≡ false → Honest (guest f.story) → (a : ℕ) → Asks config.ring (guest f.story) a → a ≤ ackd (guest f.story) }
+        → is_closed f.story ≡ false → Conforming (guest f.story) → (a : ℕ) → Asks config.ring (guest f.story) a → a ≤ ackd (guest f.story) }
     ensures reset { (config : Config) (later past : List Entry) (wants : List Want) (timeout : Option ℕ) (answer : Waited) (ready : List Want) (socket : ℕ)
         (f : Flow)
         → Dutiful config (later ++ Wait wants timeout answer ready ∷ past) → is_blocked past ≡ false → flow_of socket (book config past).flows ≡ Some f
@@ -101,10 +101,10 @@ pub fn a_run_waits_only_where_all_is_out()
         (socket : ℕ) (f : Flow)
         → Dutiful config (later ++ Wait wants timeout answer ready ∷ past) → is_blocked past ≡ false → flow_of socket (book config past).flows ≡ Some f
         → ToldRoom (flow_settings config) f.story }
-    ensures rests { (config : Config) (later past : List Entry) (wants : List Want) (timeout : Option ℕ) (answer : Waited) (ready : List Want)
+    ensures time_waits { (config : Config) (later past : List Entry) (wants : List Want) (timeout : Option ℕ) (answer : Waited) (ready : List Want)
         (socket : ℕ) (f : Flow)
         → Dutiful config (later ++ Wait wants timeout answer ready ∷ past) → is_blocked past ≡ false → flow_of socket (book config past).flows ≡ Some f
-        → is_at_rest config past f ≡ true → fin_is_answered f.story ≡ true }
+        → is_in_time_wait config past f ≡ true → fin_is_answered f.story ≡ true }
 {}
 
 /// A run that does what it must waits for its link to take more exactly where that is blocked, and for frames and datagrams wherever it
@@ -172,7 +172,7 @@ pub fn no_socket_is_kept_past_its_life()
 
 /// Where a run that does what it must waits, no host has been connecting for 75,000 ms; no flow whose peer is gone without an octet is open, unanswered by
 /// its guest, a second after the accept and after our SYN went out last, where all that its guest sent was answered before this moment; and each flow of an
-/// honest guest of which both ends passed is closed.
+/// conforming guest of which both ends passed is closed.
 pub fn no_flow_is_kept_that_is_done()
     ensures connects { (config : Config) (later past : List Entry) (wants : List Want) (timeout : Option ℕ) (answer : Waited) (ready : List Want) (socket : ℕ)
         (f : Flow)
@@ -185,7 +185,7 @@ pub fn no_flow_is_kept_that_is_done()
     ensures done { (config : Config) (later past : List Entry) (wants : List Want) (timeout : Option ℕ) (answer : Waited) (ready : List Want) (socket : ℕ)
         (f : Flow)
         → Dutiful config (later ++ Wait wants timeout answer ready ∷ past) → flow_of socket (book config past).flows ≡ Some f
-        → Honest (guest f.story) → is_done f.story ≡ true → is_closed f.story ≡ true }
+        → Conforming (guest f.story) → is_done f.story ≡ true → is_closed f.story ≡ true }
 {}
 
 /// Where a run that does what it must waits and its link isn't blocked, what is under way of a flow goes again within a minute: its oldest number
@@ -204,7 +204,7 @@ pub fn a_guest_is_asked_again_within_a_minute()
     ensures { (config : Config) (later past : List Entry) (wants : List Want) (timeout : Option ℕ) (answer : Waited) (ready : List Want) (socket : ℕ)
         (f : Flow)
         → Dutiful config (later ++ Wait wants timeout answer ready ∷ past) → is_blocked past ≡ false → flow_of socket (book config past).flows ≡ Some f
-        → IsTrue (seeks_guest f.story) → (0 < times_asked f.story) × (moment past < asked_at f.story + 60000) }
+        → IsTrue (resolves_guest f.story) → (0 < times_asked f.story) × (moment past < asked_at f.story + 60000) }
 {}
 
 /// Where a run that does what it must waits, a guest that says nothing was called nine times at most: since a segment of it came, the oldest number that it
@@ -246,7 +246,7 @@ pub fn duties_are_kept_from_wait_to_wait()
         → MustWait config past wants timeout → Dutiful config past → Dutiful config (Wait wants timeout answer ready ∷ past) }
 {}
 
-/// Where the test beside the duties holds, which computes, so do they. It asks of every guest what they ask of an honest one.
+/// Where the test beside the duties holds, which computes, so do they. It asks of every guest what they ask of a conforming one.
 pub fn tests_are_sound()
     ensures { (config : Config) (past : List Entry) → is_dutiful config past ≡ true → Dutiful config past }
 {}

@@ -5,7 +5,7 @@ use Rattle.std.proofs.lemmas.Bool.Decides.{nat_tests}
 use Rattle.std.proofs.lemmas.Int.{ints}
 use Rattle.spec_flow.specs.Settings.{Settings}
 use Rattle.spec_flow.specs.Event.{Story}
-use Rattle.spec_flow.specs.Guest.{Up, Known, Came, Acked, Wrote, Ended, is_empty, AckIsDue, Asks, IsAsked, was_acked, Honest, ackd, begins, ends, written, from_zero}
+use Rattle.spec_flow.specs.Guest.{Up, Known, Came, Acked, Wrote, Ended, is_empty, AckIsDue, Asks, IsAsked, was_acked, Conforming, ackd, begins, ends, written, from_zero}
 use Rattle.spec_flow.specs.Host.{answered, sent, owned}
 use Rattle.spec_flow.specs.Flow.{guest, host, their_number, is_accepted, is_closed, has_connected, syn_is_out}
 use Rattle.spec_flow.specs.Windows.{edge}
@@ -71,11 +71,11 @@ or_false : (a b : Bool) → a ≡ false → IsTrue (a || b) → IsTrue b
 or_false true b is x = absurd cc
 or_false false b is x = x
 
-asks_is : (past : List Up) (n : ℕ) (xs : List ℕ) (fin heeded : Bool) → IsTrue heeded → IsTrue (fin || not (is_empty xs)) ⊎ (Honest past × (begins past n <ℤ pos (ackd past)))
+asks_is : (past : List Up) (n : ℕ) (xs : List ℕ) (fin heeded : Bool) → IsTrue heeded → IsTrue (fin || not (is_empty xs)) ⊎ (Conforming past × (begins past n <ℤ pos (ackd past)))
     → IsTrue (asks_for_ack past n xs fin heeded)
 asks_is past n xs fin heeded is (inl some) =
     and_true heeded ((fin || not (is_empty xs)) || is_before (begins past n) (ackd past)) is (or_left (fin || not (is_empty xs)) (is_before (begins past n) (ackd past)) some)
-asks_is past n xs fin heeded is (inr (honest, low)) =
+asks_is past n xs fin heeded is (inr (conforming, low)) =
     and_true heeded ((fin || not (is_empty xs)) || is_before (begins past n) (ackd past)) is
     (or_right (fin || not (is_empty xs)) (is_before (begins past n) (ackd past)) (before_is (begins past n) (ackd past) low))
 
@@ -113,14 +113,14 @@ within_is ring (Acked n ∷ past) m a is asks = within_is ring past m a is asks
 within_is ring (Wrote xs n ∷ past) m a is asks = within_is ring past m a is asks
 within_is ring (Ended ∷ past) m a is asks = within_is ring past m a is asks
 
-pub acknowledged_is : (s : Settings) (past : Story) (rests : Bool) → IsTrue (has_acknowledged s past rests) → HasAcknowledged s past rests
-acknowledged_is s past rests is =
+pub acknowledged_is : (s : Settings) (past : Story) (time_waits : Bool) → IsTrue (has_acknowledged s past time_waits) → HasAcknowledged s past time_waits
+acknowledged_is s past time_waits is =
     let halves = both ((not (is_accepted past && is_some (their_number past) && not (is_closed past)) || was_acked (guest past)) && (is_closed past || all_answered (guest past))) _ is in
     let p = both (not (is_accepted past && is_some (their_number past) && not (is_closed past)) || was_acked (guest past)) (is_closed past || all_answered (guest past)) halves.0 in
-    let q = both (is_closed past || all_within s.ring (guest past) (ackd (guest past))) (not rests || fin_is_answered past) halves.1 in
+    let q = both (is_closed past || all_within s.ring (guest past) (ackd (guest past))) (not time_waits || fin_is_answered past) halves.1 in
     record {
       opening = λ of. imply (is_accepted past && is_some (their_number past) && not (is_closed past)) (was_acked (guest past)) p.0 of;
       each = λ open_yet due. answered_is (guest past) (or_false (is_closed past) (all_answered (guest past)) open_yet p.1) due;
-      all = λ open_yet honest a was. within_is s.ring (guest past) (ackd (guest past)) a (or_false (is_closed past) (all_within s.ring (guest past) (ackd (guest past))) open_yet q.0) was;
-      resting = λ of. imply rests (fin_is_answered past) q.1 of;
+      all = λ open_yet conforming a was. within_is s.ring (guest past) (ackd (guest past)) a (or_false (is_closed past) (all_within s.ring (guest past) (ackd (guest past))) open_yet q.0) was;
+      in_time_wait = λ of. imply time_waits (fin_is_answered past) q.1 of;
     }

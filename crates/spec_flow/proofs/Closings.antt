@@ -4,7 +4,7 @@ use Rattle.spec_flow.specs.Event.{Segment, Accepts, Arrives, Departs, Writes, Re
 use Rattle.spec_flow.specs.Host.{answered}
 use Rattle.spec_flow.specs.Flow.{host, their_number}
 use Rattle.spec_flow.specs.Windows.{edge}
-use Rattle.spec_flow.specs.Close.{owes_reset, rests_since, is_in_use}
+use Rattle.spec_flow.specs.Close.{owes_reset, in_time_wait_since, is_in_use}
 use Rattle.spec_flow.specs.Lawful.{Close, Send, May}
 use Rattle.spec_flow.specs.Check.{is_lawful}
 use Rattle.spec_flow.proofs.Courses.{usual, our_syn, octets, data_segment, fin_segment, syn_ack, syn, reset, established}
@@ -71,7 +71,7 @@ turned_away_owes = refl
 not_ours : May usual (At 2300 (Arrives (reset_to 0 500002)) ∷ At 2200 (Departs (our_syn 500000)) ∷ accepted) 2300 (Close true false true) → ⊥
 not_ours = refutes usual (At 2300 (Arrives (reset_to 0 500002)) ∷ At 2200 (Departs (our_syn 500000)) ∷ accepted) 2300 (Close true false true) refl refl refl
 
--- ---- the guest ends first (LAST-ACK): the flow is closed when our FIN is acknowledged, and doesn't rest
+-- ---- the guest ends first (LAST-ACK): the flow is closed when our FIN is acknowledged, and isn't in TIME-WAIT
 
 abbrev pub guest_ended : Story
 guest_ended =
@@ -88,13 +88,13 @@ guest_ended =
 guest_ended_lawful : IsTrue (is_lawful usual guest_ended)
 guest_ended_lawful = refl
 
-guest_ended_rests : rests_since guest_ended ≡ None
+guest_ended_rests : in_time_wait_since guest_ended ≡ None
 guest_ended_rests = refl
 
 guest_ended_free : is_in_use guest_ended ≡ false
 guest_ended_free = refl
 
--- ---- the host ends first (TIME-WAIT): the flow rests from its close on, and anew from each FIN that comes again
+-- ---- the host ends first (TIME-WAIT): the flow is in TIME-WAIT from its close on, and anew from each FIN that comes again
 
 abbrev pub host_ended : Story
 host_ended =
@@ -110,7 +110,7 @@ host_ended =
 host_ended_lawful : IsTrue (is_lawful usual host_ended)
 host_ended_lawful = refl
 
-host_ended_rests : rests_since host_ended ≡ Some 2100
+host_ended_rests : in_time_wait_since host_ended ≡ Some 2100
 host_ended_rests = refl
 
 abbrev pub fin_again : Story
@@ -122,17 +122,17 @@ fin_again =
 fin_again_lawful : IsTrue (is_lawful usual fin_again)
 fin_again_lawful = refl
 
-fin_again_rests : rests_since fin_again ≡ Some 3000
+fin_again_rests : in_time_wait_since fin_again ≡ Some 3000
 fin_again_rests = refl
 
 -- a SYN ahead ends the rest, one behind doesn't, a reset at the next number does
-syn_ahead : rests_since (At 4000 (Arrives (syn 9000 1000)) ∷ fin_again) ≡ None
+syn_ahead : in_time_wait_since (At 4000 (Arrives (syn 9000 1000)) ∷ fin_again) ≡ None
 syn_ahead = refl
 
-syn_behind : rests_since (At 4000 (Arrives (syn 900 1000)) ∷ fin_again) ≡ Some 3000
+syn_behind : in_time_wait_since (At 4000 (Arrives (syn 900 1000)) ∷ fin_again) ≡ Some 3000
 syn_behind = refl
 
-reset_next : rests_since (At 4000 (Arrives (reset 1002)) ∷ fin_again) ≡ None
+reset_next : in_time_wait_since (At 4000 (Arrives (reset 1002)) ∷ fin_again) ≡ None
 reset_next = refl
 
 -- octets may not go out any more

@@ -5,7 +5,7 @@ use Rattle.spec_flow.specs.Event.{Beat, Arrives, Departs, Writes, Reads, ReadsEn
 use Rattle.spec_flow.specs.Host.{acked}
 use Rattle.spec_flow.specs.Flow.{host, first_number}
 use Rattle.spec_flow.specs.Windows.{edge}
-use Rattle.spec_flow.specs.Close.{rests_since}
+use Rattle.spec_flow.specs.Close.{in_time_wait_since}
 use Rattle.spec_flow.specs.Lawful.{Close, May}
 use Rattle.spec_flow.specs.Check.{is_lawful}
 use Rattle.spec_flow.proofs.Courses.{usual, octets, data_segment, fin_segment, reset_ack, opened, established}
@@ -20,7 +20,7 @@ crossing =
 crossing_lawful : IsTrue (is_lawful usual crossing)
 crossing_lawful = refl
 
-crossing_rests : rests_since crossing ≡ Some 2200
+crossing_rests : in_time_wait_since crossing ≡ Some 2200
 crossing_rests = refl
 
 abbrev pub probe : Story

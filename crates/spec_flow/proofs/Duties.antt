@@ -5,7 +5,7 @@ use Rattle.std.specs.Option.{unwrap_or}
 use Rattle.seq_space.specs.Places.{number_of}
 use Rattle.spec_flow.specs.Settings.{Settings}
 use Rattle.spec_flow.specs.Event.{Segment, Departs, At, Story}
-use Rattle.spec_flow.specs.Guest.{Up, Acked, EndsAt, Honest, ackd, front, written, has_ended}
+use Rattle.spec_flow.specs.Guest.{Up, Acked, EndsAt, Conforming, ackd, front, written, has_ended}
 use Rattle.spec_flow.specs.Flow.{guest, push, acknowledges, their_number, is_closed, is_connecting}
 use Rattle.spec_flow.specs.Windows.{field, our_shift}
 use Rattle.spec_flow.specs.Close.{before, newest_rst}
@@ -26,7 +26,7 @@ pub may_wait_to_write_is : (past : Story) → IsTrue (may_wait_to_write past) �
 may_wait_to_write_is past is =
     let p = both (not (is_closed past)) _ is in (
       is_false (is_closed past) p.0,
-      λ honest. elim (either (is_connecting past) _ p.1) [
+      λ conforming. elim (either (is_connecting past) _ p.1) [
         | inl connecting ↦ inl connecting
         | inr rest ↦ elim (either (nat_lt (length (written (guest past))) (length (front (guest past)))) _ rest) [
           | inl more ↦ inr (inl (nat_less (length (written (guest past))) (length (front (guest past))) more))
@@ -38,20 +38,20 @@ may_wait_to_write_is past is =
 
 -- ---- the room that is told
 
-pub honest_departs : (now : ℕ) (past : Story) (seg : Segment) → Honest (guest past) → Honest (guest (At now (Departs seg) ∷ past))
-honest_departs now past seg h = by (acknowledges past seg)
+pub conforming_departs : (now : ℕ) (past : Story) (seg : Segment) → Conforming (guest past) → Conforming (guest (At now (Departs seg) ∷ past))
+conforming_departs now past seg h = by (acknowledges past seg)
   where
-    by : (b : Bool) → Honest (push (if b then Some (Acked seg.acknowledgement) else None) (guest past))
+    by : (b : Bool) → Conforming (push (if b then Some (Acked seg.acknowledgement) else None) (guest past))
     by true = record { octets = h.octets; ends = h.ends; within = h.within; near = h.near }
     by false = h
 
 pub tells_is : (s : Settings) (past : Story) (now : ℕ) (seg : Segment) → IsTrue (tells_room s past now seg) → TellsRoom s past now seg
-tells_is s past now seg is plain honest a acked =
+tells_is s past now seg is plain conforming a acked =
     let n : ℕ = acknowledged (guest (At now (Departs seg) ∷ past)) in
     let p = both (nat_le n (length (written (guest past)) + s.ring)) (nat_eq seg.window (field (our_shift s past seg.syn) (length (written (guest past)) + s.ring - n)))
     (imply (not seg.rst) _ is plain) in
     let low = nat_within n (length (written (guest past)) + s.ring) p.0 in
-    let same = acknowledged_is (guest (At now (Departs seg) ∷ past)) a (honest_departs now past seg honest) acked in (
+    let same = acknowledged_is (guest (At now (Departs seg) ∷ past)) a (conforming_departs now past seg conforming) acked in (
       length (written (guest past)) + s.ring - n,
       omega (arith, low, same),
       nat_same seg.window (field (our_shift s past seg.syn) (length (written (guest past)) + s.ring - n)) p.1,
@@ -67,8 +67,8 @@ offers_is : (past : Story) (act : Act) → IsTrue (offers_what_was_acknowledged 
 offers_is past (Write octets) is =
     let p = both (nat_le (length octets) 16384) (nat_le (min 16384 (acknowledged (guest past) - length (written (guest past)))) (length octets)) is in (
       nat_within (length octets) 16384 p.0,
-      λ honest a acked.
-          let same = acknowledged_is (guest past) a honest acked in
+      λ conforming a acked.
+          let same = acknowledged_is (guest past) a conforming acked in
           let low = nat_within (min 16384 (acknowledged (guest past) - length (written (guest past)))) (length octets) p.1 in
           omega (arith, same, low),
     )
@@ -92,7 +92,7 @@ all_acked_is past (inr (end, all)) =
 
 -- where the close must come, the test says so
 pub must_close_is : (past : Story) → MustClose past → IsTrue (must_close past)
-must_close_is past (seg, newest, open_yet, honest, known, number, all) =
+must_close_is past (seg, newest, open_yet, conforming, known, number, all) =
     and_true (not (is_closed past)) (resets_at_next (before past) (newest_rst past)) (rw open_yet refl)
     (rw newest (three_true (is_some (their_number (before past))) (nat_eq seg.number (number_of (unwrap_or (their_number (before past)) 0) (ackd (guest (before past)))))
     (is_all_acked (guest (before past)))

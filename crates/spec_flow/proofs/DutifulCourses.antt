@@ -5,7 +5,7 @@ use Rattle.spec_flow.specs.Lawful.{Read}
 use Rattle.spec_flow.specs.Dutiful.{Must}
 use Rattle.spec_flow.specs.CheckDuty.{is_dutiful, must_close}
 use Rattle.spec_flow.proofs.Refuting.{never}
-use Rattle.spec_flow.proofs.Honesty.{honest}
+use Rattle.spec_flow.proofs.Conformance.{conforming}
 use Rattle.spec_flow.specs.Flow.{guest}
 use Rattle.spec_flow.proofs.Ends.{ends_has}
 use Rattle.spec_flow.proofs.Courses.{usual, refused, established, short_writes, wrapped, repeated, ended_held, windowed, given_up, resets, reset}
@@ -84,7 +84,7 @@ of_unsent = refl
 -- nothing but the close may come after it
 goes_on_after_reset : Must usual (At 1700 (Arrives (reset 1001)) ∷ established) 1700 Read → ⊥
 goes_on_after_reset m =
-    m.closes_after_reset (reset 1001, refl, refl, honest (guest established) refl, refl, refl, inl (refl, λ end. never (ends_has (guest established) 0 end)))
+    m.closes_after_reset (reset 1001, refl, refl, conforming (guest established) refl, refl, refl, inl (refl, λ end. never (ends_has (guest established) 0 end)))
 
 -- one elsewhere closes nothing
 elsewhere : must_close (At 1700 (Arrives (reset 1005)) ∷ established) ≡ false

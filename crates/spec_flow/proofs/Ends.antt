@@ -3,7 +3,7 @@ use Rattle.std.proofs.Common.{refl, ◌≡◌, ℕ, ◌≤◌, List, [], ◌∷�
 use Rattle.std.proofs.Common.{nat_eq, nat_le, ℤ, pos, negsuc, ◌+◌}
 use Rattle.std.specs.List.{list_any}
 use Rattle.std.proofs.lemmas.Bool.Decides.{nat_tests}
-use Rattle.spec_flow.specs.Guest.{Up, Known, Came, Acked, Wrote, Ended, EndsAt, Honest, HasCome, IsAcknowledged, ackd, ends, front}
+use Rattle.spec_flow.specs.Guest.{Up, Known, Came, Acked, Wrote, Ended, EndsAt, Conforming, HasCome, IsAcknowledged, ackd, ends, front}
 use Rattle.spec_flow.specs.Flow.{push}
 use Rattle.spec_flow.specs.Computed.{all_ends, end_if, ends_at, has_come, least_end, acknowledged}
 use Rattle.spec_flow.proofs.Computing.{both, either, nat_same, nat_within}
@@ -82,8 +82,8 @@ has_come_is past n is =
           inr (ends_at_is past (length (front past)) parts.0, nat_same n (length (front past) + 1) parts.1)
     ]
 
--- the acknowledged octets of an honest guest
-pub acknowledged_is : (past : List Up) (a : ℕ) → Honest past → IsAcknowledged past a → a ≡ acknowledged past
+-- the acknowledged octets of a conforming guest
+pub acknowledged_is : (past : List Up) (a : ℕ) → Conforming past → IsAcknowledged past a → a ≡ acknowledged past
 acknowledged_is past a h (inl (is, low)) =
     by (all_ends past) (λ i has. ends_at_is past i has)
   where

@@ -6,7 +6,7 @@ use Rattle.spec_flow.specs.Dutiful.{HasAcknowledged}
 use Rattle.spec_flow.specs.Check.{is_lawful}
 use Rattle.spec_flow.specs.Close.{is_done}
 use Rattle.spec_flow.specs.Lawful.{Close, Send, May}
-use Rattle.spec_flow.specs.Computed.{is_honest}
+use Rattle.spec_flow.specs.Computed.{is_conforming}
 use Rattle.spec_flow.specs.CheckDuty.{is_settled, may_wait}
 use Rattle.spec_flow.specs.CheckDuty.{is_dutiful}
 use Rattle.spec_flow.proofs.Courses.{usual, octets, data_segment, fin_segment, established}
@@ -31,8 +31,8 @@ joined_settled = refl
 joined_tells : IsTrue (is_dutiful usual joined)
 joined_tells = refl
 
-joined_honest : IsTrue (is_honest (guest joined))
-joined_honest = refl
+joined_conforming : IsTrue (is_conforming (guest joined))
+joined_conforming = refl
 
 -- the end comes again, and is acknowledged; then all is written
 abbrev pub joined_end : Story

@@ -3,7 +3,7 @@ use Rattle.std.proofs.Common.{refl, ◌≡◌, ℕ, zero, suc, ◌+◌, ◌≤�
 use Rattle.std.proofs.Common.{◌&&◌, if◌then◌else◌, IsTrue, length-append, ◌∙◌}
 use Rattle.spec_flow.specs.Settings.{Settings}
 use Rattle.spec_flow.specs.Event.{Segment, Connects, Arrives, Departs, Writes, WriteFails, EndsHost, EndFails, Beat, At, Story}
-use Rattle.spec_flow.specs.Guest.{Up, Known, Came, Acked, Wrote, Ended, Carries, EndsAt, Honest, front, written, has_ended, ackd, HasCome}
+use Rattle.spec_flow.specs.Guest.{Up, Known, Came, Acked, Wrote, Ended, Carries, EndsAt, Conforming, front, written, has_ended, ackd, HasCome}
 use Rattle.spec_flow.specs.Flow.{guest, their_number, is_closed, is_plain, is_heeded, greets, acknowledges, push, up_of}
 use Rattle.spec_flow.specs.Lawful.{IsPrefixOf, AtPlaces, IsLawful}
 use Rattle.spec_flow.proofs.Lists.{slice_get_append, slice_get_front, slice_get_take}
@@ -28,14 +28,14 @@ pub departed : (P : List Up → Type 0) (past : List Up) (n : ℕ) (b : Bool) �
 departed P past n true none acked = acked refl
 departed P past n false none acked = none
 
--- ---- an honest guest was honest before
+-- ---- a conforming guest was conforming before
 
-before_push : (past : List Up) (o : Option Up) → Honest (push o past) → Honest past
+before_push : (past : List Up) (o : Option Up) → Conforming (push o past) → Conforming past
 before_push past None h = h
 before_push past (Some u) h = earlier u past h
 
-pub honest_before : (b : Beat) (past : Story) → Honest (guest (b ∷ past)) → Honest (guest past)
-honest_before (At m e) past h = before_push (guest past) (up_of past e) h
+pub conforming_before : (b : Beat) (past : Story) → Conforming (guest (b ∷ past)) → Conforming (guest past)
+conforming_before (At m e) past h = before_push (guest past) (up_of past e) h
 
 -- ---- what only grows
 
@@ -51,14 +51,14 @@ pub ackd_grows : (u : Up) (past : List Up) → ackd past ≤ ackd (u ∷ past)
 ackd_grows (Acked n) past = omega arith
 ackd_grows _ past = omega arith
 
-pub front_grows : (u : Up) (past : List Up) → Honest (u ∷ past) → IsPrefixOf (front past) (front (u ∷ past))
+pub front_grows : (u : Up) (past : List Up) → Conforming (u ∷ past) → IsPrefixOf (front past) (front (u ∷ past))
 front_grows u past h = carried_prefix (u ∷ past) (front past) (λ i x at. carries_grows u past i x (front_carried past i x at)) h
 
 -- ---- what is written is a prefix of what the guest sent
 
 abbrev pub WroteWhatCame : List Up → Type 0
 WroteWhatCame [] = Unit {0}
-WroteWhatCame (Wrote xs n ∷ past) = (Honest past → IsPrefixOf (written past ++ xs) (front past)) × WroteWhatCame past
+WroteWhatCame (Wrote xs n ∷ past) = (Conforming past → IsPrefixOf (written past ++ xs) (front past)) × WroteWhatCame past
 WroteWhatCame (_ ∷ past) = WroteWhatCame past
 
 wrote : (s : Settings) (story : Story) → IsLawful s story → WroteWhatCame (guest story)
@@ -73,7 +73,7 @@ wrote s (At m _ ∷ past) l = wrote s past l.1
 prefix_reads : (xs ys : List ℕ) → IsPrefixOf xs ys → (i x : ℕ) → slice_get xs i ≡ Some x → slice_get ys i ≡ Some x
 prefix_reads xs ys p i x at = let there = slice_get_front xs p.0 i x at in rw⁻¹ p.1 there
 
-written_carried : (past : List Up) → WroteWhatCame past → Honest past → AtPlaces (Carries past) (written past)
+written_carried : (past : List Up) → WroteWhatCame past → Conforming past → AtPlaces (Carries past) (written past)
 written_carried [] w h i x at = absurd cc
 written_carried (Wrote xs n ∷ past) w h i x at =
     let before = earlier (Wrote xs n) past h in
@@ -92,14 +92,14 @@ written_carried (Acked n ∷ past) w h i x at = written_carried past w (earlier 
 written_carried (Ended ∷ past) w h i x at = written_carried past w (earlier Ended past h) i x at
 
 -- What the host took is a prefix of what the guest sent.
-pub written_is_a_prefix : (s : Settings) (story : Story) → IsLawful s story → Honest (guest story) → IsPrefixOf (written (guest story)) (front (guest story))
+pub written_is_a_prefix : (s : Settings) (story : Story) → IsLawful s story → Conforming (guest story) → IsPrefixOf (written (guest story)) (front (guest story))
 written_is_a_prefix s story l h = carried_prefix (guest story) (written (guest story)) (written_carried (guest story) (wrote s story l) h) h
 
 -- ---- the host is told the end after all octets
 
 abbrev pub EndedAfterAll : List Up → Type 0
 EndedAfterAll [] = Unit {0}
-EndedAfterAll (Ended ∷ past) = (Honest past → EndsAt past (length (written past))) × EndedAfterAll past
+EndedAfterAll (Ended ∷ past) = (Conforming past → EndsAt past (length (written past))) × EndedAfterAll past
 EndedAfterAll (_ ∷ past) = EndedAfterAll past
 
 ended : (s : Settings) (story : Story) → IsLawful s story → EndedAfterAll (guest story)
@@ -113,7 +113,7 @@ ended s (At m (Writes xs n) ∷ past) l = ended s past l.1
 ended s (At m (WriteFails xs) ∷ past) l = ended s past l.1
 ended s (At m _ ∷ past) l = ended s past l.1
 
-end_is_written : (past : List Up) → WroteWhatCame past → EndedAfterAll past → has_ended past ≡ true → Honest past → EndsAt past (length (written past))
+end_is_written : (past : List Up) → WroteWhatCame past → EndedAfterAll past → has_ended past ≡ true → Conforming past → EndsAt past (length (written past))
 end_is_written [] w e is h = absurd cc
 end_is_written (Ended ∷ past) w e is h = e.0 (earlier Ended past h)
 end_is_written (Wrote xs n ∷ past) w e is h =
@@ -127,13 +127,13 @@ end_is_written (Known f ∷ past) w e is h = end_is_written past w e is (earlier
 end_is_written (Acked n ∷ past) w e is h = end_is_written past w e is (earlier (Acked n) past h)
 
 -- Where the host was told the end, it is where the guest ended, and the host has all octets.
-pub end_comes_after_all : (s : Settings) (story : Story) → IsLawful s story → has_ended (guest story) ≡ true → Honest (guest story)
+pub end_comes_after_all : (s : Settings) (story : Story) → IsLawful s story → has_ended (guest story) ≡ true → Conforming (guest story)
     → EndsAt (guest story) (length (written (guest story)))
 end_comes_after_all s story l is h = end_is_written (guest story) (wrote s story l) (ended s story l) is h
 
 -- ---- what is acknowledged came
 
-pub came_grows : (u : Up) (past : List Up) (n : ℕ) → Honest (u ∷ past) → HasCome past n → HasCome (u ∷ past) n
+pub came_grows : (u : Up) (past : List Up) (n : ℕ) → Conforming (u ∷ past) → HasCome past n → HasCome (u ∷ past) n
 came_grows u past n h (inl within) =
     let p = front_grows u past h in
     inl (omega (arith, ap length p.1, length-append (front past) p.0))
@@ -146,7 +146,7 @@ came_grows u past n h (inr (end, is)) =
 
 abbrev pub AckedWhatCame : List Up → Type 0
 AckedWhatCame [] = Unit {0}
-AckedWhatCame (Acked n ∷ past) = (Honest past → HasCome past (ackd (Acked n ∷ past))) × AckedWhatCame past
+AckedWhatCame (Acked n ∷ past) = (Conforming past → HasCome past (ackd (Acked n ∷ past))) × AckedWhatCame past
 AckedWhatCame (_ ∷ past) = AckedWhatCame past
 
 three : (a r k : Bool) → IsTrue (a && not r && k) → IsTrue a × IsTrue (not r)
@@ -167,7 +167,7 @@ did_ack s (At m EndsHost ∷ past) l = did_ack s past l.1
 did_ack s (At m EndFails ∷ past) l = did_ack s past l.1
 did_ack s (At m _ ∷ past) l = did_ack s past l.1
 
-acked_came : (past : List Up) → AckedWhatCame past → Honest past → HasCome past (ackd past)
+acked_came : (past : List Up) → AckedWhatCame past → Conforming past → HasCome past (ackd past)
 acked_came [] a h = inl (omega arith)
 acked_came (Acked n ∷ past) a h = came_grows (Acked n) past (ackd (Acked n ∷ past)) h (a.0 (earlier (Acked n) past h))
 acked_came (Came n xs fin heeded ∷ past) a h = came_grows (Came n xs fin heeded) past (ackd past) h (acked_came past a (earlier (Came n xs fin heeded) past h))
@@ -176,5 +176,5 @@ acked_came (Wrote xs n ∷ past) a h = came_grows (Wrote xs n) past (ackd past) 
 acked_came (Ended ∷ past) a h = came_grows Ended past (ackd past) h (acked_came past a (earlier Ended past h))
 
 -- All that was acknowledged came.
-pub acknowledged_came : (s : Settings) (story : Story) → IsLawful s story → Honest (guest story) → HasCome (guest story) (ackd (guest story))
+pub acknowledged_came : (s : Settings) (story : Story) → IsLawful s story → Conforming (guest story) → HasCome (guest story) (ackd (guest story))
 acknowledged_came s story l h = acked_came (guest story) (did_ack s story l) h

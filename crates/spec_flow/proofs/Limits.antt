@@ -1,4 +1,4 @@
--- What a flow may not send: more octets than the guest takes, anything of a closed flow but the reset that it owes and acknowledgements while it rests, and a reset that
+-- What a flow may not send: more octets than the guest takes, anything of a closed flow but the reset that it owes and acknowledgements while it is in TIME-WAIT, and a reset that
 -- acknowledges what didn't come.
 use Rattle.std.proofs.Common.{refl, ◌≡◌, [], ◌∷◌, true, false}
 use Rattle.spec_flow.specs.Settings.{Settings}
@@ -42,7 +42,7 @@ acknowledgement_before_it m = never (m.sends_nothing_after_close refl).3
 acknowledgement_after_it : May usual tend_fails 1900 (Send (data_segment 250001 1012 65525 [])) → ⊥
 acknowledgement_after_it m = never (m.sends_nothing_after_close refl).3
 
--- one that rests answers the guest's FIN again
+-- one that is in TIME-WAIT answers the guest's FIN again
 abbrev pub asked_again : Story
 asked_again = At 3000 (Arrives (fin_segment 1001 250002 1000 [])) ∷ crossing
 

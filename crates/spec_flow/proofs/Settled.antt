@@ -21,7 +21,7 @@ told_is None n e is same = absurd cc
 told_is (Some d) n e is same = let it : d ≡ e = cc in subst (λ (k : ℕ). n < k + 2920) it (nat_less n (d + 2920) is)
 
 room_is : (s : Settings) (past : Story) → IsTrue (told_room s past) → ToldRoom s past
-room_is s past is honest of no_end e at =
+room_is s past is conforming of no_end e at =
     elim (either (nat_lt 0 (ackd (guest past)) && ends_at (guest past) (ackd (guest past) - 1)) (is_told (right_edge s past) (next_edge s past))
     (imply (answered (host past) && not (is_closed past)) _ is of)) [
       | inl over ↦ let p = both (nat_lt 0 (ackd (guest past))) (ends_at (guest past) (ackd (guest past) - 1)) over in
@@ -40,15 +40,15 @@ ahead_is now (m ∷ ms) is = let p = both (nat_lt now m) (all_ahead now ms) is i
 -- ---- all
 
 -- Where the test holds, nothing is owed.
-pub settled : (s : Settings) (past : Story) (known rests : Bool) (now : ℕ) → IsTrue (is_settled s past known rests now) → IsSettled s past known rests now
-settled s past known rests now is =
-    let halves = both (has_sent s past known && has_acknowledged s past rests) (told_room s past && all_ahead now (resend_deadline past)) is in
-    let p = both (has_sent s past known) (has_acknowledged s past rests) halves.0 in
+pub settled : (s : Settings) (past : Story) (known time_waits : Bool) (now : ℕ) → IsTrue (is_settled s past known time_waits now) → IsSettled s past known time_waits now
+settled s past known time_waits now is =
+    let halves = both (has_sent s past known && has_acknowledged s past time_waits) (told_room s past && all_ahead now (resend_deadline past)) is in
+    let p = both (has_sent s past known) (has_acknowledged s past time_waits) halves.0 in
     let q = both (told_room s past) (all_ahead now (resend_deadline past)) halves.1 in
-    record { sends = sent_is s past known p.0; acknowledges = acknowledged_is s past rests p.1; window = room_is s past q.0; resends = ahead_is now (resend_deadline past) q.1 }
+    record { sends = sent_is s past known p.0; acknowledges = acknowledged_is s past time_waits p.1; window = room_is s past q.0; resends = ahead_is now (resend_deadline past) q.1 }
 
 pub waits : (past : Story) (now : ℕ) → IsTrue (may_wait past now) → MayWait past now
 waits past now is =
     let p = both ((not (is_done past) || is_closed past) && all_ahead now (close_deadline past)) (is_called_enough past) is in
     let q = both (not (is_done past) || is_closed past) (all_ahead now (close_deadline past)) p.0 in
-    record { closes = λ honest done. imply (is_done past) (is_closed past) q.0 done; connects = ahead_is now (close_deadline past) q.1; calls = p.1 }
+    record { closes = λ conforming done. imply (is_done past) (is_closed past) q.0 done; connects = ahead_is now (close_deadline past) q.1; calls = p.1 }

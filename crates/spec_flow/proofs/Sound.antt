@@ -5,10 +5,10 @@ use Rattle.std.proofs.lemmas.Bool.Decides.{nat_tests}
 use Rattle.seq_space.specs.Places.{number_of, steps_up}
 use Rattle.spec_flow.specs.Settings.{Settings}
 use Rattle.spec_flow.specs.Event.{Segment, At, Story}
-use Rattle.spec_flow.specs.Guest.{is_empty, Acked, Honest, HasCome, front, written, has_ended, ackd}
+use Rattle.spec_flow.specs.Guest.{is_empty, Acked, Conforming, HasCome, front, written, has_ended, ackd}
 use Rattle.spec_flow.specs.Host.{answered, got, got_end, our_place, sent}
 use Rattle.spec_flow.specs.Flow.{guest, host, their_number, our_number, next_number, is_closed, is_accepted, is_connecting, has_connected, syn_is_out}
-use Rattle.spec_flow.specs.Close.{is_done, IsReset, newest_rst, before, follows_reset, host_failed, gives_up, may_give_way, waits_too_long, finds_no_guest, owes_reset, is_owed_reset, rests_since}
+use Rattle.spec_flow.specs.Close.{is_done, IsReset, newest_rst, before, follows_reset, host_failed, gives_up, may_give_way, waits_too_long, finds_no_guest, owes_reset, is_owed_reset, in_time_wait_since}
 use Rattle.spec_flow.specs.Lawful.{our_mss, our_scale, Act, AskConnected, Write, EndHost, Read, Send, Close, act_of, HasCause, HasOwnCause, May, IsLawful, WritesWhatTheGuestSent, WritesWhatCame}
 use Rattle.spec_flow.specs.Lawful.{SendsWhatTheHostSent, SendsAgainWithReason, EndsAfterAll, SendsEndAfterAll, ReadsToTheEnd, AcknowledgesWhatCame, ClosesWithCause, ClosesAfterFailure}
 use Rattle.spec_flow.specs.Lawful.{CallsOpenSocket, ResetsWhereOwed, SendsNothingAfterClose, OpensAfterHost, OpensWithSyn, AsksUntilConnected, HasHeaderOf, SendsItsHeader, is_ack_alone}
@@ -24,7 +24,7 @@ use Rattle.spec_flow.proofs.Ends.{ends_at_is, has_come_is}
 -- ---- streams
 
 writes_guest_is : (past : Story) (act : Act) → IsTrue (writes_what_the_guest_sent past act) → WritesWhatTheGuestSent past act
-writes_guest_is past (Write xs) is = λ honest. begins_prefix (written (guest past) ++ xs) (front (guest past)) is
+writes_guest_is past (Write xs) is = λ conforming. begins_prefix (written (guest past) ++ xs) (front (guest past)) is
 writes_guest_is past _ is = tt
 
 writes_came_is : (past : Story) (act : Act) → IsTrue (writes_what_came past act) → WritesWhatCame past act
@@ -48,7 +48,7 @@ sends_again_is past now _ is = tt
 ends_host_is : (past : Story) (act : Act) → IsTrue (ends_after_all past act) → EndsAfterAll past act
 ends_host_is past EndHost is =
     let p = both (not (has_ended (guest past))) (ends_at (guest past) (length (written (guest past)))) is in
-    (is_false (has_ended (guest past)) p.0, λ honest. ends_at_is (guest past) (length (written (guest past))) p.1)
+    (is_false (has_ended (guest past)) p.0, λ conforming. ends_at_is (guest past) (length (written (guest past))) p.1)
 ends_host_is past _ is = tt
 
 sends_end_is : (past : Story) (act : Act) → IsTrue (sends_end_after_all past act) → SendsEndAfterAll past act
@@ -67,13 +67,13 @@ acknowledges_is : (past : Story) (act : Act) → IsTrue (acknowledges_what_came 
 acknowledges_is past (Send seg) is = λ plain.
     let p = both (same_bool seg.ack (is_some (their_number past))) (not seg.ack || has_come (guest past) (ackd (Acked seg.acknowledgement ∷ guest past))) (imply (not seg.rst) _ is plain) in (
       same_bool_is seg.ack (is_some (their_number past)) p.0,
-      λ ack honest. has_come_is (guest past) (ackd (Acked seg.acknowledgement ∷ guest past)) (imply seg.ack (has_come (guest past) (ackd (Acked seg.acknowledgement ∷ guest past))) p.1 ack),
+      λ ack conforming. has_come_is (guest past) (ackd (Acked seg.acknowledgement ∷ guest past)) (imply seg.ack (has_come (guest past) (ackd (Acked seg.acknowledgement ∷ guest past))) p.1 ack),
     )
 acknowledges_is past _ is = tt
 
-came_is : (past : Story) (n : ℕ) (o : Option ℕ) → IsTrue (has_number_that_came (guest past) o n) → MatchOption o (n ≡ 0) (λ f. Honest (guest past) → HasCome (guest past) (ackd (Acked n ∷ guest past)))
+came_is : (past : Story) (n : ℕ) (o : Option ℕ) → IsTrue (has_number_that_came (guest past) o n) → MatchOption o (n ≡ 0) (λ f. Conforming (guest past) → HasCome (guest past) (ackd (Acked n ∷ guest past)))
 came_is past n None is = nat_same n 0 is
-came_is past n (Some f) is = λ honest. has_come_is (guest past) (ackd (Acked n ∷ guest past)) is
+came_is past n (Some f) is = λ conforming. has_come_is (guest past) (ackd (Acked n ∷ guest past)) is
 
 resets_at_is : (past : Story) (act : Act) → IsTrue (resets_at_what_came past act) → ResetsAtWhatCame past act
 resets_at_is past (Send seg) is = λ rst. came_is past seg.acknowledgement (their_number past) (imply seg.rst _ is rst)
@@ -84,11 +84,11 @@ number_back f a n is = let low : n < 2 ^ 32 = grind (arith, nat_tests) in omega 
 
 reset_at : (past : Story) (seg : Segment) (o : Option ℕ) → IsTrue (is_reset_at (guest past) o past seg)
     → MatchOption o (IsTrue (seg.ack && nat_eq seg.acknowledgement (next_number (our_number past))))
-    (λ f. Honest (guest past) → (x : ℕ) × (ackd (guest past) ≤ x) × HasCome (guest past) x × (seg.number ≡ number_of f x))
+    (λ f. Conforming (guest past) → (x : ℕ) × (ackd (guest past) ≤ x) × HasCome (guest past) x × (seg.number ≡ number_of f x))
 reset_at past seg None is = is
 reset_at past seg (Some f) is =
     let p = both (has_come (guest past) (ackd (guest past) + steps_up seg.number (number_of f (ackd (guest past))))) (nat_lt seg.number (2 ^ 32)) is in
-    λ honest. (
+    λ conforming. (
       ackd (guest past) + steps_up seg.number (number_of f (ackd (guest past))),
       omega arith,
       has_come_is (guest past) (ackd (guest past) + steps_up seg.number (number_of f (ackd (guest past)))) p.0,
@@ -141,7 +141,7 @@ resets_is past _ is = tt
 
 nothing_is : (past : Story) (act : Act) → IsTrue (sends_nothing_after_close past act) → SendsNothingAfterClose past act
 nothing_is past (Send seg) is = λ closed.
-    let p = four_parts (is_empty seg.octets) (not seg.syn) (not seg.fin) (seg.rst || is_some (rests_since past)) (imply (is_closed past) _ is closed) in
+    let p = four_parts (is_empty seg.octets) (not seg.syn) (not seg.fin) (seg.rst || is_some (in_time_wait_since past)) (imply (is_closed past) _ is closed) in
     (empty_is seg.octets p.0, is_false seg.syn p.1, is_false seg.fin p.2, p.3)
 nothing_is past _ is = tt
 

@@ -6,7 +6,7 @@ use Rattle.std.proofs.lemmas.Bool.Decides.{nat_tests}
 use Rattle.std.proofs.lemmas.Int.{ints}
 use Rattle.std.proofs.lemmas.Option.{slice_get_within, slice_get-get_or}
 use Rattle.std.proofs.lemmas.Bool.{cases_lt}
-use Rattle.spec_flow.specs.Guest.{Up, Came, Acked, Carries, IsNear, Honest, octet_at, octet_of, front, top, ackd, begins, from_zero}
+use Rattle.spec_flow.specs.Guest.{Up, Came, Acked, Carries, IsNear, Conforming, octet_at, octet_of, front, top, ackd, begins, from_zero}
 use Rattle.spec_flow.specs.Lawful.{IsPrefixOf, AtPlaces}
 use Rattle.spec_flow.proofs.Lists.{run_prefix, run_reads}
 
@@ -37,8 +37,8 @@ length_within xs n below = elim (cases_lt n (length xs)) [
   | inr short ↦ short
 ]
 
--- a guest that was honest was so before
-pub earlier : (e : Up) (past : List Up) → Honest (e ∷ past) → Honest past
+-- a guest that was conforming was so before
+pub earlier : (e : Up) (past : List Up) → Conforming (e ∷ past) → Conforming past
 earlier (Came n xs fin heeded) past h = record {
   octets = λ i x y p q. h.octets i x y (inr p) (inr q);
   ends = λ i j p q. h.ends i j (inr p) (inr q);
@@ -113,18 +113,18 @@ module _ (past : List Up) (xs : List ℕ) (carried : AtPlaces (Carries past) xs)
   carried_length = length_within xs (top past) (λ i x at. carries_below past i x (carried i x at))
 
   -- begins what the guest sent
-  pub carried_prefix : Honest past → IsPrefixOf xs (front past)
-  carried_prefix honest =
+  pub carried_prefix : Conforming past → IsPrefixOf xs (front past)
+  carried_prefix conforming =
       run_prefix (octet_of past) xs (top past) 0 carried_length
       (λ k j x is at.
       let same : j ≡ k = omega arith in
       let here = carried k x at in
       let found = octet_found past k x here in
-      let one : found.0 ≡ x = honest.octets k found.0 x (octet_carried past k found.0 found.1) here in
+      let one : found.0 ≡ x = conforming.octets k found.0 x (octet_carried past k found.0 found.1) here in
       rw same (found.1 ∙ ap (λ (y : ℕ). Some y) one))
 
-  pub carried_seen : Honest past → length xs ≤ length (front past)
-  carried_seen honest = let p = carried_prefix honest in omega (arith, ap length p.1, length-append xs p.0)
+  pub carried_seen : Conforming past → length xs ≤ length (front past)
+  carried_seen conforming = let p = carried_prefix conforming in omega (arith, ap length p.1, length-append xs p.0)
 
 pub front_carried : (past : List Up) → AtPlaces (Carries past) (front past)
 front_carried past i x at = octet_carried past i x (run_reads (octet_of past) (top past) 0 i i x (omega arith) at)

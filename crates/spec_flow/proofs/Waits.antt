@@ -4,7 +4,7 @@ use Rattle.std.proofs.lemmas.Int.{ints}
 use Rattle.spec_flow.specs.Event.{Arrives, Departs, Connected, Reads, ReadsEnd, EndsHost, At}
 use Rattle.spec_flow.specs.Dutiful.{waits_to_read, must_wait_to_write, wakes, resend_deadline, close_deadline, read_size, HasSent, HasAcknowledged, ClosesWhenDone, AreAhead}
 use Rattle.spec_flow.specs.Flow.{guest}
-use Rattle.spec_flow.proofs.Honesty.{honest}
+use Rattle.spec_flow.proofs.Conformance.{conforming}
 use Rattle.spec_flow.proofs.Refuting.{never}
 use Rattle.spec_flow.specs.CheckDuty.{is_settled, may_wait}
 use Rattle.spec_flow.proofs.Courses.{usual, octets, data_segment, fin_segment, asked, opened, refused, established, short_writes, wrapped, repeated, ended_held, windowed, nine, given_up}
@@ -120,13 +120,13 @@ acknowledges_nothing : HasAcknowledged usual (At 1700 (Departs (data_segment 250
 acknowledges_nothing has = absurd (omega (arith, few))
   where
     few : 10 ≤ 0
-    few = has.all refl (honest (guest (At 1700 (Departs (data_segment 250001 1001 65535 [])) ∷ At 1700 (Arrives (data_segment 1001 250001 1000 (octets 0 10))) ∷ established)) refl)
+    few = has.all refl (conforming (guest (At 1700 (Departs (data_segment 250001 1001 65535 [])) ∷ At 1700 (Arrives (data_segment 1001 250001 1000 (octets 0 10))) ∷ established)) refl)
         10 (inl (refl, omega (arith, ints), inl refl))
 
 -- both ends passed, and the flow isn't closed
 doesn't_close : ClosesWhenDone (At 2100 EndsHost ∷ At 2000 (Departs (data_segment 250002 1002 65535 [])) ∷ At 2000 (Arrives (fin_segment 1001 250002 1000 []))
     ∷ At 1800 (Departs (fin_segment 250001 1001 65535 [])) ∷ At 1800 ReadsEnd ∷ established) → ⊥
-doesn't_close closes = never (closes (honest (guest (At 2100 EndsHost ∷ At 2000 (Departs (data_segment 250002 1002 65535 [])) ∷ At 2000 (Arrives (fin_segment 1001 250002 1000 []))
+doesn't_close closes = never (closes (conforming (guest (At 2100 EndsHost ∷ At 2000 (Departs (data_segment 250002 1002 65535 [])) ∷ At 2000 (Arrives (fin_segment 1001 250002 1000 []))
     ∷ At 1800 (Departs (fin_segment 250001 1001 65535 [])) ∷ At 1800 ReadsEnd ∷ established)) refl) refl)
 
 -- a minute passed, and the guest's address wasn't asked for again

@@ -9,7 +9,7 @@ use Rattle.spec_flow.specs.Windows.{field}
 use Rattle.spec_flow.specs.Dutiful.{Must, IsSettled, must_wait_to_write}
 use Rattle.spec_flow.specs.CheckDuty.{is_settled}
 use Rattle.spec_flow.specs.Check.{may}
-use Rattle.spec_flow.proofs.Honesty.{honest}
+use Rattle.spec_flow.proofs.Conformance.{conforming}
 use Rattle.spec_flow.proofs.Ends.{ends_has}
 use Rattle.spec_flow.proofs.Refuting.{prefix_begins, never, apart}
 use Rattle.spec_flow.proofs.Courses.{usual, syn, octets, data_segment, fin_segment, syn_ack, established}
@@ -25,14 +25,14 @@ narrow = record { ring = 6; mru = 1500; mtu = 1500; scales = true; congestion = 
 
 acknowledges_what_found_no_room : (window : ℕ) → Must narrow ten_came 1700 (Send (data_segment 250001 1011 window [])) → ⊥
 acknowledges_what_found_no_room window m =
-    let told = m.sends_its_room refl (honest (guest ten_came) refl) 10 (inl (refl, λ i end. never (ends_has (guest ten_came) i end))) in
+    let told = m.sends_its_room refl (conforming (guest ten_came) refl) 10 (inl (refl, λ i end. never (ends_has (guest ten_came) i end))) in
     let too_many : told.0 + 10 ≡ 6 = told.1 in
     absurd (omega (arith, too_many))
 
 -- or it tells the whole room, though none of the ten was written
 tells_room_that_is_taken : Must usual ten_came 1700 (Send (data_segment 250001 1011 65535 [])) → ⊥
 tells_room_that_is_taken m =
-    let told = m.sends_its_room refl (honest (guest ten_came) refl) 10 (inl (refl, λ i end. never (ends_has (guest ten_came) i end))) in
+    let told = m.sends_its_room refl (conforming (guest ten_came) refl) 10 (inl (refl, λ i end. never (ends_has (guest ten_came) i end))) in
     let room : told.0 ≡ 65525 = omega (arith, told.1) in
     apart 65535 65525 refl (subst (λ (r : ℕ). 65535 ≡ field 0 r) room told.2)
 
@@ -41,7 +41,7 @@ ten_acked = At 1700 (Departs (data_segment 250001 1011 65525 [])) ∷ ten_came
 
 -- or the octets are gone: it offers fewer than it acknowledged
 offers_too_few : Must usual ten_acked 1700 (Write (octets 0 3)) → ⊥
-offers_too_few m = few (m.offers_what_was_acknowledged.1 (honest (guest ten_acked) refl) 10 (inl (refl, λ i end. never (ends_has (guest ten_acked) i end))))
+offers_too_few m = few (m.offers_what_was_acknowledged.1 (conforming (guest ten_acked) refl) 10 (inl (refl, λ i end. never (ends_has (guest ten_acked) i end))))
   where
     few : 10 ≤ 3 → ⊥
     few is = absurd (omega (arith, is))
@@ -51,12 +51,12 @@ abbrev pub fifteen_came : Story
 fifteen_came = At 1800 (Arrives (data_segment 1011 250001 1000 (octets 10 5))) ∷ ten_acked
 
 writes_past_what_is_gone : May usual fifteen_came 1800 (Write (octets 10 5)) → ⊥
-writes_past_what_is_gone m = never (prefix_begins (octets 10 5) (octets 0 15) (m.writes_what_the_guest_sent (honest (guest fifteen_came) refl)))
+writes_past_what_is_gone m = never (prefix_begins (octets 10 5) (octets 0 15) (m.writes_what_the_guest_sent (conforming (guest fifteen_came) refl)))
 
 -- it acknowledges an octet more than came
 acknowledges_too_much : May usual ten_came 1700 (Send (data_segment 250001 1012 65525 [])) → ⊥
 acknowledges_too_much m =
-    elim ((m.acknowledges_what_came refl).1 refl (honest (guest ten_came) refl)) [
+    elim ((m.acknowledges_what_came refl).1 refl (conforming (guest ten_came) refl)) [
       | inl within ↦ too_few within
       | inr (end, is) ↦ never (ends_has (guest ten_came) 10 end)
     ]
@@ -71,7 +71,7 @@ three_written = At 1700 (Writes (octets 0 10) 3) ∷ ten_came
 
 offers_again_after_short_write : May usual three_written 1700 (Write (octets 0 10)) → ⊥
 offers_again_after_short_write m =
-    never (prefix_begins (0 ∷ 1 ∷ 2 ∷ octets 0 10) (octets 0 10) (m.writes_what_the_guest_sent (honest (guest three_written) refl)))
+    never (prefix_begins (0 ∷ 1 ∷ 2 ∷ octets 0 10) (octets 0 10) (m.writes_what_the_guest_sent (conforming (guest three_written) refl)))
 
 -- the others are what may be offered
 goes_on_after_short_write : may usual three_written 1700 (Write (octets 3 7)) ≡ true
@@ -91,7 +91,7 @@ four_held =
     ∷ established
 
 ends_host_with_octets_held : May usual four_held 1800 EndHost → ⊥
-ends_host_with_octets_held m = never (ends_has (guest four_held) 6 (m.ends_after_all.1 (honest (guest four_held) refl)))
+ends_host_with_octets_held m = never (ends_has (guest four_held) 6 (m.ends_after_all.1 (conforming (guest four_held) refl)))
 
 -- ---- the guest's numbers wrap: its SYN has the number 0xFFFFFFFB, and its fifth octet the number 0
 
@@ -110,14 +110,14 @@ four_and_eight =
 
 -- it compares numbers without wrap: those with the less numbers are written first
 compares_numbers_without_wrap : May usual four_and_eight 1700 (Write (octets 4 8)) → ⊥
-compares_numbers_without_wrap m = never (prefix_begins (octets 4 8) (octets 0 12) (m.writes_what_the_guest_sent (honest (guest four_and_eight) refl)))
+compares_numbers_without_wrap m = never (prefix_begins (octets 4 8) (octets 0 12) (m.writes_what_the_guest_sent (conforming (guest four_and_eight) refl)))
 
 -- or, since the end of a segment has a less number than its begin, it is taken for an old one, and nothing of it acknowledged
 abbrev pub twelve_came : Story
 twelve_came = At 1700 (Departs (data_segment 250001 0xFFFFFFFC 65535 [])) ∷ At 1700 (Arrives (data_segment 0xFFFFFFFC 250001 1000 (octets 0 12))) ∷ wraps
 
-takes_a_wrap_for_old : (known rests : Bool) (now : ℕ) → IsSettled usual twelve_came known rests now → ⊥
-takes_a_wrap_for_old known rests now has = few (has.acknowledges.all refl (honest (guest twelve_came) refl) 12 (inl (refl, omega (arith, ints), inl refl)))
+takes_a_wrap_for_old : (known time_waits : Bool) (now : ℕ) → IsSettled usual twelve_came known time_waits now → ⊥
+takes_a_wrap_for_old known time_waits now has = few (has.acknowledges.all refl (conforming (guest twelve_came) refl) 12 (inl (refl, omega (arith, ints), inl refl)))
   where
     few : 12 ≤ 0 → ⊥
     few is = absurd (omega (arith, is))

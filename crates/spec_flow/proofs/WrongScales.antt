@@ -6,7 +6,7 @@ use Rattle.spec_flow.specs.Lawful.{Send, May}
 use Rattle.spec_flow.specs.Dutiful.{Must, ToldRoom}
 use Rattle.spec_flow.proofs.Refuted.{refutes}
 use Rattle.spec_flow.proofs.ExactDuty.{refutes_duty}
-use Rattle.spec_flow.proofs.Honesty.{honest}
+use Rattle.spec_flow.proofs.Conformance.{conforming}
 use Rattle.spec_flow.proofs.Ends.{ends_has}
 use Rattle.spec_flow.proofs.Refuting.{never}
 use Rattle.spec_flow.proofs.Courses.{usual, data_segment, syn_with, syn_ack_with, syn}
@@ -48,4 +48,4 @@ doesn't_update : ToldRoom large large_answered → ⊥
 doesn't_update told = absurd (omega (arith, few))
   where
     few : 1048576 < 65535 + 2920
-    few = told (honest (guest large_answered) refl) refl (λ i end. never (ends_has (guest large_answered) i end)) 65535 refl
+    few = told (conforming (guest large_answered) refl) refl (λ i end. never (ends_has (guest large_answered) i end)) 65535 refl

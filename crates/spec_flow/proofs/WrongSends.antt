@@ -81,8 +81,8 @@ resets_in_time : may usual nine 244500 (Close false false true) ≡ true
 resets_in_time = refl
 
 -- it never goes again: the program may not wait once a minute has passed
-never_resends : (known rests : Bool) (now : ℕ) → 61500 ≤ now → IsSettled usual opened known rests now → ⊥
-never_resends known rests now passed has = late has.resends.0
+never_resends : (known time_waits : Bool) (now : ℕ) → 61500 ≤ now → IsSettled usual opened known time_waits now → ⊥
+never_resends known time_waits now passed has = late has.resends.0
   where
     late : now < 61500 → ⊥
     late is = absurd (omega (arith, is, passed))

@@ -1,4 +1,4 @@
--- A test beside each sentence of the law, which computes: where it holds, the sentence does. It asks of each guest what the law asks of an honest one,
+-- A test beside each sentence of the law, which computes: where it holds, the sentence does. It asks of each guest what the law asks of a conforming one,
 -- so an act that fails the test may still be allowed.
 use Rattle.std.specs.Prelude.{ℕ, ◌+◌, ◌^◌, List, [], ◌∷◌, ◌++◌, length, Option, None, Some, is_some, Bool, true, false, not, ◌&&◌, ◌||◌, pos, ◌+ℤ◌, nat_le, nat_lt, nat_eq}
 use Rattle.seq_space.specs.Places.{number_of, steps_up}
@@ -7,7 +7,7 @@ use Rattle.spec_flow.specs.Event.{Segment, At, Story}
 use Rattle.spec_flow.specs.Guest.{Up, is_empty, Acked, front, written, has_ended, ackd}
 use Rattle.spec_flow.specs.Host.{answered, got, got_end, our_place, sent}
 use Rattle.spec_flow.specs.Flow.{guest, host, their_number, our_number, next_number, is_closed, is_accepted, is_connecting, has_connected, syn_is_out}
-use Rattle.spec_flow.specs.Close.{is_done, newest_rst, before, follows_reset, host_failed, gives_up, waits_too_long, may_give_way, finds_no_guest, owes_reset, is_owed_reset, rests_since}
+use Rattle.spec_flow.specs.Close.{is_done, newest_rst, before, follows_reset, host_failed, gives_up, waits_too_long, may_give_way, finds_no_guest, owes_reset, is_owed_reset, in_time_wait_since}
 use Rattle.spec_flow.specs.Lawful.{our_mss, our_scale, Act, AskConnected, Write, EndHost, Read, Send, Close, act_of, is_ack_alone, is_prompted, is_overdue, repeats}
 use Rattle.spec_flow.specs.Windows.{mss}
 use Rattle.spec_flow.specs.Computed.{begins_with, brings_all, ends_at, has_come, is_at, is_number, same_bool, sends_read}
@@ -99,7 +99,7 @@ resets_where_owed past (Send seg) = not seg.rst || (owes_reset past && is_owed_r
 resets_where_owed past _ = true
 
 abbrev pub sends_nothing_after_close : Story → Act → Bool
-sends_nothing_after_close past (Send seg) = not (is_closed past) || (is_empty seg.octets && not seg.syn && not seg.fin && (seg.rst || is_some (rests_since past)))
+sends_nothing_after_close past (Send seg) = not (is_closed past) || (is_empty seg.octets && not seg.syn && not seg.fin && (seg.rst || is_some (in_time_wait_since past)))
 sends_nothing_after_close past _ = true
 
 -- ---- opening

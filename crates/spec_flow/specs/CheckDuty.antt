@@ -53,11 +53,11 @@ all_within ring (Came n xs fin heeded ∷ past) m = asks_within ring past n xs f
 all_within ring (_ ∷ past) m = all_within ring past m
 
 abbrev pub has_acknowledged : Settings → Story → Bool → Bool
-has_acknowledged s past rests =
+has_acknowledged s past time_waits =
     ((not (is_accepted past && is_some (their_number past) && not (is_closed past)) || was_acked (guest past))
     && (is_closed past || all_answered (guest past)))
     && ((is_closed past || all_within s.ring (guest past) (ackd (guest past)))
-    && (not rests || fin_is_answered past))
+    && (not time_waits || fin_is_answered past))
 
 -- ---- windows
 
@@ -79,7 +79,7 @@ all_ahead now (m ∷ ms) = nat_lt now m && all_ahead now ms
 -- ---- a wait
 
 abbrev pub is_settled : Settings → Story → Bool → Bool → ℕ → Bool
-is_settled s past known rests now = (has_sent s past known && has_acknowledged s past rests) && (told_room s past && all_ahead now (resend_deadline past))
+is_settled s past known time_waits now = (has_sent s past known && has_acknowledged s past time_waits) && (told_room s past && all_ahead now (resend_deadline past))
 
 abbrev pub may_wait : Story → ℕ → Bool
 may_wait past now = (not (is_done past) || is_closed past) && all_ahead now (close_deadline past) && is_called_enough past

@@ -1,11 +1,11 @@
--- Why a flow may be closed, what it owes afterwards, and how long it rests (RFC 9293, 3.6 and 3.10.7).
+-- Why a flow may be closed, what it owes afterwards, and how long it is in TIME-WAIT (RFC 9293, 3.6 and 3.10.7).
 use Rattle.std.specs.Prelude.{◌≡◌, ℕ, ◌+◌, ◌^◌, ◌%◌, ◌≤◌, List, [], ◌∷◌, length, max, Bool, true, false, not, ◌&&◌, ◌||◌, Option, None, Some, is_some, if◌then◌else◌, nat_le, nat_lt, nat_eq}
 use Rattle.std.specs.Prelude.{IsTrue, MatchOption, pos, int_le}
 use Rattle.std.specs.List.{list_any}
 use Rattle.std.specs.Option.{option_map_or, unwrap_or}
 use Rattle.seq_space.specs.Places.{is_ahead, number_of}
 use Rattle.spec_flow.specs.Event.{Segment, Event, Arrives, Departs, ConnectsYet, Writes, Reads, EndsHost, AsksAddress, Closes, At, Story, is_failure}
-use Rattle.spec_flow.specs.Guest.{ack_is_due, ackd, ends, is_empty, was_acked, written, HasCome, Honest}
+use Rattle.spec_flow.specs.Guest.{ack_is_due, ackd, ends, is_empty, was_acked, written, HasCome, Conforming}
 use Rattle.spec_flow.specs.Host.{acked, answered, got, got_end, sent}
 use Rattle.spec_flow.specs.Flow.{guest, host, their_number, our_number, next_number, is_accepted, is_closed, is_connecting, opened_at, syn_is_out, syn_sendings, oldest_sendings, oldest_sent_again, newest_of, oldest}
 
@@ -56,7 +56,7 @@ before (_ ∷ past) = past
 abbrev pub IsReset : Story → Segment → Type 0
 IsReset past seg = MatchOption (their_number past)
     (IsTrue (seg.ack && nat_eq seg.acknowledgement (next_number (our_number past))))
-    (λ f. Honest (guest past) → (x : ℕ) × (ackd (guest past) ≤ x) × HasCome (guest past) x × (seg.number ≡ number_of f x))
+    (λ f. Conforming (guest past) → (x : ℕ) × (ackd (guest past) ≤ x) × HasCome (guest past) x × (seg.number ≡ number_of f x))
 
 -- it is at the number that was acknowledged last, or what came since is still to be acknowledged
 abbrev pub is_fatal : Story → Segment → Bool
@@ -190,13 +190,13 @@ ended_first (At m (Departs seg) ∷ past) =
     if nat_lt (ackd (guest past)) (ackd (guest (At m (Departs seg) ∷ past))) then fin_is_out past else ended_first past
 ended_first (_ ∷ past) = ended_first past
 
--- a segment with FIN and ACK, without SYN and RST, starts a rest anew
+-- a segment with FIN and ACK, without SYN and RST, starts a TIME-WAIT anew
 abbrev pub renews : Segment → Bool
 renews seg = seg.fin && seg.ack && not seg.syn && not seg.rst
 
--- A segment ends a rest: RST at the next number, or a SYN ahead of it.
-abbrev pub ends_rest : Story → Segment → Bool
-ends_rest past seg = ends_at (number_of (unwrap_or (their_number past) 0) (ackd (guest past)))
+-- A segment ends a TIME-WAIT: RST at the next number, or a SYN ahead of it.
+abbrev pub ends_time_wait : Story → Segment → Bool
+ends_time_wait past seg = ends_at (number_of (unwrap_or (their_number past) 0) (ackd (guest past)))
   where
     ends_at : ℕ → Bool
     ends_at next = (seg.rst && nat_eq seg.number next) || (seg.syn && not seg.ack && not seg.rst && is_ahead seg.number next)
@@ -206,9 +206,9 @@ renewed b m None = None
 renewed true m (Some since) = Some m
 renewed false m (Some since) = Some since
 
--- Since when a closed flow rests, as far as its own events tell: time, crowding and a later flow on its tuple end a rest, too.
-abbrev pub rests_since : Story → Option ℕ
-rests_since [] = None
-rests_since (At m (Closes directly ended known) ∷ past) = if is_done past && not (follows_reset directly past) && ended_first past then Some m else None
-rests_since (At m (Arrives seg) ∷ past) = if ends_rest past seg then None else renewed (renews seg) m (rests_since past)
-rests_since (_ ∷ past) = rests_since past
+-- Since when a closed flow is in TIME-WAIT, as far as its own events tell: time, crowding and a later flow on its tuple end a TIME-WAIT, too.
+abbrev pub in_time_wait_since : Story → Option ℕ
+in_time_wait_since [] = None
+in_time_wait_since (At m (Closes directly ended known) ∷ past) = if is_done past && not (follows_reset directly past) && ended_first past then Some m else None
+in_time_wait_since (At m (Arrives seg) ∷ past) = if ends_time_wait past seg then None else renewed (renews seg) m (in_time_wait_since past)
+in_time_wait_since (_ ∷ past) = in_time_wait_since past

@@ -100,7 +100,7 @@ least_end a (e ∷ es) = min a e
 abbrev pub acknowledged : List Up → ℕ
 acknowledged past = least_end (ackd past) (all_ends past)
 
--- ---- an honest guest
+-- ---- a conforming guest
 
 abbrev pub none_past : ℕ → List ℕ → List ℕ → Bool
 none_past i es [] = true
@@ -113,8 +113,8 @@ is_near (Came n xs fin heeded ∷ past) = is_under (begins past n +ℤ pos (leng
 is_near (_ ∷ past) = is_near past
 
 -- each place carries one octet, there is one end and no octet at or past it, and no segment is far ahead
-abbrev pub is_honest : List Up → Bool
-is_honest past =
+abbrev pub is_conforming : List Up → Bool
+is_conforming past =
     every_below (top past) (λ i. are_same (octets_of past i) && none_past i (all_ends past) (octets_of past i))
     && (are_same (all_ends past) && is_near past)
 

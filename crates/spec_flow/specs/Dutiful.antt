@@ -5,7 +5,7 @@ use Rattle.seq_space.specs.Places.{number_of}
 use Rattle.spec_flow.specs.Settings.{Settings}
 use Rattle.spec_flow.specs.Event.{Segment, Arrives, Departs, Beat, At, Story, newest_moment}
 use Rattle.spec_flow.specs.Lawful.{Act, Write, Send, Close, act_of, is_prompted}
-use Rattle.spec_flow.specs.Guest.{AckIsDue, Asks, was_acked, ackd, Honest, IsAcknowledged, EndsAt, front, written, has_ended}
+use Rattle.spec_flow.specs.Guest.{AckIsDue, Asks, was_acked, ackd, Conforming, IsAcknowledged, EndsAt, front, written, has_ended}
 use Rattle.spec_flow.specs.Host.{answered, acked, got, got_end, sent, owned}
 use Rattle.spec_flow.specs.Flow.{guest, host, their_number, is_accepted, is_closed, is_connecting, has_connected, holds, opened_at, syn_is_out, newest_of, oldest_sendings, acknowledged_at, is_under_way}
 use Rattle.spec_flow.specs.Windows.{our_shift, field, right_edge, next_edge, edge}
@@ -29,7 +29,7 @@ must_wait_to_write past =
 abbrev pub MayWaitToWrite : Story → Type 0
 MayWaitToWrite past =
     (is_closed past ≡ false)
-    × (Honest (guest past) →
+    × (Conforming (guest past) →
     IsTrue (is_connecting past)
     ⊎ ((length (written (guest past)) < length (front (guest past)))
     ⊎ (EndsAt (guest past) (length (front (guest past))) × (has_ended (guest past) ≡ false))))
@@ -54,21 +54,21 @@ fin_is_answered (_ ∷ past) = fin_is_answered past
 
 -- what came is acknowledged: the SYN of a guest that we called; each segment and probe that asks for it; of a conforming guest all that was asked for; and,
 -- in TIME-WAIT, the last end (RFC 9293, 3.8.6.1, 3.8.6.3)
-pub record HasAcknowledged (s : Settings) (past : Story) (rests : Bool) : Type 0 where
+pub record HasAcknowledged (s : Settings) (past : Story) (time_waits : Bool) : Type 0 where
   pub opening : IsTrue (is_accepted past && is_some (their_number past) && not (is_closed past)) → IsTrue (was_acked (guest past))
   pub each : is_closed past ≡ false → AckIsDue (guest past) → ⊥
-  pub all : is_closed past ≡ false → Honest (guest past) → (a : ℕ) → Asks s.ring (guest past) a → a ≤ ackd (guest past)
-  pub resting : IsTrue rests → IsTrue (fin_is_answered past)
+  pub all : is_closed past ≡ false → Conforming (guest past) → (a : ℕ) → Asks s.ring (guest past) a → a ≤ ackd (guest past)
+  pub in_time_wait : IsTrue time_waits → IsTrue (fin_is_answered past)
 
 -- ---- closing
 
 -- a flow of which both ends passed is closed
 abbrev pub ClosesWhenDone : Story → Type 0
-ClosesWhenDone past = Honest (guest past) → IsTrue (is_done past) → IsTrue (is_closed past)
+ClosesWhenDone past = Conforming (guest past) → IsTrue (is_done past) → IsTrue (is_closed past)
 
 -- a reset at the next number is followed at once by a close
 abbrev pub MustClose : Story → Type 0
-MustClose past = (seg : Segment) × (newest_rst past ≡ Some seg) × (is_closed past ≡ false) × Honest (guest (before past))
+MustClose past = (seg : Segment) × (newest_rst past ≡ Some seg) × (is_closed past ≡ false) × Conforming (guest (before past))
     × IsTrue (is_some (their_number (before past)))
     × (seg.number ≡ number_of (unwrap_or (their_number (before past)) 0) (ackd (guest (before past))))
     × ((ackd (guest (before past)) ≡ length (front (guest (before past)))) × (EndsAt (guest (before past)) (length (front (guest (before past)))) → ⊥)
@@ -78,12 +78,12 @@ MustClose past = (seg : Segment) × (newest_rst past ≡ Some seg) × (is_closed
 
 -- each segment that goes out has the room that is left as its window
 abbrev pub TellsRoom : Settings → Story → ℕ → Segment → Type 0
-TellsRoom s past now seg = IsTrue (not seg.rst) → Honest (guest past) → (a : ℕ) → IsAcknowledged (guest (At now (Departs seg) ∷ past)) a
+TellsRoom s past now seg = IsTrue (not seg.rst) → Conforming (guest past) → (a : ℕ) → IsAcknowledged (guest (At now (Departs seg) ∷ past)) a
     → (room : ℕ) × (room + a ≡ length (written (guest past)) + s.ring) × (seg.window ≡ field (our_shift s past seg.syn) room)
 
 -- the guest was told of the room, but for less than 2,920 octets, two segments of 1,460 (RFC 9293, 3.8.6.2.2)
 abbrev pub ToldRoom : Settings → Story → Type 0
-ToldRoom s past = Honest (guest past) → IsTrue (answered (host past) && not (is_closed past))
+ToldRoom s past = Conforming (guest past) → IsTrue (answered (host past) && not (is_closed past))
     → ((i : ℕ) → EndsAt (guest past) i → ackd (guest past) ≤ i)
     → (edge : ℕ) → right_edge s past ≡ Some edge → next_edge s past < edge + 2920
 
@@ -108,8 +108,8 @@ close_deadline past =
     ++ moment_if (is_deserted past && not (is_prompted past)) (max (patience_end past) (last_at past + 1))
 
 -- a flow was accepted whose guest isn't called yet: its hardware address is asked for in place of our SYN (RFC 826)
-abbrev pub seeks_guest : Story → Bool
-seeks_guest past = is_accepted past && not (syn_is_out past) && not (is_closed past)
+abbrev pub resolves_guest : Story → Bool
+resolves_guest past = is_accepted past && not (syn_is_out past) && not (is_closed past)
 
 -- octets or an end are left, and nothing is under way: the guest's window is closed, and it is asked again whether it is (RFC 9293, 3.8.6.1)
 abbrev pub waits_for_window : Story → Bool
@@ -120,7 +120,7 @@ waits_for_window past = answered (host past) && not (is_closed past) && not (is_
 abbrev pub resend_deadline : Story → List ℕ
 resend_deadline past =
     moment_if (is_under_way past && not (is_closed past)) (waits_since past + 60000)
-    ++ moment_if (seeks_guest past && nat_lt 0 (times_asked past)) (asked_at past + 60000)
+    ++ moment_if (resolves_guest past && nat_lt 0 (times_asked past)) (asked_at past + 60000)
     ++ moment_if (waits_for_window past) (newest_moment past + 60000)
 
 -- how often the place i went out since a segment of the guest came, and how often our SYN
@@ -154,11 +154,11 @@ AreAhead now [] = Unit {0}
 AreAhead now (m ∷ ms) = (now < m) × AreAhead now ms
 
 -- the moments for which a wait may be cut short: the end of connecting or of patience, a second after the accept, and after the last sending as long as so
--- many that nothing answered ask for (`back_off`); the core adds the end of a rest
+-- many that nothing answered ask for (`back_off`); the core adds the end of a TIME-WAIT
 abbrev pub wakes : Story → List ℕ
 wakes past =
     closing_moments past
-    ++ moment_if (seeks_guest past) (opened_at past + 1000)
+    ++ moment_if (resolves_guest past) (opened_at past + 1000)
     ++ moment_if (syn_is_out past && not (is_closed past) && (is_under_way past || nat_lt (sent (host past)) (owned (host past))))
     (max (opened_at past) (waits_since past) + back_off (oldest_unheard past))
 
@@ -171,7 +171,7 @@ read_size s past = min 16384 (acked (host past) + s.ring - length (got (host pas
 -- a write offers all that was acknowledged, at most 16,384 octets
 abbrev pub OffersEnough : Story → List ℕ → Type 0
 OffersEnough past octets = (length octets ≤ 16384)
-    × (Honest (guest past) → (a : ℕ) → IsAcknowledged (guest past) a → min 16384 (a - length (written (guest past))) ≤ length octets)
+    × (Conforming (guest past) → (a : ℕ) → IsAcknowledged (guest past) a → min 16384 (a - length (written (guest past))) ≤ length octets)
 
 -- ---- the sentences on what is done
 
@@ -207,10 +207,10 @@ IsDutiful s (b ∷ past) = MustHappen s past b × IsDutiful s past
 
 -- ---- one flow's part of a wait
 
--- Unless the link is blocked; known: the guest's hardware address is; rests: the flow is in TIME-WAIT.
-pub record IsSettled (s : Settings) (past : Story) (known rests : Bool) (now : ℕ) : Type 0 where
+-- Unless the link is blocked; known: the guest's hardware address is; is in TIME-WAIT: the flow is in TIME-WAIT.
+pub record IsSettled (s : Settings) (past : Story) (known time_waits : Bool) (now : ℕ) : Type 0 where
   pub sends : HasSent s past known
-  pub acknowledges : HasAcknowledged s past rests
+  pub acknowledges : HasAcknowledged s past time_waits
   pub window : ToldRoom s past
   pub resends : AreAhead now (resend_deadline past)
 

@@ -4,11 +4,11 @@ use Rattle.std.specs.Prelude.{IfSome, MatchOption, MatchBool, ◌⊎◌, ℤ, po
 use Rattle.spec_flow.specs.Settings.{Settings}
 use Rattle.spec_flow.specs.Event.{Segment, Event, Connects, Accepts, Arrives, Departs, Connected, ConnectsYet, ConnectFails, Writes, WriteFails, Reads, ReadsEnd, ReadFails, EndsHost}
 use Rattle.spec_flow.specs.Event.{EndFails, AsksAddress, Closes, Beat, At, Story}
-use Rattle.spec_flow.specs.Guest.{is_empty, Acked, ackd, HasCome, Honest, EndsAt, Brought, front, written, has_ended}
+use Rattle.spec_flow.specs.Guest.{is_empty, Acked, ackd, HasCome, Conforming, EndsAt, Brought, front, written, has_ended}
 use Rattle.spec_flow.specs.Host.{answered, got, got_end, sent, our_place, StandAt}
 use Rattle.spec_flow.specs.Flow.{guest, host, their_number, our_number, next_number, is_accepted, is_closed, is_connecting, has_connected, syn_is_out, sendings, syn_sendings, was_long_ago}
 use Rattle.spec_flow.specs.Windows.{is_scaled, least_shift, mss}
-use Rattle.spec_flow.specs.Close.{is_done, IsReset, newest_rst, before, follows_reset, host_failed, gives_up, waits_too_long, may_give_way, finds_no_guest, owes_reset, is_owed_reset, rests_since}
+use Rattle.spec_flow.specs.Close.{is_done, IsReset, newest_rst, before, follows_reset, host_failed, gives_up, waits_too_long, may_give_way, finds_no_guest, owes_reset, is_owed_reset, in_time_wait_since}
 
 -- what can be done for a flow, without its answer
 pub data Act : Type 0 where
@@ -50,7 +50,7 @@ AtPlaces P xs = (i x : ℕ) → slice_get xs i ≡ Some x → P i x
 
 -- octets may be offered to the host that go on with the guest's stream
 abbrev pub WritesWhatTheGuestSent : Story → Act → Type 0
-WritesWhatTheGuestSent past (Write xs) = Honest (guest past) → IsPrefixOf (written (guest past) ++ xs) (front (guest past))
+WritesWhatTheGuestSent past (Write xs) = Conforming (guest past) → IsPrefixOf (written (guest past) ++ xs) (front (guest past))
 WritesWhatTheGuestSent past _ = Unit {0}
 
 -- and, whatever the guest does, only octets that came with their numbers
@@ -102,7 +102,7 @@ SendsAgainWithReason past now _ = Unit {0}
 
 -- the host is told the end once, after all octets
 abbrev pub EndsAfterAll : Story → Act → Type 0
-EndsAfterAll past EndHost = (has_ended (guest past) ≡ false) × (Honest (guest past) → EndsAt (guest past) (length (written (guest past))))
+EndsAfterAll past EndHost = (has_ended (guest past) ≡ false) × (Conforming (guest past) → EndsAt (guest past) (length (written (guest past))))
 EndsAfterAll past _ = Unit {0}
 
 -- a FIN goes out after the host's end was read, at the end of all octets
@@ -122,12 +122,12 @@ ReadsToTheEnd past _ = Unit {0}
 abbrev pub AcknowledgesWhatCame : Story → Act → Type 0
 AcknowledgesWhatCame past (Send seg) = IsTrue (not seg.rst) →
     (seg.ack ≡ is_some (their_number past))
-    × (IsTrue seg.ack → Honest (guest past) → HasCome (guest past) (ackd (Acked seg.acknowledgement ∷ guest past)))
+    × (IsTrue seg.ack → Conforming (guest past) → HasCome (guest past) (ackd (Acked seg.acknowledgement ∷ guest past)))
 AcknowledgesWhatCame past _ = Unit {0}
 
 -- a reset acknowledges what came, as any segment does; 0 where the guest's SYN isn't known
 abbrev pub HasNumberThatCame : Story → ℕ → Type 0
-HasNumberThatCame past n = MatchOption (their_number past) (n ≡ 0) (λ f. Honest (guest past) → HasCome (guest past) (ackd (Acked n ∷ guest past)))
+HasNumberThatCame past n = MatchOption (their_number past) (n ≡ 0) (λ f. Conforming (guest past) → HasCome (guest past) (ackd (Acked n ∷ guest past)))
 
 -- so does each reset that goes out
 abbrev pub ResetsAtWhatCame : Story → Act → Type 0
@@ -165,9 +165,9 @@ abbrev pub ResetsWhereOwed : Story → Act → Type 0
 ResetsWhereOwed past (Send seg) = IsTrue seg.rst → IsTrue (owes_reset past && is_owed_reset past seg)
 ResetsWhereOwed past _ = Unit {0}
 
--- A closed flow sends nothing but the reset that it owes, or acknowledgements while it rests. That a rest may have ended stands in the book of `spec_flows`.
+-- A closed flow sends nothing but the reset that it owes, or acknowledgements while it is in TIME-WAIT. That a TIME-WAIT may have ended stands in the book of `spec_flows`.
 abbrev pub SendsNothingAfterClose : Story → Act → Type 0
-SendsNothingAfterClose past (Send seg) = IsTrue (is_closed past) → (seg.octets ≡ []) × (seg.syn ≡ false) × (seg.fin ≡ false) × IsTrue (seg.rst || is_some (rests_since past))
+SendsNothingAfterClose past (Send seg) = IsTrue (is_closed past) → (seg.octets ≡ []) × (seg.syn ≡ false) × (seg.fin ≡ false) × IsTrue (seg.rst || is_some (in_time_wait_since past))
 SendsNothingAfterClose past _ = Unit {0}
 
 -- ---- opening

@@ -18,7 +18,7 @@
 //! - A reset has a cause, and goes once (`resets_have_a_cause`).
 //! - Windows are scaled where both SYNs say so, and tell the room (`windows_are_scaled_where_both_syns_say_so`, `windows_tell_the_room`).
 //! - What must be waited for may be (`what_must_be_waited_for_may_be`).
-//! - The tests beside the sentences are sound, and of a conforming guest exact (`tests_are_sound`, `tests_are_exact_for_an_honest_guest`).
+//! - The tests beside the sentences are sound, and of a conforming guest exact (`tests_are_sound`, `tests_are_exact_for_a_conforming_guest`).
 #![tactic(auto)]
 
 ghost use Rattle.std.specs.Prelude.{◌≡◌, ℕ, ◌+◌, ◌/◌, ◌^◌, ◌<◌, ◌≤◌, ◌||◌, ◌⊎◌};
@@ -26,7 +26,7 @@ ghost use Rattle.std.specs.Prelude.{List, length, true, false, Bool, IsTrue, Som
 ghost use Rattle.seq_space.specs.Places.{number_of};
 ghost use Rattle.spec_flow.specs.Settings.{Settings};
 ghost use Rattle.spec_flow.specs.Event.{Story, IsStory};
-ghost use Rattle.spec_flow.specs.Guest.{Up, Honest, Carries, EndsAt, HasCome};
+ghost use Rattle.spec_flow.specs.Guest.{Up, Conforming, Carries, EndsAt, HasCome};
 ghost use Rattle.spec_flow.specs.Guest.{front, written, has_ended, ackd, IsAcknowledged};
 ghost use Rattle.spec_flow.specs.Host.{Gave, got, got_end, sent, owned, end_is_out};
 ghost use Rattle.spec_flow.specs.Flow.{guest, host, their_number, syn_is_out, has_connected};
@@ -38,14 +38,14 @@ ghost use Rattle.spec_flow.specs.Dutiful.{Must, IsDutiful, IsSettled, MayWait, M
 ghost use Rattle.spec_flow.specs.Dutiful.{must_wait_to_write};
 ghost use Rattle.spec_flow.specs.Said.{CameAt, something_is_out, reset_is_out, we_scale};
 ghost use Rattle.spec_flow.specs.Said.{closed_as_failed};
-ghost use Rattle.spec_flow.specs.Computed.{is_honest, are_sized};
+ghost use Rattle.spec_flow.specs.Computed.{is_conforming, are_sized};
 ghost use Rattle.spec_flow.specs.Check.{may, is_lawful};
 ghost use Rattle.spec_flow.specs.CheckDuty.{must, is_dutiful, is_settled, may_wait};
 ghost use Rattle.spec_flow.specs.CheckDuty.{may_wait_to_write};
 
 /// The octets that the host took are a prefix of those that the guest sent (its front).
 pub fn written_octets_begin_what_the_guest_sent()
-    ensures { (s : Settings) (story : Story) → IsLawful s story → Honest (guest story)
+    ensures { (s : Settings) (story : Story) → IsLawful s story → Conforming (guest story)
         → IsPrefixOf (written (guest story)) (front (guest story)) }
 {}
 
@@ -58,33 +58,33 @@ pub fn written_octets_came_at_their_numbers()
 {}
 
 /// The front is what the guest sent up to the first octet that is missing: its segments gave each of these octets to its place,
-/// and, of an honest guest, each list of octets of which that holds begins it.
+/// and, of a conforming guest, each list of octets of which that holds begins it.
 pub fn front_is_the_longest_that_came()
     ensures came { (past : List Up) → AtPlaces (Carries past) (front past) }
-    ensures longest { (past : List Up) → Honest past → (xs : List ℕ) → AtPlaces (Carries past) xs → IsPrefixOf xs (front past) }
+    ensures longest { (past : List Up) → Conforming past → (xs : List ℕ) → AtPlaces (Carries past) xs → IsPrefixOf xs (front past) }
 {}
 
 /// The host is told the guest's end after every octet: it has all that the guest sent, and the guest's FIN stands after that.
 pub fn host_is_ended_after_every_octet()
-    ensures end { (s : Settings) (story : Story) → IsLawful s story → Honest (guest story) → has_ended (guest story) ≡ true
+    ensures end { (s : Settings) (story : Story) → IsLawful s story → Conforming (guest story) → has_ended (guest story) ≡ true
         → EndsAt (guest story) (length (written (guest story))) }
-    ensures all { (s : Settings) (story : Story) → IsLawful s story → Honest (guest story)
+    ensures all { (s : Settings) (story : Story) → IsLawful s story → Conforming (guest story)
         → has_ended (guest story) ≡ true → written (guest story) ≡ front (guest story) }
 {}
 
 /// What the guest was told that came did: no more is acknowledged than its octets up to the first that is missing, and its FIN
 /// only where it stands after them. So the guest gave an octet to each place that was acknowledged, or ended there.
 pub fn acknowledged_octets_came()
-    ensures all { (s : Settings) (story : Story) → IsLawful s story → Honest (guest story)
+    ensures all { (s : Settings) (story : Story) → IsLawful s story → Conforming (guest story)
         → HasCome (guest story) (ackd (guest story)) }
-    ensures each { (s : Settings) (story : Story) → IsLawful s story → Honest (guest story)
+    ensures each { (s : Settings) (story : Story) → IsLawful s story → Conforming (guest story)
         → (i : ℕ) → i < ackd (guest story) → ((x : ℕ) × Carries (guest story) i x) ⊎ EndsAt (guest story) i }
 {}
 
 /// And it found room: where windows tell the room, the octets that were acknowledged are no more than the host took and the
 /// ring holds.
 pub fn acknowledged_octets_found_room()
-    ensures { (s : Settings) (story : Story) → IsDutiful s story → Honest (guest story)
+    ensures { (s : Settings) (story : Story) → IsDutiful s story → Conforming (guest story)
         → (a : ℕ) → IsAcknowledged (guest story) a → a ≤ length (written (guest story)) + s.ring }
 {}
 
@@ -149,26 +149,26 @@ pub fn windows_tell_the_room()
 {}
 
 /// Where the test beside the sentences holds, which computes, so do they: of an act, of a story, of a guest's stream, and of a
-/// wait. It asks of every guest what they ask of an honest one, so an act that fails it may still be allowed.
+/// wait. It asks of every guest what they ask of a conforming one, so an act that fails it may still be allowed.
 pub fn tests_are_sound()
     ensures act { (s : Settings) (past : Story) (now : ℕ) (act : Act) → IsTrue (may s past now act) → May s past now act }
     ensures duty { (s : Settings) (past : Story) (now : ℕ) (act : Act) → IsTrue (must s past now act) → Must s past now act }
     ensures lawful { (s : Settings) (story : Story) → IsTrue (is_lawful s story) → IsLawful s story }
     ensures dutiful { (s : Settings) (story : Story) → IsTrue (is_dutiful s story) → IsDutiful s story }
-    ensures honest { (past : List Up) → IsTrue (is_honest past) → Honest past }
-    ensures settled { (s : Settings) (past : Story) (known rests : Bool) (now : ℕ) → IsTrue (is_settled s past known rests now)
-        → IsSettled s past known rests now }
+    ensures conforming { (past : List Up) → IsTrue (is_conforming past) → Conforming past }
+    ensures settled { (s : Settings) (past : Story) (known time_waits : Bool) (now : ℕ) → IsTrue (is_settled s past known time_waits now)
+        → IsSettled s past known time_waits now }
     ensures wait { (past : Story) (now : ℕ) → IsTrue (may_wait past now) → MayWait past now }
     ensures writing { (past : Story) → IsTrue (may_wait_to_write past) → MayWaitToWrite past }
 {}
 
-/// And of an honest guest they miss nothing: what the law allows passes, where each segment that came has a number of 32 bits
+/// And of a conforming guest they miss nothing: what the law allows passes, where each segment that came has a number of 32 bits
 /// and no more octets than there are numbers. So an act that fails the test there is refuted.
-pub fn tests_are_exact_for_an_honest_guest()
-    ensures act { (s : Settings) (past : Story) (now : ℕ) (act : Act) → Honest (guest past)
+pub fn tests_are_exact_for_a_conforming_guest()
+    ensures act { (s : Settings) (past : Story) (now : ℕ) (act : Act) → Conforming (guest past)
         → IsTrue (are_sized (guest past)) → May s past now act → IsTrue (may s past now act) }
-    ensures duty { (s : Settings) (past : Story) (now : ℕ) (act : Act) → Honest (guest past)
+    ensures duty { (s : Settings) (past : Story) (now : ℕ) (act : Act) → Conforming (guest past)
         → Must s past now act → IsTrue (must s past now act) }
-    ensures lawful { (s : Settings) (story : Story) → Honest (guest story) → IsTrue (are_sized (guest story))
+    ensures lawful { (s : Settings) (story : Story) → Conforming (guest story) → IsTrue (are_sized (guest story))
         → IsLawful s story → IsTrue (is_lawful s story) }
 {}

@@ -1,4 +1,4 @@
--- What each entry adds to the two streams by the record is what it adds to the flow's story.
+-- What each entry adds to the two streams by the trace is what it adds to the flow's story.
 use Rattle.std.proofs.Common.{◌≡◌, ℕ, ◌==◌, Bool, true, false, List, [], ◌∷◌, ◌++◌, drop, Option, Some, None, if◌then◌else◌, refl, sym, ◌∙◌, ap}
 use Rattle.std.proofs.lemmas.List.{append-nil}
 use Rattle.world_face.specs.Frames.{tail, opens}
@@ -19,7 +19,7 @@ use Rattle.spec_flow.specs.Guest.{written}
 use Rattle.spec_flow.specs.Host.{got}
 use Rattle.spec_trace.specs.Happenings.{Arrival, happens}
 use Rattle.spec_flows.specs.Book.{story}
-use Rattle.spec_flows.specs.Doings.{Doing, Calls, comes, goes, seeks, by_call, doing_by, doing, joins, visits, joined, read_by, written_by, ended_by}
+use Rattle.spec_flows.specs.Doings.{Doing, Calls, comes, goes, resolves, by_call, doing_by, doing, joins, visits, joined, read_by, written_by, ended_by}
 use Rattle.spec_flows.specs.Laws.{KeepsFlows}
 use Rattle.spec_flows.specs.Said.{taken_of, taken_on, given_of, given_on}
 use Rattle.spec_flows.specs.Segments.{OnTuple, segment_came, segment_in, asked_in}
@@ -32,12 +32,12 @@ module _ (by : Event → List ℕ) (c : ℕ) where
   comes_nothing None = refl
   comes_nothing (Some on) = refl
 
-  seeks_nothing : (o : Option ℕ) → by_doing by c (seeks o) ≡ []
-  seeks_nothing None = refl
-  seeks_nothing (Some guest) = refl
+  resolves_nothing : (o : Option ℕ) → by_doing by c (resolves o) ≡ []
+  resolves_nothing None = refl
+  resolves_nothing (Some guest) = refl
 
   goes_nothing : (o : Option OnTuple) (asked : Option ℕ) → by_doing by c (goes o asked) ≡ []
-  goes_nothing None asked = seeks_nothing asked
+  goes_nothing None asked = resolves_nothing asked
   goes_nothing (Some on) asked = refl
 
   pub read_nothing : (o : Option Arrival) (e : Entry) → by_doing by c (by_call e) ≡ [] → by_doing by c (doing_by o None e) ≡ []

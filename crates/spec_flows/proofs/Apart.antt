@@ -9,8 +9,8 @@ use Rattle.spec_flow.specs.Event.{Segment, Event, Arrives, Departs, Accepts, Ask
 use Rattle.spec_flow.specs.Flow.{first_number, is_accepted}
 use Rattle.spec_flow.specs.Close.{owes_reset, is_owed_reset}
 use Rattle.spec_flows.specs.Book.{opens, port_of, tuple_for, is_refused, joins_for, visits_for, turned, scene, book, story_in, story}
-use Rattle.spec_flows.specs.Flows.{Flow, Book, Scene, is_on, is_numbered, owner, flow_of, tell, with_event, sends, seeks_for, shuts}
-use Rattle.spec_flows.specs.Doings.{Doing, Nothing, Comes, Goes, Seeks, Pauses, Joins, Visits, Calls, Shuts, doing}
+use Rattle.spec_flows.specs.Flows.{Flow, Book, Scene, is_on, is_numbered, owner, flow_of, tell, with_event, sends, resolves_for, shuts}
+use Rattle.spec_flows.specs.Doings.{Doing, Nothing, Comes, Goes, Resolves, Pauses, Joins, Visits, Calls, Shuts, doing}
 use Rattle.spec_flows.specs.Segments.{OnTuple}
 use Rattle.spec_flows.specs.Touching.{has_number, is_accepted_for, touches, AreApart}
 
@@ -23,8 +23,8 @@ sends_number now seg f = by_test (seg.rst && not (owes_reset f.story && is_owed_
     by_test true = refl
     by_test false = refl
 
-pub seeks_number : (now guest : ℕ) (f : Flow) → (seeks_for now guest f).number ≡ f.number
-seeks_number now guest f = by_test (is_accepted f.story && (address f.tuple.guest == guest))
+pub resolves_number : (now guest : ℕ) (f : Flow) → (resolves_for now guest f).number ≡ f.number
+resolves_number now guest f = by_test (is_accepted f.story && (address f.tuple.guest == guest))
   where
     by_test : (b : Bool) → (if b then with_event now AsksAddress f else f).number ≡ f.number
     by_test true = refl
@@ -71,9 +71,9 @@ module _ (number : ℕ) where
       by_test true rest = refl
       by_test false rest = rest
 
-  seeks_apart : (now guest : ℕ) (o : Option Flow) → is_accepted_for guest o ≡ false → option_map (seeks_for now guest) o ≡ o
-  seeks_apart now guest None not = refl
-  seeks_apart now guest (Some f) not = ap (λ b. Some (if b then with_event now AsksAddress f else f)) not
+  resolves_apart : (now guest : ℕ) (o : Option Flow) → is_accepted_for guest o ≡ false → option_map (resolves_for now guest) o ≡ o
+  resolves_apart now guest None not = refl
+  resolves_apart now guest (Some f) not = ap (λ b. Some (if b then with_event now AsksAddress f else f)) not
 
   -- ---- a doing
 
@@ -87,7 +87,7 @@ module _ (number : ℕ) where
     visits_apart socket peer None not = refl
     visits_apart socket peer (Some guest) not = by_test (is_refused config guest peer book)
       where
-        by_test : (b : Bool) → flow_of number (if b then record { flows = book.flows; rests = book.rests; came = None; doomed = Some socket }
+        by_test : (b : Bool) → flow_of number (if b then record { flows = book.flows; time_waits = book.time_waits; came = None; doomed = Some socket }
             else opens config scene.moment socket (tuple_for config guest peer) (Accepts (first_number scene.moment (length book.flows))) book).flows ≡ flow_of number book.flows
         by_test true = refl
         by_test false = opened_apart _ book.flows not
@@ -97,7 +97,7 @@ module _ (number : ℕ) where
     flow_apart Nothing not = refl
     flow_apart (Comes on) not = tell_apart (is_on on.tuple) (with_event scene.moment (Arrives on.segment)) (λ f. refl) book.flows not
     flow_apart (Goes on) not = tell_apart (is_on on.tuple) (sends scene.moment on.segment) (sends_number scene.moment on.segment) book.flows not
-    flow_apart (Seeks guest) not = map_found (seeks_for scene.moment guest) (seeks_number scene.moment guest) book.flows ∙ seeks_apart scene.moment guest (flow_of number book.flows) not
+    flow_apart (Resolves guest) not = map_found (resolves_for scene.moment guest) (resolves_number scene.moment guest) book.flows ∙ resolves_apart scene.moment guest (flow_of number book.flows) not
     flow_apart Pauses not = refl
     flow_apart (Joins socket) not = joins_apart socket book.came not
     flow_apart (Visits listener socket peer) not = visits_apart socket peer (port_of config listener) not

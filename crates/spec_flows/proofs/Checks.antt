@@ -21,7 +21,7 @@ use Rattle.spec_flows.specs.Check.{may_act, may_shut, may_send, may_send_on, may
 use Rattle.spec_flows.specs.Check.{must_send_on, must_write, must_touch, closes_at_once, may_flow, keeps_flows}
 use Rattle.spec_flows.specs.Flows.{Flow, Scene, closing, flow_of, is_strange, owner}
 use Rattle.spec_flows.specs.Laws.{flow_settings, MayAct, MayShut, MaySend, SendsOn, WritesBy, MayTouch, MustAct, AsksForRoom, MustSend, MustTouch, MayFlow, KeepsFlows}
-use Rattle.spec_flows.specs.Lots.{due_for_flows}
+use Rattle.spec_flows.specs.SegmentVerdicts.{due_for_flows}
 use Rattle.spec_flows.specs.Segments.{OnTuple, segment_in}
 use Rattle.spec_flows.proofs.Lists.{numbers_same}
 
@@ -214,7 +214,7 @@ passes config past call is =
       at_once = λ number f found must. at_once (book config past).flows call number f rest.1 found must;
     }
 
--- a record that passes keeps the law of flows
+-- a trace that passes keeps the law of flows
 pub is_sound : (config : Config) (past : List Entry) → keeps_flows config past ≡ true → KeepsFlows config past
 is_sound config [] is = tt
 is_sound config (e ∷ past) is =

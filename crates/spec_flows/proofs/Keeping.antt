@@ -18,15 +18,15 @@ use Rattle.spec_trace.specs.Happenings.{Arrival, happens}
 use Rattle.spec_trace.specs.Moments.{moment}
 use Rattle.spec_trace.specs.Sockets.{next_number}
 use Rattle.spec_flows.specs.Book.{book, scene, turned, quiet}
-use Rattle.spec_flows.specs.Doings.{Doing, Nothing, Pauses, Joins, Visits, Calls, comes, goes, seeks, doing_by, joined, read_by, written_by, ended_by}
+use Rattle.spec_flows.specs.Doings.{Doing, Nothing, Pauses, Joins, Visits, Calls, comes, goes, resolves, doing_by, joined, read_by, written_by, ended_by}
 use Rattle.spec_flows.specs.Flows.{flow_of}
 use Rattle.spec_flows.specs.Laws.{flow_settings, MayAct, MaySend, WritesBy, SendsOn, MustAct, MustSend, ClosesAtOnce, MayDue, MayFlow, KeepsFlows}
-use Rattle.spec_flows.specs.Lots.{due_by, connects_to}
+use Rattle.spec_flows.specs.SegmentVerdicts.{due_by, connects_to}
 use Rattle.spec_flows.specs.Said.{Each, IsSound, AreKept}
 use Rattle.spec_flows.specs.Segments.{OnTuple, segment_came, segment_in, asked_in}
 use Rattle.spec_flows.proofs.Lists.{each_by_number}
 use Rattle.spec_flows.proofs.Stories.{may_happen, must_happen, joined_act, joined_opens, read_act, read_opens, write_act, write_opens, end_act, end_opens}
-use Rattle.spec_flows.proofs.Turning.{same_sound, comes_sound, goes_sound, seeks_sound, calls_sound, shuts_sound, joins_sound, visits_sound}
+use Rattle.spec_flows.proofs.Turning.{same_sound, comes_sound, goes_sound, resolves_sound, calls_sound, shuts_sound, joins_sound, visits_sound}
 
 -- ---- the call that is due
 
@@ -79,9 +79,9 @@ module _ (config : Config) (past : List Entry) (kept : AreKept config past) wher
       by_segment (Some on) = comes_sound config (flow_settings config) (scene config past) (next_number past) (book config past) kept on none stay
 
   -- a frame went out, or none
-  asked : (o : Option ℕ) → (book config past).doomed ≡ None → Stay → IsNext (seeks o)
+  asked : (o : Option ℕ) → (book config past).doomed ≡ None → Stay → IsNext (resolves o)
   asked None none stay = nothing none
-  asked (Some guest) none stay = seeks_sound config (flow_settings config) (scene config past) (next_number past) (book config past) kept guest none stay
+  asked (Some guest) none stay = resolves_sound config (flow_settings config) (scene config past) (next_number past) (book config past) kept guest none stay
 
   went : (frame : List ℕ) (o : Option OnTuple) → (book config past).doomed ≡ None → Stay → SendsOn (MaySend (flow_settings config) (moment past)) (book config past).flows o
       → SendsOn (MustSend (flow_settings config) (moment past)) (book config past).flows o → IsNext (goes o (asked_in frame))

@@ -13,16 +13,16 @@ use Rattle.host_policy.specs.declared.Verdict.TheVariants.{Go, Denied}
 use Rattle.spec_flow.specs.Dutiful.{IsDutiful, read_size}
 use Rattle.spec_flow.specs.Event.{IsStory}
 use Rattle.spec_flow.specs.Flow.{guest}
-use Rattle.spec_flow.specs.Guest.{Honest, IsAcknowledged, front}
+use Rattle.spec_flow.specs.Guest.{Conforming, IsAcknowledged, front}
 use Rattle.spec_flow.specs.Lawful.{HasCause, IsLawful, IsPrefixOf}
 use Rattle.spec_flow.proofs.FoundRoom.{acknowledged_has_room}
 use Rattle.spec_flow.proofs.GuestLaws.{written_is_a_prefix}
 use Rattle.spec_trace.specs.Moments.{moment}
 use Rattle.spec_trace.specs.Sockets.{next_number}
 use Rattle.spec_flows.specs.Book.{book, scene, story, story_in}
-use Rattle.spec_flows.specs.Flows.{Flow, Book, comes_directly, comes_last, flow_of, guest_is_known, is_numbered, is_used, used, is_resting}
+use Rattle.spec_flows.specs.Flows.{Flow, Book, comes_directly, comes_last, flow_of, guest_is_known, is_numbered, is_used, used, has_time_wait}
 use Rattle.spec_flows.specs.Laws.{flow_settings, AsksForRoom, MayShut, KeepsFlows}
-use Rattle.spec_flows.specs.Lots.{OfFlow, Dropped, GetsReset, asked_for, connects_to, due_by, due_for_flows, is_opening, is_to_many, lot, lot_by}
+use Rattle.spec_flows.specs.SegmentVerdicts.{OfFlow, Dropped, GetsReset, asked_for, connects_to, due_by, due_for_flows, is_opening, is_to_many, segment_verdict, verdict_by_policy}
 use Rattle.spec_flows.specs.Said.{Kept, taken_on, ConnectsAsAsked}
 use Rattle.spec_flows.specs.Segments.{OnTuple}
 use Rattle.spec_flows.proofs.Agreeing.{taken_is}
@@ -53,13 +53,13 @@ module _ (config : Config) (past : List Entry) (number : ℕ) (keeps : KeepsFlow
   pub is_story : (f : Flow) → flow_of number (book config past).flows ≡ Some f → IsStory (story config past number)
   is_story f is = subst (λ o. IsStory (story_in o)) (sym is) (keeps_the_law config past number f keeps is).story
 
-  pub taken_begins : Honest (guest (story config past number)) → IsPrefixOf (taken_on number past) (front (guest (story config past number)))
-  taken_begins honest = subst (λ xs. IsPrefixOf xs (front (guest (story config past number)))) (taken_is config number past keeps)
-      (written_is_a_prefix (flow_settings config) (story config past number) is_lawful honest)
+  pub taken_begins : Conforming (guest (story config past number)) → IsPrefixOf (taken_on number past) (front (guest (story config past number)))
+  taken_begins conforming = subst (λ xs. IsPrefixOf xs (front (guest (story config past number)))) (taken_is config number past keeps)
+      (written_is_a_prefix (flow_settings config) (story config past number) is_lawful conforming)
 
-  pub found_room : Honest (guest (story config past number)) → (a : ℕ) → IsAcknowledged (guest (story config past number)) a → a ≤ length (taken_on number past) + config.ring
-  found_room honest a acked = subst (λ xs. a ≤ length xs + config.ring) (taken_is config number past keeps)
-      (acknowledged_has_room (flow_settings config) (story config past number) is_dutiful honest a acked)
+  pub found_room : Conforming (guest (story config past number)) → (a : ℕ) → IsAcknowledged (guest (story config past number)) a → a ≤ length (taken_on number past) + config.ring
+  found_room conforming a acked = subst (λ xs. a ≤ length xs + config.ring) (taken_is config number past keeps)
+      (acknowledged_has_room (flow_settings config) (story config past number) is_dutiful conforming a acked)
 
 -- ---- connects
 
@@ -75,41 +75,41 @@ connects_as_asked config b number socket to is = by_came b.came refl (asks b.doo
     both true c is = cc
     both false c is = (refl, is)
 
-    goes : (v : Verdict) (room : Bool) → asked_for (lot_by v room) ≡ Some to → (v ≡ Go to) × (room ≡ true)
+    goes : (v : Verdict) (room : Bool) → asked_for (verdict_by_policy v room) ≡ Some to → (v ≡ Go to) × (room ≡ true)
     goes (Go at) true is = (cc, refl)
     goes (Go at) false is = cc
     goes (Denied rule) room is = cc
 
     by_opening : (on : OnTuple) → (t : Bool) → is_opening on.segment ≡ t
-        → asked_for (if t then lot_by (target config OverTcp on.tuple.other) (nat_lt (used b.flows) config.flows) else GetsReset) ≡ Some to
+        → asked_for (if t then verdict_by_policy (target config OverTcp on.tuple.other) (nat_lt (used b.flows) config.flows) else GetsReset) ≡ Some to
         → (is_opening on.segment ≡ true) × (target config OverTcp on.tuple.other ≡ Go to) × (nat_lt (used b.flows) config.flows ≡ true)
     by_opening on true opening is = let parts = goes (target config OverTcp on.tuple.other) (nat_lt (used b.flows) config.flows) is in (opening, parts.0, parts.1)
     by_opening on false opening is = cc
 
     by_dropped : (on : OnTuple) → (t : Bool)
-        → asked_for (if t then Dropped else (if is_opening on.segment then lot_by (target config OverTcp on.tuple.other) (nat_lt (used b.flows) config.flows) else GetsReset)) ≡ Some to
+        → asked_for (if t then Dropped else (if is_opening on.segment then verdict_by_policy (target config OverTcp on.tuple.other) (nat_lt (used b.flows) config.flows) else GetsReset)) ≡ Some to
         → (is_opening on.segment ≡ true) × (target config OverTcp on.tuple.other ≡ Go to) × (nat_lt (used b.flows) config.flows ≡ true)
     by_dropped on true is = cc
     by_dropped on false is = by_opening on (is_opening on.segment) refl is
 
-    by_owner : (on : OnTuple) → (t : Bool) → (is_used on.tuple b.flows || is_resting on.tuple b) ≡ t
+    by_owner : (on : OnTuple) → (t : Bool) → (is_used on.tuple b.flows || has_time_wait on.tuple b) ≡ t
         → asked_for (if t then OfFlow else (if on.segment.rst || is_to_many config on.tuple.other then Dropped
-        else (if is_opening on.segment then lot_by (target config OverTcp on.tuple.other) (nat_lt (used b.flows) config.flows) else GetsReset))) ≡ Some to
-        → ((is_used on.tuple b.flows || is_resting on.tuple b) ≡ false) × (is_opening on.segment ≡ true) × (target config OverTcp on.tuple.other ≡ Go to) × (nat_lt (used b.flows) config.flows ≡ true)
+        else (if is_opening on.segment then verdict_by_policy (target config OverTcp on.tuple.other) (nat_lt (used b.flows) config.flows) else GetsReset))) ≡ Some to
+        → ((is_used on.tuple b.flows || has_time_wait on.tuple b) ≡ false) × (is_opening on.segment ≡ true) × (target config OverTcp on.tuple.other ≡ Go to) × (nat_lt (used b.flows) config.flows ≡ true)
     by_owner on true has is = cc
     by_owner on false has is = let parts = by_dropped on (on.segment.rst || is_to_many config on.tuple.other) is in (has, parts.0, parts.1, parts.2)
 
     less : (n m : ℕ) → nat_lt n m ≡ true → n < m
     less n m is = grind (arith, nat_tests, is)
 
-    by_came : (came : Option OnTuple) → b.came ≡ came → option_and_then (λ on. asked_for (lot config b on)) b.came ≡ Some to → ConnectsAsAsked config b to
-    by_came None is asked = absurd (none_some (sym (ap (option_and_then (λ on. asked_for (lot config b on))) is) ∙ asked))
+    by_came : (came : Option OnTuple) → b.came ≡ came → option_and_then (λ on. asked_for (segment_verdict config b on)) b.came ≡ Some to → ConnectsAsAsked config b to
+    by_came None is asked = absurd (none_some (sym (ap (option_and_then (λ on. asked_for (segment_verdict config b on))) is) ∙ asked))
       where
         none_some : None ≡ Some to → ⊥
         none_some is = cc
     by_came (Some on) is asked =
-        let parts = by_owner on (is_used on.tuple b.flows || is_resting on.tuple b) refl (sym (ap (option_and_then (λ on. asked_for (lot config b on))) is) ∙ asked) in
-        let apart = both (is_used on.tuple b.flows) (is_resting on.tuple b) parts.0 in
+        let parts = by_owner on (is_used on.tuple b.flows || has_time_wait on.tuple b) refl (sym (ap (option_and_then (λ on. asked_for (segment_verdict config b on))) is) ∙ asked) in
+        let apart = both (is_used on.tuple b.flows) (has_time_wait on.tuple b) parts.0 in
         record {
           on = on;
           came = is;

@@ -21,7 +21,7 @@ pub mod TcpGivesUp
 pub mod TcpHeaders
 pub mod TcpForwards
 pub mod TcpRefused
-pub mod Lots
+pub mod SegmentVerdicts
 pub mod Quietest
 pub mod Quiet
 pub mod TcpDuties

@@ -12,7 +12,7 @@ use Rattle.spec_flow.specs.Event.{Accepts}
 use Rattle.spec_flow.specs.Flow.{first_number}
 use Rattle.spec_trace.specs.Happenings.{Arrival, happens}
 use Rattle.spec_flows.specs.Book.{opens, port_of, tuple_for, is_refused, joins_for, visits_for, doom, turned, scene, book}
-use Rattle.spec_flows.specs.Doings.{Doing, Nothing, Comes, Goes, Seeks, Pauses, Joins, Visits, Calls, Shuts, comes, goes, seeks, by_call, doing_by, doing, joins, visits}
+use Rattle.spec_flows.specs.Doings.{Doing, Nothing, Comes, Goes, Resolves, Pauses, Joins, Visits, Calls, Shuts, comes, goes, resolves, by_call, doing_by, doing, joins, visits}
 use Rattle.spec_flows.specs.Flows.{Book, Scene}
 use Rattle.spec_flows.specs.Segments.{OnTuple, segment_came, segment_in, asked_in}
 
@@ -41,7 +41,7 @@ module _ (on : OnTuple) where
     came_is Nothing is = cc
     came_is (Comes o) is = cc
     came_is (Goes o) is = cc
-    came_is (Seeks guest) is = cc
+    came_is (Resolves guest) is = cc
     came_is Pauses is = cc
     came_is (Joins socket) is = absurd (not_one (joins_for config sc.moment socket b.came b).came (joins_none socket b.came) is)
     came_is (Visits listener socket peer) is = absurd (not_one (visits_for config sc.moment socket peer (port_of config listener) b).came (visits_none socket peer (port_of config listener)) is)
@@ -52,12 +52,12 @@ module _ (on : OnTuple) where
   by_segment None is = cc
   by_segment (Some o) is = cc
 
-  seeks_not : (o : Option ℕ) → seeks o ≡ Comes on → ⊥
-  seeks_not None is = cc
-  seeks_not (Some guest) is = cc
+  resolves_not : (o : Option ℕ) → resolves o ≡ Comes on → ⊥
+  resolves_not None is = cc
+  resolves_not (Some guest) is = cc
 
   goes_not : (o : Option OnTuple) (asked : Option ℕ) → goes o asked ≡ Comes on → ⊥
-  goes_not None asked is = seeks_not asked is
+  goes_not None asked is = resolves_not asked is
   goes_not (Some o) asked is = cc
 
   joins_not : (answer : Made) (socket : ℕ) → joins answer socket ≡ Comes on → ⊥

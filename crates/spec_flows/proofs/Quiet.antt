@@ -3,7 +3,7 @@ use Rattle.std.proofs.Common.{◌≡◌, ℕ, ◌==◌, ◌&&◌, ◌||◌, Bool
 use Rattle.std.proofs.lemmas.Bool.Decides.{nat_tests}
 use Rattle.spec_flow.specs.Close.{last_at, may_give_way}
 use Rattle.spec_flows.specs.Flows.{Flow, flow_of}
-use Rattle.spec_flows.specs.Lots.{goes_before, quietest, the_earlier}
+use Rattle.spec_flows.specs.SegmentVerdicts.{goes_before, quietest, the_earlier}
 use Rattle.spec_flows.specs.Said.{Each, Differ}
 use Rattle.spec_flows.proofs.Lists.{numbers_same}
 

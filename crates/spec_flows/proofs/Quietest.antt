@@ -6,7 +6,7 @@ use Rattle.std.specs.List.{list_any}
 use Rattle.slirp_settings.specs.Addresses.{Config}
 use Rattle.spec_flow.specs.Close.{last_at, may_give_way, owes_reset}
 use Rattle.spec_flows.specs.Flows.{Book, Flow}
-use Rattle.spec_flows.specs.Lots.{Lot, OfFlow, Dropped, AsksFor, NeedsRoom, GetsReset, giving_way, goes_before, lot, needs_room, quietest, the_earlier}
+use Rattle.spec_flows.specs.SegmentVerdicts.{SegmentVerdict, OfFlow, Dropped, AsksFor, NeedsRoom, GetsReset, giving_way, goes_before, segment_verdict, needs_room, quietest, the_earlier}
 use Rattle.spec_flows.specs.Said.{IsQuietest}
 use Rattle.spec_flows.specs.Segments.{OnTuple}
 
@@ -74,8 +74,8 @@ answers now (f ∷ flows) = by (may_give_way now f.story) refl (quietest now flo
 
 -- ---- to a SYN that finds no room
 
-gives_of : (config : Config) (now number : ℕ) (on : OnTuple) (b : Book) (l : Lot) (owed : Bool) (o : Option Flow) → lot config b on ≡ l
-    → (if needs_room l && not owed then option_map (λ (f : Flow). f.number) o else None) ≡ Some number → (lot config b on ≡ NeedsRoom) × (f : Flow) × (o ≡ Some f) × (f.number ≡ number)
+gives_of : (config : Config) (now number : ℕ) (on : OnTuple) (b : Book) (l : SegmentVerdict) (owed : Bool) (o : Option Flow) → segment_verdict config b on ≡ l
+    → (if needs_room l && not owed then option_map (λ (f : Flow). f.number) o else None) ≡ Some number → (segment_verdict config b on ≡ NeedsRoom) × (f : Flow) × (o ≡ Some f) × (f.number ≡ number)
 gives_of config now number on b OfFlow owed o is gives = cc
 gives_of config now number on b Dropped owed o is gives = cc
 gives_of config now number on b (AsksFor to) owed o is gives = cc
@@ -88,10 +88,10 @@ gives_of config now number on b NeedsRoom false (Some f) is gives = (is, f, refl
     the_same same_one = cc
 
 gives : (config : Config) (now number : ℕ) (on : OnTuple) (b : Book) → giving_way config now on b ≡ Some number
-    → (lot config b on ≡ NeedsRoom) × (f : Flow) × (quietest now b.flows ≡ Some f) × (f.number ≡ number)
-gives config now number on b is = gives_of config now number on b (lot config b on) (list_any (λ f. owes_reset f.story) b.flows) (quietest now b.flows) refl is
+    → (segment_verdict config b on ≡ NeedsRoom) × (f : Flow) × (quietest now b.flows ≡ Some f) × (f.number ≡ number)
+gives config now number on b is = gives_of config now number on b (segment_verdict config b on) (list_any (λ f. owes_reset f.story) b.flows) (quietest now b.flows) refl is
 
-pub to_a_syn : (config : Config) (now number : ℕ) (on : OnTuple) (b : Book) → giving_way config now on b ≡ Some number → lot config b on ≡ NeedsRoom
+pub to_a_syn : (config : Config) (now number : ℕ) (on : OnTuple) (b : Book) → giving_way config now on b ≡ Some number → segment_verdict config b on ≡ NeedsRoom
 to_a_syn config now number on b is = (gives config now number on b is).0
 
 pub quietest_gives : (config : Config) (now number : ℕ) (on : OnTuple) (b : Book) → giving_way config now on b ≡ Some number → (f : Flow) × (f.number ≡ number) × IsQuietest now b.flows f

@@ -1,4 +1,4 @@
--- What the host took on a socket, and what was read on it, is the same by the record as by the flow's story.
+-- What the host took on a socket, and what was read on it, is the same by the trace as by the flow's story.
 use Rattle.std.proofs.Common.{◌≡◌, ℕ, ◌==◌, ◌&&◌, Bool, true, false, cond, List, [], ◌∷◌, ◌++◌, drop, length, map, Option, Some, None, option_map, if◌then◌else◌, refl, sym, ◌∙◌, ap, arith}
 use Rattle.std.proofs.lemmas.List.{append-nil}
 use Rattle.net_octets.specs.declared.Endpoint.{Endpoint}
@@ -20,14 +20,14 @@ use Rattle.spec_trace.specs.Happenings.{Arrival, happens}
 use Rattle.spec_trace.specs.Moments.{moment}
 use Rattle.spec_trace.specs.Sockets.{next_number}
 use Rattle.spec_flows.specs.Book.{port_of, tuple_for, is_refused, joins_for, visits_for, doom, opens as opens_flow, turned, scene, book, story_in}
-use Rattle.spec_flows.specs.Doings.{Doing, Nothing, Comes, Goes, Seeks, Pauses, Joins, Visits, Calls, Shuts, comes, goes, seeks, by_call, doing_by, doing, joins, visits, joined, read_by}
+use Rattle.spec_flows.specs.Doings.{Doing, Nothing, Comes, Goes, Resolves, Pauses, Joins, Visits, Calls, Shuts, comes, goes, resolves, by_call, doing_by, doing, joins, visits, joined, read_by}
 use Rattle.spec_flows.specs.Doings.{written_by, ended_by}
-use Rattle.spec_flows.specs.Flows.{Flow, Book, Scene, is_on, is_numbered, flow_of, tell, with_event, is_strange, sends, seeks_for, shuts, comes_directly, comes_last, guest_is_known}
+use Rattle.spec_flows.specs.Flows.{Flow, Book, Scene, is_on, is_numbered, flow_of, tell, with_event, is_strange, sends, resolves_for, shuts, comes_directly, comes_last, guest_is_known}
 use Rattle.spec_flows.specs.Laws.{flow_settings, MayAct, MayFlow, KeepsFlows}
-use Rattle.spec_flows.specs.Lots.{connects_to}
+use Rattle.spec_flows.specs.SegmentVerdicts.{connects_to}
 use Rattle.spec_flows.specs.Said.{AreKept}
 use Rattle.spec_flows.specs.Segments.{OnTuple, segment_came, segment_in, asked_in}
-use Rattle.spec_flows.proofs.Apart.{sends_number, seeks_number, found_told, other_number, tell_apart, map_found}
+use Rattle.spec_flows.proofs.Apart.{sends_number, resolves_number, found_told, other_number, tell_apart, map_found}
 use Rattle.spec_flows.proofs.Keeping.{are_kept, connects_next}
 use Rattle.spec_flows.proofs.Lists.{fresh, numbers_same}
 
@@ -95,8 +95,8 @@ module _ (read : Story → List ℕ) (by : Event → List ℕ) (starts : read []
       by_test true = refl
       by_test false = same now f.story (Departs seg) (departs_not seg)
 
-  seeks_same : (now guest : ℕ) (f : Flow) → read (seeks_for now guest f).story ≡ read f.story
-  seeks_same now guest f = by_test (is_accepted f.story && (address f.tuple.guest == guest))
+  resolves_same : (now guest : ℕ) (f : Flow) → read (resolves_for now guest f).story ≡ read f.story
+  resolves_same now guest f = by_test (is_accepted f.story && (address f.tuple.guest == guest))
     where
       by_test : (b : Bool) → read (if b then with_event now AsksAddress f else f).story ≡ read f.story
       by_test true = same now f.story AsksAddress asks_not
@@ -156,7 +156,7 @@ module _ (read : Story → List ℕ) (by : Event → List ℕ) (starts : read []
     turned_reads (Comes on) fits = unchanged _ (told_same (is_on on.tuple) (with_event sc.moment (Arrives on.segment)) (λ f. refl) (λ f. same sc.moment f.story (Arrives on.segment)
         (arrives_not on.segment)) b.flows)
     turned_reads (Goes on) fits = unchanged _ (told_same (is_on on.tuple) (sends sc.moment on.segment) (sends_number sc.moment on.segment) (sends_same sc.moment on.segment) b.flows)
-    turned_reads (Seeks guest) fits = unchanged _ (mapped_same (seeks_for sc.moment guest) (seeks_number sc.moment guest) (seeks_same sc.moment guest) b.flows)
+    turned_reads (Resolves guest) fits = unchanged _ (mapped_same (resolves_for sc.moment guest) (resolves_number sc.moment guest) (resolves_same sc.moment guest) b.flows)
     turned_reads Pauses fits = unchanged _ refl
     turned_reads (Joins socket) fits = unchanged _ (ap (λ n. read (story_in (flow_of c (joins_for config sc.moment n b.came b).flows))) fits ∙ joined_same b.came)
     turned_reads (Visits listener socket peer) fits = unchanged _ (ap (λ n. read (story_in (flow_of c (visits_for config sc.moment n peer (port_of config listener) b).flows))) fits
@@ -171,12 +171,12 @@ module _ (read : Story → List ℕ) (by : Event → List ℕ) (starts : read []
   came_fits next flows None = tt
   came_fits next flows (Some on) = tt
 
-  seeks_fits : (next : ℕ) (flows : List Flow) (o : Option ℕ) → Fits next flows (seeks o)
-  seeks_fits next flows None = tt
-  seeks_fits next flows (Some guest) = tt
+  resolves_fits : (next : ℕ) (flows : List Flow) (o : Option ℕ) → Fits next flows (resolves o)
+  resolves_fits next flows None = tt
+  resolves_fits next flows (Some guest) = tt
 
   goes_fits : (next : ℕ) (flows : List Flow) (o : Option OnTuple) (asked : Option ℕ) → Fits next flows (goes o asked)
-  goes_fits next flows None asked = seeks_fits next flows asked
+  goes_fits next flows None asked = resolves_fits next flows asked
   goes_fits next flows (Some on) asked = tt
 
   read_fits : (next : ℕ) (flows : List Flow) (o : Option Arrival) (e : Entry) → Fits next flows (by_call e) → Fits next flows (doing_by o None e)
@@ -222,7 +222,7 @@ module _ (read : Story → List ℕ) (by : Event → List ℕ) (starts : read []
   fits config past (FileLen name answer) may = tt
   fits config past (FileRead name place asked answer octets) may = tt
 
-  -- the stream by the record, to which each entry adds as much
+  -- the stream by the trace, to which each entry adds as much
   pub reads_on : (config : Config) (on : List Entry → List ℕ) → on [] ≡ []
       → ((past : List Entry) (e : Entry) → on (e ∷ past) ≡ on past ++ by_doing by c (doing config past e))
       → (past : List Entry) → KeepsFlows config past → read (story_in (flow_of c (book config past).flows)) ≡ on past

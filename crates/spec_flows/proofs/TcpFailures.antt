@@ -4,7 +4,7 @@ use Rattle.poll_list.specs.declared.Who.TheVariants.{Link, Tcp}
 use Rattle.world_face.specs.declared.Io.TheVariants.{Done, Failed}
 use Rattle.world_face.specs.declared.Waited.TheVariants.{Ready, Stop}
 use Rattle.world_face.specs.Journal.{Entry, Now, Wait, LinkRead, LinkWrite, TcpRead, Close, CallLinkWrite}
-use Rattle.world_face.specs.Frames.{spelling, missing, is_too_long, spelt_length}
+use Rattle.world_face.specs.Frames.{encoding, missing, is_too_long, encoded_length}
 use Rattle.tlv_table.specs.Reading.{read_on}
 use Rattle.slirp_settings.specs.Settings.{usual}
 use Rattle.spec_flows.specs.Check.{may_flow}
@@ -32,11 +32,11 @@ failed_read =
     ∷ []
 
 failed_read_keeps : KeepsFlows usual (run failed_read)
-unfolding missing spelling is_too_long spelt_length read_on
+unfolding missing encoding is_too_long encoded_length read_on
 failed_read_keeps = is_sound usual (run failed_read) refl
 
 -- The reset may go out;
 reset_once : may_flow usual (run (take 18 failed_read)) (CallLinkWrite
     (hex "0000003652540012345652550a000202080045000028000100004006acb9c00002070a00020f00500fa00003d091000003e950140000fd4c0000")) ≡ true
-unfolding missing spelling is_too_long spelt_length read_on
+unfolding missing encoding is_too_long encoded_length read_on
 reset_once = refl

@@ -6,7 +6,7 @@ use Rattle.world_face.specs.declared.Made.TheVariants.{Done as MadeDone}
 use Rattle.world_face.specs.declared.Accepted.TheVariants.{From, NotYet as NotYetAccepted}
 use Rattle.world_face.specs.declared.Waited.TheVariants.{Ready, Stop}
 use Rattle.world_face.specs.Journal.{Entry, Now, Wait, LinkRead, LinkWrite, Listen, Accept, TcpRead, Close}
-use Rattle.world_face.specs.Frames.{spelling, missing, is_too_long, spelt_length}
+use Rattle.world_face.specs.Frames.{encoding, missing, is_too_long, encoded_length}
 use Rattle.tlv_table.specs.Reading.{read_on}
 use Rattle.slirp_settings.specs.Addresses.{endpoint}
 use Rattle.slirp_settings.specs.Settings.{usual}
@@ -49,7 +49,7 @@ visited =
     ∷ []
 
 visited_keeps : KeepsFlows forwarding (run visited)
-unfolding missing spelling is_too_long spelt_length read_on
+unfolding missing encoding is_too_long encoded_length read_on
 visited_keeps = is_sound forwarding (run visited) refl
 
 -- a peer that would pass for a guest is refused
@@ -69,5 +69,5 @@ unshown =
     ∷ []
 
 unshown_keeps : KeepsFlows forwarding (run unshown)
-unfolding missing spelling is_too_long spelt_length read_on
+unfolding missing encoding is_too_long encoded_length read_on
 unshown_keeps = is_sound forwarding (run unshown) refl

@@ -4,7 +4,7 @@ use Rattle.poll_list.specs.declared.Who.TheVariants.{Link, Tcp}
 use Rattle.world_face.specs.declared.Io.TheVariants.{Done}
 use Rattle.world_face.specs.declared.Waited.TheVariants.{Ready, Stop}
 use Rattle.world_face.specs.Journal.{Entry, Now, Wait, LinkWrite, Close}
-use Rattle.world_face.specs.Frames.{spelling, missing, is_too_long, spelt_length}
+use Rattle.world_face.specs.Frames.{encoding, missing, is_too_long, encoded_length}
 use Rattle.tlv_table.specs.Reading.{read_on}
 use Rattle.slirp_settings.specs.Settings.{usual}
 use Rattle.spec_flows.specs.Laws.{KeepsFlows}
@@ -49,5 +49,5 @@ given_up =
     ∷ []
 
 given_up_keeps : KeepsFlows usual (run given_up)
-unfolding missing spelling is_too_long spelt_length read_on
+unfolding missing encoding is_too_long encoded_length read_on
 given_up_keeps = is_sound usual (run given_up) refl

@@ -6,7 +6,7 @@ use Rattle.world_face.specs.declared.Made.TheVariants.{Done as MadeDone}
 use Rattle.world_face.specs.declared.Joined.TheVariants.{Yes}
 use Rattle.world_face.specs.declared.Waited.TheVariants.{Ready, Stop}
 use Rattle.world_face.specs.Journal.{Entry, Now, Wait, LinkRead, LinkWrite, Connect, Connected, TcpWrite, Close, CallTcpWrite}
-use Rattle.world_face.specs.Frames.{spelling, missing, is_too_long, spelt_length}
+use Rattle.world_face.specs.Frames.{encoding, missing, is_too_long, encoded_length}
 use Rattle.tlv_table.specs.Reading.{read_on}
 use Rattle.slirp_settings.specs.Addresses.{endpoint}
 use Rattle.slirp_settings.specs.Settings.{usual}
@@ -40,20 +40,20 @@ two_flows =
     ∷ []
 
 two_flows_keeps : KeepsFlows usual (run two_flows)
-unfolding missing spelling is_too_long spelt_length read_on
+unfolding missing encoding is_too_long encoded_length read_on
 two_flows_keeps = is_sound usual (run two_flows) refl
 
 -- What may not come: octets of one flow on the socket of the other;
 other_socket : may_flow usual (run (take 27 two_flows)) (CallTcpWrite 1 (hex "03040506070809")) ≡ false
-unfolding missing spelling is_too_long spelt_length read_on
+unfolding missing encoding is_too_long encoded_length read_on
 other_socket = refl
 
 -- octets that were taken;
 octets_again : may_flow usual (run (take 27 two_flows)) (CallTcpWrite 0 (hex "00010203040506070809")) ≡ false
-unfolding missing spelling is_too_long spelt_length read_on
+unfolding missing encoding is_too_long encoded_length read_on
 octets_again = refl
 
 -- and those that go on are offered.
 octets_of_its_own : may_flow usual (run (take 27 two_flows)) (CallTcpWrite 0 (hex "03040506070809")) ≡ true
-unfolding missing spelling is_too_long spelt_length read_on
+unfolding missing encoding is_too_long encoded_length read_on
 octets_of_its_own = refl

@@ -6,7 +6,7 @@ use Rattle.world_face.specs.declared.Made.TheVariants.{Done as MadeDone}
 use Rattle.world_face.specs.declared.Joined.TheVariants.{Yes}
 use Rattle.world_face.specs.declared.Waited.TheVariants.{Ready, Stop}
 use Rattle.world_face.specs.Journal.{Entry, Now, Wait, LinkRead, LinkWrite, Connect, Connected, Close}
-use Rattle.world_face.specs.Frames.{spelling, missing, is_too_long, spelt_length}
+use Rattle.world_face.specs.Frames.{encoding, missing, is_too_long, encoded_length}
 use Rattle.tlv_table.specs.Reading.{read_on}
 use Rattle.slirp_settings.specs.Addresses.{endpoint}
 use Rattle.slirp_settings.specs.Settings.{usual}
@@ -43,5 +43,5 @@ reset =
     ∷ []
 
 reset_keeps : KeepsFlows usual (run reset)
-unfolding missing spelling is_too_long spelt_length read_on
+unfolding missing encoding is_too_long encoded_length read_on
 reset_keeps = is_sound usual (run reset) refl

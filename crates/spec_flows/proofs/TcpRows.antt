@@ -5,7 +5,7 @@ use Rattle.world_face.specs.declared.Io.TheVariants.{Done}
 use Rattle.world_face.specs.declared.Joined.TheVariants.{NotYet as NotYetJoined, Failed as JoinFailed}
 use Rattle.world_face.specs.declared.Waited.TheVariants.{Ready, Stop}
 use Rattle.world_face.specs.Journal.{Entry, Now, Wait, LinkWrite, Connected, Close, CallWait, CallLinkWrite, CallConnect}
-use Rattle.world_face.specs.Frames.{spelling, missing, is_too_long, spelt_length}
+use Rattle.world_face.specs.Frames.{encoding, missing, is_too_long, encoded_length}
 use Rattle.tlv_table.specs.Reading.{read_on}
 use Rattle.slirp_settings.specs.Addresses.{endpoint}
 use Rattle.slirp_settings.specs.Settings.{usual}
@@ -28,7 +28,7 @@ late =
     ∷ []
 
 late_keeps : KeepsFlows usual (run late)
-unfolding missing spelling is_too_long spelt_length read_on
+unfolding missing encoding is_too_long encoded_length read_on
 late_keeps = is_sound usual (run late) refl
 
 -- a connection fails: the socket is closed, and the guest gets a reset
@@ -43,21 +43,21 @@ unconnected =
     ∷ []
 
 unconnected_keeps : KeepsFlows usual (run unconnected)
-unfolding missing spelling is_too_long spelt_length read_on
+unfolding missing encoding is_too_long encoded_length read_on
 unconnected_keeps = is_sound usual (run unconnected) refl
 
 -- What may not come: the SYN-ACK before the host connected;
 accepted_before_the_host_connected : may_flow usual (run (take 6 late))
     (CallLinkWrite (hex "0000003a52540012345652550a00020208004500002c000000004006acb6c00002070a00020f00500fa00003d090000003e96012ffffe5930000020405b4")) ≡ false
-unfolding missing spelling is_too_long spelt_length read_on
+unfolding missing encoding is_too_long encoded_length read_on
 accepted_before_the_host_connected = refl
 
 -- another port of the host;
 connect_elsewhere : may_flow usual (run (take 5 late)) (CallConnect 0 (endpoint 3221225991 81)) ≡ false
-unfolding missing spelling is_too_long spelt_length read_on
+unfolding missing encoding is_too_long encoded_length read_on
 connect_elsewhere = refl
 
 -- a wait in place of the connection;
 no_connect : may_flow usual (run (take 5 late)) (CallWait [] None) ≡ false
-unfolding missing spelling is_too_long spelt_length read_on
+unfolding missing encoding is_too_long encoded_length read_on
 no_connect = refl

@@ -6,7 +6,7 @@ use Rattle.world_face.specs.declared.Made.TheVariants.{Done as MadeDone}
 use Rattle.world_face.specs.declared.Joined.TheVariants.{Yes}
 use Rattle.world_face.specs.declared.Waited.TheVariants.{Ready, Stop}
 use Rattle.world_face.specs.Journal.{Entry, Now, Wait, LinkRead, LinkWrite, Connect, Connected, TcpWrite, Close}
-use Rattle.world_face.specs.Frames.{spelling, missing, is_too_long, spelt_length}
+use Rattle.world_face.specs.Frames.{encoding, missing, is_too_long, encoded_length}
 use Rattle.tlv_table.specs.Reading.{read_on}
 use Rattle.slirp_settings.specs.Addresses.{endpoint}
 use Rattle.slirp_settings.specs.Settings.{usual}
@@ -40,5 +40,5 @@ wrapped =
     ∷ []
 
 wrapped_keeps : KeepsFlows usual (run wrapped)
-unfolding missing spelling is_too_long spelt_length read_on
+unfolding missing encoding is_too_long encoded_length read_on
 wrapped_keeps = is_sound usual (run wrapped) refl

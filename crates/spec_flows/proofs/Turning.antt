@@ -10,13 +10,13 @@ use Rattle.spec_flow.specs.Lawful.{MayHappen}
 use Rattle.spec_flow.specs.Settings.{Settings}
 use Rattle.spec_flows.specs.declared.Tuple.{Tuple}
 use Rattle.spec_flows.specs.Book.{opens, port_of, tuple_for, is_refused, heard, joins_for, visits_for, doom, quiet, turned}
-use Rattle.spec_flows.specs.Doings.{Comes, Goes, Seeks, Joins, Visits, Calls, Shuts}
-use Rattle.spec_flows.specs.Flows.{Flow, Book, Scene, closing, is_on, is_numbered, owner, flow_of, tell, with_event, sends, seeks_for, shuts, comes_directly, comes_last, guest_is_known}
-use Rattle.spec_flows.specs.Lots.{giving_way}
+use Rattle.spec_flows.specs.Doings.{Comes, Goes, Resolves, Joins, Visits, Calls, Shuts}
+use Rattle.spec_flows.specs.Flows.{Flow, Book, Scene, closing, is_on, is_numbered, owner, flow_of, tell, with_event, sends, resolves_for, shuts, comes_directly, comes_last, guest_is_known}
+use Rattle.spec_flows.specs.SegmentVerdicts.{giving_way}
 use Rattle.spec_flows.specs.Laws.{MayShut, MaySend, MustSend}
 use Rattle.spec_flows.specs.Said.{Each, Differ, Kept, IsSound}
 use Rattle.spec_flows.specs.Segments.{OnTuple}
-use Rattle.spec_flows.proofs.Apart.{sends_number, seeks_number}
+use Rattle.spec_flows.proofs.Apart.{sends_number, resolves_number}
 use Rattle.spec_flows.proofs.Lists.{each_as, each_both, each_found, each_map, each_told, each_numbered, found_number, told_differ, mapped_differ, fresh, never}
 use Rattle.spec_flows.proofs.Stories.{stays, happened, well, sent}
 
@@ -75,16 +75,16 @@ module _ (config : Config) (s : Settings) (sc : Scene) (next : ℕ) (b : Book) (
       (subst (MustSend s sc.moment on.segment) found must) kept) in
       record { differ = is.0; below = is.1; each = is.2 }
 
-  pub seeks_sound : (guest : ℕ) → b.doomed ≡ None → Each (λ f. MustClose f.story → ⊥) b.flows → IsSound s sc.moment next (turned config sc (Seeks guest) b)
-  seeks_sound guest none free = record {
-    differ = mapped_differ (seeks_for sc.moment guest) (seeks_number sc.moment guest) b.flows sound.differ;
-    below = each_map (λ f. f.number < next) (λ f. f.number < next) (seeks_for sc.moment guest) (λ f is. kept_below (seeks_for sc.moment guest)
-        (seeks_number sc.moment guest) next f is) b.flows sound.below;
-    each = each_map (λ f. Kept s sc.moment b.doomed f × (MustClose f.story → ⊥)) (Kept s sc.moment None) (seeks_for sc.moment guest) asked b.flows
+  pub resolves_sound : (guest : ℕ) → b.doomed ≡ None → Each (λ f. MustClose f.story → ⊥) b.flows → IsSound s sc.moment next (turned config sc (Resolves guest) b)
+  resolves_sound guest none free = record {
+    differ = mapped_differ (resolves_for sc.moment guest) (resolves_number sc.moment guest) b.flows sound.differ;
+    below = each_map (λ f. f.number < next) (λ f. f.number < next) (resolves_for sc.moment guest) (λ f is. kept_below (resolves_for sc.moment guest)
+        (resolves_number sc.moment guest) next f is) b.flows sound.below;
+    each = each_map (λ f. Kept s sc.moment b.doomed f × (MustClose f.story → ⊥)) (Kept s sc.moment None) (resolves_for sc.moment guest) asked b.flows
         (each_both (Kept s sc.moment b.doomed) (λ f. MustClose f.story → ⊥) b.flows sound.each free);
   }
     where
-      asked : (f : Flow) → Kept s sc.moment b.doomed f × (MustClose f.story → ⊥) → Kept s sc.moment None (seeks_for sc.moment guest f)
+      asked : (f : Flow) → Kept s sc.moment b.doomed f × (MustClose f.story → ⊥) → Kept s sc.moment None (resolves_for sc.moment guest f)
       asked f (kept, stays_open) = by_test (is_accepted f.story && (address f.tuple.guest == guest))
         where
           by_test : (t : Bool) → Kept s sc.moment None (if t then with_event sc.moment AsksAddress f else f)

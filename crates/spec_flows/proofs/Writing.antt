@@ -1,4 +1,4 @@
--- Records and octets as they are written in worked runs.
+-- Traces and octets as they are written in worked runs.
 use Rattle.std.proofs.Common.{ℕ, ◌+◌, ◌-◌, ◌*◌, nat_lt, Bool, List, [], ◌∷◌, reverse, codes, if◌then◌else◌}
 use Prim.Native.String.{String}
 use Rattle.poll_list.specs.declared.Want.{Want}
@@ -19,6 +19,6 @@ hex text = pairs (codes text)
 abbrev pub want : Who → Bool → Bool → Want
 want who read write = record { of = who; read = read; write = write }
 
--- a record, written oldest first
+-- a trace, written oldest first
 abbrev pub run : List Entry → List Entry
 run entries = reverse entries

@@ -1,4 +1,4 @@
--- A test that says of a record whether its flows keep the law, by computing. It asks of every guest what the law asks of an honest one.
+-- A test that says of a trace whether its flows keep the law, by computing. It asks of every guest what the law asks of a conforming one.
 use Rattle.std.specs.Prelude.{ℕ, ◌==◌, ◌&&◌, ◌||◌, not, Bool, true, false, List, [], ◌∷◌, drop, Option, Some, None}
 use Rattle.net_octets.specs.declared.Endpoint.{Endpoint}
 use Rattle.world_face.specs.Journal.{Entry, Call, call_of, CallLinkWrite, CallConnect, CallConnected, CallAccept, CallTcpRead, CallTcpWrite, CallTcpEnd, CallClose}
@@ -16,7 +16,7 @@ use Rattle.spec_trace.specs.Sockets.{next_number}
 use Rattle.spec_flows.specs.Book.{book, scene}
 use Rattle.spec_flows.specs.Flows.{Flow, Scene, closing, flow_of, is_strange, owner}
 use Rattle.spec_flows.specs.Laws.{flow_settings}
-use Rattle.spec_flows.specs.Lots.{due_for_flows}
+use Rattle.spec_flows.specs.SegmentVerdicts.{due_for_flows}
 use Rattle.spec_flows.specs.Segments.{OnTuple, segment_in}
 
 abbrev pub may_act : Settings → ℕ → Option Flow → Act → Bool

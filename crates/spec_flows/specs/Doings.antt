@@ -1,4 +1,4 @@
--- What an entry of the record is to the flows of TCP.
+-- What an entry of the trace is to the flows of TCP.
 use Rattle.std.specs.Prelude.{ℕ, List, Option, Some, None}
 use Rattle.world_face.specs.Journal.{Entry, Wait, Connect, Connected, Accept, TcpRead, TcpWrite, TcpEnd, Close}
 use Rattle.world_face.specs.declared.Io.{Io}
@@ -15,14 +15,14 @@ use Rattle.spec_flow.specs.Event.{Event, Connected as HostConnected, ConnectsYet
 use Rattle.spec_trace.specs.Happenings.{Arrival, happens}
 use Rattle.spec_flows.specs.Segments.{OnTuple, segment_came, segment_in, asked_in}
 
--- what an entry of the record is to flows
+-- what an entry of the trace is to flows
 pub data Doing : Type 0 where
   -- nothing to a flow
   Nothing : Doing
   -- a segment came; one went out; a guest's hardware address was asked for
   Comes : OnTuple → Doing
   Goes : OnTuple → Doing
-  Seeks : (guest : ℕ) → Doing
+  Resolves : (guest : ℕ) → Doing
   -- the run waited
   Pauses : Doing
   -- a socket connects for the guest whose segment came last; a peer came to the socket of a port
@@ -77,12 +77,12 @@ abbrev pub comes : Option OnTuple → Doing
 comes None = Nothing
 comes (Some on) = Comes on
 
-abbrev pub seeks : Option ℕ → Doing
-seeks None = Nothing
-seeks (Some guest) = Seeks guest
+abbrev pub resolves : Option ℕ → Doing
+resolves None = Nothing
+resolves (Some guest) = Resolves guest
 
 abbrev pub goes : Option OnTuple → Option ℕ → Doing
-goes None asked = seeks asked
+goes None asked = resolves asked
 goes (Some on) asked = Goes on
 
 -- by the frame that came, the frame that went out, or the call

@@ -20,15 +20,15 @@ pub record Flow : Type 0 where
   pub story : Story
 
 -- a flow in TIME-WAIT (RFC 9293, 3.6), and since when
-pub record Rest : Type 0 where
+pub record TimeWait : Type 0 where
   pub number : ℕ
   pub since : ℕ
 
--- The flows, the newest first; those that rest, the longest resting first; the segment that came by the newest entry; and the socket that
+-- The flows, the newest first; those in TIME-WAIT, the longest in TIME-WAIT first; the segment that came by the newest entry; and the socket that
 -- the next entry closes, since a call on it failed, its peer was refused, or its flow gives way to a SYN.
 pub record Book : Type 0 where
   pub flows : List Flow
-  pub rests : List Rest
+  pub time_waits : List TimeWait
   pub came : Option OnTuple
   pub doomed : Option ℕ
 
@@ -69,13 +69,13 @@ used flows = length (filter (λ f. is_in_use f.story) flows)
 abbrev pub has_room_for_peer : ℕ → List Flow → Bool
 has_room_for_peer most flows = nat_lt (used flows) most && nat_lt (length (filter (λ f. is_in_use f.story && is_accepted f.story) flows)) (most_for_peers most)
 
-abbrev pub rests_among : List Rest → Option Flow → Bool
-rests_among rests None = false
-rests_among rests (Some f) = list_any (λ r. r.number == f.number) rests
+abbrev pub is_among_time_waits : List TimeWait → Option Flow → Bool
+is_among_time_waits time_waits None = false
+is_among_time_waits time_waits (Some f) = list_any (λ r. r.number == f.number) time_waits
 
 -- the flow of the tuple is in TIME-WAIT
-abbrev pub is_resting : Tuple → Book → Bool
-is_resting tuple book = rests_among book.rests (owner tuple book.flows)
+abbrev pub has_time_wait : Tuple → Book → Bool
+has_time_wait tuple book = is_among_time_waits book.time_waits (owner tuple book.flows)
 
 -- ---- what becomes of it
 
@@ -95,8 +95,8 @@ abbrev pub sends : ℕ → Segment → Flow → Flow
 sends now segment f = if is_strange segment f then f else with_event now (Departs segment) f
 
 -- one request serves all flows that were accepted for the guest
-abbrev pub seeks_for : ℕ → ℕ → Flow → Flow
-seeks_for now guest f = if is_accepted f.story && (address f.tuple.guest == guest) then with_event now AsksAddress f else f
+abbrev pub resolves_for : ℕ → ℕ → Flow → Flow
+resolves_for now guest f = if is_accepted f.story && (address f.tuple.guest == guest) then with_event now AsksAddress f else f
 
 abbrev pub came_on : Tuple → Option OnTuple → Bool
 came_on tuple None = false

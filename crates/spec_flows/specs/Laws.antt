@@ -11,7 +11,7 @@ use Rattle.spec_trace.specs.Moments.{moment}
 use Rattle.spec_trace.specs.Sockets.{next_number}
 use Rattle.spec_flows.specs.Book.{book, scene}
 use Rattle.spec_flows.specs.Flows.{Flow, Scene, closing, flow_of, is_strange, owner}
-use Rattle.spec_flows.specs.Lots.{due_for_flows}
+use Rattle.spec_flows.specs.SegmentVerdicts.{due_for_flows}
 use Rattle.spec_flows.specs.Segments.{OnTuple, segment_in}
 
 -- what each flow is to keep to

@@ -2,7 +2,7 @@ pub mod Segments
 pub mod Doings
 pub mod Flows
 pub mod Book
-pub mod Lots
+pub mod SegmentVerdicts
 pub mod Touching
 pub mod Laws
 pub mod Said

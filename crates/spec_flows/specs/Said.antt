@@ -17,8 +17,8 @@ use Rattle.spec_flow.specs.Settings.{Settings}
 use Rattle.spec_trace.specs.Moments.{moment}
 use Rattle.spec_trace.specs.Sockets.{next_number}
 use Rattle.spec_flows.specs.Book.{book}
-use Rattle.spec_flows.specs.Flows.{Flow, Book, flow_of, is_used, used, is_resting}
-use Rattle.spec_flows.specs.Lots.{is_opening, is_to_many}
+use Rattle.spec_flows.specs.Flows.{Flow, Book, flow_of, is_used, used, has_time_wait}
+use Rattle.spec_flows.specs.SegmentVerdicts.{is_opening, is_to_many}
 use Rattle.spec_flows.specs.Segments.{OnTuple}
 use Rattle.spec_flows.specs.Laws.{flow_settings}
 
@@ -46,7 +46,7 @@ pub record IsSound (s : Settings) (now next : ℕ) (b : Book) : Type 0 where
   pub below : Each (λ f. f.number < next) b.flows
   pub each : Each (Kept s now b.doomed) b.flows
 
--- all flows of a record are sound at its moment
+-- all flows of a trace are sound at its moment
 abbrev pub AreKept : Config → List Entry → Type 0
 AreKept config past = IsSound (flow_settings config) (moment past) (next_number past) (book config past)
 
@@ -61,7 +61,7 @@ abbrev pub taken_by : ℕ → Entry → List ℕ → List ℕ
 taken_by socket (TcpWrite s octets answer) so_far = if s == socket then so_far ++ taken_of answer octets else so_far
 taken_by socket _ so_far = so_far
 
--- by all calls of a record
+-- by all calls of a trace
 abbrev pub taken_on : ℕ → List Entry → List ℕ
 taken_on socket [] = []
 taken_on socket (e ∷ past) = taken_by socket e (taken_on socket past)
@@ -77,26 +77,26 @@ abbrev pub given_by : ℕ → Entry → List ℕ → List ℕ
 given_by socket (TcpRead s asked answer octets) so_far = if s == socket then so_far ++ given_of answer octets else so_far
 given_by socket _ so_far = so_far
 
--- by all calls of a record
+-- by all calls of a trace
 abbrev pub given_on : ℕ → List Entry → List ℕ
 given_on socket [] = []
 given_on socket (e ∷ past) = given_by socket e (given_on socket past)
 
--- A socket connects for the segment that came by the newest entry: a guest's SYN, on a tuple that no flow has and that doesn't rest, where there
+-- A socket connects for the segment that came by the newest entry: a guest's SYN, on a tuple that no flow has and that isn't in TIME-WAIT, where there
 -- is room for a flow more. It connects to where the policy says that a connection to the segment's destination goes.
 pub record ConnectsAsAsked (config : Config) (b : Book) (to : Endpoint) : Type 0 where
   pub on : OnTuple
   pub came : b.came ≡ Some on
   pub opening : is_opening on.segment ≡ true
   pub free : is_used on.tuple b.flows ≡ false
-  pub awake : is_resting on.tuple b ≡ false
+  pub awake : has_time_wait on.tuple b ≡ false
   pub room : used b.flows < config.flows
   pub target : target config OverTcp on.tuple.other ≡ Go to
 
--- A segment is no flow's: no flow on its two ends is in use, and none rests.
+-- A segment is no flow's: no flow on its two ends is in use, and none is in TIME-WAIT.
 pub record IsNobodys (b : Book) (on : OnTuple) : Type 0 where
   pub free : is_used on.tuple b.flows ≡ false
-  pub awake : is_resting on.tuple b ≡ false
+  pub awake : has_time_wait on.tuple b ≡ false
 
 -- A guest's SYN is answered by a reset: the policy denies a connection to its destination, which is of one host.
 pub record IsDenied (config : Config) (b : Book) (on : OnTuple) : Type 0 where

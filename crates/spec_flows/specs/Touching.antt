@@ -4,7 +4,7 @@ use Rattle.world_face.specs.Journal.{Entry}
 use Rattle.slirp_settings.specs.Addresses.{Config, address}
 use Rattle.spec_flow.specs.Flow.{is_accepted}
 use Rattle.spec_flows.specs.Book.{book}
-use Rattle.spec_flows.specs.Doings.{Doing, Nothing, Comes, Goes, Seeks, Pauses, Joins, Visits, Calls, Shuts, doing}
+use Rattle.spec_flows.specs.Doings.{Doing, Nothing, Comes, Goes, Resolves, Pauses, Joins, Visits, Calls, Shuts, doing}
 use Rattle.spec_flows.specs.Flows.{Flow, Book, owner, flow_of}
 
 abbrev pub has_number : ℕ → Option Flow → Bool
@@ -20,7 +20,7 @@ abbrev pub touches : ℕ → Book → Doing → Bool
 touches number b Nothing = false
 touches number b (Comes on) = has_number number (owner on.tuple b.flows)
 touches number b (Goes on) = has_number number (owner on.tuple b.flows)
-touches number b (Seeks guest) = is_accepted_for guest (flow_of number b.flows)
+touches number b (Resolves guest) = is_accepted_for guest (flow_of number b.flows)
 touches number b Pauses = false
 touches number b (Joins socket) = socket == number
 touches number b (Visits listener socket peer) = socket == number

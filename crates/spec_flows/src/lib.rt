@@ -1,7 +1,7 @@
 //! The flows of TCP in a run: which there are, what happened to each, and what a run may do with them.
 //!
 //! There is no code to run. The definitions stand in `specs/`, over the trace of calls, newest entry first: `Doings` says what an entry is to flows, `Book` which flows
-//! there are and which of them are in TIME-WAIT (one fold over the trace), `Lots` what a segment asks for, `Laws` which call may come next. A flow is opened by a
+//! there are and which of them are in TIME-WAIT (one fold over the trace), `SegmentVerdicts` what a segment asks for, `Laws` which call may come next. A flow is opened by a
 //! connect, or by a peer that is accepted; a segment is one of the flow that was opened last on its two ends. The story of a flow is that of `spec_flow`, so each law
 //! of one flow holds of each flow of a run.
 //!
@@ -30,7 +30,7 @@ ghost use Rattle.slirp_settings.specs.Addresses.{Config};
 ghost use Rattle.seq_space.specs.Places.{number_of};
 ghost use Rattle.spec_flow.specs.Event.{IsStory};
 ghost use Rattle.spec_flow.specs.Flow.{guest, host, their_number, has_connected, is_accepted};
-ghost use Rattle.spec_flow.specs.Guest.{Honest, HasCome, IsAcknowledged, ackd, front, has_ended};
+ghost use Rattle.spec_flow.specs.Guest.{Conforming, HasCome, IsAcknowledged, ackd, front, has_ended};
 ghost use Rattle.spec_flow.specs.Host.{Gave, got_end, end_is_out};
 ghost use Rattle.spec_flow.specs.Close.{owes_reset};
 ghost use Rattle.spec_flow.specs.Dutiful.{IsDutiful, read_size};
@@ -42,7 +42,7 @@ ghost use Rattle.spec_flows.specs.Book.{book, heard, scene, story};
 ghost use Rattle.spec_flows.specs.Flows.{Book, Flow, comes_directly, comes_last, flow_of, guest_is_known};
 ghost use Rattle.spec_flows.specs.Laws.{flow_settings, KeepsFlows};
 ghost use Rattle.spec_flows.specs.Doings.{Comes, doing};
-ghost use Rattle.spec_flows.specs.Lots.{Dropped, NeedsRoom, giving_way, is_opening, is_reset, lot};
+ghost use Rattle.spec_flows.specs.SegmentVerdicts.{Dropped, NeedsRoom, giving_way, is_opening, is_reset, segment_verdict};
 ghost use Rattle.spec_flows.specs.Said.{ConnectsAsAsked, Differ, IsDenied, IsIgnored, IsQuietest, given_on, taken_on};
 ghost use Rattle.spec_flows.specs.Segments.{OnTuple, segment_came};
 ghost use Rattle.spec_flows.specs.Touching.{AreApart};
@@ -80,7 +80,7 @@ pub fn reads_ask_for_all_that_there_is_room_for()
 /// the guest at the number that stands for its place after the guest's SYN, modulo 2^32 (RFC 9293, 3.4).
 pub fn hosts_get_what_their_guests_sent()
     ensures prefix { (config : Config) (past : List Entry) (socket : ℕ) → KeepsFlows config past
-        → Honest (guest (story config past socket)) → IsPrefixOf (taken_on socket past) (front (guest (story config past socket))) }
+        → Conforming (guest (story config past socket)) → IsPrefixOf (taken_on socket past) (front (guest (story config past socket))) }
     ensures came { (config : Config) (past : List Entry) (socket : ℕ) (f : Flow) → KeepsFlows config past
         → flow_of socket (book config past).flows ≡ Some f → (i x : ℕ) → slice_get (taken_on socket past) i ≡ Some x
         → (n : ℕ) × (their_number (story config past socket) ≡ Some n) × CameAt (story config past socket) (number_of n i) x }
@@ -89,7 +89,7 @@ pub fn hosts_get_what_their_guests_sent()
 /// A host is told the guest's end after every octet: it took all that the guest sent.
 pub fn hosts_are_ended_after_every_octet()
     ensures { (config : Config) (past : List Entry) (socket : ℕ) → KeepsFlows config past
-        → Honest (guest (story config past socket)) → has_ended (guest (story config past socket)) ≡ true
+        → Conforming (guest (story config past socket)) → has_ended (guest (story config past socket)) ≡ true
         → taken_on socket past ≡ front (guest (story config past socket)) }
 {}
 
@@ -112,15 +112,15 @@ pub fn guests_are_ended_after_every_octet()
 /// What a guest was told that came did.
 pub fn what_is_acknowledged_came()
     ensures { (config : Config) (past : List Entry) (socket : ℕ) → KeepsFlows config past
-        → Honest (guest (story config past socket))
+        → Conforming (guest (story config past socket))
         → HasCome (guest (story config past socket)) (ackd (guest (story config past socket))) }
 {}
 
-/// And it found room: what was acknowledged of an honest guest's octets is no more than the socket of its flow took and the ring
+/// And it found room: what was acknowledged of a conforming guest's octets is no more than the socket of its flow took and the ring
 /// holds.
 pub fn acknowledged_octets_found_room()
     ensures { (config : Config) (past : List Entry) (socket : ℕ) → KeepsFlows config past
-        → Honest (guest (story config past socket)) → (a : ℕ) → IsAcknowledged (guest (story config past socket)) a
+        → Conforming (guest (story config past socket)) → (a : ℕ) → IsAcknowledged (guest (story config past socket)) a
         → a ≤ length (taken_on socket past) + config.ring }
 {}
 
@@ -132,7 +132,7 @@ pub fn nothing_goes_out_before_the_host_connected()
         → IsTrue (has_connected (story config past socket) || is_accepted (story config past socket)) }
 {}
 
-/// A socket connects directly after a guest's SYN, on a tuple that no flow has or rests on, where there is room for a flow more,
+/// A socket connects directly after a guest's SYN, on a tuple that no flow has or stays in TIME-WAIT, where there is room for a flow more,
 /// and to where the policy says that a connection to the SYN's destination goes. The SYN is what the newest entry brought.
 pub fn connects_follow_their_syn_to_the_policys_target()
     ensures asked { (config : Config) (past : List Entry) (socket : ℕ) (to : Endpoint) (answer : Made)
@@ -167,14 +167,14 @@ pub fn flows_reset_their_guest_for_a_cause()
         → IsTrue (reset_is_out (story config past socket)) → owes_reset (story config past socket) ≡ false }
 {}
 
-/// A guest's SYN is answered by a reset at once only where no flow on its two ends is in use or rests, its destination is of one
+/// A guest's SYN is answered by a reset at once only where no flow on its two ends is in use or in TIME-WAIT, its destination is of one
 /// host, and the policy denies it (RFC 9293, 3.10.7.1); and it is ignored only where its destination is of many, or as many flows
 /// as may be are in use.
 pub fn syns_are_denied_or_ignored_for_a_reason()
     ensures denied { (config : Config) (b : Book) (on : OnTuple) → is_opening on.segment ≡ true → is_reset config b on ≡ true
         → IsDenied config b on }
     ensures ignored { (config : Config) (b : Book) (on : OnTuple) → is_opening on.segment ≡ true
-        → (lot config b on ≡ Dropped) ⊎ (lot config b on ≡ NeedsRoom) → IsIgnored config b on }
+        → (segment_verdict config b on ≡ Dropped) ⊎ (segment_verdict config b on ≡ NeedsRoom) → IsIgnored config b on }
 {}
 
 /// A flow gives way to a guest's SYN alone, to one that finds as many flows in use as may be (RFC 5382, REQ-5). It had no sign of
@@ -182,7 +182,7 @@ pub fn syns_are_denied_or_ignored_for_a_reason()
 /// that brings the SYN, so that the next entry closes its socket.
 pub fn the_quietest_gives_way_to_a_syn()
     ensures syn { (config : Config) (now number : ℕ) (on : OnTuple) (b : Book) → giving_way config now on b ≡ Some number
-        → lot config b on ≡ NeedsRoom }
+        → segment_verdict config b on ≡ NeedsRoom }
     ensures quietest { (config : Config) (now number : ℕ) (on : OnTuple) (b : Book) → giving_way config now on b ≡ Some number
         → (f : Flow) × (f.number ≡ number) × IsQuietest now b.flows f }
     ensures doomed { (config : Config) (past : List Entry) (e : Entry) (on : OnTuple) → doing config past e ≡ Comes on

@@ -240,7 +240,7 @@ sayable_turned : (past : List Entry) → AreSayable past → AreSayable (reverse
 sayable_turned [] h = tt
 sayable_turned (e ∷ past) h = subst AreSayable (sym (reverse-cons e past)) (sayable_push (reverse past) e (sayable_turned past h.1) h.0)
 
--- no two records have one text, where a line can say each entry
+-- no two traces have one text, where a line can say each entry
 pub one_text : (a b : List Entry) → AreSayable a → AreSayable b → text a ≡ text b → a ≡ b
 one_text a b ha hb is =
     let same = same_lines (reverse a) (reverse b) (sayable_turned a ha) (sayable_turned b hb) (sym (turned a) ∙ is ∙ turned b) in
@@ -249,7 +249,7 @@ one_text a b ha hb is =
 pub one_to_one : (a b : List Entry) → AreAllowed a → AreAllowed b → text a ≡ text b → a ≡ b
 one_to_one a b ha hb is = one_text a b (all_sayable a ha) (all_sayable b hb) is
 
--- a record's lines, as those of a schedule
+-- a trace's lines, as those of a schedule
 plain : List Entry → List Row
 plain [] = []
 plain (e ∷ es) = record { entry = e; starred = false; all = false } ∷ plain es

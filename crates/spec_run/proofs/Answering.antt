@@ -17,8 +17,8 @@ use Rattle.rules_dhcp.specs.declared.Lease.{Lease}
 use Rattle.rules_dhcp.specs.declared.Message.{Message}
 use Rattle.spec_trace.specs.Packets.{Datagram}
 use Rattle.rules_tftp.specs.Transfers.{Said}
-use Rattle.spec_run.specs.Answers.{Answer, ArpAnswer, IpAnswer, Serving, answers_of, frames_for, frames_of, identification, name_answer, name_reply, owed_for_fate, served_file, told_of_files, uncut}
-use Rattle.spec_run.specs.Datagrams.{Fate, Ignored, Refused, ForLeases, ForFiles, GoesTo, fate}
+use Rattle.spec_run.specs.Answers.{Answer, ArpAnswer, IpAnswer, Serving, answers_of, frames_for, frames_of, identification, name_answer, name_reply, owed_for_verdict, served_file, told_of_files, uncut}
+use Rattle.spec_run.specs.Datagrams.{DatagramVerdict, Ignored, Refused, ForLeases, ForFiles, GoesTo, datagram_verdict}
 use Rattle.spec_run.specs.Laws.{Lawful}
 use Rattle.spec_run.specs.Leasing.{sending_of}
 use Rattle.spec_run.specs.Questions.{AnswerCame, HasNameServer}
@@ -31,7 +31,7 @@ use Rattle.spec_run.proofs.Numbers.{carries_no_arp}
 use Rattle.spec_run.proofs.Owing.{Begins, Next, Beside, begins_with, first_answers, out_by, out_six}
 use Rattle.spec_run.proofs.ReadBack.{datagram_back, reply_as_read}
 use Rattle.spec_run.proofs.Reading.{AllAnswers, SixAnswer, SixOccasion, SixSaid, carried_ip, file_answer, six_again, six_occasion}
-use Rattle.spec_run.proofs.Spelt.{spelt}
+use Rattle.spec_run.proofs.Encoded.{encoded}
 
 -- ---- an answer, as it is read
 
@@ -70,7 +70,7 @@ no_peer config past ip udp server from r =
 reads_from : (ident fragment proto from guest : ℕ) (body : List ℕ) (ip : Ip) → from < 2 ^ 32 → read_ip (ip_octets ident fragment proto from guest body) ≡ Some ip → ip.from ≡ from
 reads_from ident fragment proto from guest body ip fits is =
     let octets = ip_octets ident fragment proto from guest body in
-    let found = spelt octets ip is in
+    let found = encoded octets ip is in
     ap (λ (i : Ip). i.from) (sym found) ∙ from_be_bytes-to_be_bytes_4 from fits
 
 abbrev IsFromVhost : Config → Answer → Type 0
@@ -102,12 +102,12 @@ files_from : (config : Config) (o : Option Said) → AllAnswers (IsFromVhost con
 files_from config None = tt
 files_from config (Some said) = (refl, tt)
 
-fate_from : (config : Config) (s : Serving) (d : Datagram) (what : Fate) → is_for_server what ≡ true → AllAnswers (IsFromVhost config) (owed_for_fate config s d what)
-fate_from config s d ForLeases is = lease_from config s.now s.leases (read_message d.body)
-fate_from config s d ForFiles is = files_from config (served_file config s d).told
-fate_from config s d Ignored is = absurd cc
-fate_from config s d Refused is = absurd cc
-fate_from config s d (GoesTo to) is = absurd cc
+datagram_verdict_from : (config : Config) (s : Serving) (d : Datagram) (what : DatagramVerdict) → is_for_server what ≡ true → AllAnswers (IsFromVhost config) (owed_for_verdict config s d what)
+datagram_verdict_from config s d ForLeases is = lease_from config s.now s.leases (read_message d.body)
+datagram_verdict_from config s d ForFiles is = files_from config (served_file config s d).told
+datagram_verdict_from config s d Ignored is = absurd cc
+datagram_verdict_from config s d Refused is = absurd cc
+datagram_verdict_from config s d (GoesTo to) is = absurd cc
 
 of_one : (config : Config) (answers : List Answer) (a : Answer) → answers ≡ a ∷ [] → AllAnswers (IsFromVhost config) answers → IsFromVhost config a
 of_one config answers a is all = (subst (AllAnswers (IsFromVhost config)) is all).0
@@ -128,7 +128,7 @@ from_server config e past frame ip room lawful fits out c udp server = by_frame 
         (frames_for config (identification_with k past) a) ≡ frame ∷ rest → IsOfServer config past frame → ip.from ≡ config.vhost
     by_answer a k rest owed is (ForPacket s stray d last served) =
         from_vhost config past frame ip a k rest (out_six config past a owed) fits c is
-        (of_one config (owed_for_fate config s d (fate config d)) a (sym (ap (owed_for config past) last) ∙ owed) (fate_from config s d (fate config d) served))
+        (of_one config (owed_for_verdict config s d (datagram_verdict config d)) a (sym (ap (owed_for config past) last) ∙ owed) (datagram_verdict_from config s d (datagram_verdict config d) served))
     by_answer a k rest owed is (ByFile said last) =
         from_vhost config past frame ip a k rest (out_six config past a owed) fits c is (of_one config (told_of_files config (Some said)) a
         (sym (ap (owed_for config past) last) ∙ owed) (files_from config (Some said)))

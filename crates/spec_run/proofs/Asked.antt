@@ -1,4 +1,4 @@
--- What the list of questions has of each is what the record says of its socket.
+-- What the list of questions has of each is what the trace says of its socket.
 use Rattle.std.proofs.Common.{◌≡◌, ℕ, ◌<◌, ◌==◌, nat_lt, not, Bool, true, false, List, [], ◌∷◌, ◌++◌, Option, Some, None, option_map, if◌then◌else◌, refl, sym, ◌∙◌, ap, subst, arith}
 use Rattle.std.proofs.lemmas.Bool.Decides.{nat_tests}
 use Rattle.world_face.specs.Journal.{Entry, Connect, Listen, Accept, Close, UdpOpen, UdpSend, UdpRecv, call_of}

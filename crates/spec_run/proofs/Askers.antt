@@ -1,4 +1,4 @@
--- Of each question that waits the record has that it was asked, or it is sent next.
+-- Of each question that waits the trace has that it was asked, or it is sent next.
 use Rattle.std.proofs.Common.{◌≡◌, ℕ, ◌<◌, ◌==◌, ◌&&◌, not, Bool, true, false, List, [], ◌∷◌, ◌++◌, MatchOption, Option, Some, None, option_map, unwrap_or, if◌then◌else◌, ◌⊎◌, inl, inr}
 use Rattle.std.specs.Option.{option_or}
 use Rattle.std.proofs.Common.{refl, sym, ◌∙◌, ap, subst, arith}
@@ -25,7 +25,7 @@ use Rattle.spec_trace.specs.Packets.{Datagram}
 use Rattle.spec_trace.specs.Shape.{Phase, Opening, Started, Woken, Working, Over, due_in, opened, phase}
 use Rattle.spec_trace.specs.Sockets.{first, next_number, open_sockets}
 use Rattle.spec_run.specs.Asking.{step}
-use Rattle.spec_run.specs.Datagrams.{Errand, GoesTo, Ignored, NeedsSending, NeedsSocket, asks_a_name, due_for, fate, fate_by, is_to_names}
+use Rattle.spec_run.specs.Datagrams.{Errand, GoesTo, Ignored, NeedsSending, NeedsSocket, asks_a_name, due_for, datagram_verdict, datagram_verdict_by, is_to_names}
 use Rattle.spec_run.specs.Errands.{errand_left}
 use Rattle.spec_run.specs.Laws.{May, Lawful, due}
 use Rattle.spec_run.specs.Names.{question, questions, step_to_names, with_heard, with_opened, with_sent, with_socket}
@@ -62,11 +62,11 @@ by_rules_of config at to names is = by config.restricted (at.port == 0) (address
     by false false true rest here is = resolves_by config at.port to (by_go (resolver_on config at.port) NameServer to is)
     by false false false rest here is = cc
 
-pub to_resolver : (config : Config) (errand : Errand) → asks_a_name config errand ≡ true → fate config errand.datagram ≡ GoesTo errand.to → config.resolver ≡ Some errand.to
+pub to_resolver : (config : Config) (errand : Errand) → asks_a_name config errand ≡ true → datagram_verdict config errand.datagram ≡ GoesTo errand.to → config.resolver ≡ Some errand.to
 to_resolver config errand names goes = by_rules_of config errand.datagram.to errand.to names (goes_to_target config errand.datagram errand.to goes)
 
 -- and it is one
-question_by : (config : Config) (d : Datagram) (v : Verdict) (to : Endpoint) → is_to_names config d ≡ true → fate_by config d v ≡ GoesTo to → is_question d.body ≡ true
+question_by : (config : Config) (d : Datagram) (v : Verdict) (to : Endpoint) → is_to_names config d ≡ true → datagram_verdict_by config d v ≡ GoesTo to → is_question d.body ≡ true
 question_by config d (Denied rule) to names is = cc
 question_by config d (Go at) to names is = by (is_to_names config d) (is_question d.body) names is
   where
@@ -75,7 +75,7 @@ question_by config d (Go at) to names is = by (is_to_names config d) (is_questio
     by true false here is = cc
     by false asks here is = cc
 
-pub is_asked : (config : Config) (errand : Errand) → asks_a_name config errand ≡ true → fate config errand.datagram ≡ GoesTo errand.to → is_question errand.datagram.body ≡ true
+pub is_asked : (config : Config) (errand : Errand) → asks_a_name config errand ≡ true → datagram_verdict config errand.datagram ≡ GoesTo errand.to → is_question errand.datagram.body ≡ true
 is_asked config errand names goes = question_by config errand.datagram (target config ByUdp errand.datagram.to) errand.to names (goes_by_policy config errand.datagram errand.to goes)
 
 -- ---- one that is opened is sent next

@@ -35,7 +35,7 @@ use Rattle.spec_run.proofs.Reading.{no_arp, reads_part}
 -- ---- why
 
 of_owner : (config : Config) (past : List Entry) (frame : List ℕ) (on : OnTuple) (o : Option Flow) → left config past ≡ [] → segment_in frame ≡ Some on → owner on.tuple (book config past).flows ≡ o
-    → (is_own on.segment (book config past).rests o && is_well_sent config past frame on) ≡ true → IsOfFlow config past frame
+    → (is_own on.segment (book config past).time_waits o && is_well_sent config past frame on) ≡ true → IsOfFlow config past frame
 of_owner config past frame on None nothing carried owned is = cc
 of_owner config past frame on (Some f) nothing carried owned is = record {
   nothing = nothing;
@@ -43,13 +43,13 @@ of_owner config past frame on (Some f) nothing carried owned is = record {
   carried = carried;
   flow = f;
   owner = owned;
-  own = is_not (is_strange on.segment f) (first_of (not (is_strange on.segment f)) (speaks_yet on.segment (book config past).rests f) own);
-  speaks = second_of (not (is_strange on.segment f)) (speaks_yet on.segment (book config past).rests f) own;
-  sent = second_of (is_own on.segment (book config past).rests (Some f)) (is_well_sent config past frame on) is;
+  own = is_not (is_strange on.segment f) (first_of (not (is_strange on.segment f)) (speaks_yet on.segment (book config past).time_waits f) own);
+  speaks = second_of (not (is_strange on.segment f)) (speaks_yet on.segment (book config past).time_waits f) own;
+  sent = second_of (is_own on.segment (book config past).time_waits (Some f)) (is_well_sent config past frame on) is;
 }
   where
-    own : is_own on.segment (book config past).rests (Some f) ≡ true
-    own = first_of (is_own on.segment (book config past).rests (Some f)) (is_well_sent config past frame on) is
+    own : is_own on.segment (book config past).time_waits (Some f) ≡ true
+    own = first_of (is_own on.segment (book config past).time_waits (Some f)) (is_well_sent config past frame on) is
 
     is_not : (b : Bool) → not b ≡ true → b ≡ false
     is_not true is = cc

@@ -2,7 +2,7 @@
 use Rattle.std.proofs.Common.{◌≡◌, ℕ, ◌≤◌, ◌==◌, ◌&&◌, not, nat_le, Bool, true, false, List, [], ◌∷◌, drop, length, bytes_eq, MatchOption, Option, Some, None, refl, arith}
 use Rattle.std.proofs.lemmas.Bool.Decides.{nat_tests}
 use Rattle.world_face.specs.Journal.{Entry, Call, call_of, CallNow, CallLinkRead, CallLinkWrite, CallConnect, CallListen, CallClose, CallUdpOpen, CallUdpSend, CallFileLen, CallFileRead}
-use Rattle.world_face.specs.Frames.{missing, partial, spelling, tail, is_blocked, MayOffer, MayFrame}
+use Rattle.world_face.specs.Frames.{missing, partial, encoding, tail, is_blocked, MayOffer, MayFrame}
 use Rattle.world_face.specs.Limits.{most_to_link}
 use Rattle.net_octets.specs.declared.Endpoint.{Endpoint}
 use Rattle.slirp_settings.specs.Addresses.{Config}
@@ -35,8 +35,8 @@ equal_endpoints a b is =
 
 offers : (rest octets : List ℕ) → may_offer rest octets ≡ true → MayOffer rest octets
 offers [] octets is =
-    let parts = both (bytes_eq octets (spelling (drop 4 octets))) (nat_le (length octets) most_to_link) is in
-    (equal_octets octets (spelling (drop 4 octets)) parts.0, at_most (length octets) most_to_link parts.1)
+    let parts = both (bytes_eq octets (encoding (drop 4 octets))) (nat_le (length octets) most_to_link) is in
+    (equal_octets octets (encoding (drop 4 octets)) parts.0, at_most (length octets) most_to_link parts.1)
 offers (x ∷ rest) octets is = equal_octets octets (x ∷ rest) is
 
 frames : (past : List Entry) (call : Call) → may_frame past call ≡ true → MayFrame past call
@@ -112,7 +112,7 @@ passes config past call is =
     (is_served past call) (is_answered config past call) (goes_on config past call) (may_flow config past call) is in
     gathered config past call (frames past call p.0) (dues (due config past) call p.1) p.2 p.3 p.4 p.5 p.6 (passes_flows config past call p.7)
 
--- a record that passes is lawful
+-- a trace that passes is lawful
 pub is_sound : (config : Config) (past : List Entry) → is_lawful config past ≡ true → Lawful config past
 is_sound config [] is = tt
 is_sound config (e ∷ past) is =

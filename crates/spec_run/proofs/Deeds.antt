@@ -17,7 +17,7 @@ use Rattle.spec_trace.specs.Shape.{due_in, is_over, is_working, may_turn, phase}
 use Rattle.spec_trace.specs.Sockets.{next_number}
 use Rattle.spec_flows.specs.Book.{book, port_of}
 use Rattle.spec_flows.specs.Laws.{MayFlow, MayTouch, MustTouch, NoneMustClose}
-use Rattle.spec_flows.specs.Lots.{due_for_flows}
+use Rattle.spec_flows.specs.SegmentVerdicts.{due_for_flows}
 use Rattle.spec_trace.specs.Moments.{waits}
 use Rattle.spec_run.specs.Agenda.{agenda}
 use Rattle.spec_run.specs.Laws.{May, MayDue, due, due_for_services, goes_on, has_place, has_socket, is_all_out, is_answered, is_added, is_closing, is_served, may_begin}

@@ -8,7 +8,7 @@ use Rattle.slirp_settings.specs.declared.Forward.{Forward}
 use Rattle.slirp_settings.specs.declared.Proto.{Proto}
 use Rattle.slirp_settings.specs.declared.Proto.TheVariants.{Tcp, Udp}
 use Rattle.spec_flows.specs.Book.{book}
-use Rattle.spec_flows.specs.Lots.{connects_to, due_by, due_for_flows}
+use Rattle.spec_flows.specs.SegmentVerdicts.{connects_to, due_by, due_for_flows}
 use Rattle.spec_trace.specs.Shape.{Phase, Opening, Started, Woken, Working, Over, due_in, opening_of, phase}
 use Rattle.spec_trace.specs.Sockets.{first, next_number, open_sockets}
 use Rattle.rules_tftp.specs.Asking.{call_for}

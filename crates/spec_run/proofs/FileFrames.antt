@@ -32,9 +32,9 @@ use Rattle.spec_trace.specs.Happenings.{Arrival, happens}
 use Rattle.spec_trace.specs.Packets.{Datagram, DatagramPacket, Packet}
 use Rattle.rules_tftp.specs.Transfers.{Said}
 use Rattle.spec_run.specs.Answers.{Answer, ArpAnswer, IpAnswer, Serving, again_frames, answers_of, begins_again, frames_for, frames_of, identification, is_first, is_flows, is_out}
-use Rattle.spec_run.specs.Answers.{ledger, left, may_go_again, owed_for_fate, part_frame, served_file, serving, starts, told_of_files, uncut}
-use Rattle.spec_run.specs.Datagrams.{Fate, Ignored, Refused, ForLeases, ForFiles, GoesTo, fate}
-use Rattle.spec_run.specs.Files.{Answers, TellsRead, GoesOn, GoesAgain as FileGoes, HasBegun, IsOfFiles, IsPartOf, WasTold, goes_by, told_at, told_by, told_by_fate, told_by_packet}
+use Rattle.spec_run.specs.Answers.{ledger, left, may_go_again, owed_for_verdict, part_frame, served_file, serving, starts, told_of_files, uncut}
+use Rattle.spec_run.specs.Datagrams.{DatagramVerdict, Ignored, Refused, ForLeases, ForFiles, GoesTo, datagram_verdict}
+use Rattle.spec_run.specs.Files.{Answers, TellsRead, GoesOn, GoesAgain as FileGoes, HasBegun, IsOfFiles, IsPartOf, WasTold, goes_by, told_at, told_by, told_by_verdict, told_by_packet}
 use Rattle.spec_run.specs.Laws.{Lawful}
 use Rattle.spec_run.specs.Leasing.{sending_of}
 use Rattle.spec_run.specs.Names.{questions}
@@ -51,14 +51,14 @@ use Rattle.spec_run.proofs.Numbers.{carries_no_arp, ident_fits, reads_cut}
 use Rattle.spec_run.proofs.Owing.{Begins, Next, Beside, begins_with, first_answers, out_by, out_six}
 use Rattle.spec_run.proofs.ReadBack.{only_cut, reply_as_read, unbroken_is}
 use Rattle.spec_run.proofs.Reading.{AllAnswers, SixAnswer, carried_ip}
-use Rattle.spec_run.proofs.Spelt.{spelt}
+use Rattle.spec_run.proofs.Encoded.{encoded}
 
 -- ---- the payload of a datagram that is read whole
 
 body_back : (ident proto from to : ℕ) (body : List ℕ) (ip : Ip) → length body ≤ 65515 → read_ip (ip_octets ident 0 proto from to body) ≡ Some ip → ip.body ≡ body
 body_back ident proto from to body ip fits is =
     let octets = ip_octets ident 0 proto from to body in
-    let found = spelt octets ip is in
+    let found = encoded octets ip is in
     let head : head_length octets ≡ 20 = refl in
     let whole : two_at octets 2 ≡ 20 + length body = from_be_bytes-to_be_bytes_2 (20 + length body) (omega (arith, fits)) in
     let behind : two_at octets 2 - head_length octets ≡ length body = omega (arith, head, whole) in
@@ -222,18 +222,18 @@ module _ (config : Config) (e : Entry) (past : List Entry) (frame : List ℕ) (a
       by (inl told) = TellsRead said last told (part_told said owed)
       by (inr goes) = GoesOn said last goes (part_told said owed)
 
-  of_answer : (s : Serving) (stray : Bool) (d : Datagram) (o : Option Said) → last_occasion config past ≡ Came s stray (DatagramPacket d) → fate config d ≡ ForFiles →
+  of_answer : (s : Serving) (stray : Bool) (d : Datagram) (o : Option Said) → last_occasion config past ≡ Came s stray (DatagramPacket d) → datagram_verdict config d ≡ ForFiles →
       (served_file config s d).told ≡ o → told_of_files config o ≡ a ∷ [] → IsOfFiles config e past frame
   of_answer s stray d None last to told owed = cc
   of_answer s stray d (Some said) last to told owed =
-      Answers s stray d said last to ((subst (IsFrom config past) last (is_from config past)) said (ap (told_by_fate config s d) to ∙ told)) (part_told said owed)
+      Answers s stray d said last to ((subst (IsFrom config past) last (is_from config past)) said (ap (told_by_verdict config s d) to ∙ told)) (part_told said owed)
 
-  of_packet : (s : Serving) (stray : Bool) (d : Datagram) (what : Fate) (ip : Ip) (udp : Udp) → fate config d ≡ what → is_for_server what ≡ true →
-      last_occasion config past ≡ Came s stray (DatagramPacket d) → owed_for_fate config s d what ≡ a ∷ [] → 28 ≤ config.mtu → SixAnswer a
+  of_packet : (s : Serving) (stray : Bool) (d : Datagram) (what : DatagramVerdict) (ip : Ip) (udp : Udp) → datagram_verdict config d ≡ what → is_for_server what ≡ true →
+      last_occasion config past ≡ Came s stray (DatagramPacket d) → owed_for_verdict config s d what ≡ a ∷ [] → 28 ≤ config.mtu → SixAnswer a
       → Carries frame ip → is_unbroken ip ≡ true → read_udp ip.from ip.to ip.body ≡ Some udp → udp.from_port ≡ 69 → IsOfFiles config e past frame
   of_packet s stray d ForFiles ip udp to server last owed room six c unbroken read port = of_answer s stray d (served_file config s d).told last to refl owed
   of_packet s stray d ForLeases ip udp to server last owed room six c unbroken read port =
-      let from : udp.from_port ≡ 67 = port_back config past frame ip udp a k rest 67 room six c unbroken read frame_is (of_one 67 (owed_for_fate config s d ForLeases) a owed
+      let from : udp.from_port ≡ 67 = port_back config past frame ip udp a k rest 67 room six c unbroken read frame_is (of_one 67 (owed_for_verdict config s d ForLeases) a owed
       (lease_port config s.now s.leases (read_message d.body))) in
       let never : 67 ≡ 69 = sym from ∙ port in
       absurd (omega (arith, never))
@@ -272,7 +272,7 @@ of_server config e past frame ip udp room lawful out c unbroken proto read port 
     by_answer : (a : Answer) (k : ℕ) (rest : List (List ℕ)) → is_first frame (left config past) ≡ true → owed_for config past (last_occasion config past) ≡ a ∷ [] → drop k
         (frames_for config (identification_with k past) a) ≡ frame ∷ rest → IsOfServer config past frame → IsOfFiles config e past frame
     by_answer a k rest first owed is (ForPacket s stray d last serves) =
-        of_packet config e past frame a k rest is s stray d (fate config d) ip udp refl serves last (sym (ap (owed_for config past) last) ∙ owed) room (out_six config past a owed) c unbroken read port
+        of_packet config e past frame a k rest is s stray d (datagram_verdict config d) ip udp refl serves last (sym (ap (owed_for config past) last) ∙ owed) room (out_six config past a owed) c unbroken read port
     by_answer a k rest first owed is (ByFile said last) = of_file config e past frame a k rest is said last (sym (ap (owed_for config past) last) ∙ owed)
     by_answer a k rest first owed is (Again g) = let never : false ≡ true = ap (is_first frame) (sym g.nothing) ∙ first in cc
 

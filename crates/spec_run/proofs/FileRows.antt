@@ -5,7 +5,7 @@ use Rattle.world_face.specs.declared.Io.TheVariants.{Done, NotYet, End}
 use Rattle.world_face.specs.declared.FileSize.TheVariants.{Length, Missing}
 use Rattle.world_face.specs.declared.Waited.TheVariants.{Ready, Stop}
 use Rattle.world_face.specs.Journal.{Entry, Call, Now, Wait, LinkWrite, FileLen, FileRead, CallWait, CallLinkWrite, CallFileLen, CallFileRead}
-use Rattle.world_face.specs.Frames.{spelling, missing, is_too_long, spelt_length}
+use Rattle.world_face.specs.Frames.{encoding, missing, is_too_long, encoded_length}
 use Rattle.slirp_settings.specs.Addresses.{Config}
 use Rattle.slirp_settings.specs.Settings.{usual}
 use Rattle.spec_run.specs.Laws.{Finished, Lawful, May}
@@ -80,11 +80,11 @@ abbrev goes_whole : List Entry
 goes_whole = run (second_sent ++ turn 7 ++ comes second_ack ++ LinkWrite last_block (Done 50) ∷ [] ++ turn 8 ++ comes last_ack ++ stop)
 
 goes_whole_lawful : Lawful with_files goes_whole
-unfolding missing spelling is_too_long spelt_length digits
+unfolding missing encoding is_too_long encoded_length digits
 goes_whole_lawful = is_sound with_files goes_whole refl
 
 goes_whole_finished : Finished with_files goes_whole
-unfolding missing spelling is_too_long spelt_length digits
+unfolding missing encoding is_too_long encoded_length digits
 goes_whole_finished = record { ended = refl; none_due = refl; closed = refl }
 
 -- with an option that is answered, and a block of 1,024 octets
@@ -106,11 +106,11 @@ goes_at_once =
     ++ comes more_ack ++ FileRead file 0 1024 (Done 1024) (octets_from 0 1024) ∷ LinkWrite whole_block (Done 1074) ∷ [] ++ turn 7 ++ comes first_ack ++ stop)
 
 goes_at_once_lawful : Lawful with_files goes_at_once
-unfolding missing spelling is_too_long spelt_length digits
+unfolding missing encoding is_too_long encoded_length digits
 goes_at_once_lawful = is_sound with_files goes_at_once refl
 
 goes_at_once_finished : Finished with_files goes_at_once
-unfolding missing spelling is_too_long spelt_length digits
+unfolding missing encoding is_too_long encoded_length digits
 goes_at_once_finished = record { ended = refl; none_due = refl; closed = refl }
 
 -- a name that leaves the folder, and a file that isn't there; each is answered by an error
@@ -130,11 +130,11 @@ abbrev refuses : List Entry
 refuses = run (begins ++ comes asks_above ++ LinkWrite violation (Done 51) ∷ [] ++ turn 6 ++ comes asks_none ++ FileLen (codes "srv/none") Missing ∷ LinkWrite not_found (Done 51) ∷ [] ++ stop)
 
 refuses_lawful : Lawful with_files refuses
-unfolding missing spelling is_too_long spelt_length digits
+unfolding missing encoding is_too_long encoded_length digits
 refuses_lawful = is_sound with_files refuses refl
 
 refuses_finished : Finished with_files refuses
-unfolding missing spelling is_too_long spelt_length digits
+unfolding missing encoding is_too_long encoded_length digits
 refuses_finished = record { ended = refl; none_due = refl; closed = refl }
 
 -- a block of 7 octets is too small; options are answered in the order asked, in small letters
@@ -156,11 +156,11 @@ answers_options =
     ++ comes asks_for_much ++ FileLen (codes "srv/f") (Length 10) ∷ LinkWrite much_answered (Done 70) ∷ [] ++ stop)
 
 answers_options_lawful : Lawful with_files answers_options
-unfolding missing spelling is_too_long spelt_length digits
+unfolding missing encoding is_too_long encoded_length digits
 answers_options_lawful = is_sound with_files answers_options refl
 
 answers_options_finished : Finished with_files answers_options
-unfolding missing spelling is_too_long spelt_length digits
+unfolding missing encoding is_too_long encoded_length digits
 answers_options_finished = record { ended = refl; none_due = refl; closed = refl }
 
 -- a file of three octets, and its block as it goes out each time
@@ -198,26 +198,26 @@ abbrev gives_up : List Entry
 gives_up = run (five_again ++ idle 30005 ++ stop)
 
 gives_up_lawful : Lawful with_files gives_up
-unfolding missing spelling is_too_long spelt_length digits
+unfolding missing encoding is_too_long encoded_length digits
 gives_up_lawful = is_sound with_files gives_up refl
 
 gives_up_finished : Finished with_files gives_up
-unfolding missing spelling is_too_long spelt_length digits
+unfolding missing encoding is_too_long encoded_length digits
 gives_up_finished = record { ended = refl; none_due = refl; closed = refl }
 
 abbrev sent_seventh : List ℕ
 sent_seventh = hex "0000003152540012345652550a00020208004500002300060000401162b40a0002020a00020f004507d0000f1b4400030001616263"
 
 sixth_time : May with_files (run (five_again ++ idle 30005)) (CallLinkWrite sent_seventh) → ⊥
-unfolding missing spelling is_too_long spelt_length digits
+unfolding missing encoding is_too_long encoded_length digits
 sixth_time = λ may. not_so may.answered refl
 
 too_soon : May with_files (run (three_sent ++ idle 5004)) (CallLinkWrite sent_second) → ⊥
-unfolding missing spelling is_too_long spelt_length digits
+unfolding missing encoding is_too_long encoded_length digits
 too_soon = λ may. not_so may.answered refl
 
 twice_for_one_timeout : May with_files (run (three_sent ++ idle 5005 ++ LinkWrite sent_second (Done 53) ∷ [] ++ idle 5006)) (CallLinkWrite sent_third) → ⊥
-unfolding missing spelling is_too_long spelt_length digits
+unfolding missing encoding is_too_long encoded_length digits
 twice_for_one_timeout = λ may. not_so may.answered refl
 
 -- while the link takes nothing it is due once: it goes when the link is ready, and its time runs from the turn in which it was due
@@ -228,7 +228,7 @@ abbrev goes_late : List Entry
 goes_late = run (blocked_at 9000 ++ LinkWrite sent_second (Done 53) ∷ [] ++ idle 10005 ++ LinkWrite sent_third (Done 53) ∷ [])
 
 goes_late_lawful : Lawful with_files goes_late
-unfolding missing spelling is_too_long spelt_length digits
+unfolding missing encoding is_too_long encoded_length digits
 goes_late_lawful = is_sound with_files goes_late refl
 
 -- the same acknowledgement again brings nothing
@@ -239,15 +239,15 @@ abbrev goes_once : List Entry
 goes_once = run (acknowledged_twice ++ stop)
 
 goes_once_lawful : Lawful with_files goes_once
-unfolding missing spelling is_too_long spelt_length digits
+unfolding missing encoding is_too_long encoded_length digits
 goes_once_lawful = is_sound with_files goes_once refl
 
 goes_once_finished : Finished with_files goes_once
-unfolding missing spelling is_too_long spelt_length digits
+unfolding missing encoding is_too_long encoded_length digits
 goes_once_finished = record { ended = refl; none_due = refl; closed = refl }
 
 read_twice : May with_files (run acknowledged_twice) (CallFileRead file 1024 0) → ⊥
-unfolding missing spelling is_too_long spelt_length digits
+unfolding missing encoding is_too_long encoded_length digits
 read_twice = λ may. not_so may.place refl
 
 -- a file that ends in its second block: an error, and the transfer is gone
@@ -261,16 +261,16 @@ abbrev ends_early : List Entry
 ends_early = run (ended ++ turn 7 ++ comes first_ack ++ stop)
 
 ends_early_lawful : Lawful with_files ends_early
-unfolding missing spelling is_too_long spelt_length digits
+unfolding missing encoding is_too_long encoded_length digits
 ends_early_lawful = is_sound with_files ends_early refl
 
 ends_early_finished : Finished with_files ends_early
-unfolding missing spelling is_too_long spelt_length digits
+unfolding missing encoding is_too_long encoded_length digits
 ends_early_finished = record { ended = refl; none_due = refl; closed = refl }
 
 -- What may not come: the length of a file above the folder, or of one with another name; the octets before the length, of another place, or fewer;
 above : May with_files (run (begins ++ comes asks_above)) (CallFileLen (codes "srv/../x")) → ⊥
-unfolding missing spelling is_too_long spelt_length digits
+unfolding missing encoding is_too_long encoded_length digits
 above = λ may. not_so may.place refl
 
 abbrev asked : List Entry
@@ -287,11 +287,11 @@ differ : {xs ys : List ℕ} → xs ≡ ys → bytes_eq xs ys ≡ false → ⊥
 differ {xs} {ys} is other = not_so (ap (bytes_eq xs) (sym is) ∙ same_octets xs) other
 
 other_name : May with_files (run asked) (CallFileLen (codes "srv/boot.imh")) → ⊥
-unfolding missing spelling is_too_long spelt_length digits
+unfolding missing encoding is_too_long encoded_length digits
 other_name = λ may. differ {xs = codes "srv/boot.imh"} {ys = file} (ap name_of may.due) refl
 
 unmeasured : May with_files (run asked) (CallFileRead file 0 512) → ⊥
-unfolding missing spelling is_too_long spelt_length digits
+unfolding missing encoding is_too_long encoded_length digits
 unmeasured = λ may. cc (may.due)
 
 abbrev place_of : Call → ℕ
@@ -309,39 +309,39 @@ no_511 : ◌≡◌ {A = ℕ} 511 512 → ⊥
 no_511 is = omega (arith, is)
 
 other_place : May with_files (run measured) (CallFileRead file 512 512) → ⊥
-unfolding missing spelling is_too_long spelt_length digits
+unfolding missing encoding is_too_long encoded_length digits
 other_place = λ may. no_512 (ap place_of may.due)
 
 fewer : May with_files (run measured) (CallFileRead file 0 511) → ⊥
-unfolding missing spelling is_too_long spelt_length digits
+unfolding missing encoding is_too_long encoded_length digits
 fewer = λ may. no_511 (ap asked_of may.due)
 
 -- a wait before the block was read; the second block before the acknowledgement; other octets than the file's; the length again
 waits_first : May with_files (run measured) (CallWait (reading Link ∷ []) None) → ⊥
-unfolding missing spelling is_too_long spelt_length digits
+unfolding missing encoding is_too_long encoded_length digits
 waits_first = λ may. cc (may.due)
 
 ahead : May with_files (run first_sent) (CallLinkWrite second_block) → ⊥
-unfolding missing spelling is_too_long spelt_length digits
+unfolding missing encoding is_too_long encoded_length digits
 ahead = λ may. not_so may.answered refl
 
 ahead_read : May with_files (run first_sent) (CallFileRead file 512 512) → ⊥
-unfolding missing spelling is_too_long spelt_length digits
+unfolding missing encoding is_too_long encoded_length digits
 ahead_read = λ may. not_so may.place refl
 
 other_octets : May with_files (run second_read) (CallLinkWrite (hex "0000022e52540012345652550a00020208004500022000010000401160bc0a0002020a00020f004507d0020c8b5600030002" ++ octets_from 511 512)) → ⊥
-unfolding missing spelling is_too_long spelt_length digits
+unfolding missing encoding is_too_long encoded_length digits
 other_octets = λ may. not_so may.answered refl
 
 no_length : ◌≡◌ {A = ℕ} 0 512 → ⊥
 no_length is = omega (arith, is)
 
 length_again : May with_files (run (first_sent ++ turn 6 ++ comes first_ack)) (CallFileLen file) → ⊥
-unfolding missing spelling is_too_long spelt_length digits
+unfolding missing encoding is_too_long encoded_length digits
 length_again = λ may. no_length (ap asked_of may.due)
 
 no_folder : May usual (run asked) (CallFileLen file) → ⊥
-unfolding missing spelling is_too_long spelt_length digits
+unfolding missing encoding is_too_long encoded_length digits
 no_folder = λ may. not_so may.place refl
 
 -- ---- a packet in three frames that goes again, each time in its order
@@ -380,15 +380,15 @@ abbrev goes_in_parts : List Entry
 goes_in_parts = run (parts_again ++ LinkWrite second_again (Done 590) ∷ LinkWrite third_again (Done 414) ∷ [] ++ stop)
 
 goes_in_parts_lawful : Lawful narrow goes_in_parts
-unfolding missing spelling is_too_long spelt_length digits
+unfolding missing encoding is_too_long encoded_length digits
 goes_in_parts_lawful = is_sound narrow goes_in_parts refl
 
 second_first : May narrow (run (in_parts ++ idle 5006)) (CallLinkWrite second_again) → ⊥
-unfolding missing spelling is_too_long spelt_length digits
+unfolding missing encoding is_too_long encoded_length digits
 second_first = λ may. not_so may.answered refl
 
 third_next : May narrow (run parts_again) (CallLinkWrite third_again) → ⊥
-unfolding missing spelling is_too_long spelt_length digits
+unfolding missing encoding is_too_long encoded_length digits
 third_next = λ may. not_so may.answered refl
 
 -- ---- two transfers whose packets are due at once: that of the longest unused goes first
@@ -412,9 +412,9 @@ abbrev both_go : List Entry
 both_go = run (two_sent ++ idle 5006 ++ LinkWrite sent_third (Done 53) ∷ LinkWrite beside_fourth (Done 53) ∷ [] ++ stop)
 
 both_go_lawful : Lawful with_files both_go
-unfolding missing spelling is_too_long spelt_length digits
+unfolding missing encoding is_too_long encoded_length digits
 both_go_lawful = is_sound with_files both_go refl
 
 beside_goes_first : May with_files (run (two_sent ++ idle 5006)) (CallLinkWrite beside_third) → ⊥
-unfolding missing spelling is_too_long spelt_length digits
+unfolding missing encoding is_too_long encoded_length digits
 beside_goes_first = λ may. not_so may.answered refl

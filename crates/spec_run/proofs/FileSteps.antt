@@ -1,4 +1,4 @@
--- The calls on files for which a packet asks may come one after another, and the record keeps of files what they bring.
+-- The calls on files for which a packet asks may come one after another, and the trace keeps of files what they bring.
 use Rattle.std.proofs.Common.{◌≡◌, ℕ, ◌+◌, ◌-◌, ◌%◌, ◌^◌, ◌==◌, ◌⊎◌, inl, inr, nat_le, Bool, true, false, List, [], ◌∷◌, ◌++◌, length, take, Option, Some, None, if◌then◌else◌, refl, sym}
 use Rattle.std.specs.Prelude.{option_map}
 use Rattle.std.specs.Option.{option_or}
@@ -13,7 +13,7 @@ use Rattle.slirp_settings.specs.Addresses.{Config}
 use Rattle.rules_udp.specs.declared.Reply.{Reply}
 use Rattle.rules_udp.specs.declared.Reply.TheVariants.{Nothing, Datagram as ADatagram, Unreachable}
 use Rattle.spec_flows.specs.Book.{book}
-use Rattle.spec_flows.specs.Lots.{due_for_flows}
+use Rattle.spec_flows.specs.SegmentVerdicts.{due_for_flows}
 use Rattle.spec_trace.specs.Shape.{Working, due_in, phase}
 use Rattle.spec_trace.specs.Sockets.{next_number}
 use Rattle.rules_tftp.specs.Asking.{AreAskedFor, after_calls, by_answer, call_for, or_outcome}
@@ -161,7 +161,7 @@ file_call config e past (SeeksOctets t there) is =
 
 -- ---- one call after another
 
--- The calls of a packet that came may come, and after them the record keeps what they brought, and has left to be sent what is told then.
+-- The calls of a packet that came may come, and after them the trace keeps what they brought, and has left to be sent what is told then.
 pub record AreFileCalls (config : Config) (past : List Entry) (o : Outcome) (made : List Entry) : Type 0 where
   pub lawful : Lawful config (made ++ past)
   pub may : MaySeek config (made ++ past)

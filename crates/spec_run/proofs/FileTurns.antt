@@ -1,4 +1,4 @@
--- The first frame of a packet of a file that goes again may go out where nothing is left of an answer, and what the record keeps then.
+-- The first frame of a packet of a file that goes again may go out where nothing is left of an answer, and what the trace keeps then.
 use Rattle.std.proofs.Common.{◌≡◌, ℕ, ◌≤◌, ◌==◌, ◌&&◌, ◌||◌, not, Bool, true, false, bytes_eq, List, [], ◌∷◌, drop, length, Option, Some, None, is_some, option_and_then, option_map}
 use Rattle.std.specs.Option.{option_or}
 use Rattle.std.proofs.Common.{if◌then◌else◌, refl, sym, ◌∙◌, ap, subst, lit<}
@@ -94,7 +94,7 @@ module _ (config : Config) (past : List Entry) (said : Said) (frame : List ℕ) 
       ∙ ap (λ o. sends_segment config past frame o || may_ask config past frame (asked_in frame) || sends_again config past frame) no_flows.segment
       ∙ ap (λ o. may_ask config past frame o || sends_again config past frame) no_flows.asked ∙ starts_it
 
-  -- ---- and what the record keeps then
+  -- ---- and what the trace keeps then
 
   begins_it : (e : Entry) → goes_out e past ≡ Some frame → begins_again config (identification past) (ledger config past) (goes_out e past) ≡ true
   begins_it e out =
@@ -115,7 +115,7 @@ module _ (config : Config) (past : List Entry) (said : Said) (frame : List ℕ) 
       (serving config past).now (serving config past).again (serving config past).files
   files_again octets answer out = ap (λ (b : Bool). files_sent b (serving config past)) (begins_it (LinkWrite octets answer) out)
 
-  -- where a server let those go that are over, and counted this one, it has then what is left of those of the record
+  -- where a server let those go that are over, and counted this one, it has then what is left of those of the trace
   pub aged_again : (octets : List ℕ) (answer : Io) (kept : List Transfer) → Lawful config past → goes_out (LinkWrite octets answer) past ≡ Some frame →
       (serving config past).again ≡ None → kept ≡ ticked (serving config past).now true (serving config past).files.transfers
       → kept ≡ are_left (serving config (LinkWrite octets answer ∷ past)).now (serving config (LinkWrite octets answer ∷ past)).files.transfers

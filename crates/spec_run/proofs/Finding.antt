@@ -1,4 +1,4 @@
--- What is found in the list of associations is what the record says.
+-- What is found in the list of associations is what the trace says.
 use Rattle.std.proofs.Common.{◌≡◌, ℕ, ◌+◌, ◌<◌, ◌≤◌, ◌==◌, ◌&&◌, ◌||◌, nat_le, Bool, true, false, List, [], ◌∷◌, find, length, Option, Some, None, option_map, if◌then◌else◌, refl, sym}
 use Rattle.std.specs.Option.{option_or}
 use Rattle.std.proofs.Common.{◌∙◌, ap, subst, arith}
@@ -20,7 +20,7 @@ use Rattle.spec_run.proofs.Bools.{equal, or_second, same, turned}
 use Rattle.spec_run.proofs.Longest.{IsLeastOf, Once, among_if, equal_endpoints, find_none, find_some, least_of, no_longer, once_if, same_port}
 use Rattle.spec_run.proofs.Uses.{AreKept, BeforeAll, InOrder}
 
--- the open sockets are those of the list, which is in the order of use and has of each what the record says
+-- the open sockets are those of the list, which is in the order of use and has of each what the trace says
 pub record Joined (config : Config) (past : List Entry) (list : List Association) : Type 0 where
   pub those : (n : ℕ) → serves_port config past n ≡ is_among n (numbers list)
   pub kept : AreKept config past list

@@ -6,7 +6,7 @@ use Rattle.world_face.specs.declared.Made.TheVariants.{Done as MadeDone}
 use Rattle.world_face.specs.declared.Sent.TheVariants.{Done as SentDone}
 use Rattle.world_face.specs.declared.Waited.TheVariants.{Ready, Stop}
 use Rattle.world_face.specs.Journal.{Call, Entry, Now, Wait, LinkWrite, UdpOpen, UdpSend, CallLinkWrite, CallUdpOpen, CallUdpSend, CallWait}
-use Rattle.world_face.specs.Frames.{spelling, missing, is_too_long, spelt_length}
+use Rattle.world_face.specs.Frames.{encoding, missing, is_too_long, encoded_length}
 use Rattle.slirp_settings.specs.Settings.{usual}
 use Rattle.host_policy.specs.Targets.{anywhere}
 use Rattle.spec_run.specs.Check.{may}
@@ -37,11 +37,11 @@ one_waits = begins ++ comes first
 
 -- one part alone asks for nothing
 one_waits_may : may usual (run one_waits) (CallWait (reading Link ∷ []) None) ≡ true
-unfolding missing spelling is_too_long spelt_length
+unfolding missing encoding is_too_long encoded_length
 one_waits_may = refl
 
 one_sends_nothing : May usual (run one_waits) (CallUdpOpen 0 anywhere) → ⊥
-unfolding missing spelling is_too_long spelt_length
+unfolding missing encoding is_too_long encoded_length
 one_sends_nothing = λ may. cc (may.place)
 
 -- the other makes the datagram whole, and it goes out, in either order
@@ -49,14 +49,14 @@ abbrev in_order : List Entry
 in_order = run (one_waits ++ at_moment 6 second ++ UdpOpen 0 anywhere MadeDone ∷ UdpSend 0 target_of_row payload SentDone ∷ [])
 
 in_order_lawful : Lawful usual in_order
-unfolding missing spelling is_too_long spelt_length
+unfolding missing encoding is_too_long encoded_length
 in_order_lawful = is_sound usual in_order refl
 
 abbrev turned : List Entry
 turned = run (begins ++ comes second ++ at_moment 6 first ++ UdpOpen 0 anywhere MadeDone ∷ UdpSend 0 target_of_row payload SentDone ∷ [])
 
 turned_lawful : Lawful usual turned
-unfolding missing spelling is_too_long spelt_length
+unfolding missing encoding is_too_long encoded_length
 turned_lawful = is_sound usual turned refl
 
 -- what goes out is the whole
@@ -68,29 +68,29 @@ other_size : (n : ℕ) → n ≡ 8 → n ≡ 16 → ⊥
 other_size n is was = omega (arith, is, was)
 
 one_part_goes_out : May usual (run (one_waits ++ at_moment 6 second ++ UdpOpen 0 anywhere MadeDone ∷ [])) (CallUdpSend 0 target_of_row (hex "494a4b4c4d4e4f50")) → ⊥
-unfolding missing spelling is_too_long spelt_length
+unfolding missing encoding is_too_long encoded_length
 one_part_goes_out = λ may. other_size 8 refl (ap size_of may.due)
 
 -- a part waits less than 60,000 milliseconds for the others
 just_in_time : may usual (run (one_waits ++ at_moment 60004 second)) (CallUdpOpen 0 anywhere) ≡ true
-unfolding missing spelling is_too_long spelt_length
+unfolding missing encoding is_too_long encoded_length
 just_in_time = refl
 
 too_late : may usual (run (one_waits ++ at_moment 60005 second)) (CallWait (reading Link ∷ []) None) ≡ true
-unfolding missing spelling is_too_long spelt_length
+unfolding missing encoding is_too_long encoded_length
 too_late = refl
 
 late_goes_out : May usual (run (one_waits ++ at_moment 60005 second)) (CallUdpOpen 0 anywhere) → ⊥
-unfolding missing spelling is_too_long spelt_length
+unfolding missing encoding is_too_long encoded_length
 late_goes_out = λ may. cc (may.place)
 
 -- parts that share octets are dropped with their set (RFC 5722, 3)
 overlapped : may usual (run (one_waits ++ at_moment 6 between ++ at_moment 7 second)) (CallWait (reading Link ∷ []) None) ≡ true
-unfolding missing spelling is_too_long spelt_length
+unfolding missing encoding is_too_long encoded_length
 overlapped = refl
 
 overlapped_goes_out : May usual (run (one_waits ++ at_moment 6 between ++ at_moment 7 second)) (CallUdpOpen 0 anywhere) → ⊥
-unfolding missing spelling is_too_long spelt_length
+unfolding missing encoding is_too_long encoded_length
 overlapped_goes_out = λ may. cc (may.place)
 
 -- 16 octets to 127.0.0.1 in two parts, the later one first, whose headers differ in options, service, time to live and flags; what the guest is told quotes the
@@ -108,10 +108,10 @@ abbrev told : List Entry
 told = run (denied ++ LinkWrite (hex "0000004a52540012345652550a00020208004500003c00000000400162b10a0002020a00020f030aca790000000046100030000840000311e9940a00020f7f000001010101000fa00009001822bb") (Done 78) ∷ Wait (reading Link ∷ []) None Stop [] ∷ [])
 
 told_lawful : Lawful usual told
-unfolding missing spelling is_too_long spelt_length
+unfolding missing encoding is_too_long encoded_length
 told_lawful = is_sound usual told refl
 
 quotes_the_part_that_came_first : May usual (run denied) (CallLinkWrite
     (hex "0000004652540012345652550a00020208004500003800000000400162b50a0002020a00020f030aca79000000004500002c00080000091126aa0a00020f7f0000010fa00009001822bb")) → ⊥
-unfolding missing spelling is_too_long spelt_length
+unfolding missing encoding is_too_long encoded_length
 quotes_the_part_that_came_first = λ may. cc (may.answered)

@@ -1,4 +1,4 @@
--- Where what came last came on the socket of a question, the record has when, and what was asked on it before.
+-- Where what came last came on the socket of a question, the trace has when, and what was asked on it before.
 use Rattle.std.proofs.Common.{◌≡◌, ℕ, Bool, true, false, List, [], ◌∷◌, ◌++◌, Option, Some, None, if◌then◌else◌, refl, sym, ◌∙◌, ap, subst}
 use Rattle.world_face.specs.Journal.{AreAllowed, IsEndpoint, Entry, Connect, FileLen, FileRead, LinkWrite, UdpOpen, UdpSend, UdpRecv}
 use Rattle.world_face.specs.Frames.{goes_out}

@@ -1,4 +1,4 @@
--- The leases of the record are those of a history of messages, and that is in order.
+-- The leases of the trace are those of a history of messages, and that is in order.
 use Rattle.std.proofs.Common.{◌≡◌, ℕ, ◌≤◌, arith, List, [], ◌∷◌, ◌++◌, Option, Some, None, refl, ap, ◌∙◌}
 use Rattle.world_face.specs.Journal.{Entry}
 use Rattle.slirp_settings.specs.Addresses.{Config}
@@ -6,22 +6,22 @@ use Rattle.rules_dhcp.specs.History.{Received, leases_over}
 use Rattle.spec_trace.specs.Happenings.{Arrival, happens}
 use Rattle.spec_trace.specs.Moments.{moment}
 use Rattle.spec_trace.specs.Packets.{Packet, Datagram, Unheard, ArpPacket, Message, DatagramPacket, Segment}
-use Rattle.spec_run.specs.Datagrams.{Fate, Ignored, Refused, ForLeases, ForFiles, GoesTo, fate}
-use Rattle.spec_run.specs.Leasing.{leases, leases_by, leases_by_fate, leases_by_packet}
-use Rattle.spec_run.specs.Messages.{messages, message_by, message_by_fate, message_by_packet, AreInOrder}
+use Rattle.spec_run.specs.Datagrams.{DatagramVerdict, Ignored, Refused, ForLeases, ForFiles, GoesTo, datagram_verdict}
+use Rattle.spec_run.specs.Leasing.{leases, leases_by, leases_by_verdict, leases_by_packet}
+use Rattle.spec_run.specs.Messages.{messages, message_by, message_by_verdict, message_by_packet, AreInOrder}
 use Rattle.spec_run.proofs.KeptFiles.{rises}
 
-by_fate : (config : Config) (now : ℕ) (d : Datagram) (f : Fate) (before : List Received) →
-    leases_by_fate config now d f (leases_over config before) ≡ leases_over config (message_by_fate now d f ++ before)
-by_fate config now d ForLeases before = refl
-by_fate config now d Ignored before = refl
-by_fate config now d Refused before = refl
-by_fate config now d ForFiles before = refl
-by_fate config now d (GoesTo to) before = refl
+by_datagram_verdict : (config : Config) (now : ℕ) (d : Datagram) (f : DatagramVerdict) (before : List Received) →
+    leases_by_verdict config now d f (leases_over config before) ≡ leases_over config (message_by_verdict now d f ++ before)
+by_datagram_verdict config now d ForLeases before = refl
+by_datagram_verdict config now d Ignored before = refl
+by_datagram_verdict config now d Refused before = refl
+by_datagram_verdict config now d ForFiles before = refl
+by_datagram_verdict config now d (GoesTo to) before = refl
 
 by_packet : (config : Config) (now : ℕ) (packet : Packet) (before : List Received) →
     leases_by_packet config now packet (leases_over config before) ≡ leases_over config (message_by_packet config now packet ++ before)
-by_packet config now (DatagramPacket d) before = by_fate config now d (fate config d) before
+by_packet config now (DatagramPacket d) before = by_datagram_verdict config now d (datagram_verdict config d) before
 by_packet config now Unheard before = refl
 by_packet config now (ArpPacket arp) before = refl
 by_packet config now (Message mac ip icmp) before = refl
@@ -44,16 +44,16 @@ later : (now after : ℕ) (history : List Received) → now ≤ after → AreInO
 later now after [] less are = tt
 later now after (r ∷ before) less are = (omega (arith, are.0, less), are.1)
 
-order_by_fate : (now after : ℕ) (d : Datagram) (f : Fate) (before : List Received) → now ≤ after → AreInOrder now before → AreInOrder after (message_by_fate now d f ++ before)
-order_by_fate now after d ForLeases before less are = (less, are)
-order_by_fate now after d Ignored before less are = later now after before less are
-order_by_fate now after d Refused before less are = later now after before less are
-order_by_fate now after d ForFiles before less are = later now after before less are
-order_by_fate now after d (GoesTo to) before less are = later now after before less are
+order_by_verdict : (now after : ℕ) (d : Datagram) (f : DatagramVerdict) (before : List Received) → now ≤ after → AreInOrder now before → AreInOrder after (message_by_verdict now d f ++ before)
+order_by_verdict now after d ForLeases before less are = (less, are)
+order_by_verdict now after d Ignored before less are = later now after before less are
+order_by_verdict now after d Refused before less are = later now after before less are
+order_by_verdict now after d ForFiles before less are = later now after before less are
+order_by_verdict now after d (GoesTo to) before less are = later now after before less are
 
 order_by_packet : (config : Config) (now after : ℕ) (packet : Packet) (before : List Received) → now ≤ after → AreInOrder now before →
     AreInOrder after (message_by_packet config now packet ++ before)
-order_by_packet config now after (DatagramPacket d) before less are = order_by_fate now after d (fate config d) before less are
+order_by_packet config now after (DatagramPacket d) before less are = order_by_verdict now after d (datagram_verdict config d) before less are
 order_by_packet config now after Unheard before less are = later now after before less are
 order_by_packet config now after (ArpPacket arp) before less are = later now after before less are
 order_by_packet config now after (Message mac ip icmp) before less are = later now after before less are

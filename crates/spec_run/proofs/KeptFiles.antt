@@ -1,4 +1,4 @@
--- Each open transfer is as the record has it: told by an entry, and sent again since in its time; and what is sought is what the datagram that came last asks for.
+-- Each open transfer is as the trace has it: told by an entry, and sent again since in its time; and what is sought is what the datagram that came last asks for.
 use Rattle.std.proofs.Common.{◌≡◌, ℕ, ◌+◌, ◌-◌, ◌%◌, ◌^◌, ◌<◌, ◌≤◌, ◌⊎◌, inl, inr, Bool, true, false, List, [], ◌∷◌, ◌++◌, length, find, Option, Some, None, option_map, if◌then◌else◌}
 use Rattle.std.specs.Option.{option_or}
 use Rattle.std.proofs.Common.{refl, sym, ◌∙◌, ap, subst, arith}
@@ -23,11 +23,11 @@ use Rattle.rules_tftp.proofs.Listing.{apart_again, apart_filter, apart_push, sam
 use Rattle.rules_tftp.proofs.Repeating.{due_at}
 use Rattle.rules_tftp.proofs.Staying.{parts_below}
 use Rattle.rules_tftp.proofs.Waiting.{terms_well}
-use Rattle.spec_run.specs.Answers.{Serving, begins_again, begun_by, files_after, files_begun, files_by_call, files_by_fate, files_by_packet, files_sent, identification, is_free, ledger}
+use Rattle.spec_run.specs.Answers.{Serving, begins_again, begun_by, files_after, files_begun, files_by_call, files_by_verdict, files_by_packet, files_sent, identification, is_free, ledger}
 use Rattle.spec_run.specs.Answers.{may_go_again, served_file, serving}
-use Rattle.spec_run.specs.Datagrams.{Fate, Ignored, Refused, ForLeases, ForFiles, GoesTo, fate}
+use Rattle.spec_run.specs.Datagrams.{DatagramVerdict, Ignored, Refused, ForLeases, ForFiles, GoesTo, datagram_verdict}
 use Rattle.spec_run.specs.Files.{AreInTime, AreReadsOfIt, IsAskedFor, IsBlockAsRead, IsFirstBlock, IsNextBlock, IsWanted, before_last, is_told_to, length_found, length_of, moments_again}
-use Rattle.spec_run.specs.Files.{or_made, sent_again_by, since_last, told_at, told_by, told_by_fate, told_by_packet, unless_came, unless_on_its_way}
+use Rattle.spec_run.specs.Files.{or_made, sent_again_by, since_last, told_at, told_by, told_by_verdict, told_by_packet, unless_came, unless_on_its_way}
 use Rattle.spec_run.specs.Laws.{May, Lawful}
 use Rattle.spec_run.specs.Ports.{last_datagram}
 use Rattle.spec_run.proofs.FileCalls.{settled, sought_octets}
@@ -350,7 +350,7 @@ is_last_one config e past d is = record {
   since = ap (λ o. unless_came o [] (e ∷ since_last config past)) is;
 }
 
-module _ (config : Config) (e : Entry) (past : List Entry) (d : Datagram) (to_server : fate config d ≡ ForFiles) (came : IsLast config e past d) where
+module _ (config : Config) (e : Entry) (past : List Entry) (d : Datagram) (to_server : datagram_verdict config d ≡ ForFiles) (came : IsLast config e past d) where
   asks : (texts : List ℕ) (r : Request) → packet_in d.body ≡ Asks texts → request_in texts ≡ Some r → (at : List ℕ) → config.tftp_path ≡ Some at → is_name r.name ≡ true
       → IsSought config (e ∷ past) (record { guest = d.from; mac = d.mac; file = file_in at r.name; options = r.options })
   asks texts r packet reads at given taken = record {
@@ -391,7 +391,7 @@ stay : (config : Config) (e : Entry) (past : List Entry) → ((guest : Endpoint)
 stay config e past none h = kept_all config e past (serving config past).files.transfers none h.all
 
 for_files : (config : Config) (e : Entry) (past : List Entry) (arrival : Arrival) (d : Datagram) → (happens config past e).came ≡ Some arrival → arrival.packet ≡ DatagramPacket d →
-    fate config d ≡ ForFiles
+    datagram_verdict config d ≡ ForFiles
     → ((guest : Endpoint) → is_told_to guest (sent_again_by config past e) ≡ false) → HoldsOf config past (serving config past).files → Step config e past
     (served_file config (serving config past) d).files
 for_files config e past arrival d came packet to_server none h =
@@ -399,8 +399,8 @@ for_files config e past arrival d came packet to_server none h =
     let last = is_last_one config e past d (ap datagram_came came ∙ ap datagram_by packet) in
     by_outcome config e past o
     (ap (λ a. files_after config past (happens config past e) a (ledger config past)) came ∙ ap (files_by_packet config (serving config past)) packet ∙ ap
-    (files_by_fate config (serving config past) d) to_server)
-    (ap (λ a. told_at config (serving config past) a e) came ∙ ap (told_by_packet config (serving config past)) packet ∙ ap (told_by_fate config (serving config past) d) to_server)
+    (files_by_verdict config (serving config past) d) to_server)
+    (ap (λ a. told_at config (serving config past) a e) came ∙ ap (told_by_packet config (serving config past)) packet ∙ ap (told_by_verdict config (serving config past) d) to_server)
     (packet_comes (Kept config (e ∷ past)) (IsTold config e past) (IsSought config (e ∷ past)) (IsRead config (e ∷ past)) (serving config past).now
     (whole_block config e past (serving config past).now) d.mac d.from config.tftp_path (packet_in d.body)
     (serving config past).files.transfers (stay config e past none h) h.apart (asks config e past d to_server last)
@@ -410,12 +410,12 @@ by_packet : (config : Config) (e : Entry) (past : List Entry) (arrival : Arrival
     (serving config past).files.quest ≡ SeeksNothing
     → ((guest : Endpoint) → is_told_to guest (sent_again_by config past e) ≡ false) → HoldsOf config past (serving config past).files → Step config e past
     (files_by_packet config (serving config past) packet)
-by_packet config e past arrival (DatagramPacket d) came is settles none h = by (fate config d) refl
+by_packet config e past arrival (DatagramPacket d) came is settles none h = by (datagram_verdict config d) refl
   where
-    told : (what : Fate) → fate config d ≡ what → told_by config past e ≡ told_by_fate config (serving config past) d what
-    told what to = ap (λ a. told_at config (serving config past) a e) came ∙ ap (told_by_packet config (serving config past)) is ∙ ap (told_by_fate config (serving config past) d) to
+    told : (what : DatagramVerdict) → datagram_verdict config d ≡ what → told_by config past e ≡ told_by_verdict config (serving config past) d what
+    told what to = ap (λ a. told_at config (serving config past) a e) came ∙ ap (told_by_packet config (serving config past)) is ∙ ap (told_by_verdict config (serving config past) d) to
 
-    by : (what : Fate) → fate config d ≡ what → Step config e past (files_by_fate config (serving config past) d what)
+    by : (what : DatagramVerdict) → datagram_verdict config d ≡ what → Step config e past (files_by_verdict config (serving config past) d what)
     by ForFiles to = for_files config e past arrival d came is to none h
     by Ignored to = with_settled config e past (serving config past).files none (told Ignored to) settles h
     by Refused to = with_settled config e past (serving config past).files none (told Refused to) settles h

@@ -4,7 +4,7 @@ use Rattle.poll_list.specs.declared.Who.TheVariants.{Link}
 use Rattle.world_face.specs.declared.Io.TheVariants.{Done}
 use Rattle.world_face.specs.declared.Waited.TheVariants.{Ready, Stop}
 use Rattle.world_face.specs.Journal.{Entry, Now, Wait, LinkWrite, CallLinkRead, CallLinkWrite}
-use Rattle.world_face.specs.Frames.{spelling, missing, is_too_long, spelt_length}
+use Rattle.world_face.specs.Frames.{encoding, missing, is_too_long, encoded_length}
 use Rattle.slirp_settings.specs.Addresses.{Config}
 use Rattle.slirp_settings.specs.Settings.{usual}
 use Rattle.spec_run.specs.Check.{may}
@@ -62,25 +62,25 @@ lends = run ((Now 0 ∷ Wait (reading Link ∷ []) None Ready (reading Link ∷ 
     ++ (LinkWrite nak (Done 346) ∷ Wait (reading Link ∷ []) None Stop [] ∷ []))
 
 lends_lawful : Lawful usual lends
-unfolding missing spelling is_too_long spelt_length Reading.read_on
+unfolding missing encoding is_too_long encoded_length Reading.read_on
 lends_lawful = is_sound usual lends refl
 
 lends_finished : Finished usual lends
-unfolding missing spelling is_too_long spelt_length Reading.read_on
+unfolding missing encoding is_too_long encoded_length Reading.read_on
 lends_finished = record { ended = refl; none_due = refl; closed = refl }
 
 -- the three messages that came are its history, and the leases are those that they leave
 history : map (λ (r : Received). r.at) (messages usual lends) ≡ 7 ∷ 6 ∷ 5 ∷ []
-unfolding missing spelling is_too_long spelt_length Reading.read_on
+unfolding missing encoding is_too_long encoded_length Reading.read_on
 history = refl
 
-lent_to : List Lease → Bool
-lent_to [] = false
-lent_to (lease ∷ others) = is_of (record { 0 = 82 ∷ 84 ∷ 0 ∷ 18 ∷ 52 ∷ 86 ∷ [] }) lease
+leased_to : List Lease → Bool
+leased_to [] = false
+leased_to (lease ∷ others) = is_of (record { 0 = 82 ∷ 84 ∷ 0 ∷ 18 ∷ 52 ∷ 86 ∷ [] }) lease
 
-lent : lent_to (leases_over usual (messages usual lends)) ≡ true
-unfolding missing spelling is_too_long spelt_length Reading.read_on lent_to
-lent = refl
+leased : leased_to (leases_over usual (messages usual lends)) ≡ true
+unfolding missing encoding is_too_long encoded_length Reading.read_on leased_to
+leased = refl
 
 -- DISCOVER without the end of options is none
 abbrev pub endless : List ℕ
@@ -91,11 +91,11 @@ abbrev pub unheard : List Entry
 unheard = run ((Now 0 ∷ Wait (reading Link ∷ []) None Ready (reading Link ∷ []) ∷ Now 5 ∷ []) ++ comes endless ++ (Wait (reading Link ∷ []) None Stop [] ∷ []))
 
 unheard_lawful : Lawful usual unheard
-unfolding missing spelling is_too_long spelt_length Reading.read_on
+unfolding missing encoding is_too_long encoded_length Reading.read_on
 unheard_lawful = is_sound usual unheard refl
 
 unheard_finished : Finished usual unheard
-unfolding missing spelling is_too_long spelt_length Reading.read_on
+unfolding missing encoding is_too_long encoded_length Reading.read_on
 unheard_finished = record { ended = refl; none_due = refl; closed = refl }
 
 -- Of 17 clients within a minute the first 16 are offered the 16 addresses, and the last none.
@@ -135,15 +135,15 @@ abbrev ignored : List Entry
 ignored = run (asked ++ Wait (reading Link ∷ []) None Stop [] ∷ [])
 
 ignored_lawful : Lawful without_dhcp ignored
-unfolding missing spelling is_too_long spelt_length Reading.read_on
+unfolding missing encoding is_too_long encoded_length Reading.read_on
 ignored_lawful = is_sound without_dhcp ignored refl
 
 ignored_finished : Finished without_dhcp ignored
-unfolding missing spelling is_too_long spelt_length Reading.read_on
+unfolding missing encoding is_too_long encoded_length Reading.read_on
 ignored_finished = record { ended = refl; none_due = refl; closed = refl }
 
 answered_without_dhcp : May without_dhcp (run asked) (CallLinkWrite offer) → ⊥
-unfolding missing spelling is_too_long spelt_length Reading.read_on
+unfolding missing encoding is_too_long encoded_length Reading.read_on
 answered_without_dhcp = λ may. not_so may.answered refl
 
 -- What may not come: an offer of another address; one with wrong sums;
@@ -152,7 +152,7 @@ offer_of_another = hex "00000156ffffffffffff52550a000202080045000148000000004011
     ++ zeros 202 ++ hex "6382536335010236040a0002023304000151800104ffffff0003040a000202ff" ++ zeros 32
 
 another_address : May usual (run asked) (CallLinkWrite offer_of_another) → ⊥
-unfolding missing spelling is_too_long spelt_length Reading.read_on
+unfolding missing encoding is_too_long encoded_length Reading.read_on
 another_address = λ may. not_so may.answered refl
 
 -- to the client alone, which has no address yet; to the port from which it asked; a lease in milliseconds;
@@ -161,7 +161,7 @@ offer_to_one = hex "0000015652540012345652550a0002020800450001480000000040116da4
     ++ zeros 202 ++ hex "6382536335010236040a0002023304000151800104ffffff0003040a000202ff" ++ zeros 32
 
 to_one : May usual (run asked) (CallLinkWrite offer_to_one) → ⊥
-unfolding missing spelling is_too_long spelt_length Reading.read_on
+unfolding missing encoding is_too_long encoded_length Reading.read_on
 to_one = λ may. not_so may.answered refl
 
 abbrev offer_for_long : List ℕ
@@ -169,12 +169,12 @@ offer_for_long = hex "00000156ffffffffffff52550a0002020800450001480000000040116d
     ++ zeros 202 ++ hex "6382536335010236040a000202330405265c000104ffffff0003040a000202ff" ++ zeros 32
 
 for_long : May usual (run asked) (CallLinkWrite offer_for_long) → ⊥
-unfolding missing spelling is_too_long spelt_length Reading.read_on
+unfolding missing encoding is_too_long encoded_length Reading.read_on
 for_long = λ may. not_so may.answered refl
 
 -- an answer to what is no message; an ACK where the address can't be had; an offer twice; the next frame before the offer is out;
 to_no_message : May usual (run (begins ++ comes endless)) (CallLinkWrite offer) → ⊥
-unfolding missing spelling is_too_long spelt_length Reading.read_on
+unfolding missing encoding is_too_long encoded_length Reading.read_on
 to_no_message = λ may. not_so may.answered refl
 
 abbrev outside : List Entry
@@ -189,17 +189,17 @@ consent = hex "00000156ffffffffffff52550a0002020800450001480000000040116da40a000
     ++ zeros 202 ++ hex "6382536335010536040a0002023304000151800104ffffff0003040a000202ff" ++ zeros 32
 
 refuses : may usual (run outside) (CallLinkWrite refusal) ≡ true
-unfolding missing spelling is_too_long spelt_length Reading.read_on
+unfolding missing encoding is_too_long encoded_length Reading.read_on
 refuses = refl
 
 consents : May usual (run outside) (CallLinkWrite consent) → ⊥
-unfolding missing spelling is_too_long spelt_length Reading.read_on
+unfolding missing encoding is_too_long encoded_length Reading.read_on
 consents = λ may. not_so may.answered refl
 
 twice : May usual (run (asked ++ LinkWrite offer (Done 346) ∷ [])) (CallLinkWrite offer) → ⊥
-unfolding missing spelling is_too_long spelt_length Reading.read_on
+unfolding missing encoding is_too_long encoded_length Reading.read_on
 twice = λ may. not_so may.answered refl
 
 reads_on : May usual (run asked) (CallLinkRead 4) → ⊥
-unfolding missing spelling is_too_long spelt_length Reading.read_on
+unfolding missing encoding is_too_long encoded_length Reading.read_on
 reads_on = λ may. not_so may.answered refl

@@ -20,7 +20,7 @@ use Rattle.spec_trace.specs.Shape.{Phase, Opening, Started, Woken, Working, Over
 use Rattle.spec_trace.specs.Sockets.{Kind, Association, DnsSocket, Forward, Listener, Flow, is_among, next_number, open_sockets, first}
 use Rattle.spec_flows.specs.Book.{book}
 use Rattle.spec_flows.specs.Flows.{is_it}
-use Rattle.spec_flows.specs.Lots.{due_for_flows}
+use Rattle.spec_flows.specs.SegmentVerdicts.{due_for_flows}
 use Rattle.rules_tftp.specs.Asking.{call_for}
 use Rattle.spec_run.specs.Answers.{serving}
 use Rattle.spec_run.specs.Asking.{step, step_of}

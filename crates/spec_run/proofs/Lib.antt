@@ -26,7 +26,7 @@ pub mod KeepingFlows
 pub mod KeptFiles
 pub mod LeaseRows
 pub mod Leaving
-pub mod Lent
+pub mod Leased
 pub mod Listed
 pub mod Longest
 pub mod NameRows
@@ -48,12 +48,12 @@ pub mod Reading
 pub mod Repeats
 pub mod Replies
 pub mod Resolving
-pub mod RestRows
+pub mod TimeWaitRows
 pub mod Rows
 pub mod Sentences
 pub mod Sized
 pub mod Sorts
-pub mod Spelt
+pub mod Encoded
 pub mod Steps
 pub mod Strays
 pub mod UdpRows

@@ -7,7 +7,7 @@ use Rattle.world_face.specs.declared.Sent.TheVariants.{Done as SentDone}
 use Rattle.world_face.specs.declared.Got.TheVariants.{From}
 use Rattle.world_face.specs.declared.Waited.TheVariants.{Ready, Stop}
 use Rattle.world_face.specs.Journal.{Entry, Call, Now, Wait, LinkWrite, UdpOpen, UdpSend, UdpRecv, Close, CallWait, CallLinkWrite, CallUdpOpen, CallClose}
-use Rattle.world_face.specs.Frames.{spelling, missing, is_too_long, spelt_length}
+use Rattle.world_face.specs.Frames.{encoding, missing, is_too_long, encoded_length}
 use Rattle.net_octets.specs.declared.Endpoint.{Endpoint}
 use Rattle.slirp_settings.specs.Addresses.{Config, endpoint}
 use Rattle.host_policy.specs.Targets.{anywhere}
@@ -63,11 +63,11 @@ resolves = run ((Now 0 ∷ Wait (reading Link ∷ []) None Ready (reading Link �
     (reading (Udp 0) ∷ []) ∷ Now 10 ∷ Wait (reading Link ∷ []) None Stop [] ∷ []))
 
 resolves_lawful : Lawful with_names resolves
-unfolding missing spelling is_too_long spelt_length
+unfolding missing encoding is_too_long encoded_length
 resolves_lawful = is_sound with_names resolves refl
 
 resolves_finished : Finished with_names resolves
-unfolding missing spelling is_too_long spelt_length
+unfolding missing encoding is_too_long encoded_length
 resolves_finished = record { ended = refl; none_due = refl; closed = refl }
 
 -- at which address a socket is opened: that from which datagrams go out, but for a resolver of the host itself
@@ -84,11 +84,11 @@ abbrev from_anywhere : List Entry
 from_anywhere = run (sent anywhere resolver ++ Wait (reading Link ∷ reading (Udp 0) ∷ []) (Some 10000) Stop [] ∷ Close 0 ∷ [])
 
 from_anywhere_lawful : Lawful from_outside from_anywhere
-unfolding missing spelling is_too_long spelt_length
+unfolding missing encoding is_too_long encoded_length
 from_anywhere_lawful = is_sound from_outside from_anywhere refl
 
 from_anywhere_finished : Finished from_outside from_anywhere
-unfolding missing spelling is_too_long spelt_length
+unfolding missing encoding is_too_long encoded_length
 from_anywhere_finished = record { ended = refl; none_due = refl; closed = refl }
 
 abbrev far : Config
@@ -98,11 +98,11 @@ abbrev from_its_address : List Entry
 from_its_address = run (sent (endpoint 0xc6336409 0) resolver_outside ++ Wait (reading Link ∷ reading (Udp 0) ∷ []) (Some 10000) Stop [] ∷ Close 0 ∷ [])
 
 from_its_address_lawful : Lawful far from_its_address
-unfolding missing spelling is_too_long spelt_length
+unfolding missing encoding is_too_long encoded_length
 from_its_address_lawful = is_sound far from_its_address refl
 
 from_its_address_finished : Finished far from_its_address
-unfolding missing spelling is_too_long spelt_length
+unfolding missing encoding is_too_long encoded_length
 from_its_address_finished = record { ended = refl; none_due = refl; closed = refl }
 
 -- where no names are served, a question may go nowhere
@@ -116,11 +116,11 @@ abbrev pub denied : List Entry
 denied = run ((Now 0 ∷ Wait (reading Link ∷ []) None Ready (reading Link ∷ []) ∷ Now 5 ∷ []) ++ comes question ++ (LinkWrite prohibited (Done 74) ∷ Wait (reading Link ∷ []) None Stop [] ∷ []))
 
 denied_lawful : Lawful without_names denied
-unfolding missing spelling is_too_long spelt_length
+unfolding missing encoding is_too_long encoded_length
 denied_lawful = is_sound without_names denied refl
 
 denied_finished : Finished without_names denied
-unfolding missing spelling is_too_long spelt_length
+unfolding missing encoding is_too_long encoded_length
 denied_finished = record { ended = refl; none_due = refl; closed = refl }
 
 -- the same question goes out again on the same socket, and another one of the same port on a socket of its own
@@ -137,7 +137,7 @@ abbrev two_asked : List Entry
 two_asked = run (again ++ waits_on ++ comes other_question ++ UdpOpen 1 anywhere MadeDone ∷ UdpSend 1 resolver (hex "12350100000000000000000071") SentDone ∷ [])
 
 two_asked_lawful : Lawful with_names two_asked
-unfolding missing spelling is_too_long spelt_length
+unfolding missing encoding is_too_long encoded_length
 two_asked_lawful = is_sound with_names two_asked refl
 
 -- after 10,000 milliseconds its socket may be closed, and not before
@@ -148,11 +148,11 @@ abbrev waited_long : List Entry
 waited_long = run (woken_at 10005 ++ Close 0 ∷ [])
 
 waited_long_lawful : Lawful with_names waited_long
-unfolding missing spelling is_too_long spelt_length
+unfolding missing encoding is_too_long encoded_length
 waited_long_lawful = is_sound with_names waited_long refl
 
 closed_too_soon : May with_names (run (woken_at 10004)) (CallClose 0) → ⊥
-unfolding missing spelling is_too_long spelt_length
+unfolding missing encoding is_too_long encoded_length
 closed_too_soon = λ may. not_so may.socket refl
 
 abbrev came : Endpoint → List ℕ → List Entry
@@ -160,45 +160,45 @@ came peer octets = sent anywhere resolver ++ Wait (reading Link ∷ reading (Udp
 
 -- What may not come: a short question that goes out; a response that is sent as a question; a new socket for the same question;
 short_sent : May with_names (run (begins ++ comes short_question)) (CallUdpOpen 0 anywhere) → ⊥
-unfolding missing spelling is_too_long spelt_length
+unfolding missing encoding is_too_long encoded_length
 short_sent = λ may. not_so may.place refl
 
 abbrev as_question : List ℕ
 as_question = hex "52550a00020252540012345608004500002900010000401162b20a00020f0a0002030fa000350015d3a812348100000000000000000071"
 
 response_sent : May with_names (run (begins ++ comes as_question)) (CallUdpOpen 0 anywhere) → ⊥
-unfolding missing spelling is_too_long spelt_length
+unfolding missing encoding is_too_long encoded_length
 response_sent = λ may. not_so may.place refl
 
 new_socket : May with_names (run (sent anywhere resolver ++ waits_on ++ comes question)) (CallUdpOpen 1 anywhere) → ⊥
-unfolding missing spelling is_too_long spelt_length
+unfolding missing encoding is_too_long encoded_length
 new_socket = λ may. cc (may.due)
 
 -- an answer with another identifier that is handed on, one of another peer, and a second one; the answer before its socket is closed, and a wait before;
 other_identifier : May with_names (run (came resolver other_answer)) (CallLinkWrite reply) → ⊥
-unfolding missing spelling is_too_long spelt_length
+unfolding missing encoding is_too_long encoded_length
 other_identifier = λ may. not_so may.answered refl
 
 other_peer : May with_names (run (came (endpoint 0xc6336401 53) answer)) (CallLinkWrite reply) → ⊥
-unfolding missing spelling is_too_long spelt_length
+unfolding missing encoding is_too_long encoded_length
 other_peer = λ may. not_so may.answered refl
 
 second_answer : May with_names (run (came resolver answer ++ Close 0 ∷ LinkWrite reply (Done 59) ∷ [])) (CallLinkWrite reply) → ⊥
-unfolding missing spelling is_too_long spelt_length
+unfolding missing encoding is_too_long encoded_length
 second_answer = λ may. not_so may.answered refl
 
 answered_first : May with_names (run (came resolver answer)) (CallLinkWrite reply) → ⊥
-unfolding missing spelling is_too_long spelt_length
+unfolding missing encoding is_too_long encoded_length
 answered_first = λ may. cc (may.due)
 
 kept_on : May with_names (run (came resolver answer)) (CallWait (reading Link ∷ []) None) → ⊥
-unfolding missing spelling is_too_long spelt_length
+unfolding missing encoding is_too_long encoded_length
 kept_on = λ may. cc (may.due)
 
 -- the answer to the port from which the resolver spoke; the address of outside for a resolver of the host
 other_port : May with_names (run (came resolver answer ++ Close 0 ∷ []))
     (CallLinkWrite (hex "0000003752540012345652550a00020208004500002900000000401162b30a0002030a00020f00350fa10015e3a712348100000000000000000061")) → ⊥
-unfolding missing spelling is_too_long spelt_length
+unfolding missing encoding is_too_long encoded_length
 other_port = λ may. not_so may.answered refl
 
 apart : from_outside.outbound ≡ Some 0 → ⊥
@@ -209,7 +209,7 @@ address_of (CallUdpOpen socket at) = at.addr.0
 address_of _ = 0
 
 wrong_address : May from_outside (run (begins ++ comes question)) (CallUdpOpen 0 (endpoint 0xc6336409 0)) → ⊥
-unfolding missing spelling is_too_long spelt_length
+unfolding missing encoding is_too_long encoded_length
 wrong_address = λ may. cc (ap address_of may.due)
 
 -- Of 512 questions the longest unused one gives way to a new one; of 511 none does.

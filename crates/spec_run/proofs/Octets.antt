@@ -20,7 +20,7 @@ use Rattle.ipv4_head.specs.Sets.{parts_for, changed_by, OfParts, OfSets, place_o
 use Rattle.ipv4_head.proofs.Members.{found_key, of_changed_by, of_left, of_there, same_key}
 use Rattle.spec_trace.specs.Fragments.{Fragment, arrived, fragment_by, fragment_in, fragment_of, joined_by, key_by, part_by, sets, waiting, with_fragment, with_frame}
 use Rattle.spec_trace.specs.Moments.{moment}
-use Rattle.spec_run.proofs.Spelt.{spelt}
+use Rattle.spec_run.proofs.Encoded.{encoded}
 
 abbrev IsOctet : ℕ → Type 0
 IsOctet octet = octet < 2 ^ 8
@@ -71,7 +71,7 @@ IsRanged ip = (ip.from < 2 ^ 32) × (ip.to < 2 ^ 32) × AreOctets ip.body
 
 pub ip_range : (octets : List ℕ) (ip : Ip) → read_ip octets ≡ Some ip → AreOctets octets → IsRanged ip
 ip_range octets ip is all =
-    let found = spelt octets ip is in
+    let found = encoded octets ip is in
     let from : four_at octets 12 ≡ ip.from = ap (λ (i : Ip). i.from) found in
     let to : four_at octets 16 ≡ ip.to = ap (λ (i : Ip). i.to) found in
     let body : part octets (head_length octets) (two_at octets 2 - head_length octets) ≡ ip.body = ap (λ (i : Ip). i.body) found in (

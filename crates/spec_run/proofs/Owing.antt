@@ -29,8 +29,8 @@ use Rattle.spec_flows.specs.Book.{book}
 use Rattle.spec_flows.specs.Segments.{OnTuple, from_guest}
 use Rattle.spec_run.specs.Answers.{is_flows, starts, Answer, ArpAnswer, IpAnswer, Serving, again_frames, answers_of, begins_again, ledger, left_by_file, left_by_outcome, may_go_again}
 use Rattle.spec_run.specs.Answers.{reply_on, served_file, serving, told_of_files, datagrams_in, datagrams_out, with_datagrams, frames_for, frames_of, identification, is_first, is_out}
-use Rattle.spec_run.specs.Answers.{is_untold, left, left_after, no_network, owed_for_fate, owed_for_icmp, owed_for_packet, reply_for, reset_for, taken, told_about, unconnected, unsent}
-use Rattle.spec_run.specs.Datagrams.{Errand, Fate, Ignored, Refused, ForLeases, ForFiles, GoesTo, fate, Step, NeedsNothing, NeedsSocket, NeedsSending}
+use Rattle.spec_run.specs.Answers.{is_untold, left, left_after, no_network, owed_for_verdict, owed_for_icmp, owed_for_packet, reply_for, reset_for, taken, told_about, unconnected, unsent}
+use Rattle.spec_run.specs.Datagrams.{Errand, DatagramVerdict, Ignored, Refused, ForLeases, ForFiles, GoesTo, datagram_verdict, Step, NeedsNothing, NeedsSocket, NeedsSending}
 use Rattle.spec_run.specs.Asking.{step, step_of}
 use Rattle.spec_run.specs.Errands.{errand_after, errand_by_call, errand_left}
 use Rattle.spec_run.specs.Leasing.{sending_of}
@@ -86,18 +86,18 @@ one_told : (config : Config) (o : Option Said) → length (told_of_files config 
 one_told config None = omega arith
 one_told config (Some said) = omega arith
 
-one_fate : (config : Config) (s : Serving) (d : Datagram) (what : Fate) → length (owed_for_fate config s d what) ≤ 1
-one_fate config s d Ignored = omega arith
-one_fate config s d Refused = none_if (is_untold config d) _
-one_fate config s d ForLeases = one_sending _ _
-one_fate config s d ForFiles = one_told config (served_file config s d).told
-one_fate config s d (GoesTo to) = omega arith
+one_verdict : (config : Config) (s : Serving) (d : Datagram) (what : DatagramVerdict) → length (owed_for_verdict config s d what) ≤ 1
+one_verdict config s d Ignored = omega arith
+one_verdict config s d Refused = none_if (is_untold config d) _
+one_verdict config s d ForLeases = one_sending _ _
+one_verdict config s d ForFiles = one_told config (served_file config s d).told
+one_verdict config s d (GoesTo to) = omega arith
 
 one_packet : (config : Config) (s : Serving) (stray : Bool) (packet : Packet) → length (owed_for_packet config s stray packet) ≤ 1
 one_packet config s stray Unheard = omega arith
 one_packet config s stray (ArpPacket arp) = one_if _ _
 one_packet config s stray (Message mac ip message) = list_if _ (owed_for_icmp mac ip message) (one_echo mac ip message)
-one_packet config s stray (DatagramPacket d) = one_fate config s d (fate config d)
+one_packet config s stray (DatagramPacket d) = one_verdict config s d (datagram_verdict config d)
 one_packet config s stray (Segment mac ip tcp) = one_if stray (reset_for (from_guest mac ip tcp))
 
 one_reply : (config : Config) (peer : Endpoint) (octets : List ℕ) (port : Option Endpoint) (mac : Option (List ℕ)) → length (reply_for config peer octets port mac) ≤ 1

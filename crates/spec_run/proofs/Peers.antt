@@ -19,9 +19,9 @@ use Rattle.spec_flow.specs.Event.{Accepts, Event, At, AsksAddress, Departs, Stor
 use Rattle.spec_flow.specs.Flow.{first_number, is_accepted}
 use Rattle.spec_trace.specs.Happenings.{Arrival, happens}
 use Rattle.spec_flows.specs.Book.{book, doom, is_refused, joins_for, opens, port_by, port_of, scene, tuple_for, turned, visits_for}
-use Rattle.spec_flows.specs.Doings.{Doing, Nothing, Comes, Goes, Seeks, Pauses, Joins, Visits, Calls, Shuts, by_call, comes, doing, doing_by, ended_by, goes, joined, joins, read_by}
-use Rattle.spec_flows.specs.Doings.{seeks, visits, written_by}
-use Rattle.spec_flows.specs.Flows.{Book, Flow, Scene, flow_of, is_numbered, is_on, is_strange, is_used, seeks_for, sends, shuts, tell, with_event}
+use Rattle.spec_flows.specs.Doings.{Doing, Nothing, Comes, Goes, Resolves, Pauses, Joins, Visits, Calls, Shuts, by_call, comes, doing, doing_by, ended_by, goes, joined, joins, read_by}
+use Rattle.spec_flows.specs.Doings.{resolves, visits, written_by}
+use Rattle.spec_flows.specs.Flows.{Book, Flow, Scene, flow_of, is_numbered, is_on, is_strange, is_used, resolves_for, sends, shuts, tell, with_event}
 use Rattle.spec_flows.specs.Segments.{OnTuple, asked_in, segment_came, segment_in}
 use Rattle.spec_run.specs.Peers.{IsForPeer}
 
@@ -87,12 +87,12 @@ plain_comes : (o : Option OnTuple) → Plain (comes o)
 plain_comes None = tt
 plain_comes (Some on) = tt
 
-plain_seeks : (o : Option ℕ) → Plain (seeks o)
-plain_seeks None = tt
-plain_seeks (Some guest) = tt
+plain_resolves : (o : Option ℕ) → Plain (resolves o)
+plain_resolves None = tt
+plain_resolves (Some guest) = tt
 
 plain_goes : (o : Option OnTuple) (asked : Option ℕ) → Plain (goes o asked)
-plain_goes None asked = plain_seeks asked
+plain_goes None asked = plain_resolves asked
 plain_goes (Some on) asked = tt
 
 plain_doing : (came : Option Arrival) (went : Option (List ℕ)) (e : Entry) → Plain (doing_by came went e)
@@ -125,7 +125,7 @@ keeps_sent config now on f fits = by (is_strange on.segment f)
     by true = fits
     by false = fits
 
-keeps_sought : (config : Config) (now guest : ℕ) (f : Flow) → Fits config f → Fits config (seeks_for now guest f)
+keeps_sought : (config : Config) (now guest : ℕ) (f : Flow) → Fits config f → Fits config (resolves_for now guest f)
 keeps_sought config now guest f fits = by (is_accepted f.story && (address f.tuple.guest == guest))
   where
     by : (b : Bool) → Fits config (if b then with_event now AsksAddress f else f)
@@ -171,7 +171,7 @@ keeps_doing : (config : Config) (sc : Scene) (d : Doing) (b : Book) → Plain d 
 keeps_doing config sc Nothing b plain all = all
 keeps_doing config sc (Comes on) b plain all = keeps_told config (is_on on.tuple) _ (λ f fits. fits) b.flows all
 keeps_doing config sc (Goes on) b plain all = keeps_told config (is_on on.tuple) (sends sc.moment on.segment) (keeps_sent config sc.moment on) b.flows all
-keeps_doing config sc (Seeks guest) b plain all = keeps_mapped config (seeks_for sc.moment guest) (keeps_sought config sc.moment guest) b.flows all
+keeps_doing config sc (Resolves guest) b plain all = keeps_mapped config (resolves_for sc.moment guest) (keeps_sought config sc.moment guest) b.flows all
 keeps_doing config sc Pauses b plain all = all
 keeps_doing config sc (Joins socket) b plain all = keeps_joined config sc.moment socket b.came b all
 keeps_doing config sc (Visits listener socket peer) b plain all = keeps_visit config sc.moment socket listener peer b all

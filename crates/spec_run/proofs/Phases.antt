@@ -13,7 +13,7 @@ use Rattle.slirp_settings.specs.declared.Proto.TheVariants.{Tcp, Udp as ByUdp}
 use Rattle.slirp_settings.specs.Addresses.{Config, forward_on}
 use Rattle.slirp_settings.specs.Classes.{same_endpoint}
 use Rattle.spec_flows.specs.Book.{book, port_of}
-use Rattle.spec_flows.specs.Lots.{connects_to, due_by, due_for_flows}
+use Rattle.spec_flows.specs.SegmentVerdicts.{connects_to, due_by, due_for_flows}
 use Rattle.spec_trace.specs.Happenings.{Arrival, happens}
 use Rattle.spec_trace.specs.Moments.{waits}
 use Rattle.spec_trace.specs.Shape.{GivesNone, Phase, Opening, Started, Woken, Working, Over, phase, phase_by, phase_after, opened, clocked, unless_over, due_in, opening_of, is_working}

@@ -51,7 +51,7 @@ module _ (p : ℕ → Bool) (Q : Type 0) where
       by true passes is rest = each.0 passes
       by false fails is rest = rest is
 
--- ---- addresses of the network have 32 bits, as the first one that is lent has
+-- ---- addresses of the network have 32 bits, as the first one that is leased has
 
 near : (a d size count : ℕ) → 0 < size → count * size ≡ 2 ^ 32 → a / size ≡ d / size → d < 2 ^ 32 → a < 2 ^ 32
 near a d size count some all same fits =
@@ -132,7 +132,7 @@ fits a d mask is = one_of (λ ones. mask == mask_of ones) (Fits a d mask) prefix
 ) is
 
 module _ (config : Config) (sound : IsSound config) where
-  -- the first that is lent
+  -- the first that is leased
   start_fits : config.dhcp_start < 2 ^ 32
   start_fits = less config.dhcp_start (2 ^ 32) (first (nat_lt (config.dhcp_start + 15) (2 ^ 32)) (list_all (is_guest config) (pool config)) (sound.each VdhcpStart))
     where

@@ -14,9 +14,9 @@ use Rattle.slirp_settings.specs.Classes.{is_loopback}
 use Rattle.ipv4_head.specs.Cuts.{cut_at, cut_start, is_before_last, units_in}
 use Rattle.ipv4_head.specs.Ip.{Ip, ip_octets, is_unbroken, read_ip, summed_head}
 use Rattle.ipv4_head.proofs.Plain.{written_is}
-use Rattle.ipv4_head.proofs.Spelling.{reads as reads_datagram}
+use Rattle.ipv4_head.proofs.Encoding.{reads as reads_datagram}
 use Rattle.udp_datagram.specs.Udp.{Udp, read_udp, summed, udp_octets, udp_with, written_sum}
-use Rattle.udp_datagram.proofs.Spelling.{length-udp, reads as reads_udp}
+use Rattle.udp_datagram.proofs.Encoding.{length-udp, reads as reads_udp}
 use Rattle.udp_datagram.proofs.Writing.{front_is}
 use Rattle.spec_run.specs.Answers.{IpAnswer, frames_for, part_frame, uncut}
 use Rattle.spec_run.specs.Laws.{Lawful}

@@ -28,7 +28,7 @@ use Rattle.slirp_settings.specs.Addresses.{Config, endpoint, is_answered_for, is
 use Rattle.rules_udp.specs.declared.Reply.TheVariants.{Nothing, Datagram as ADatagram}
 use Rattle.host_policy.specs.Targets.{is_hidden}
 use Rattle.ether_frame.specs.Ether.{Ether, read_ether, ether_octets}
-use Rattle.ether_frame.proofs.Spelling.{reads as reads_frame}
+use Rattle.ether_frame.proofs.Encoding.{reads as reads_frame}
 use Rattle.arp_table.specs.Arp.{Arp, read_arp, is_arp, arp_octets}
 use Rattle.arp_table.specs.Table.{is_for as has_address, mac_of as learnt_for}
 use Rattle.ipv4_head.specs.Ip.{Ip, read_ip, ip_octets, fragment_of}
@@ -63,10 +63,10 @@ use Rattle.spec_flows.specs.Book.{book}
 use Rattle.spec_flows.specs.Segments.{OnTuple, from_guest, segment_by, segment_came}
 use Rattle.spec_flows.proofs.Newest.{is_newest}
 use Rattle.spec_run.specs.Answers.{Answer, ArpAnswer, IpAnswer, Ledger, Serving, again_by_call, answer_of, answers_of, begins_again, begun_by, files_after, files_begun, files_by_call}
-use Rattle.spec_run.specs.Answers.{files_by_fate, files_by_outcome, files_by_packet, files_sent, identification, is_free, ledger, may_go_again, served_file, serving}
-use Rattle.spec_run.specs.Answers.{told_of_files, unless_begun, arp_reply, is_untold, no_network, part_frame, owed_for_fate, owed_for_icmp, owed_for_packet, reset_for, told_about}
+use Rattle.spec_run.specs.Answers.{files_by_verdict, files_by_outcome, files_by_packet, files_sent, identification, is_free, ledger, may_go_again, served_file, serving}
+use Rattle.spec_run.specs.Answers.{told_of_files, unless_begun, arp_reply, is_untold, no_network, part_frame, owed_for_verdict, owed_for_icmp, owed_for_packet, reset_for, told_about}
 use Rattle.spec_run.specs.Answers.{reply_for}
-use Rattle.spec_run.specs.Datagrams.{Errand, Fate, Ignored, Refused, ForLeases, ForFiles, GoesTo, asks_a_name, fate}
+use Rattle.spec_run.specs.Datagrams.{Errand, DatagramVerdict, Ignored, Refused, ForLeases, ForFiles, GoesTo, asks_a_name, datagram_verdict}
 use Rattle.spec_run.specs.Errands.{errand_left}
 use Rattle.spec_run.specs.Leasing.{sending_of}
 use Rattle.spec_run.specs.Names.{after_call as question_after, question, questions, with_heard as question_heard, with_opened as question_opened, with_sent as question_sent}
@@ -74,7 +74,7 @@ use Rattle.spec_run.specs.Ports.{last_datagram, last_mac, mac_by, mac_of, opened
 use Rattle.spec_run.specs.Said.{Carries, is_for_server, Occasion, NoOccasion, Came, Heard, HeardOfName, OfFile, Unsent, Unconnected, by_call, by_got, by_joined, by_made, by_outcome}
 use Rattle.spec_run.specs.Said.{by_said, by_sent, for_guest, heard_on, last_occasion, occasion_after, owed_for, refused_or, unsent_or}
 use Rattle.spec_run.proofs.Bools.{first_of}
-use Rattle.spec_run.proofs.Spelt.{spelt}
+use Rattle.spec_run.proofs.Encoded.{encoded}
 use Rattle.spec_run.proofs.Steps.{errand_asks}
 use Rattle.spec_run.proofs.Framing.{fragment_fits, our_six, place_kept}
 
@@ -673,15 +673,15 @@ six_after_outcome : (o : Option Outcome) (files : Files) → SixAnswered o → S
 six_after_outcome None files one is = is
 six_after_outcome (Some o) files one is = one.files
 
-six_by_fate : (config : Config) (s : Serving) (d : Datagram) (what : Fate) → length d.mac ≡ 6 → SixServing s → SixFiles (files_by_fate config s d what)
-six_by_fate config s d ForFiles one is = (six_taken config.tftp_path s.now d.mac d.from (file_packet d.body) s.files.transfers one is.files.transfers).files
-six_by_fate config s d Ignored one is = is.files
-six_by_fate config s d Refused one is = is.files
-six_by_fate config s d ForLeases one is = is.files
-six_by_fate config s d (GoesTo to) one is = is.files
+six_by_verdict : (config : Config) (s : Serving) (d : Datagram) (what : DatagramVerdict) → length d.mac ≡ 6 → SixServing s → SixFiles (files_by_verdict config s d what)
+six_by_verdict config s d ForFiles one is = (six_taken config.tftp_path s.now d.mac d.from (file_packet d.body) s.files.transfers one is.files.transfers).files
+six_by_verdict config s d Ignored one is = is.files
+six_by_verdict config s d Refused one is = is.files
+six_by_verdict config s d ForLeases one is = is.files
+six_by_verdict config s d (GoesTo to) one is = is.files
 
 six_by_packet : (config : Config) (s : Serving) (p : Packet) → SixPacket p → SixServing s → SixFiles (files_by_packet config s p)
-six_by_packet config s (DatagramPacket d) one is = six_by_fate config s d (fate config d) one is
+six_by_packet config s (DatagramPacket d) one is = six_by_verdict config s d (datagram_verdict config d) one is
 six_by_packet config s Unheard one is = is.files
 six_by_packet config s (ArpPacket arp) one is = is.files
 six_by_packet config s (Message mac ip message) one is = is.files
@@ -726,38 +726,38 @@ six_again config past =
 
 -- ---- of what is owed for a packet
 
-six_fate : (config : Config) (s : Serving) (d : Datagram) (what : Fate) → SixServing s → length d.mac ≡ 6 → AllAnswers SixAnswer (owed_for_fate config s d what)
-six_fate config s d Ignored serves is = tt
-six_fate config s d Refused serves is = all_six (told_about config _ d) (ours_told config _ d is)
-six_fate config s d ForLeases serves is = six_lease config s.now s.leases d.body (read_message d.body) refl
-six_fate config s d ForFiles serves is = six_told config (served_file config s d).told
+six_verdict : (config : Config) (s : Serving) (d : Datagram) (what : DatagramVerdict) → SixServing s → length d.mac ≡ 6 → AllAnswers SixAnswer (owed_for_verdict config s d what)
+six_verdict config s d Ignored serves is = tt
+six_verdict config s d Refused serves is = all_six (told_about config _ d) (ours_told config _ d is)
+six_verdict config s d ForLeases serves is = six_lease config s.now s.leases d.body (read_message d.body) refl
+six_verdict config s d ForFiles serves is = six_told config (served_file config s d).told
     (six_taken config.tftp_path s.now d.mac d.from (file_packet d.body) s.files.transfers is serves.files.transfers).told
-six_fate config s d (GoesTo to) serves is = tt
+six_verdict config s d (GoesTo to) serves is = tt
 
 pub six_owed_for : (config : Config) (s : Serving) (stray : Bool) (packet : Packet) → SixServing s → SixPacket packet → AllAnswers SixAnswer (owed_for_packet config s stray packet)
 six_owed_for config s stray Unheard serves is = tt
 six_owed_for config s stray (ArpPacket arp) serves is = all_if SixAnswer (not arp.is_reply && is_answered_for config arp.target) (arp_reply arp ∷ []) [] ((is, our_six arp.target), tt) tt
 six_owed_for config s stray (Message mac ip message) serves is = all_if SixAnswer _ (owed_for_icmp mac ip message) [] (all_six _ (ours_icmp mac ip message is)) tt
-six_owed_for config s stray (DatagramPacket d) serves is = six_fate config s d (fate config d) serves is
+six_owed_for config s stray (DatagramPacket d) serves is = six_verdict config s d (datagram_verdict config d) serves is
 six_owed_for config s stray (Segment mac ip tcp) serves is = all_if SixAnswer stray (reset_for (from_guest mac ip tcp) ∷ []) [] (is, tt) tt
 
 -- one that isn't of a service isn't a datagram of UDP
-ours_fate : (config : Config) (s : Serving) (d : Datagram) (what : Fate) → is_for_server what ≡ false → length d.mac ≡ 6 → AllAnswers IsOurs (owed_for_fate config s d what)
-ours_fate config s d Ignored other is = tt
-ours_fate config s d Refused other is = ours_told config _ d is
-ours_fate config s d ForLeases other is = cc
-ours_fate config s d ForFiles other is = cc
-ours_fate config s d (GoesTo to) other is = tt
+ours_verdict : (config : Config) (s : Serving) (d : Datagram) (what : DatagramVerdict) → is_for_server what ≡ false → length d.mac ≡ 6 → AllAnswers IsOurs (owed_for_verdict config s d what)
+ours_verdict config s d Ignored other is = tt
+ours_verdict config s d Refused other is = ours_told config _ d is
+ours_verdict config s d ForLeases other is = cc
+ours_verdict config s d ForFiles other is = cc
+ours_verdict config s d (GoesTo to) other is = tt
 
 abbrev pub is_for_service : Config → Packet → Bool
-is_for_service config (DatagramPacket d) = is_for_server (fate config d)
+is_for_service config (DatagramPacket d) = is_for_server (datagram_verdict config d)
 is_for_service config _ = false
 
 pub ours_packet : (config : Config) (s : Serving) (stray : Bool) (packet : Packet) → is_for_service config packet ≡ false → SixPacket packet → AllAnswers IsOurs (owed_for_packet config s stray packet)
 ours_packet config s stray Unheard other is = tt
 ours_packet config s stray (ArpPacket arp) other is = all_if IsOurs (not arp.is_reply && is_answered_for config arp.target) (arp_reply arp ∷ []) [] (((is, our_six arp.target), tt), tt) tt
 ours_packet config s stray (Message mac ip message) other is = all_if IsOurs _ (owed_for_icmp mac ip message) [] (ours_icmp mac ip message is) tt
-ours_packet config s stray (DatagramPacket d) other is = ours_fate config s d (fate config d) other is
+ours_packet config s stray (DatagramPacket d) other is = ours_verdict config s d (datagram_verdict config d) other is
 ours_packet config s stray (Segment mac ip tcp) other is = all_if IsOurs stray (reset_for (from_guest mac ip tcp) ∷ []) [] ((is, no_segment), tt) tt
 
 six_reply : (config : Config) (peer : Endpoint) (octets : List ℕ) (port : Option Endpoint) (mac : Option (List ℕ)) → SixMac mac → AllAnswers SixAnswer (reply_for config peer octets port mac)
@@ -871,7 +871,7 @@ reads_ip : (ident place proto from guest : ℕ) (more : Bool) (body : List ℕ) 
     (ip_octets ident (fragment_of more place) proto from guest body) ≡ Some ip → ReadsBack ident place proto more ip
 reads_ip ident place proto from guest more body ip fits within is =
     let octets = ip_octets ident (fragment_of more place) proto from guest body in
-    let found = spelt octets ip is in
+    let found = encoded octets ip is in
     let fragment : two_at octets 6 ≡ fragment_of more place = from_be_bytes-to_be_bytes_2 (fragment_of more place) (fragment_fits place more within) in
     record {
       ident = ap (λ (i : Ip). i.ident) (sym found) ∙ from_be_bytes-to_be_bytes_2 ident fits;

@@ -8,7 +8,7 @@ use Rattle.slirp_settings.specs.Addresses.{Config, address}
 use Rattle.host_policy.specs.Targets.{is_hidden, shown}
 use Rattle.ipv4_head.specs.Ip.{Ip}
 use Rattle.udp_datagram.specs.Udp.{Udp, summed, udp_octets, udp_with, written_sum}
-use Rattle.udp_datagram.proofs.Spelling.{length-udp}
+use Rattle.udp_datagram.proofs.Encoding.{length-udp}
 use Rattle.spec_run.specs.Answers.{Answer, ArpAnswer, IpAnswer, Serving, name_answer, name_reply, frames_of, frames_for, no_network, owed_for_packet, reply_for, reset_for, told_about}
 use Rattle.spec_run.specs.Answers.{request}
 use Rattle.arp_table.specs.Arp.{everyone}
@@ -17,7 +17,7 @@ use Rattle.spec_run.specs.Ports.{opened_for, mac_for}
 use Rattle.spec_run.specs.Said.{Carries, AnswersQuestion, IsOfServer, ForPacket, ByFile, Again, is_for_server, Occasion, NoOccasion, Came, Heard, HeardOfName, OfFile, Unsent}
 use Rattle.spec_run.specs.Said.{Unconnected, RepliesToItsPort, identification_with, last_occasion, owed_for}
 use Rattle.spec_run.proofs.Framing.{frames_one, part_of_frames, our_six}
-use Rattle.spec_run.specs.Datagrams.{fate}
+use Rattle.spec_run.specs.Datagrams.{datagram_verdict}
 use Rattle.rules_dns.specs.declared.Question.{Question}
 use Rattle.rules_dns.specs.Questions.{is_answered}
 use Rattle.spec_trace.specs.Packets.{Packet, Unheard, ArpPacket, Message, DatagramPacket, Segment}
@@ -100,9 +100,9 @@ module _ (config : Config) (past : List Entry) (frame : List ℕ) (a : Answer) (
   came : (s : Serving) (stray : Bool) (packet : Packet) (ip : Ip) → 28 ≤ config.mtu → last_occasion config past ≡ Came s stray packet → owed_for_packet config s stray packet ≡ a
       ∷ [] → SixAnswer a → Carries frame ip → ip.proto ≡ udp_proto
       → RepliesToItsPort config past frame ⊎ (AnswersQuestion config past frame ⊎ IsOfServer config past frame)
-  came s stray (DatagramPacket d) ip fits last owed six c udp = by (is_for_server (fate config d)) refl
+  came s stray (DatagramPacket d) ip fits last owed six c udp = by (is_for_server (datagram_verdict config d)) refl
     where
-      by : (b : Bool) → is_for_server (fate config d) ≡ b → RepliesToItsPort config past frame ⊎ (AnswersQuestion config past frame ⊎ IsOfServer config past frame)
+      by : (b : Bool) → is_for_server (datagram_verdict config d) ≡ b → RepliesToItsPort config past frame ⊎ (AnswersQuestion config past frame ⊎ IsOfServer config past frame)
       by true is = inr (inr (ForPacket s stray d last is))
       by false is = absurd (of_packet s stray (DatagramPacket d) ip is fits last owed six c udp)
   came s stray Unheard ip fits last owed six c udp = absurd (of_packet s stray Unheard ip refl fits last owed six c udp)

@@ -7,7 +7,7 @@ use Rattle.poll_list.specs.declared.Who.TheVariants.{Link}
 use Rattle.world_face.specs.declared.Io.TheVariants.{Done, NotYet, End}
 use Rattle.world_face.specs.declared.Waited.TheVariants.{Ready, Stop}
 use Rattle.world_face.specs.Journal.{Entry, Now, Wait, LinkRead, LinkWrite, CallNow, CallWait, CallLinkRead, CallLinkWrite}
-use Rattle.world_face.specs.Frames.{spelling, missing, is_too_long, spelt_length}
+use Rattle.world_face.specs.Frames.{encoding, missing, is_too_long, encoded_length}
 use Rattle.net_octets.specs.Octets.{four}
 use Rattle.slirp_settings.specs.Settings.{usual}
 use Rattle.spec_run.specs.Check.{may}
@@ -54,7 +54,7 @@ writing who = record { of = who; read = false; write = true }
 abbrev pub comes : List ℕ → List Entry
 comes frame = LinkRead 4 (Done 4) (four (length frame)) ∷ LinkRead (length frame) (Done (length frame)) frame ∷ []
 
--- a record, written oldest first
+-- a trace, written oldest first
 abbrev pub run : List Entry → List Entry
 run entries = reverse entries
 
@@ -76,11 +76,11 @@ abbrev pub answered : List Entry
 answered = run (begins ++ comes request ++ LinkWrite reply (Done 46) ∷ Wait (reading Link ∷ []) None Stop [] ∷ [])
 
 answered_lawful : Lawful usual answered
-unfolding missing spelling is_too_long spelt_length
+unfolding missing encoding is_too_long encoded_length
 answered_lawful = is_sound usual answered refl
 
 answered_finished : Finished usual answered
-unfolding missing is_too_long spelt_length
+unfolding missing is_too_long encoded_length
 answered_finished = record { ended = refl; none_due = refl; closed = refl }
 
 -- one for another guest isn't
@@ -88,7 +88,7 @@ abbrev pub not_ours : List Entry
 not_ours = run (begins ++ comes request_for_other ++ Wait (reading Link ∷ []) None Stop [] ∷ [])
 
 not_ours_lawful : Lawful usual not_ours
-unfolding missing spelling is_too_long spelt_length
+unfolding missing encoding is_too_long encoded_length
 not_ours_lawful = is_sound usual not_ours refl
 
 -- two octets of the reply are taken; when the link is ready the other 44 go, and nothing before them
@@ -98,7 +98,7 @@ taken_in_part =
     ∷ LinkWrite (hex "002a52540012345652550a0002020806000108000604000252550a0002020a0002025254001234560a00020f") (Done 44) ∷ Wait (reading Link ∷ []) None Stop [] ∷ [])
 
 taken_in_part_lawful : Lawful usual taken_in_part
-unfolding missing spelling is_too_long spelt_length
+unfolding missing encoding is_too_long encoded_length
 taken_in_part_lawful = is_sound usual taken_in_part refl
 
 -- none is taken: the whole reply is offered again
@@ -107,7 +107,7 @@ not_taken = run (begins ++ comes request ++ LinkWrite reply NotYet ∷ Wait (wri
     (reading Link ∷ []) None Stop [] ∷ [])
 
 not_taken_lawful : Lawful usual not_taken
-unfolding missing spelling is_too_long spelt_length
+unfolding missing encoding is_too_long encoded_length
 not_taken_lawful = is_sound usual not_taken refl
 
 -- an echo request for the host, the same with another last octet, and the reply with its length; the second reply has the next identification
@@ -130,55 +130,55 @@ pinged =
     ++ comes ping ++ LinkWrite second_pong (Done 48) ∷ Wait (reading Link ∷ []) None Stop [] ∷ [])
 
 pinged_lawful : Lawful usual pinged
-unfolding missing spelling is_too_long spelt_length
+unfolding missing encoding is_too_long encoded_length
 pinged_lawful = is_sound usual pinged refl
 
 -- one whose sum doesn't hold isn't
 spoilt_may_pass : may usual (run (begins ++ comes spoilt_ping)) (CallWait (reading Link ∷ []) None) ≡ true
-unfolding missing spelling is_too_long spelt_length
+unfolding missing encoding is_too_long encoded_length
 spoilt_may_pass = refl
 
 spoilt_unanswered : May usual (run (begins ++ comes spoilt_ping)) (CallLinkWrite pong) → ⊥
-unfolding missing spelling is_too_long spelt_length
+unfolding missing encoding is_too_long encoded_length
 spoilt_unanswered = λ may. cc (may.answered)
 
 same_identification : May usual (run (begins ++ comes ping ++ LinkWrite pong (Done 48) ∷ Wait (reading Link ∷ []) None Ready (reading Link ∷ []) ∷ Now 6 ∷ [] ++ comes ping)) (CallLinkWrite pong) → ⊥
-unfolding missing spelling is_too_long spelt_length
+unfolding missing encoding is_too_long encoded_length
 same_identification = λ may. cc (may.answered)
 
 -- What may not come: the next frame before the answer is out; another hardware address in it; another length before it; an answer that nobody asked for;
 reads_on_unanswered : May usual (run (begins ++ comes request)) (CallLinkRead 4) → ⊥
-unfolding missing spelling is_too_long spelt_length
+unfolding missing encoding is_too_long encoded_length
 reads_on_unanswered = λ may. cc (may.answered)
 
 other_address : May usual (run (begins ++ comes request)) (CallLinkWrite (hex "0000002a52540012345652550a0002020806000108000604000252550a0002030a0002025254001234560a00020f")) → ⊥
-unfolding missing spelling is_too_long spelt_length
+unfolding missing encoding is_too_long encoded_length
 other_address = λ may. cc (may.answered)
 
 no_length : May usual (run (begins ++ comes request)) (CallLinkWrite (hex "52540012345652550a0002020806000108000604000252550a0002020a0002025254001234560a00020f")) → ⊥
-unfolding missing spelling is_too_long spelt_length
+unfolding missing encoding is_too_long encoded_length
 no_length = λ may. differs may.framed.0.0 refl
 
 unasked : May usual (run (begins ++ comes request_for_other)) (CallLinkWrite reply) → ⊥
-unfolding missing spelling is_too_long spelt_length
+unfolding missing encoding is_too_long encoded_length
 unasked = λ may. cc (may.answered)
 
 -- the answer twice; the rest from its start again; a write while the link is blocked;
 twice : May usual (run (begins ++ comes request ++ LinkWrite reply (Done 46) ∷ [])) (CallLinkWrite reply) → ⊥
-unfolding missing spelling is_too_long spelt_length
+unfolding missing encoding is_too_long encoded_length
 twice = λ may. cc (may.answered)
 
 from_the_start : May usual (run (begins ++ comes request ++ LinkWrite reply (Done 2) ∷ Wait (writing Link ∷ []) None Ready (writing Link ∷ []) ∷ Now 6 ∷ [])) (CallLinkWrite reply) → ⊥
-unfolding missing spelling is_too_long spelt_length
+unfolding missing encoding is_too_long encoded_length
 from_the_start = λ may. differs {xs = reply} {ys = hex "002a52540012345652550a0002020806000108000604000252550a0002020a0002025254001234560a00020f"} may.framed.0 refl
 
 while_blocked : May usual (run (begins ++ comes request ++ LinkWrite reply NotYet ∷ [])) (CallLinkWrite reply) → ⊥
-unfolding missing spelling is_too_long spelt_length
+unfolding missing encoding is_too_long encoded_length
 while_blocked = λ may. cc (may.framed.1)
 
 -- a second frame for one report; a read of another size; a read that wasn't reported;
 second_frame : May usual (run (begins ++ comes request_for_other)) (CallLinkRead 4) → ⊥
-unfolding missing spelling is_too_long spelt_length
+unfolding missing encoding is_too_long encoded_length
 second_frame = λ may. cc (may.served)
 
 other_size : May usual (run begins) (CallLinkRead 5) → ⊥
@@ -198,7 +198,7 @@ after_end : May usual idle CallNow → ⊥
 after_end = λ may. cc (may.place)
 
 after_link_end : May usual (run (begins ++ LinkRead 4 End [] ∷ [])) (CallWait [] None) → ⊥
-unfolding missing is_too_long spelt_length
+unfolding missing is_too_long encoded_length
 after_link_end = λ may. cc (may.place)
 
 past_the_last : May (record usual { turns = 1 }) (run begins) (CallWait [] None) → ⊥

@@ -9,7 +9,7 @@ use Rattle.slirp_settings.specs.Addresses.{Config}
 use Rattle.ipv4_head.specs.Ip.{Ip}
 use Rattle.net_octets.specs.Octets.{checksum}
 use Rattle.tcp_segment.specs.Tcp.{Tcp, mss_octets, options_octets, scale_octets, summed, tcp_length, tcp_octets, tcp_with, words_of}
-use Rattle.tcp_segment.proofs.Spelling.{length-segment}
+use Rattle.tcp_segment.proofs.Encoding.{length-segment}
 use Rattle.spec_trace.specs.Moments.{moment}
 use Rattle.spec_flow.specs.Event.{Segment, Story}
 use Rattle.spec_flow.specs.Lawful.{IsPiece, May as MayOfOne, Send}

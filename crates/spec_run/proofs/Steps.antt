@@ -1,4 +1,4 @@
--- What the datagram that came last asks for, by the record.
+-- What the datagram that came last asks for, by the trace.
 use Rattle.std.proofs.Common.{◌≡◌, ℕ, ◌==◌, ◌&&◌, ◌||◌, not, Bool, true, false, List, [], ◌∷◌, Option, Some, None, if◌then◌else◌, refl, sym, ◌∙◌, ap, subst, ◌⊎◌, inl, inr}
 use Rattle.std.specs.Option.{option_or}
 use Rattle.world_face.specs.Journal.{Entry, UdpOpen, UdpSend}
@@ -16,7 +16,7 @@ use Rattle.rules_dns.specs.Questions.{ident_in, is_question, socket_of as questi
 use Rattle.spec_run.specs.Asking.{is_full, step, step_of, step_on, yields}
 use Rattle.spec_run.specs.Errands.{errand_after, errand_by_call, errand_left}
 use Rattle.spec_run.specs.Names.{questions, step_to_names, with_socket, without_socket}
-use Rattle.spec_run.specs.Datagrams.{Fate, Ignored, Refused, ForLeases, ForFiles, GoesTo, asks_a_name, fate, fate_by, is_to_names, Errand, errand_of, errand_by, errand_by_packet, Step}
+use Rattle.spec_run.specs.Datagrams.{DatagramVerdict, Ignored, Refused, ForLeases, ForFiles, GoesTo, asks_a_name, datagram_verdict, datagram_verdict_by, is_to_names, Errand, errand_of, errand_by, errand_by_packet, Step}
 use Rattle.spec_run.specs.Datagrams.{NeedsNothing, NeedsRoom, NeedsSocket, NeedsSending}
 use Rattle.spec_run.specs.Ports.{last_datagram, longest_unused, socket_for, forward_for}
 
@@ -24,7 +24,7 @@ use Rattle.spec_run.specs.Ports.{last_datagram, longest_unused, socket_for, forw
 
 pub record Asks (config : Config) (last : Option Datagram) (errand : Errand) : Type 0 where
   pub datagram : last ≡ Some errand.datagram
-  pub goes : fate config errand.datagram ≡ GoesTo errand.to
+  pub goes : datagram_verdict config errand.datagram ≡ GoesTo errand.to
 
 -- of an errand that is left, this holds
 abbrev pub OfErrand : (Errand → Type 0) → Option Errand → Type 0
@@ -56,7 +56,7 @@ abbrev pub AsksFor : Config → Option Datagram → Option Errand → Type 0
 AsksFor config last o = OfErrand (Asks config last) o
 
 -- a datagram that came begins its steps
-begun : (config : Config) (d : Datagram) (what : Fate) → fate config d ≡ what → (errand : Errand) → errand_by d what ≡ Some errand → Asks config (Some d) errand
+begun : (config : Config) (d : Datagram) (what : DatagramVerdict) → datagram_verdict config d ≡ what → (errand : Errand) → errand_by d what ≡ Some errand → Asks config (Some d) errand
 begun config d Ignored is errand this = cc
 begun config d Refused is errand this = cc
 begun config d ForLeases is errand this = cc
@@ -68,7 +68,7 @@ begun config d (GoesTo to) is errand this =
     subst (Asks config (Some d)) whole asks
 
 by_packet : (config : Config) (before : Option Datagram) (packet : Packet) → AsksFor config (option_or (datagram_by packet) before) (errand_by_packet config packet)
-by_packet config before (DatagramPacket d) = all_errands (Asks config (Some d)) (errand_of config d) (begun config d (fate config d) refl)
+by_packet config before (DatagramPacket d) = all_errands (Asks config (Some d)) (errand_of config d) (begun config d (datagram_verdict config d) refl)
 by_packet config before Unheard = tt
 by_packet config before (ArpPacket arp) = tt
 by_packet config before (Message mac ip message) = tt
@@ -202,7 +202,7 @@ opened_for_question config past socket errand name is =
     (sym (step_to_name config past errand name (errand_is config past (NeedsSending socket errand) is)) ∙ is)
 
 -- ---- what goes to an endpoint goes to its target
-goes_by : (config : Config) (d : Datagram) (v : Verdict) (to : Endpoint) → fate_by config d v ≡ GoesTo to → v ≡ Go to
+goes_by : (config : Config) (d : Datagram) (v : Verdict) (to : Endpoint) → datagram_verdict_by config d v ≡ GoesTo to → v ≡ Go to
 goes_by config d (Go at) to is = by (is_to_names config d && not (is_question d.body)) is
   where
     by : (b : Bool) → (if b then Ignored else GoesTo at) ≡ GoesTo to → Go at ≡ Go to
@@ -211,7 +211,7 @@ goes_by config d (Go at) to is = by (is_to_names config d && not (is_question d.
 goes_by config d (Denied rule) to is = cc
 
 -- what is decided before doesn't go out
-passed_or : (b : Bool) (one other : Fate) (to : Endpoint) → (one ≡ GoesTo to → ⊥) → (if b then one else other) ≡ GoesTo to → other ≡ GoesTo to
+passed_or : (b : Bool) (one other : DatagramVerdict) (to : Endpoint) → (one ≡ GoesTo to → ⊥) → (if b then one else other) ≡ GoesTo to → other ≡ GoesTo to
 passed_or true one other to never is = absurd (never is)
 passed_or false one other to never is = is
 
@@ -219,14 +219,14 @@ no_lease : (b : Bool) (to : Endpoint) → (if b then Ignored else ForLeases) ≡
 no_lease true to is = cc
 no_lease false to is = cc
 
-pub goes_by_policy : (config : Config) (d : Datagram) (to : Endpoint) → fate config d ≡ GoesTo to → fate_by config d (target config ByUdp d.to) ≡ GoesTo to
+pub goes_by_policy : (config : Config) (d : Datagram) (to : Endpoint) → datagram_verdict config d ≡ GoesTo to → datagram_verdict_by config d (target config ByUdp d.to) ≡ GoesTo to
 goes_by_policy config d to is =
-    let third = fate_by config d (target config ByUdp d.to) in
+    let third = datagram_verdict_by config d (target config ByUdp d.to) in
     let second = if (d.to.port == 69) && (address d.to == config.vhost) then ForFiles else third in
     passed_or ((d.to.port == 69) && (address d.to == config.vhost)) ForFiles third to (λ never. cc)
     (passed_or ((d.to.port == 67) && ((address d.to == config.vhost) || (address d.to == 0xffffffff))) (if config.no_dhcp then Ignored else ForLeases) second to (no_lease config.no_dhcp to)
     (passed_or (d.from.port == 0) Ignored (if (d.to.port == 67) && ((address d.to == config.vhost) || (address d.to == 0xffffffff)) then
     (if config.no_dhcp then Ignored else ForLeases) else second) to (λ never. cc) is))
 
-pub goes_to_target : (config : Config) (d : Datagram) (to : Endpoint) → fate config d ≡ GoesTo to → target config ByUdp d.to ≡ Go to
+pub goes_to_target : (config : Config) (d : Datagram) (to : Endpoint) → datagram_verdict config d ≡ GoesTo to → target config ByUdp d.to ≡ Go to
 goes_to_target config d to is = goes_by config d (target config ByUdp d.to) to (goes_by_policy config d to is)

@@ -18,15 +18,15 @@ use Rattle.tcp_segment.specs.declared.TheConstants.{RST}
 use Rattle.tcp_segment.specs.Tcp.{Tcp, fields_of, has, head_reading, options_reading, read_tcp, tcp_octets, ◌>>=◌}
 use Rattle.spec_flows.specs.declared.Tuple.{Tuple}
 use Rattle.spec_flow.specs.Event.{Segment}
-use Rattle.spec_flows.specs.Lots.{reset_to}
+use Rattle.spec_flows.specs.SegmentVerdicts.{reset_to}
 use Rattle.spec_flows.specs.Segments.{OnTuple, from_guest, segment_in, tcp_of, went_by, went_of}
 use Rattle.spec_trace.specs.Packets.{Datagram, Packet, Unheard, ArpPacket, Message, DatagramPacket, Segment as SegmentPacket}
 use Rattle.spec_run.specs.Leasing.{Sending, lease_reply}
 use Rattle.rules_tftp.specs.Transfers.{Said}
 use Rattle.rules_dns.specs.Questions.{is_answered}
-use Rattle.spec_run.specs.Answers.{Serving, answers_of, served_file, told_of_files, Answer, ArpAnswer, IpAnswer, arp_reply, frames_for, is_untold, left, no_network, owed_for_fate}
+use Rattle.spec_run.specs.Answers.{Serving, answers_of, served_file, told_of_files, Answer, ArpAnswer, IpAnswer, arp_reply, frames_for, is_untold, left, no_network, owed_for_verdict}
 use Rattle.spec_run.specs.Answers.{owed_for_icmp, owed_for_packet, part_frame, reply_for, reset_for, told_about, uncut}
-use Rattle.spec_run.specs.Datagrams.{Fate, Ignored, Refused, ForLeases, ForFiles, GoesTo, fate}
+use Rattle.spec_run.specs.Datagrams.{DatagramVerdict, Ignored, Refused, ForLeases, ForFiles, GoesTo, datagram_verdict}
 use Rattle.spec_run.specs.Laws.{Lawful}
 use Rattle.spec_run.specs.Ports.{opened_for, mac_for}
 use Rattle.spec_run.specs.Said.{Carries, Occasion, NoOccasion, Came, Heard, HeardOfName, OfFile, Unsent, Unconnected, identification_with, last_occasion, owed_for}
@@ -37,7 +37,7 @@ use Rattle.spec_run.proofs.Numbers.{carries_no_arp, ident_fits, reads_cut}
 use Rattle.spec_run.proofs.Owing.{next_left, out_six}
 use Rattle.spec_run.proofs.ReadBack.{only_cut, unbroken_is}
 use Rattle.spec_run.proofs.Reading.{AllAnswers, SixAnswer, all_if, carried_ip}
-use Rattle.spec_run.proofs.Spelt.{spelt}
+use Rattle.spec_run.proofs.Encoded.{encoded}
 
 -- ---- which answers carry segments
 
@@ -70,18 +70,18 @@ by_files : (config : Config) (o : Option Said) → AllAnswers IsReset (told_of_f
 by_files config None = tt
 by_files config (Some said) = (no_datagram _ _ _, tt)
 
-by_fate : (config : Config) (s : Serving) (d : Datagram) (what : Fate) → AllAnswers IsReset (owed_for_fate config s d what)
-by_fate config s d Ignored = tt
-by_fate config s d Refused = by_told config _ d
-by_fate config s d ForLeases = by_sendings (lease_reply config s.now s.leases d)
-by_fate config s d ForFiles = by_files config (served_file config s d).told
-by_fate config s d (GoesTo to) = tt
+by_datagram_verdict : (config : Config) (s : Serving) (d : Datagram) (what : DatagramVerdict) → AllAnswers IsReset (owed_for_verdict config s d what)
+by_datagram_verdict config s d Ignored = tt
+by_datagram_verdict config s d Refused = by_told config _ d
+by_datagram_verdict config s d ForLeases = by_sendings (lease_reply config s.now s.leases d)
+by_datagram_verdict config s d ForFiles = by_files config (served_file config s d).told
+by_datagram_verdict config s d (GoesTo to) = tt
 
 by_packet : (config : Config) (s : Serving) (stray : Bool) (packet : Packet) → AllAnswers IsReset (owed_for_packet config s stray packet)
 by_packet config s stray Unheard = tt
 by_packet config s stray (ArpPacket arp) = all_if IsReset (not arp.is_reply && is_answered_for config arp.target) (arp_reply arp ∷ []) [] (tt, tt) tt
 by_packet config s stray (Message mac ip message) = all_if IsReset (is_ours config ip.to) (owed_for_icmp mac ip message) [] (by_icmp mac ip message) tt
-by_packet config s stray (DatagramPacket d) = by_fate config s d (fate config d)
+by_packet config s stray (DatagramPacket d) = by_datagram_verdict config s d (datagram_verdict config d)
 by_packet config s stray (SegmentPacket mac ip tcp) =
     let on = from_guest mac ip tcp in
     all_if IsReset stray (reset_for on ∷ []) [] ((λ is. (on.tuple, on.segment, refl)), tt) tt
@@ -129,7 +129,7 @@ carries_one frame on is = of_ether frame on (read_ether frame) refl is
 body_back : (ident proto from to : ℕ) (body : List ℕ) (ip : Ip) → 20 + length body < 2 ^ 16 → read_ip (ip_octets ident 0 proto from to body) ≡ Some ip → ip.body ≡ body
 body_back ident proto from to body ip fits is =
     let octets = ip_octets ident 0 proto from to body in
-    let found = spelt octets ip is in
+    let found = encoded octets ip is in
     let size : two_at octets 2 ≡ 20 + length body = from_be_bytes-to_be_bytes_2 (20 + length body) fits in
     let rest : 20 + length body - 20 ≡ length body = omega arith in
     ap (λ (i : Ip). i.body) (sym found) ∙ ap (λ n. part octets 20 (n - 20)) size ∙ ap (λ n. take n body) rest ∙ take_all (length body) body (omega arith)

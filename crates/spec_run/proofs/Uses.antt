@@ -13,7 +13,7 @@ use Rattle.spec_trace.specs.Sockets.{next_number, number_for_peer}
 use Rattle.spec_run.specs.Ports.{is_used_by, last_use, mac_by, mac_of, opened_by, opened_for, port_for, used_at}
 use Rattle.spec_run.proofs.Bools.{equal, turned}
 
--- what the record says of the socket of an association
+-- what the trace says of the socket of an association
 pub record Kept (config : Config) (past : List Entry) (a : Association) : Type 0 where
   pub guest : opened_for config a.number past ≡ Some a.guest
   pub mac : mac_of config a.number past ≡ Some a.mac.0

@@ -23,7 +23,7 @@ use Rattle.udp_datagram.specs.Udp.{udp_octets}
 use Rattle.tcp_segment.specs.Tcp.{tcp_octets}
 use Rattle.spec_flows.specs.Book.{book}
 use Rattle.spec_flows.specs.Flows.{Book}
-use Rattle.spec_flows.specs.Lots.{is_reset, reset_to}
+use Rattle.spec_flows.specs.SegmentVerdicts.{is_reset, reset_to}
 use Rattle.spec_flows.specs.Segments.{OnTuple, asked_in, from_guest, segment_in}
 use Rattle.rules_dhcp.specs.declared.Lease.{Lease}
 use Rattle.rules_dns.specs.declared.Question.{Question}
@@ -34,7 +34,7 @@ use Rattle.spec_trace.specs.Moments.{moment}
 use Rattle.spec_trace.specs.Happenings.{Arrival, Happening, happens}
 use Rattle.spec_trace.specs.Packets.{Packet, Unheard, ArpPacket, Message, DatagramPacket, Segment, Datagram}
 use Rattle.spec_run.specs.Asking.{step}
-use Rattle.spec_run.specs.Datagrams.{Fate, Refused, ForLeases, ForFiles, fate, Step, NeedsSocket, NeedsSending}
+use Rattle.spec_run.specs.Datagrams.{DatagramVerdict, Refused, ForLeases, ForFiles, datagram_verdict, Step, NeedsSocket, NeedsSending}
 use Rattle.spec_run.specs.Leasing.{Sending, lease_reply, leases}
 use Rattle.spec_run.specs.Names.{questions}
 use Rattle.spec_run.specs.Ports.{mac_for, opened_for}
@@ -96,11 +96,11 @@ abbrev pub served_file : Config → Serving → Datagram → Outcome
 served_file config s d = came config.tftp_path s.now d.mac d.from d.body s.files
 
 -- a datagram that may go nowhere is answered, and so are those for servers of ours
-abbrev pub owed_for_fate : Config → Serving → Datagram → Fate → List Answer
-owed_for_fate config s d Refused = told_about config prohibited d
-owed_for_fate config s d ForLeases = answers_of (lease_reply config s.now s.leases d)
-owed_for_fate config s d ForFiles = told_of_files config (served_file config s d).told
-owed_for_fate config s d _ = []
+abbrev pub owed_for_verdict : Config → Serving → Datagram → DatagramVerdict → List Answer
+owed_for_verdict config s d Refused = told_about config prohibited d
+owed_for_verdict config s d ForLeases = answers_of (lease_reply config s.now s.leases d)
+owed_for_verdict config s d ForFiles = told_of_files config (served_file config s d).told
+owed_for_verdict config s d _ = []
 
 -- a reset, from the end to which the segment went, to the hardware address from which it came (RFC 9293, 3.10.7.1)
 abbrev pub reset_for : OnTuple → Answer
@@ -120,7 +120,7 @@ abbrev pub owed_for_packet : Config → Serving → (stray : Bool) → Packet �
 owed_for_packet config s stray Unheard = []
 owed_for_packet config s stray (ArpPacket arp) = owed_for_arp config arp
 owed_for_packet config s stray (Message mac ip message) = if is_ours config ip.to then owed_for_icmp mac ip message else []
-owed_for_packet config s stray (DatagramPacket d) = owed_for_fate config s d (fate config d)
+owed_for_packet config s stray (DatagramPacket d) = owed_for_verdict config s d (datagram_verdict config d)
 owed_for_packet config s stray (Segment mac ip tcp) = owed_for_segment stray (from_guest mac ip tcp)
 
 -- the virtual host asks everyone for the hardware address of a guest (RFC 826)
@@ -275,12 +275,12 @@ left_after config past h (Some arrival) l =
 
 -- ---- files
 
-abbrev pub files_by_fate : Config → Serving → Datagram → Fate → Files
-files_by_fate config s d ForFiles = (served_file config s d).files
-files_by_fate config s d _ = s.files
+abbrev pub files_by_verdict : Config → Serving → Datagram → DatagramVerdict → Files
+files_by_verdict config s d ForFiles = (served_file config s d).files
+files_by_verdict config s d _ = s.files
 
 abbrev pub files_by_packet : Config → Serving → Packet → Files
-files_by_packet config s (DatagramPacket d) = files_by_fate config s d (fate config d)
+files_by_packet config s (DatagramPacket d) = files_by_verdict config s d (datagram_verdict config d)
 files_by_packet config s _ = s.files
 
 -- a packet began to go again by this frame

@@ -1,4 +1,4 @@
--- What the datagram that came last still asks for, by the record of calls.
+-- What the datagram that came last still asks for, by the trace of calls.
 use Rattle.std.specs.Prelude.{ℕ, nat_le, Bool, List, length, Option, Some, None, if◌then◌else◌}
 use Rattle.std.specs.Option.{option_or}
 use Rattle.world_face.specs.Journal.{Entry}

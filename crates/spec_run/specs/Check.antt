@@ -1,7 +1,7 @@
--- A test that says of a record whether it is lawful, by computing.
+-- A test that says of a trace whether it is lawful, by computing.
 use Rattle.std.specs.Prelude.{ℕ, ◌==◌, ◌&&◌, not, nat_le, Bool, true, false, List, [], ◌∷◌, drop, length, bytes_eq, Option, Some, None}
 use Rattle.world_face.specs.Journal.{Entry, Call, call_of, CallNow, CallLinkRead, CallLinkWrite, CallConnect, CallListen, CallClose, CallUdpOpen, CallUdpSend, CallFileLen, CallFileRead}
-use Rattle.world_face.specs.Frames.{missing, partial, spelling, tail, is_blocked}
+use Rattle.world_face.specs.Frames.{missing, partial, encoding, tail, is_blocked}
 use Rattle.world_face.specs.Limits.{most_to_link}
 use Rattle.net_octets.specs.declared.Endpoint.{Endpoint}
 use Rattle.slirp_settings.specs.Addresses.{Config}
@@ -11,7 +11,7 @@ use Rattle.spec_run.specs.Laws.{due, has_place, has_socket, is_served, is_answer
 
 -- framing
 abbrev pub may_offer : List ℕ → List ℕ → Bool
-may_offer [] octets = bytes_eq octets (spelling (drop 4 octets)) && nat_le (length octets) most_to_link
+may_offer [] octets = bytes_eq octets (encoding (drop 4 octets)) && nat_le (length octets) most_to_link
 may_offer (x ∷ rest) octets = bytes_eq octets (x ∷ rest)
 
 abbrev pub may_frame : List Entry → Call → Bool

@@ -13,40 +13,40 @@ use Rattle.spec_trace.specs.Packets.{Packet, Datagram, DatagramPacket}
 use Rattle.slirp_settings.specs.Ports.{files_port, leases_port}
 
 -- what becomes of a datagram: nothing, an unreachable, it is the server of leases' or that of files, or it goes out to an endpoint
-pub data Fate : Type 0 where
-  Ignored : Fate
-  Refused : Fate
-  ForLeases : Fate
-  ForFiles : Fate
-  GoesTo : (to : Endpoint) → Fate
+pub data DatagramVerdict : Type 0 where
+  Ignored : DatagramVerdict
+  Refused : DatagramVerdict
+  ForLeases : DatagramVerdict
+  ForFiles : DatagramVerdict
+  GoesTo : (to : Endpoint) → DatagramVerdict
 
 -- to the name server questions go alone (RFC 1035, 4.1.1)
 abbrev pub is_to_names : Config → Datagram → Bool
 is_to_names config d = address d.to == config.vnameserver
 
-abbrev pub fate_by : Config → Datagram → Verdict → Fate
-fate_by config d (Go to) = if is_to_names config d && not (is_question d.body) then Ignored else GoesTo to
-fate_by config d (Denied rule) = Refused
+abbrev pub datagram_verdict_by : Config → Datagram → Verdict → DatagramVerdict
+datagram_verdict_by config d (Go to) = if is_to_names config d && not (is_question d.body) then Ignored else GoesTo to
+datagram_verdict_by config d (Denied rule) = Refused
 
 -- port 0 has no answer (RFC 768)
-abbrev pub fate : Config → Datagram → Fate
-fate config d =
+abbrev pub datagram_verdict : Config → Datagram → DatagramVerdict
+datagram_verdict config d =
     if d.from.port == 0 then Ignored
     else (if (d.to.port == leases_port) && ((address d.to == config.vhost) || (address d.to == 0xffffffff)) then (if config.no_dhcp then Ignored else ForLeases)
     else (if (d.to.port == files_port) && (address d.to == config.vhost) then ForFiles
-    else fate_by config d (target config ByUdp d.to)))
+    else datagram_verdict_by config d (target config ByUdp d.to)))
 
 -- a datagram that goes out, and where
 pub record Errand : Type 0 where
   pub datagram : Datagram
   pub to : Endpoint
 
-abbrev pub errand_by : Datagram → Fate → Option Errand
+abbrev pub errand_by : Datagram → DatagramVerdict → Option Errand
 errand_by d (GoesTo to) = Some (record { datagram = d; to = to })
 errand_by d _ = None
 
 abbrev pub errand_of : Config → Datagram → Option Errand
-errand_of config d = errand_by d (fate config d)
+errand_of config d = errand_by d (datagram_verdict config d)
 
 -- the errand of what came
 abbrev pub errand_by_packet : Config → Packet → Option Errand

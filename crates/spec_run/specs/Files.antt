@@ -1,4 +1,4 @@
--- What the laws come to of files: which calls ask for them, what guests are told of them, and what goes again, by the record of calls.
+-- What the laws come to of files: which calls ask for them, what guests are told of them, and what goes again, by the trace of calls.
 use Rattle.std.specs.Prelude.{◌≡◌, ℕ, ◌+◌, ◌-◌, ◌%◌, ◌^◌, ◌≤◌, ◌⊎◌, All, Bool, true, false, List, [], ◌∷◌, ◌++◌, drop, length, find, Option, Some, None, option_map, if◌then◌else◌}
 use Rattle.world_face.specs.Journal.{Entry, FileLen, FileRead, Wait}
 use Rattle.world_face.specs.Frames.{goes_out}
@@ -16,13 +16,13 @@ use Rattle.rules_tftp.specs.Packets.{Acknowledges, Asks, Request, Terms, block_o
 use Rattle.rules_tftp.specs.Soundness.{WaitsWell}
 use Rattle.rules_tftp.specs.Transfers.{Outcome, Said, Transfer, begun, is_for, octets_of, place_of, said_again}
 use Rattle.spec_run.specs.Answers.{Serving, begins_again, frames_of, identification, is_free, ledger, may_go_again, served_file, serving, told_of_files}
-use Rattle.spec_run.specs.Datagrams.{Fate, ForFiles, fate}
+use Rattle.spec_run.specs.Datagrams.{DatagramVerdict, ForFiles, datagram_verdict}
 use Rattle.spec_run.specs.Ports.{last_datagram}
 use Rattle.spec_run.specs.Said.{Came, OfFile, identification_with, last_occasion}
 
 -- ---- the datagram that came last
 
--- the record before it, and the entries since
+-- the trace before it, and the entries since
 abbrev pub unless_came : {A : Type 0} → Option Datagram → A → A → A
 unless_came None new before = before
 unless_came (Some d) new before = new
@@ -39,7 +39,7 @@ since_last config (e ∷ past) = unless_came (datagram_came (happens config past
 
 -- A datagram asks the server of files for this one: by a name that leads to it from the folder of the settings, and neither back to that nor above it (RFC 1350, 5).
 pub record AsksForFile (config : Config) (d : Datagram) (file : List ℕ) : Type 0 where
-  pub to_server : fate config d ≡ ForFiles
+  pub to_server : datagram_verdict config d ≡ ForFiles
   pub texts : List ℕ
   pub asks : packet_in d.body ≡ Asks texts
   pub request : Request
@@ -78,7 +78,7 @@ pub record IsFirstBlock (config : Config) (d : Datagram) (since : List Entry) (t
 
 -- The block behind the one that was sent last of a transfer to the port from which a datagram came, which acknowledges that (RFC 1350, 2).
 pub record IsNextBlock (config : Config) (transfers : List Transfer) (d : Datagram) (t : Transfer) : Type 0 where
-  pub to_server : fate config d ≡ ForFiles
+  pub to_server : datagram_verdict config d ≡ ForFiles
   pub before : Transfer
   pub found : find (is_for d.from) transfers ≡ Some before
   pub acknowledges : packet_in d.body ≡ Acknowledges (before.block % 2 ^ 16)
@@ -103,12 +103,12 @@ pub record ReadsWanted (config : Config) (past : List Entry) (file : List ℕ) (
 -- ---- what guests are told
 
 -- what an entry makes the server tell: its answer to the datagram that came, or to what a call on a file brought
-abbrev pub told_by_fate : Config → Serving → Datagram → Fate → Option Said
-told_by_fate config s d ForFiles = (served_file config s d).told
-told_by_fate config s d _ = None
+abbrev pub told_by_verdict : Config → Serving → Datagram → DatagramVerdict → Option Said
+told_by_verdict config s d ForFiles = (served_file config s d).told
+told_by_verdict config s d _ = None
 
 abbrev pub told_by_packet : Config → Serving → Packet → Option Said
-told_by_packet config s (DatagramPacket d) = told_by_fate config s d (fate config d)
+told_by_packet config s (DatagramPacket d) = told_by_verdict config s d (datagram_verdict config d)
 told_by_packet config s _ = None
 
 abbrev pub told_in : Option Outcome → Option Said
@@ -175,7 +175,7 @@ abbrev pub AreInTime : (timeout made : ℕ) → List ℕ → Type 0
 AreInTime timeout made [] = Unit {0}
 AreInTime timeout made (now ∷ moments) = (or_made made moments + timeout ≤ now) × AreInTime timeout made moments
 
--- A packet that an entry sends on its way again is that of an open transfer, as an entry of the record told it for a transfer that was open from then on; since
+-- A packet that an entry sends on its way again is that of an open transfer, as an entry of the trace told it for a transfer that was open from then on; since
 -- then, and by this entry, it was sent on its way again at most five times, each no earlier than the timeout of the transfer after the one before.
 pub record IsAsTold (config : Config) (e : Entry) (past : List Entry) (said : Said) : Type 0 where
   pub transfer : Transfer
@@ -214,7 +214,7 @@ pub record IsPartOf (config : Config) (past : List Entry) (frame : List ℕ) (sa
   pub rest : List (List ℕ)
   pub is : drop out (frames_of config (identification_with out past) (told_of_files config (Some said))) ≡ frame ∷ rest
 
--- a packet was told by an entry of the record, or began to go again by one
+-- a packet was told by an entry of the trace, or began to go again by one
 pub record WasTold (config : Config) (past : List Entry) (said : Said) : Type 0 where
   pub later : List Entry
   pub teller : Entry
@@ -233,7 +233,7 @@ pub record HasBegun (config : Config) (past : List Entry) (said : Said) : Type 0
 -- A frame that goes out by an entry is one of the server of files: of its answer to the datagram that came last; of what it told for what was read last; of a
 -- packet that began to go again, of which others are out; or the first one of a packet that goes again.
 pub data IsOfFiles (config : Config) (e : Entry) (past : List Entry) (frame : List ℕ) : Type 0 where
-  Answers : (s : Serving) (stray : Bool) (d : Datagram) (said : Said) → last_occasion config past ≡ Came s stray (DatagramPacket d) → fate config d ≡ ForFiles →
+  Answers : (s : Serving) (stray : Bool) (d : Datagram) (said : Said) → last_occasion config past ≡ Came s stray (DatagramPacket d) → datagram_verdict config d ≡ ForFiles →
       WasTold config past said → IsPartOf config past frame said → IsOfFiles config e past frame
   TellsRead : (said : Said) → last_occasion config past ≡ OfFile said → WasTold config past said → IsPartOf config past frame said → IsOfFiles config e past frame
   GoesOn : (said : Said) → last_occasion config past ≡ OfFile said → HasBegun config past said → IsPartOf config past frame said → IsOfFiles config e past frame

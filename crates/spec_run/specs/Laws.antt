@@ -19,7 +19,7 @@ use Rattle.spec_flow.specs.Close.{is_done, host_failed, finds_no_guest, follows_
 use Rattle.spec_flows.specs.Book.{book, port_of, scene}
 use Rattle.spec_flows.specs.Flows.{Flow as AFlow, Book, Scene, comes_directly, flow_of, guest_is_known, has_room_for_peer, is_it}
 use Rattle.spec_flows.specs.Laws.{MayFlow}
-use Rattle.spec_flows.specs.Lots.{due_for_flows}
+use Rattle.spec_flows.specs.SegmentVerdicts.{due_for_flows}
 use Rattle.spec_run.specs.Agenda.{agenda}
 use Rattle.spec_run.specs.Answers.{is_out, left, serving}
 use Rattle.spec_run.specs.Names.{answered, has_waited, kind_for}
@@ -84,7 +84,7 @@ may_leave at b socket (Some f) =
     || (not (follows_reset (comes_directly b.came f) f.story) && (gives_up at.moment f.story || waits_too_long at.moment f.story))
     || (comes_directly b.came f && is_some (newest_rst f.story))
 
--- whether the flow of a socket may leave, by the record of calls. It is a test, in which a guest's reset that came directly before stands for its exact
+-- whether the flow of a socket may leave, by the trace of calls. It is a test, in which a guest's reset that came directly before stands for its exact
 -- condition; that one is asked for by the sentence on flows.
 abbrev pub leaves : Config → List Entry → ℕ → Bool
 leaves config past socket = may_leave (scene config past) (book config past) socket (flow_of socket (book config past).flows)

@@ -1,4 +1,4 @@
--- The addresses that are lent, by the record of calls, and the datagram that a message of a client owes (RFC 2131).
+-- The addresses that are leased, by the trace of calls, and the datagram that a message of a client owes (RFC 2131).
 use Rattle.std.specs.Prelude.{ℕ, List, [], ◌∷◌, replicate, Option, Some, None}
 use Rattle.net_octets.specs.declared.Endpoint.{Endpoint}
 use Rattle.world_face.specs.Journal.{Entry}
@@ -13,15 +13,15 @@ use Rattle.rules_dhcp.specs.Serving.{leases_after}
 use Rattle.spec_trace.specs.Happenings.{Arrival, happens}
 use Rattle.spec_trace.specs.Moments.{moment}
 use Rattle.spec_trace.specs.Packets.{Packet, Datagram, DatagramPacket}
-use Rattle.spec_run.specs.Datagrams.{Fate, ForLeases, fate}
+use Rattle.spec_run.specs.Datagrams.{DatagramVerdict, ForLeases, datagram_verdict}
 
 -- what a datagram for the server of leases makes of them, at this moment
-abbrev pub leases_by_fate : Config → ℕ → Datagram → Fate → List Lease → List Lease
-leases_by_fate config now d ForLeases leases = leases_after config now d.body leases
-leases_by_fate config now d _ leases = leases
+abbrev pub leases_by_verdict : Config → ℕ → Datagram → DatagramVerdict → List Lease → List Lease
+leases_by_verdict config now d ForLeases leases = leases_after config now d.body leases
+leases_by_verdict config now d _ leases = leases
 
 abbrev pub leases_by_packet : Config → ℕ → Packet → List Lease → List Lease
-leases_by_packet config now (DatagramPacket d) leases = leases_by_fate config now d (fate config d) leases
+leases_by_packet config now (DatagramPacket d) leases = leases_by_verdict config now d (datagram_verdict config d) leases
 leases_by_packet config now _ leases = leases
 
 abbrev pub leases_by : Config → ℕ → Option Arrival → List Lease → List Lease

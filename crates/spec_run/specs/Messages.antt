@@ -1,4 +1,4 @@
--- The messages of clients of DHCP that came, by the record of calls, as a history of dhcp_server.
+-- The messages of clients of DHCP that came, by the trace of calls, as a history of dhcp_server.
 use Rattle.std.specs.Prelude.{ℕ, ◌≤◌, ⊤, List, [], ◌∷◌, ◌++◌, Option, Some, None}
 use Rattle.world_face.specs.Journal.{Entry}
 use Rattle.slirp_settings.specs.Addresses.{Config}
@@ -6,15 +6,15 @@ use Rattle.rules_dhcp.specs.History.{Received}
 use Rattle.spec_trace.specs.Happenings.{Arrival, happens}
 use Rattle.spec_trace.specs.Moments.{moment}
 use Rattle.spec_trace.specs.Packets.{Packet, Datagram, DatagramPacket}
-use Rattle.spec_run.specs.Datagrams.{Fate, ForLeases, fate}
+use Rattle.spec_run.specs.Datagrams.{DatagramVerdict, ForLeases, datagram_verdict}
 
 -- a datagram for the server of leases is a message, at this moment
-abbrev pub message_by_fate : ℕ → Datagram → Fate → List Received
-message_by_fate now d ForLeases = record { at = now; octets = d.body } ∷ []
-message_by_fate now d _ = []
+abbrev pub message_by_verdict : ℕ → Datagram → DatagramVerdict → List Received
+message_by_verdict now d ForLeases = record { at = now; octets = d.body } ∷ []
+message_by_verdict now d _ = []
 
 abbrev pub message_by_packet : Config → ℕ → Packet → List Received
-message_by_packet config now (DatagramPacket d) = message_by_fate now d (fate config d)
+message_by_packet config now (DatagramPacket d) = message_by_verdict now d (datagram_verdict config d)
 message_by_packet config now _ = []
 
 abbrev pub message_by : Config → ℕ → Option Arrival → List Received

@@ -1,4 +1,4 @@
--- The questions to the name server that wait for their answer, by the record of calls.
+-- The questions to the name server that wait for their answer, by the trace of calls.
 use Rattle.std.specs.Prelude.{ℕ, ◌==◌, nat_le, nat_lt, Bool, List, [], ◌∷◌, ◌++◌, length, Option, Some, None, if◌then◌else◌}
 use Rattle.world_face.specs.Journal.{Entry, Close, UdpOpen, UdpSend, UdpRecv}
 use Rattle.world_face.specs.declared.Made.{Made}
@@ -52,7 +52,7 @@ abbrev pub kind_after : Config → ℕ → Entry → Bool → Option Errand → 
 kind_after config number (UdpOpen socket at answer) waited errand before = if socket == number then Some (datagram_kind_for config waited at.port errand) else before
 kind_after config number e waited errand before = kind_by number e waited before
 
--- the kind of the socket with this number, by the record; whether a datagram is a question is no matter of flows, for which `kind_of` is enough
+-- the kind of the socket with this number, by the trace; whether a datagram is a question is no matter of flows, for which `kind_of` is enough
 abbrev pub kind_for : Config → ℕ → List Entry → Option Kind
 kind_for config number [] = None
 kind_for config number (e ∷ past) = kind_after config number e (nat_lt 0 (waits past)) (errand_left config past) (kind_for config number past)

@@ -1,4 +1,4 @@
--- What the record of calls says of the guests' ports, of the sockets that were opened for them, and of when each was used.
+-- What the trace of calls says of the guests' ports, of the sockets that were opened for them, and of when each was used.
 use Rattle.std.specs.Prelude.{ℕ, ◌==◌, ◌&&◌, nat_lt, Bool, false, List, [], ◌∷◌, length, filter, find, Option, Some, None, option_and_then, option_map, if◌then◌else◌}
 use Rattle.std.specs.Option.{option_or}
 use Rattle.world_face.specs.Journal.{Entry, UdpOpen, UdpSend, UdpRecv}
@@ -78,7 +78,7 @@ is_used_by socket (UdpSend s to octets answer) = s == socket
 is_used_by socket (UdpRecv s asked (From peer n) octets) = s == socket
 is_used_by socket _ = false
 
--- the place of its last use in the record, and the moment in force there
+-- the place of its last use in the trace, and the moment in force there
 abbrev pub last_use : ℕ → List Entry → ℕ
 last_use socket [] = 0
 last_use socket (e ∷ past) = if is_used_by socket e then length past else last_use socket past

@@ -1,4 +1,4 @@
--- What the laws come to of questions to the name server and of their answers, by the record of calls.
+-- What the laws come to of questions to the name server and of their answers, by the trace of calls.
 use Rattle.std.specs.Prelude.{◌≡◌, ℕ, ◌+◌, ◌^◌, ◌<◌, ◌≤◌, ◌==◌, Bool, true, false, List, ◌∷◌, ◌++◌, length, filter, Option, Some}
 use Rattle.world_face.specs.Journal.{Entry, UdpSend, UdpRecv}
 use Rattle.world_face.specs.declared.Sent.{Sent}

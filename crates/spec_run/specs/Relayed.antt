@@ -1,4 +1,4 @@
--- The list of associations in the order of use, the longest unused first, as a program keeps it. A law says that it has what the record says of the sockets.
+-- The list of associations in the order of use, the longest unused first, as a program keeps it. A law says that it has what the trace says of the sockets.
 use Rattle.std.specs.Prelude.{ℕ, nat_le, List, [], ◌∷◌, ◌++◌, length, Option, Some, None, if◌then◌else◌}
 use Rattle.world_face.specs.Journal.{Entry, Close, UdpOpen, UdpSend, UdpRecv}
 use Rattle.world_face.specs.declared.Made.{Made}

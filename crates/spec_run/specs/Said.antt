@@ -33,7 +33,7 @@ use Rattle.spec_run.specs.Names.{questions}
 use Rattle.spec_trace.specs.Happenings.{Arrival, happens}
 use Rattle.spec_trace.specs.Moments.{moment}
 use Rattle.spec_trace.specs.Packets.{Datagram, DatagramPacket, Packet}
-use Rattle.spec_run.specs.Datagrams.{Fate, ForLeases, ForFiles, fate}
+use Rattle.spec_run.specs.Datagrams.{DatagramVerdict, ForLeases, ForFiles, datagram_verdict}
 use Rattle.spec_trace.specs.Sockets.{Kind, Association as OfAssociation, DnsSocket, Forward as OfForward, Listener as OfListener, Flow as OfFlow, is_among}
 use Rattle.spec_run.specs.Answers.{Answer, IpAnswer, Serving, begins_again, ledger, may_go_again, name_reply, serving, told_of_files, datagrams_out, frames_for, frames_of}
 use Rattle.spec_run.specs.Answers.{identification, is_first, left, no_network, owed_for_packet, reply_for, reset_for, strays, told_about}
@@ -62,7 +62,7 @@ abbrev pub IsIdle : ℕ → List Entry → Type 0
 IsIdle socket past = used_at socket past + idle_life ≤ moment past
 
 -- the datagram is for a server of ours
-abbrev pub is_for_server : Fate → Bool
+abbrev pub is_for_server : DatagramVerdict → Bool
 is_for_server ForLeases = true
 is_for_server ForFiles = true
 is_for_server _ = false
@@ -168,7 +168,7 @@ pub record AnswersLast (config : Config) (past : List Entry) (frame : List ℕ) 
   pub is : drop out (frames_for config (identification_with out past) answer) ≡ frame ∷ rest
 
 -- A frame is a flow's own: nothing is left of the answer to what came last; the frame carries a segment between the two ends of the flow, which was opened last
--- on these, and answers no stray segment, nor speaks where the flow was closed and its rest is over, but for its reset; it is exactly the frame of that
+-- on these, and answers no stray segment, nor speaks where the flow was closed and its TIME-WAIT is over, but for its reset; it is exactly the frame of that
 -- segment, in a whole datagram with the next identification, and goes to a hardware address from which the flow's guest was learnt.
 pub record IsOfFlow (config : Config) (past : List Entry) (frame : List ℕ) : Type 0 where
   pub nothing : left config past ≡ []
@@ -177,7 +177,7 @@ pub record IsOfFlow (config : Config) (past : List Entry) (frame : List ℕ) : T
   pub flow : Flow
   pub owner : owner on.tuple (book config past).flows ≡ Some flow
   pub own : is_strange on.segment flow ≡ false
-  pub speaks : speaks_yet on.segment (book config past).rests flow ≡ true
+  pub speaks : speaks_yet on.segment (book config past).time_waits flow ≡ true
   pub sent : is_well_sent config past frame on ≡ true
 
 -- A frame asks for the hardware address of a guest for which a flow was accepted, and nothing is left of the answer to what came last.
@@ -255,7 +255,7 @@ pub record AnswersQuestion (config : Config) (past : List Entry) (frame : List �
 -- A frame is one of what a server of ours says: a reply to a client's message or to a packet for the server of files, which came last; what was made by an
 -- answer of a file; or a packet that goes again.
 pub data IsOfServer (config : Config) (past : List Entry) (frame : List ℕ) : Type 0 where
-  ForPacket : (s : Serving) (stray : Bool) (d : Datagram) → last_occasion config past ≡ Came s stray (DatagramPacket d) → is_for_server (fate config d) ≡ true → IsOfServer config past frame
+  ForPacket : (s : Serving) (stray : Bool) (d : Datagram) → last_occasion config past ≡ Came s stray (DatagramPacket d) → is_for_server (datagram_verdict config d) ≡ true → IsOfServer config past frame
   ByFile : (said : Said) → last_occasion config past ≡ OfFile said → IsOfServer config past frame
   Again : GoesAgain config past frame → IsOfServer config past frame
 
@@ -268,7 +268,7 @@ pub record IsReplyToItsPort (config : Config) (past : List Entry) (ip : Ip) (udp
   pub seen : is_hidden config peer ≡ false
   pub source : shown config peer ≡ endpoint ip.from udp.from_port
 
--- what an association of the list in the order of use has of its socket is what the record says
+-- what an association of the list in the order of use has of its socket is what the trace says
 pub record SaysOf (config : Config) (past : List Entry) (n : ℕ) (a : Association) : Type 0 where
   pub guest : opened_for config n past ≡ Some a.guest
   pub mac : mac_of config n past ≡ Some a.mac.0

@@ -17,7 +17,7 @@ use Rattle.spec_flow.specs.Event.{Segment}
 use Rattle.spec_flow.specs.Guest.{is_empty}
 use Rattle.spec_flow.specs.Flow.{is_accepted, is_closed, syn_is_out}
 use Rattle.spec_flows.specs.Book.{book}
-use Rattle.spec_flows.specs.Flows.{Flow, Rest, is_strange, owner, rests_among}
+use Rattle.spec_flows.specs.Flows.{Flow, TimeWait, is_strange, owner, is_among_time_waits}
 use Rattle.spec_flows.specs.Segments.{OnTuple, asked_in, segment_in}
 use Rattle.spec_flows.specs.Taught.{is_pair, taught}
 use Rattle.spec_trace.specs.Guests.{known}
@@ -73,18 +73,18 @@ is_well_sent config past frame on =
     && is_latest on.mac (learnt_for on.tuple.guest.addr (known config past))
     && is_written config (identification past) frame on (ip_in frame)
 
--- a flow that was closed says nothing but its reset once its rest is over, by time, by crowding or by a later flow (RFC 9293, 3.6)
-abbrev pub speaks_yet : Segment → List Rest → Flow → Bool
-speaks_yet segment rests f = segment.rst || (not (is_closed f.story) || rests_among rests (Some f))
+-- a flow that was closed says nothing but its reset once its TIME-WAIT is over, by time, by crowding or by a later flow (RFC 9293, 3.6)
+abbrev pub speaks_yet : Segment → List TimeWait → Flow → Bool
+speaks_yet segment time_waits f = segment.rst || (not (is_closed f.story) || is_among_time_waits time_waits (Some f))
 
 -- the segment is one of the flow that was opened last between these two ends, and answers no stray one
-abbrev pub is_own : Segment → List Rest → Option Flow → Bool
-is_own segment rests None = false
-is_own segment rests (Some f) = not (is_strange segment f) && speaks_yet segment rests f
+abbrev pub is_own : Segment → List TimeWait → Option Flow → Bool
+is_own segment time_waits None = false
+is_own segment time_waits (Some f) = not (is_strange segment f) && speaks_yet segment time_waits f
 
 abbrev pub sends_segment : Config → List Entry → List ℕ → Option OnTuple → Bool
 sends_segment config past frame None = false
-sends_segment config past frame (Some on) = is_own on.segment (book config past).rests (owner on.tuple (book config past).flows) && is_well_sent config past frame on
+sends_segment config past frame (Some on) = is_own on.segment (book config past).time_waits (owner on.tuple (book config past).flows) && is_well_sent config past frame on
 
 -- ---- requests for hardware addresses
 

@@ -1,7 +1,7 @@
 //! What the flows of TCP of a lawful run come to, said of guests, their streams and the sockets that connected for them.
 //!
 //! A *flow* is a guest's connection with a socket of the host, and its story is what happened to it, the newest event first.
-//! A guest is *honest* where it gives one octet to each number of its stream and has one end with nothing past it; what holds
+//! A guest is *conforming* where it gives one octet to each number of its stream and has one end with nothing past it; what holds
 //! of every guest is said without that. `lawful_runs_keep_the_law_of_flows` is why each of these holds; what needs no lawful
 //! run, as that what happens to other flows leaves a flow as it is, is a law of `spec_flows`.
 
@@ -14,7 +14,7 @@ ghost use Rattle.slirp_settings.specs.Addresses.{Config};
 ghost use Rattle.seq_space.specs.Places.{number_of};
 ghost use Rattle.spec_flow.specs.Event.{IsStory};
 ghost use Rattle.spec_flow.specs.Flow.{guest, host, their_number, has_connected, is_accepted};
-ghost use Rattle.spec_flow.specs.Guest.{Honest, HasCome, IsAcknowledged, ackd, front, has_ended};
+ghost use Rattle.spec_flow.specs.Guest.{Conforming, HasCome, IsAcknowledged, ackd, front, has_ended};
 ghost use Rattle.spec_flow.specs.Host.{Gave, end_is_out, got_end, sent};
 ghost use Rattle.spec_flow.specs.Close.{owes_reset};
 ghost use Rattle.spec_flow.specs.Dutiful.{IsDutiful, read_size};
@@ -35,7 +35,7 @@ ghost use Rattle.spec_run.specs.Peers.{IsForPeer};
 /// SYN, modulo 2^32 (RFC 9293, 3.4).
 pub fn hosts_get_what_their_guests_sent()
     ensures prefix { (config : Config) (past : List Entry) (socket : ℕ) → Lawful config past
-        → Honest (guest (story config past socket)) → IsPrefixOf (taken_on socket past) (front (guest (story config past socket))) }
+        → Conforming (guest (story config past socket)) → IsPrefixOf (taken_on socket past) (front (guest (story config past socket))) }
     ensures came { (config : Config) (past : List Entry) (socket : ℕ) (f : Flow) → Lawful config past
         → flow_of socket (book config past).flows ≡ Some f → (i x : ℕ) → slice_get (taken_on socket past) i ≡ Some x
         → (n : ℕ) × (their_number (story config past socket) ≡ Some n) × CameAt (story config past socket) (number_of n i) x }
@@ -44,7 +44,7 @@ pub fn hosts_get_what_their_guests_sent()
 /// A host is told its guest's end after every octet: its socket took all that the guest sent.
 pub fn hosts_are_ended_after_every_octet()
     ensures { (config : Config) (past : List Entry) (socket : ℕ) → Lawful config past
-        → Honest (guest (story config past socket)) → has_ended (guest (story config past socket)) ≡ true
+        → Conforming (guest (story config past socket)) → has_ended (guest (story config past socket)) ≡ true
         → taken_on socket past ≡ front (guest (story config past socket)) }
 {}
 
@@ -68,18 +68,18 @@ pub fn guests_are_ended_after_every_octet()
         → (i : ℕ) → i < length (given_on socket past) → (x : ℕ) × Gave (host (story config past socket)) i x }
 {}
 
-/// What an honest guest was told that came did.
+/// What a conforming guest was told that came did.
 pub fn what_is_acknowledged_came()
     ensures { (config : Config) (past : List Entry) (socket : ℕ) → Lawful config past
-        → Honest (guest (story config past socket))
+        → Conforming (guest (story config past socket))
         → HasCome (guest (story config past socket)) (ackd (guest (story config past socket))) }
 {}
 
-/// And it found room: what was acknowledged of an honest guest's octets is no more than its host's socket took and the ring holds
+/// And it found room: what was acknowledged of a conforming guest's octets is no more than its host's socket took and the ring holds
 /// (RFC 9293, 3.8.6).
 pub fn acknowledged_octets_found_room()
     ensures { (config : Config) (past : List Entry) (socket : ℕ) → Lawful config past
-        → Honest (guest (story config past socket)) → (a : ℕ) → IsAcknowledged (guest (story config past socket)) a
+        → Conforming (guest (story config past socket)) → (a : ℕ) → IsAcknowledged (guest (story config past socket)) a
         → a ≤ length (taken_on socket past) + config.ring }
 {}
 
@@ -91,7 +91,7 @@ pub fn nothing_goes_out_before_the_host_connected()
         → IsTrue (has_connected (story config past socket) || is_accepted (story config past socket)) }
 {}
 
-/// A socket connects directly after a guest's SYN, which the entry before brought, on a tuple that no flow has or rests on,
+/// A socket connects directly after a guest's SYN, which the entry before brought, on a tuple that no flow has or stays in TIME-WAIT,
 /// where there is room for a flow more, and to where the policy says that a connection to the SYN's destination goes.
 pub fn connects_follow_their_syn_to_the_policys_target()
     ensures asked { (config : Config) (past : List Entry) (socket : ℕ) (to : Endpoint) (answer : Made)

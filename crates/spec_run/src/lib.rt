@@ -217,7 +217,7 @@ pub fn no_segment_of_a_flow_is_longer_than_the_mtu()
         → goes_out e past ≡ Some frame → left config past ≡ [] → Carries frame ip → segment_in frame ≡ Some on → 20 + length ip.body ≤ config.mtu }
 {}
 
-/// The flows of a lawful run keep the law of flows: so whatever `spec_flows` says of records that do holds of every lawful run,
+/// The flows of a lawful run keep the law of flows: so whatever `spec_flows` says of traces that do holds of every lawful run,
 /// and whatever `spec_flow` says of one flow of each of its flows.
 pub fn lawful_runs_keep_the_law_of_flows()
     ensures { (config : Config) (past : List Entry) → Lawful config past → KeepsFlows config past }
@@ -267,13 +267,13 @@ pub fn replies_reach_only_the_port_that_asked()
         → RepliesToItsPort config past frame ⊎ (AnswersQuestion config past frame ⊎ IsOfServer config past frame) }
 {}
 
-/// No hardware address has two of the addresses that are lent, whatever was done (RFC 2131, 2.2).
+/// No hardware address has two of the addresses that are leased, whatever was done (RFC 2131, 2.2).
 pub fn no_client_has_two_addresses()
     ensures { (config : Config) (past : List Entry) → IsOneToOne (leases config past) }
 {}
 
-/// The addresses that are lent are those of a history of messages: of those that came for the server of leases, each at the moment in force, none later than
-/// one that came after it. So whatever `dhcp_server` says of histories holds of every run: which message an answer answers, and that an address that was lent
+/// The addresses that are leased are those of a history of messages: of those that came for the server of leases, each at the moment in force, none later than
+/// one that came after it. So whatever `dhcp_server` says of histories holds of every run: which message an answer answers, and that an address that was leased
 /// stays its client's for a day (RFC 2131, 3.1 and 4.3).
 pub fn leases_are_those_of_the_messages_that_came()
     ensures leases { (config : Config) (past : List Entry) → leases config past ≡ leases_over config (messages config past) }
@@ -282,10 +282,10 @@ pub fn leases_are_those_of_the_messages_that_came()
     ensures in_order { (config : Config) (past : List Entry) → AreInOrder (moment past) (messages config past) }
 {}
 
-/// The list of associations in the order of use, by which datagrams are relayed, is what the record says of sockets: its
+/// The list of associations in the order of use, by which datagrams are relayed, is what the trace says of sockets: its
 /// numbers are those of the open sockets for guests' ports, by rising last use; each has the port, the hardware address and
-/// the moment of the last use that the record has; the socket for a port, the first of them, and those whose idle life is over
-/// are found as the record says; and so is what the datagram that came last still asks for.
+/// the moment of the last use that the trace has; the socket for a port, the first of them, and those whose idle life is over
+/// are found as the trace says; and so is what the datagram that came last still asks for.
 pub fn the_list_in_order_of_use_is_that_of_the_record()
     ensures sockets { (config : Config) (past : List Entry) → Lawful config past → (socket : ℕ)
         → is_among socket (associations_open config past) ≡ is_among socket (numbers (associations config past)) }

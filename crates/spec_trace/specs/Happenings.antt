@@ -1,4 +1,4 @@
--- What an entry of the record means after a past: the packet that came by it, the frame that went out by it, or the call alone.
+-- What an entry of the trace means after a past: the packet that came by it, the frame that went out by it, or the call alone.
 use Rattle.std.specs.Prelude.{ℕ, List, Option, option_map, None, Some}
 use Rattle.world_face.specs.Journal.{Entry}
 use Rattle.world_face.specs.Frames.{arrives, goes_out}

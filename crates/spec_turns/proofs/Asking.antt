@@ -4,7 +4,7 @@ use Rattle.std.proofs.Common.{arith, length-append, append-nil}
 use Rattle.std.proofs.lemmas.Bool.Decides.{nat_tests}
 use Rattle.std.proofs.lemmas.List.{take-append-le}
 use Rattle.std.specs.Int.{w32, from_be_bytes}
-use Rattle.world_face.specs.Frames.{Ending, ending, is_too_long, is_whole, missing, partial, read_ending, spelt_length, LongFrame}
+use Rattle.world_face.specs.Frames.{Ending, ending, is_too_long, is_whole, missing, partial, read_ending, encoded_length, LongFrame}
 use Rattle.world_face.specs.Journal.{Allowed, AreAllowed, Entry, call_of, Wait, LinkRead, Listen, UdpOpen, CallLinkRead}
 use Rattle.world_face.specs.Limits.{most_from_link}
 use Rattle.world_face.specs.declared.Io.{Io}
@@ -78,7 +78,7 @@ long_kept octets is = by (is_whole octets)
 read_short : (n asked : ℕ) (so_far octets : List ℕ) → read_ending (Done n) (so_far ++ octets) ≡ None → is_too_long (so_far ++ octets) ≡ false
 read_short n asked so_far octets is = by (is_too_long (so_far ++ octets)) is
   where
-    by : (b : Bool) → (if b then Some (LongFrame (spelt_length (so_far ++ octets))) else None) ≡ None → b ≡ false
+    by : (b : Bool) → (if b then Some (LongFrame (encoded_length (so_far ++ octets))) else None) ≡ None → b ≡ false
     by true is = cc
     by false is = refl
 
@@ -110,17 +110,17 @@ not_long config (e ∷ past) lawful allowed yet = by e lawful.0 allowed.0 yet (n
 missed : (n l s : ℕ) → 4 ≤ l → nat_lt l 4 ≡ false
 missed n l s more = grind (arith, nat_tests, more)
 
-whole_long : (octets : List ℕ) → is_whole octets ≡ true → (4 + spelt_length octets ≤ length octets) × (4 ≤ length octets)
+whole_long : (octets : List ℕ) → is_whole octets ≡ true → (4 + encoded_length octets ≤ length octets) × (4 ≤ length octets)
 unfolding missing
 whole_long octets is = by (nat_lt (length octets) 4) refl is
   where
-    by : (b : Bool) → nat_lt (length octets) 4 ≡ b → ((if b then 4 - length octets else 4 + spelt_length octets - length octets) == 0) ≡ true →
-        (4 + spelt_length octets ≤ length octets) × (4 ≤ length octets)
+    by : (b : Bool) → nat_lt (length octets) 4 ≡ b → ((if b then 4 - length octets else 4 + encoded_length octets - length octets) == 0) ≡ true →
+        (4 + encoded_length octets ≤ length octets) × (4 ≤ length octets)
     by true less none = absurd (grind (arith, nat_tests, less, none))
     by false less none = ((grind (arith, nat_tests, less, none)), (grind (arith, nat_tests, less)))
 
 short_whole : (so_far octets : List ℕ) → is_too_long so_far ≡ false → length octets ≤ missing so_far → is_whole (so_far ++ octets) ≡ true → is_too_long (so_far ++ octets) ≡ false
-unfolding missing is_too_long spelt_length
+unfolding missing is_too_long encoded_length
 short_whole so_far octets short most whole = by (nat_lt (length so_far) 4) refl short most
   where
     grown : length (so_far ++ octets) ≡ length so_far + length octets
@@ -164,7 +164,7 @@ whole_came : (config : Config) (past : List Entry) (asked : ℕ) (answer : Io) (
 whole_came config past asked (Done n) octets lawful allowed may given yet whole = record {
   some = (let many = given.1.0 in let some = given.0.0 in omega (arith, many, some));
   goes_on = (let many = given.1.0 in let most = given.0.1 in let all = may.framed in
-      ap (λ b. if b then Some (LongFrame (spelt_length (partial past ++ octets))) else None)
+      ap (λ b. if b then Some (LongFrame (encoded_length (partial past ++ octets))) else None)
       (short_whole (partial past) octets (not_long config past lawful allowed yet) (omega (arith, many, most, all)) whole));
 }
 whole_came config past asked End octets lawful allowed may given yet whole = absurd (whole_again (partial past) octets given.1.0 (never_whole past) whole)

@@ -19,13 +19,13 @@ use Rattle.spec_flow.proofs.Grows.{has_ended_stays}
 use Rattle.spec_trace.specs.Happenings.{Arrival, happens}
 use Rattle.spec_trace.specs.Sockets.{next_number}
 use Rattle.spec_flows.specs.Book.{book, doom, is_refused, joins_for, opens, port_of, scene, tuple_for, turned, visits_for}
-use Rattle.spec_flows.specs.Doings.{Doing, Nothing, Comes, Goes, Seeks, Pauses, Joins, Visits, Calls, Shuts, by_call, comes, doing, doing_by, ended_by, goes, joins, seeks, visits}
-use Rattle.spec_flows.specs.Flows.{Book, Flow, Scene, comes_directly, comes_last, flow_of, guest_is_known, is_numbered, is_on, is_strange, seeks_for, sends, shuts, tell, with_event}
+use Rattle.spec_flows.specs.Doings.{Doing, Nothing, Comes, Goes, Resolves, Pauses, Joins, Visits, Calls, Shuts, by_call, comes, doing, doing_by, ended_by, goes, joins, resolves, visits}
+use Rattle.spec_flows.specs.Flows.{Book, Flow, Scene, comes_directly, comes_last, flow_of, guest_is_known, is_numbered, is_on, is_strange, resolves_for, sends, shuts, tell, with_event}
 use Rattle.spec_flows.specs.Laws.{MayAct, flow_settings}
-use Rattle.spec_flows.specs.Lots.{connects_to}
+use Rattle.spec_flows.specs.SegmentVerdicts.{connects_to}
 use Rattle.spec_flows.specs.Said.{Each}
 use Rattle.spec_flows.specs.Segments.{OnTuple, asked_in, segment_came, segment_in}
-use Rattle.spec_flows.proofs.Apart.{map_found, own_call, seeks_number, sends_number}
+use Rattle.spec_flows.proofs.Apart.{map_found, own_call, resolves_number, sends_number}
 use Rattle.spec_flows.proofs.Keeping.{are_kept, connects_next}
 use Rattle.spec_flows.proofs.Lists.{each_found, found_number}
 use Rattle.spec_run.specs.Laws.{May, Lawful}
@@ -81,8 +81,8 @@ module _ (n : ℕ) where
       by true = is
       by false = story_stays now (Departs on.segment) f.story is
 
-  seeks_stays : (now asked : ℕ) (f : Flow) → has_ended (guest f.story) ≡ true → has_ended (guest (seeks_for now asked f).story) ≡ true
-  seeks_stays now asked f is = by (is_accepted f.story && (address f.tuple.guest == asked))
+  resolves_stays : (now asked : ℕ) (f : Flow) → has_ended (guest f.story) ≡ true → has_ended (guest (resolves_for now asked f).story) ≡ true
+  resolves_stays now asked f is = by (is_accepted f.story && (address f.tuple.guest == asked))
     where
       by : (b : Bool) → has_ended (guest (if b then with_event now AsksAddress f else f).story) ≡ true
       by true = story_stays now AsksAddress f.story is
@@ -109,8 +109,8 @@ module _ (n : ℕ) where
   turned_stays config sc (Comes on) b other has = tell_stays (is_on on.tuple) (with_event sc.moment (Arrives on.segment)) (λ f. refl)
       (λ f is. story_stays sc.moment (Arrives on.segment) f.story is) b.flows has
   turned_stays config sc (Goes on) b other has = tell_stays (is_on on.tuple) (sends sc.moment on.segment) (sends_number sc.moment on.segment) (sends_stays sc.moment on) b.flows has
-  turned_stays config sc (Seeks asked) b other has =
-      subst HasEnded (sym (map_found n (seeks_for sc.moment asked) (seeks_number sc.moment asked) b.flows)) (map_stays (seeks_for sc.moment asked) (seeks_stays sc.moment asked)
+  turned_stays config sc (Resolves asked) b other has =
+      subst HasEnded (sym (map_found n (resolves_for sc.moment asked) (resolves_number sc.moment asked) b.flows)) (map_stays (resolves_for sc.moment asked) (resolves_stays sc.moment asked)
       (flow_of n b.flows) has)
   turned_stays config sc Pauses b other has = has
   turned_stays config sc (Joins socket) b other has = by b.came
@@ -132,18 +132,18 @@ module _ (n : ℕ) where
   turned_stays config sc (Shuts socket) b other has =
       tell_stays (is_numbered socket) (shuts sc b.came) (λ f. refl) (λ f is. story_stays sc.moment (Closes (comes_directly b.came f) (comes_last sc f) (guest_is_known sc f)) f.story is) b.flows has
 
-  -- ---- the record
+  -- ---- the trace
 
   other_comes : (o : Option OnTuple) → IsOther (comes o)
   other_comes None = tt
   other_comes (Some on) = tt
 
-  other_seeks : (o : Option ℕ) → IsOther (seeks o)
-  other_seeks None = tt
-  other_seeks (Some asked) = tt
+  other_resolves : (o : Option ℕ) → IsOther (resolves o)
+  other_resolves None = tt
+  other_resolves (Some asked) = tt
 
   other_goes : (o : Option OnTuple) (asked : Option ℕ) → IsOther (goes o asked)
-  other_goes None asked = other_seeks asked
+  other_goes None asked = other_resolves asked
   other_goes (Some on) asked = tt
 
   other_by : (came : Option Arrival) (went : Option (List ℕ)) (e : Entry) → IsOther (by_call e) → IsOther (doing_by came went e)

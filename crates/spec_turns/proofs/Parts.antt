@@ -5,7 +5,7 @@ use Rattle.std.proofs.Common.{sym, ◌∙◌, ap, subst, arith, inl, inr}
 use Rattle.std.proofs.lemmas.Bool.Decides.{nat_tests}
 use Rattle.std.proofs.lemmas.List.{drop_all}
 use Rattle.net_octets.specs.declared.Endpoint.{Endpoint}
-use Rattle.world_face.specs.Frames.{Ending, MayOffer, goes_out, is_blocked, opens, rest_after, spelling, tail, wait_ending}
+use Rattle.world_face.specs.Frames.{Ending, MayOffer, goes_out, is_blocked, opens, rest_after, encoding, tail, wait_ending}
 use Rattle.world_face.specs.Journal.{Call, Entry, MayWrite, count_of, Now, Wait, LinkWrite, Listen, UdpOpen, FileLen, FileRead, CallNow, CallClose, CallConnect, CallFileLen, CallFileRead}
 use Rattle.world_face.specs.Journal.{CallLinkWrite, MayReadFile, CallListen, CallUdpOpen}
 use Rattle.world_face.specs.declared.FileSize.{FileSize}
@@ -16,7 +16,7 @@ use Rattle.world_face.specs.declared.Made.{Made}
 use Rattle.world_face.specs.declared.Made.TheVariants.{Done as MadeDone, Failed as MadeFailed}
 use Rattle.slirp_settings.specs.Addresses.{Config}
 use Rattle.spec_flows.specs.Book.{book, port_of}
-use Rattle.spec_flows.specs.Lots.{asked_for, connects_to, due_by, lot}
+use Rattle.spec_flows.specs.SegmentVerdicts.{asked_for, connects_to, due_by, segment_verdict}
 use Rattle.spec_flows.specs.Segments.{OnTuple, segment_by, segment_came}
 use Rattle.spec_flows.proofs.Newest.{is_newest}
 use Rattle.spec_trace.specs.Happenings.{happens}
@@ -24,9 +24,9 @@ use Rattle.spec_trace.specs.Moments.{waits}
 use Rattle.spec_trace.specs.Packets.{ArpPacket, Datagram, DatagramPacket, Message, Packet, Segment, Unheard}
 use Rattle.spec_trace.specs.Shape.{Phase, Opening, Over, Started, Woken, Working, due_in, opened, phase, phase_after, opening_of, is_working}
 use Rattle.spec_trace.specs.Sockets.{first, next_number, open_sockets}
-use Rattle.spec_run.specs.Answers.{Serving, begins_again, begun_by, files_begun, files_by_fate, files_by_packet, files_sent, identification, ledger, served_file, serving}
+use Rattle.spec_run.specs.Answers.{Serving, begins_again, begun_by, files_begun, files_by_verdict, files_by_packet, files_sent, identification, ledger, served_file, serving}
 use Rattle.spec_run.specs.Asking.{step, step_of}
-use Rattle.spec_run.specs.Datagrams.{Fate, ForFiles, ForLeases, GoesTo, Ignored, Refused, Step, NeedsNothing, NeedsRoom, NeedsSending, NeedsSocket, due_for, errand_by, errand_by_packet, fate, Errand}
+use Rattle.spec_run.specs.Datagrams.{DatagramVerdict, ForFiles, ForLeases, GoesTo, Ignored, Refused, Step, NeedsNothing, NeedsRoom, NeedsSending, NeedsSocket, due_for, errand_by, errand_by_packet, datagram_verdict, Errand}
 use Rattle.spec_run.specs.Errands.{errand_by_call, errand_left}
 use Rattle.spec_run.specs.Laws.{May, due, Lawful}
 use Rattle.spec_run.proofs.FileCalls.{sought_length, sought_octets}
@@ -238,8 +238,8 @@ refused_link (x ∷ octets) rest some = ap (λ b. calls_on_link b rest) (positiv
     positive : (n : ℕ) → nat_lt 0 (suc n) ≡ true
     positive n = grind (arith, nat_tests)
 
-no_frame : (octets : List ℕ) → octets ≡ spelling (drop 4 octets) → octets ≡ [] → ⊥
-unfolding spelling
+no_frame : (octets : List ℕ) → octets ≡ encoding (drop 4 octets) → octets ≡ [] → ⊥
+unfolding encoding
 no_frame [] is none = absurd cc
 no_frame (x ∷ octets) is none = cc
 
@@ -375,7 +375,7 @@ none_to_connect config e past none = by (book config (e ∷ past)).came refl
     clash : (on : OnTuple) → Some on ≡ None → ⊥
     clash on is = cc
 
-    by : (o : Option OnTuple) → (book config (e ∷ past)).came ≡ o → calls_to_connect (option_and_then (λ on. asked_for (lot config (book config (e ∷ past)) on)) o) ≡ 0
+    by : (o : Option OnTuple) → (book config (e ∷ past)).came ≡ o → calls_to_connect (option_and_then (λ on. asked_for (segment_verdict config (book config (e ∷ past)) on)) o) ≡ 0
     by None is = refl
     by (Some on) is = absurd (clash on (sym (is_newest on config e past is) ∙ none))
 
@@ -390,17 +390,17 @@ connects_once config past socket to may = by (book config past).doomed (connects
 -- ---- a frame that came asks for one of these
 
 module _ (config : Config) (later : List Entry) (s : Serving) (links : ℕ) (one : links ≤ 1) where
-  by_fate : (d : Datagram) (f : Fate) → links ≡ 0 → calls_for (step_of config later (errand_by d f)) + calls_on_files (files_by_fate config s d f).quest + links ≤ 2 + calls_on_files s.files.quest
-  by_fate d Ignored none = omega (arith, none)
-  by_fate d Refused none = omega (arith, none)
-  by_fate d ForLeases none = omega (arith, none)
-  by_fate d ForFiles none = let most = two_on_files (served_file config s d).files.quest in omega (arith, none, most)
-  by_fate d (GoesTo to) none = let most = two_most (step_of config later (errand_by d (GoesTo to))) in omega (arith, none, most)
+  by_datagram_verdict : (d : Datagram) (f : DatagramVerdict) → links ≡ 0 → calls_for (step_of config later (errand_by d f)) + calls_on_files (files_by_verdict config s d f).quest + links ≤ 2 + calls_on_files s.files.quest
+  by_datagram_verdict d Ignored none = omega (arith, none)
+  by_datagram_verdict d Refused none = omega (arith, none)
+  by_datagram_verdict d ForLeases none = omega (arith, none)
+  by_datagram_verdict d ForFiles none = let most = two_on_files (served_file config s d).files.quest in omega (arith, none, most)
+  by_datagram_verdict d (GoesTo to) none = let most = two_most (step_of config later (errand_by d (GoesTo to))) in omega (arith, none, most)
 
   pub by_packet : (packet : Packet) → (segment_by packet ≡ None → links ≡ 0) → calls_for (step_of config later (errand_by_packet config packet)) + calls_on_files
       (files_by_packet config s packet).quest + links ≤ 2 + calls_on_files s.files.quest
   by_packet Unheard none = let is = none refl in omega (arith, is)
   by_packet (ArpPacket arp) none = let is = none refl in omega (arith, is)
   by_packet (Message mac ip message) none = let is = none refl in omega (arith, is)
-  by_packet (DatagramPacket d) none = by_fate d (fate config d) (none refl)
+  by_packet (DatagramPacket d) none = by_datagram_verdict d (datagram_verdict config d) (none refl)
   by_packet (Segment mac ip tcp) none = omega (arith, one)

@@ -5,7 +5,7 @@ use Rattle.world_face.specs.declared.Io.TheVariants.{Done, NotYet}
 use Rattle.world_face.specs.declared.Got.TheVariants.{From}
 use Rattle.world_face.specs.declared.Waited.TheVariants.{Ready}
 use Rattle.world_face.specs.Journal.{Entry, Now, Wait, LinkWrite, UdpRecv}
-use Rattle.world_face.specs.Frames.{spelling, missing, is_too_long, spelt_length}
+use Rattle.world_face.specs.Frames.{encoding, missing, is_too_long, encoded_length}
 use Rattle.slirp_settings.specs.Addresses.{Config}
 use Rattle.slirp_settings.specs.Settings.{usual}
 use Rattle.spec_run.specs.Laws.{Lawful}
@@ -38,7 +38,7 @@ reached =
     ∷ LinkWrite (drop 10 first) (Done 68) ∷ LinkWrite second NotYet ∷ []
 
 reached_lawful : Lawful narrow (run reached)
-unfolding missing spelling is_too_long spelt_length
+unfolding missing encoding is_too_long encoded_length
 reached_lawful = is_sound narrow (run reached) refl
 
 three_calls : (tally narrow (run reached)).calls ≡ 3

@@ -11,7 +11,7 @@ use Rattle.world_face.specs.declared.Io.TheVariants.{Done, End, NotYet, Failed}
 use Rattle.world_face.specs.declared.Waited.{Waited}
 use Rattle.slirp_settings.specs.Addresses.{Config}
 use Rattle.spec_flows.specs.Book.{book}
-use Rattle.spec_flows.specs.Lots.{connects_to}
+use Rattle.spec_flows.specs.SegmentVerdicts.{connects_to}
 use Rattle.spec_flows.specs.Segments.{segment_came}
 use Rattle.spec_trace.specs.Fragments.{waiting}
 use Rattle.spec_trace.specs.Happenings.{arrival_of, happens}

@@ -7,7 +7,7 @@ use Rattle.world_face.specs.Tells.{Telling, Answers, Makes}
 use Rattle.world_face.proofs.Telling.{makes_next, makes_as}
 use Rattle.world_face.specs.declared.Io.{Io}
 use Rattle.world_face.specs.declared.Io.TheVariants.{Done, End, Failed as IoFailed}
-use Rattle.world_face.specs.Frames.{LongFrame, missing, spelt_length, is_whole, is_too_long, partial, arrived, read_ending, tail, is_blocked, MayFrame}
+use Rattle.world_face.specs.Frames.{LongFrame, missing, encoded_length, is_whole, is_too_long, partial, arrived, read_ending, tail, is_blocked, MayFrame}
 use Rattle.stream_netdev.specs.Frames.{cut, ended, IsDone, Pieces, Reads}
 use Rattle.stream_netdev.specs.Keeps.{ReadsOn, Keeps, ReadsFrame, EndsBy, Tells, hands, ending_of, ended_after}
 use Rattle.stream_netdev.specs.State.{LinkState, under_way}
@@ -120,10 +120,10 @@ no_frame a c old link answer result begun same unfinished none last tells read =
 
 -- a read that moved something ends the run only by a length that is too great
 pub goes_on : (n : ℕ) (octets : List ℕ) → is_too_long octets ≡ false → read_ending (Done n) octets ≡ None
-goes_on n octets short = ap (λ b. cond b (Some (LongFrame (spelt_length octets))) None) short
+goes_on n octets short = ap (λ b. cond b (Some (LongFrame (encoded_length octets))) None) short
 
-pub ends_long : (n length : ℕ) (octets : List ℕ) → is_too_long octets ≡ true → length ≡ spelt_length octets → ending_of (TooLong length) ≡ read_ending (Done n) octets
-ends_long n length octets long is = ap (λ k. Some (LongFrame k)) is ∙ sym (ap (λ b. cond b (Some (LongFrame (spelt_length octets))) None) long)
+pub ends_long : (n length : ℕ) (octets : List ℕ) → is_too_long octets ≡ true → length ≡ encoded_length octets → ending_of (TooLong length) ≡ read_ending (Done n) octets
+ends_long n length octets long is = ap (λ k. Some (LongFrame k)) is ∙ sym (ap (λ b. cond b (Some (LongFrame (encoded_length octets))) None) long)
 
 -- what is kept where a frame is whole
 pub read_whole : (old link : LinkState) (answer : Io) (made past : List Entry) (octets : List ℕ) → is_whole octets ≡ true → read_ending answer octets ≡ None →

@@ -6,7 +6,7 @@ use Rattle.net_octets.proofs.Writing.{behind}
 use Rattle.world_face.specs.Journal.{Entry, LinkWrite, Allowed, MayWrite, count_of}
 use Rattle.world_face.specs.declared.Io.{Io}
 use Rattle.world_face.specs.declared.Io.TheVariants.{Done, End, NotYet, Failed}
-use Rattle.world_face.specs.Frames.{tail, rest_after, MayOffer, spelling}
+use Rattle.world_face.specs.Frames.{tail, rest_after, MayOffer, encoding}
 use Rattle.stream_netdev.specs.Offers.{left, offered}
 use borrow.Rule.Slice.PartMut.{put_mid}
 use Rattle.stream_netdev.specs.Keeps.{Keeps, Settles}
@@ -55,24 +55,24 @@ after_rest old new answer past some free allowed rest blocked same keeps = recor
     left Failed = keeps.rest
 
 -- a write of a frame behind its length
-spelled : (frame : List ℕ) → spelling frame ≡ spelling (drop 4 (spelling frame))
-unfolding spelling
-spelled frame = refl
+encoding_of : (frame : List ℕ) → encoding frame ≡ encoding (drop 4 (encoding frame))
+unfolding encoding
+encoding_of frame = refl
 
 -- the frame behind its length
-pub frame_of_spelt : (frame : List ℕ) → drop 4 (spelling frame) ≡ frame
-unfolding spelling
-frame_of_spelt frame = refl
+pub frame_of_encoded : (frame : List ℕ) → drop 4 (encoding frame) ≡ frame
+unfolding encoding
+frame_of_encoded frame = refl
 
--- a frame that was written behind the room for its length, and then spelt
-pub spelt_is : (octets now ys frame : List ℕ) (k n : ℕ) → octets ≡ spelling (take n (drop 4 (put_mid 4 k now ys))) → 4 ≤ length now → n ≤ length ys → take n ys ≡ frame
-    → octets ≡ spelling frame
-spelt_is octets now ys frame k n spelt room few is = spelt ∙ ap spelling (behind 4 k n now ys room few ∙ is)
+-- a frame that was written behind the room for its length, and then encoded
+pub encoded_is : (octets now ys frame : List ℕ) (k n : ℕ) → octets ≡ encoding (take n (drop 4 (put_mid 4 k now ys))) → 4 ≤ length now → n ≤ length ys → take n ys ≡ frame
+    → octets ≡ encoding frame
+encoded_is octets now ys frame k n encoded room few is = encoded ∙ ap encoding (behind 4 k n now ys room few ∙ is)
 
-pub may_offer : (octets frame : List ℕ) → octets ≡ spelling frame → length octets ≤ 1518 → MayOffer [] octets
-may_offer octets frame is fits = (subst (λ l. l ≡ spelling (drop 4 l)) (sym is) (spelled frame), fits)
+pub may_offer : (octets frame : List ℕ) → octets ≡ encoding frame → length octets ≤ 1518 → MayOffer [] octets
+may_offer octets frame is fits = (subst (λ l. l ≡ encoding (drop 4 l)) (sym is) (encoding_of frame), fits)
 
-pub after_frame : (old new : LinkState) (octets frame : List ℕ) (answer : Io) (past : List Entry) → octets ≡ spelling frame → length octets ≤ 1518 → old.tail ≡ [] → old.blocked ≡ false →
+pub after_frame : (old new : LinkState) (octets frame : List ℕ) (answer : Io) (past : List Entry) → octets ≡ encoding frame → length octets ≤ 1518 → old.tail ≡ [] → old.blocked ≡ false →
     new.tail ≡ rest_after answer octets [] → new.blocked ≡ nat_lt (count_of answer) (length octets) → under_way new ≡ under_way old
     → Keeps old past → Keeps new (LinkWrite octets answer ∷ past)
 after_frame old new octets frame answer past is fits none free rest blocked same keeps =
@@ -84,9 +84,9 @@ after_frame old new octets frame answer past is fits none free rest blocked same
       blocked = sym blocked;
     }
 
-pub spelling_some : (frame : List ℕ) → 0 < length (spelling frame)
-unfolding spelling
-spelling_some frame = omega arith
+pub encoding_some : (frame : List ℕ) → 0 < length (encoding frame)
+unfolding encoding
+encoding_some frame = omega arith
 
 taken_all : (n m : ℕ) → nat_lt n m ≡ false → m ≤ n
 taken_all n m is = grind (arith, nat_tests)

@@ -4,7 +4,7 @@ use Rattle.world_face.specs.Journal.{Entry, Follows, LinkRead, LinkWrite}
 use Rattle.world_face.specs.declared.Io.{Io}
 use Rattle.world_face.specs.declared.Io.TheVariants.{End as IoEnd, NotYet as IoNotYet, Failed as IoFailed}
 use Rattle.world_face.specs.Limits.{most_from_link}
-use Rattle.world_face.specs.Frames.{Ending, LinkEnded, LinkCut, LongFrame, LinkFailed, missing, spelt_length, partial, is_whole, is_too_long, tail, is_blocked, arrived, MayFrame}
+use Rattle.world_face.specs.Frames.{Ending, LinkEnded, LinkCut, LongFrame, LinkFailed, missing, encoded_length, partial, is_whole, is_too_long, tail, is_blocked, arrived, MayFrame}
 use Rattle.stream_netdev.specs.Frames.{ended, IsDone, Reads}
 use Rattle.stream_netdev.specs.State.{LinkState, under_way, frame_of}
 use Rattle.stream_netdev.specs.declared.Look.{Look}
@@ -74,7 +74,7 @@ pub record ReadsFrame (answer : Arrived) (link : LinkState) (made past : List En
 abbrev pub Looks : Look → List ℕ → Type 0
 Looks More octets = ReadsOn octets × (is_too_long octets ≡ false)
 Looks Whole octets = (is_whole octets ≡ true) × (is_too_long octets ≡ false)
-Looks (LookTooLong n) octets = (is_whole octets ≡ false) × (is_too_long octets ≡ true) × (n ≡ spelt_length octets)
+Looks (LookTooLong n) octets = (is_whole octets ≡ false) × (is_too_long octets ≡ true) × (n ≡ encoded_length octets)
 
 -- the link can go on
 abbrev pub GoesOn : Arrived → LinkState → Type 0

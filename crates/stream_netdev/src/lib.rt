@@ -1,13 +1,13 @@
 //! The link to the guest: frames after their lengths on a stream, in whatever pieces its octets come and go (QEMU's stream netdev).
 //!
 //! A frame stands behind its length, four octets with the most significant first. `read_frame` asks for what is missing of the length, then for what is missing of the
-//! frame, and keeps what came until it is whole; it is called only where a wait reported the link. `offer` writes a length and a frame, which `spell` put behind one
+//! frame, and keeps what came until it is whole; it is called only where a wait reported the link. `offer` writes a length and a frame, which `encode` put behind one
 //! another, by one call. What isn't taken of them is the tail, which `flush` offers first the next time; the link is blocked from a write that took less than it was
 //! offered until a wait reports it ready for writing, and nothing is offered meanwhile.
 //!
 //! Proved: framing over any World: `Link::read_frame` answers exactly as the last answer in that call, or the length, says (`makes`), and where it, `flush` or `offer`
 //! fails the count of the link's faults rose (`failed`). `Link::open`, `frame`, `blocked`, `tail`, `unblock`, and `outcome`, what an offer comes to. `offer` writes
-//! these octets, which are a frame behind its length (`spelt`), as `spell` leaves them.
+//! these octets, which are a frame behind its length (`encoded`), as `encode` leaves them.
 //!
 //! Let through (rt plant): nothing.
 #![tactic(auto)]
@@ -15,7 +15,7 @@
 ghost use Rattle.std.specs.Prelude.{◌≡◌, ℕ, ◌+◌, ◌-◌, ◌^◌, ◌<◌, ◌≤◌, List, [], ◌++◌, length, take, drop, nat_lt, true, false, IfOk, if◌then◌else◌};
 ghost use Rattle.world_face.specs.Journal.{LinkRead, count_of};
 ghost use Rattle.world_face.specs.Tells.{Answers, Rose};
-ghost use Rattle.world_face.specs.Frames.{spelling};
+ghost use Rattle.world_face.specs.Frames.{encoding};
 ghost use Rattle.stream_netdev.specs.Offers.{offered, pumped_of};
 ghost use Rattle.world_face.specs.Limits.{most_to_link};
 
@@ -105,7 +105,7 @@ impl Link {
     ghost use Rattle.world_face.specs.Journal.{Entry, LinkWrite};
     ghost use Rattle.world_face.specs.Tells.{Makes};
     ghost use Rattle.world_face.specs.Frames.{missing};
-    ghost use Rattle.world_face.specs.Frames.{spelt_length};
+    ghost use Rattle.world_face.specs.Frames.{encoded_length};
     ghost use Rattle.stream_netdev.specs.State.{under_way, frame_of};
     ghost use Rattle.stream_netdev.specs.Keeps.{ReadsOn, Keeps, ReadsFrame, EndsBy, GoesOn, Looks, Writes, Settles, ended_after};
     ghost use Rattle.stream_netdev.specs.Offers.{left};
@@ -131,11 +131,11 @@ impl Link {
         })
     }
 
-    // The number that the first four octets spell.
-    #[tactic(auto, unfolding(world_face::specs::Frames::spelt_length))]
+    // The number that the first four octets encode.
+    #[tactic(auto, unfolding(world_face::specs::Frames::encoded_length))]
     fn length(&self) -> u32
         requires { 4 ≤ length self.now.octets }
-        ensures { result ≡ spelt_length self.now.octets }
+        ensures { result ≡ encoded_length self.now.octets }
     {
         let (front, _) = self.buffer[..self.have].split_at(4);
         u32::from_be_bytes([front[0], front[1], front[2], front[3]])
@@ -310,11 +310,11 @@ impl Link {
         self.send(world)
     }
 
-    /// Offers a frame behind its length, as `spell` leaves them. Of what is taken in part the rest is kept, and of the rest alone there is a copy.
+    /// Offers a frame behind its length, as `encode` leaves them. Of what is taken in part the rest is kept, and of the rest alone there is a copy.
     pub fn offer<W: World>(&mut self, world: &mut W, octets: &[u8]) -> Offered
         requires none { self.old.tail ≡ [] }
         requires free { self.old.blocked ≡ false }
-        requires spelt { (frame : List ℕ) × (octets.now ≡ spelling frame) }
+        requires encoded { (frame : List ℕ) × (octets.now ≡ encoding frame) }
         requires fits { length octets.now ≤ most_to_link }
         ensures makes { Makes (W.tells world.old) (W.tells world.new) (λ made. Writes result octets.now made
             × ((past : List Entry) → Keeps self.old past → Keeps self.new (made ++ past))) }
@@ -376,11 +376,11 @@ fn put_front(into: &mut [u8], octets: &[u8])
 }
 
 /// Writes the length of a frame, which stands in a buffer behind the first `LENGTH` octets, into these, and answers how many octets both have.
-#[tactic(auto, unfolding(world_face::specs::Frames::spelling))]
-pub fn spell(buffer: &mut [u8], frame: usize) -> usize
+#[tactic(auto, unfolding(world_face::specs::Frames::encoding))]
+pub fn encode(buffer: &mut [u8], frame: usize) -> usize
     requires small { frame < 2 ^ 32 }
     requires fits { 4 + frame ≤ length buffer.old }
-    ensures spelt { take result buffer.new ≡ spelling (take frame (drop 4 buffer.old)) }
+    ensures encoded { take result buffer.new ≡ encoding (take frame (drop 4 buffer.old)) }
     ensures count { result ≡ 4 + frame }
     ensures room { length buffer.new ≡ length buffer.old }
 {

@@ -39,7 +39,7 @@ seen_text moment (Some frame) = frame_text moment frame
 abbrev pub entry_text : Entry → List Entry → List ℕ
 entry_text e past = seen_text (moment past) (arrives e past) ++ seen_text (moment past) (goes_out e past)
 
--- The record is kept newest first; its capture has the frames in the order in which they came whole or began to go out.
+-- The trace is kept newest first; its capture has the frames in the order in which they came whole or began to go out.
 abbrev pub capture : List Entry → List ℕ
 capture [] = file_head
 capture (e ∷ past) = capture past ++ entry_text e past

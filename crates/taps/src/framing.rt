@@ -2,7 +2,7 @@
 ghost use Rattle.std.specs.Prelude.{◌≡◌, ◌+◌, ◌<◌, ◌≤◌, ◌++◌, ◌∷◌, [], true, false, length, drop, Some, IsOk, IsErr, IfOk};
 ghost use Rattle.taps.specs.Capturing.{number_text, moment_text, counts_text, frame_text, seen_text, entry_text, FitsBy, Tracks, whole_frame, under_way, begins, left_by};
 ghost use Rattle.replay.specs.Views.{viewed};
-ghost use Rattle.world_face.specs.Frames.{spelt_length, missing, is_whole};
+ghost use Rattle.world_face.specs.Frames.{encoded_length, missing, is_whole};
 ghost use Rattle.world_face.specs.Limits.{most_from_link};
 ghost use Rattle.world_face.specs.Puts.{Puts, added};
 ghost use Rattle.world_face.specs.Tells.{Rose};
@@ -114,11 +114,11 @@ impl Framing {
         })
     }
 
-    // The number that the first four octets spell.
-    #[tactic(auto, unfolding(world_face::specs::Frames::spelt_length))]
+    // The number that the first four octets encode.
+    #[tactic(auto, unfolding(world_face::specs::Frames::encoded_length))]
     fn length(&self) -> u32
         requires { 4 ≤ length self.now.octets }
-        ensures { result ≡ spelt_length self.now.octets }
+        ensures { result ≡ encoded_length self.now.octets }
     {
         let (front, _) = self.octets.as_slice().split_at(4);
         u32::from_be_bytes([front[0], front[1], front[2], front[3]])

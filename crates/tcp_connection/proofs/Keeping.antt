@@ -18,7 +18,7 @@ use Rattle.tcp_connection.specs.declared.Owed.{Owed}
 use Rattle.tcp_connection.specs.declared.Owed.TheVariants.{Syn, SynAck, Data, Ack, Reset}
 use Rattle.tcp_connection.specs.declared.Stage.{Stage}
 use Rattle.tcp_connection.specs.declared.Stage.TheVariants as stage
-use Rattle.tcp_connection.specs.Connection.{Connection, HasBuffers, IsSound, closes_first, has_gone, is_answering, is_opening}
+use Rattle.tcp_connection.specs.Connection.{Connection, HasBuffers, IsSound, closes_first, has_gone, is_syn_received, is_opening}
 use Rattle.tcp_connection.specs.Hosts.{host_ended, is_open, numbers_sent, over_by, reset, resets}
 use Rattle.tcp_connection.specs.Owing.{gone, owed_by, owed_of, piece_or_ack}
 use Rattle.tcp_connection.specs.Timing.{again, is_spent}
@@ -117,21 +117,21 @@ has_if false x y up down x_has y_has = y_has
 pub settled_has : (c : Connection) (up : Upward) (down : Downward) → HasBuffers c up down → HasBuffers (settled c) up down
 settled_has c up down h =
     has_if (is_done c) _ c up down
-    (has_if (closes_first c) _ _ up down (has_stage c stage.Rests up down refl h) (has_stage c stage.Gone up down refl h))
+    (has_if (closes_first c) _ _ up down (has_stage c stage.TimeWait up down refl h) (has_stage c stage.Closed up down refl h))
     h
 
-over_calling : (b : Bool) (seq : ℕ) → is_opening (if b then resets seq 0 else stage.Gone) ≡ false
+over_calling : (b : Bool) (seq : ℕ) → is_opening (if b then resets seq 0 else stage.Closed) ≡ false
 over_calling true seq = refl
 over_calling false seq = refl
 
 over_past : (st : Stage) (c : Connection) → is_opening (over_by st c) ≡ false
-over_past stage.Connects c = refl
-over_past stage.Calls c = over_calling (has_gone c.sendings) (numbers_sent c)
-over_past stage.Answers c = refl
+over_past stage.Connecting c = refl
+over_past stage.SynSent c = over_calling (has_gone c.sendings) (numbers_sent c)
+over_past stage.SynReceived c = refl
 over_past stage.Synchronized c = refl
-over_past stage.Rests c = refl
+over_past stage.TimeWait c = refl
 over_past (stage.Resets seq ack) c = refl
-over_past stage.Gone c = refl
+over_past stage.Closed c = refl
 
 pub reset_has : (c : Connection) (up : Upward) (down : Downward) → HasBuffers c up down → HasBuffers (reset c) up down
 reset_has c up down h = has_stage c (over_by c.stage c) up down (over_past c.stage c) h
@@ -225,14 +225,14 @@ reset_is_data : (p : Piece) (seq ack : Seq) → (let x : Option Owed = Some (Res
 reset_is_data p seq ack is = cc
 
 data_past : (st : Stage) (c : Connection) (up : Upward) (down : Downward) (p : Piece) → owed_by st c up down ≡ Some (Data p) → is_opening st ≡ false
-data_past stage.Connects c up down p is = absurd (none_is_data p None refl is)
-data_past stage.Calls c up down p is = absurd (not_data c.syn_owed p _ _ (syn_is_data p) (none_is_data p None refl) is)
-data_past stage.Answers c up down p is =
+data_past stage.Connecting c up down p is = absurd (none_is_data p None refl is)
+data_past stage.SynSent c up down p is = absurd (not_data c.syn_owed p _ _ (syn_is_data p) (none_is_data p None refl) is)
+data_past stage.SynReceived c up down p is =
     absurd (not_data c.syn_owed p _ _ (syn_ack_is_data p) (not_data c.ack_owed p _ _ (ack_is_data p) (none_is_data p None refl)) is)
 data_past stage.Synchronized c up down p is = refl
-data_past stage.Rests c up down p is = refl
+data_past stage.TimeWait c up down p is = refl
 data_past (stage.Resets seq ack) c up down p is = refl
-data_past stage.Gone c up down p is = refl
+data_past stage.Closed c up down p is = refl
 
 piece_is : (o : Option Piece) (b : Bool) (p : Piece) → piece_or_ack o b ≡ Some (Data p) → o ≡ Some p
 piece_is None b p is = absurd (not_data b p _ _ (ack_is_data p) (none_is_data p None refl) is)
@@ -240,21 +240,21 @@ piece_is (Some q) b p is = cc
 
 -- a piece that is owed is that of the sending half
 pub data_owed : (st : Stage) (c : Connection) (up : Upward) (down : Downward) (p : Piece) → owed_by st c up down ≡ Some (Data p) → piece_owed c.transmission down ≡ Some p
-data_owed stage.Connects c up down p is = absurd (none_is_data p None refl is)
-data_owed stage.Calls c up down p is = absurd (not_data c.syn_owed p _ _ (syn_is_data p) (none_is_data p None refl) is)
-data_owed stage.Answers c up down p is =
+data_owed stage.Connecting c up down p is = absurd (none_is_data p None refl is)
+data_owed stage.SynSent c up down p is = absurd (not_data c.syn_owed p _ _ (syn_is_data p) (none_is_data p None refl) is)
+data_owed stage.SynReceived c up down p is =
     absurd (not_data c.syn_owed p _ _ (syn_ack_is_data p) (not_data c.ack_owed p _ _ (ack_is_data p) (none_is_data p None refl)) is)
 data_owed stage.Synchronized c up down p is = piece_is (piece_owed c.transmission down) _ p is
-data_owed stage.Rests c up down p is = absurd (not_data c.ack_owed p _ _ (ack_is_data p) (none_is_data p None refl) is)
+data_owed stage.TimeWait c up down p is = absurd (not_data c.ack_owed p _ _ (ack_is_data p) (none_is_data p None refl) is)
 data_owed (stage.Resets seq ack) c up down p is = absurd (reset_is_data p seq ack is)
-data_owed stage.Gone c up down p is = absurd (none_is_data p None refl is)
+data_owed stage.Closed c up down p is = absurd (none_is_data p None refl is)
 
 gone_sound : (what : Owed) (c : Connection) (up : Upward) (down : Downward) (now : ℕ) → owed_of c up down ≡ Some what → IsSound c → IsSound (gone what c up now)
 gone_sound Syn c up down now is s = record { first = s.first; few = s.few; untaken = s.untaken; unended = s.unended; unsent = s.unsent; unanswered = s.unanswered; alone = s.alone }
 gone_sound SynAck c up down now is s = record { first = s.first; few = s.few; untaken = s.untaken; unended = s.unended; unsent = s.unsent; unanswered = s.unanswered; alone = s.alone }
 gone_sound (Data p) c up down now is s = sound_past (gone (Data p) c up now) (data_past c.stage c up down p is) s.first s.few
 gone_sound Ack c up down now is s = record { first = s.first; few = s.few; untaken = s.untaken; unended = s.unended; unsent = s.unsent; unanswered = s.unanswered; alone = s.alone }
-gone_sound (Reset seq ack) c up down now is s = sound_stage c stage.Gone refl s
+gone_sound (Reset seq ack) c up down now is s = sound_stage c stage.Closed refl s
 
 gone_received : (what : Owed) (c : Connection) (up : Upward) (now : ℕ) → ((gone what c up now).received ≡ c.received) × ((gone what c up now).ring ≡ c.ring)
 gone_received Syn c up now = (refl, refl)
@@ -299,10 +299,10 @@ timer_has c up down h feeds =
 -- ---- segments
 
 pub opened_sound : (c : Connection) → IsSound c → IsSound (opened c)
-opened_sound c s = sound_if (is_answering c.stage) (established c) c (established_sound c s) s
+opened_sound c s = sound_if (is_syn_received c.stage) (established c) c (established_sound c s) s
 
 pub opened_received : (c : Connection) → ((opened c).received ≡ c.received) × ((opened c).ring ≡ c.ring)
-opened_received c = again_received (is_answering c.stage) c (established c) c refl refl refl refl
+opened_received c = again_received (is_syn_received c.stage) c (established c) c refl refl refl refl
 
 pub heard_sound : (c : Connection) (down : Downward) (seg : Tcp) (now : ℕ) → is_opening (opened c).stage ≡ false → IsSound c → IsSound (heard c down seg now)
 heard_sound c down seg now past s = acknowledged_sound (opened c) down seg _ _ now past (opened_sound c s)

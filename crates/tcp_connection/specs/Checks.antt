@@ -67,13 +67,13 @@ verdict_answering c up seg =
     else verdict_synchronized c up seg))
 
 abbrev pub verdict_by : Stage → Connection → Upward → Tcp → Verdict
-verdict_by stage.Connects c up seg = verdict_early c seg
-verdict_by stage.Calls c up seg = verdict_calling c seg
-verdict_by stage.Answers c up seg = verdict_answering c up seg
+verdict_by stage.Connecting c up seg = verdict_early c seg
+verdict_by stage.SynSent c up seg = verdict_calling c seg
+verdict_by stage.SynReceived c up seg = verdict_answering c up seg
 verdict_by stage.Synchronized c up seg = verdict_synchronized c up seg
-verdict_by stage.Rests c up seg = verdict_synchronized c up seg
+verdict_by stage.TimeWait c up seg = verdict_synchronized c up seg
 verdict_by (stage.Resets seq ack) c up seg = Ignored
-verdict_by stage.Gone c up seg = Ignored
+verdict_by stage.Closed c up seg = Ignored
 
 abbrev pub verdict_of : Connection → Upward → Tcp → Verdict
 verdict_of c up seg = verdict_by c.stage c up seg

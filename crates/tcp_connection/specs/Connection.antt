@@ -48,7 +48,7 @@ shift_of (Some shift) = Some (min shift 14)
 abbrev pub from_guest : (theirs ours mss : ℕ) → Option ℕ → (ring : ℕ) → Bool → Connection
 from_guest theirs ours mss scale ring congestion = record {
   ours = ours;
-  stage = stage.Connects;
+  stage = stage.Connecting;
   received = received theirs 0 false;
   transmission = unanswered ours mss;
   syn = at_rest;
@@ -70,7 +70,7 @@ from_guest theirs ours mss scale ring congestion = record {
 abbrev pub to_guest : (ours mss ring : ℕ) → Bool → Connection
 to_guest ours mss ring congestion = record {
   ours = ours;
-  stage = stage.Calls;
+  stage = stage.SynSent;
   received = received 0 0 false;
   transmission = unanswered ours mss;
   syn = at_rest;
@@ -90,33 +90,33 @@ to_guest ours mss ring congestion = record {
 
 -- our SYN isn't acknowledged yet, and the connection isn't over
 abbrev pub is_opening : Stage → Bool
-is_opening stage.Connects = true
-is_opening stage.Calls = true
-is_opening stage.Answers = true
+is_opening stage.Connecting = true
+is_opening stage.SynSent = true
+is_opening stage.SynReceived = true
 is_opening stage.Synchronized = false
-is_opening stage.Rests = false
+is_opening stage.TimeWait = false
 is_opening (stage.Resets seq ack) = false
-is_opening stage.Gone = false
+is_opening stage.Closed = false
 
 -- both SYNs are known, and ours isn't acknowledged
-abbrev pub is_answering : Stage → Bool
-is_answering stage.Connects = false
-is_answering stage.Calls = false
-is_answering stage.Answers = true
-is_answering stage.Synchronized = false
-is_answering stage.Rests = false
-is_answering (stage.Resets seq ack) = false
-is_answering stage.Gone = false
+abbrev pub is_syn_received : Stage → Bool
+is_syn_received stage.Connecting = false
+is_syn_received stage.SynSent = false
+is_syn_received stage.SynReceived = true
+is_syn_received stage.Synchronized = false
+is_syn_received stage.TimeWait = false
+is_syn_received (stage.Resets seq ack) = false
+is_syn_received stage.Closed = false
 
 -- both SYNs were acknowledged, and the connection isn't finished
 abbrev pub is_synchronized : Stage → Bool
-is_synchronized stage.Connects = false
-is_synchronized stage.Calls = false
-is_synchronized stage.Answers = false
+is_synchronized stage.Connecting = false
+is_synchronized stage.SynSent = false
+is_synchronized stage.SynReceived = false
 is_synchronized stage.Synchronized = true
-is_synchronized stage.Rests = false
+is_synchronized stage.TimeWait = false
 is_synchronized (stage.Resets seq ack) = false
-is_synchronized stage.Gone = false
+is_synchronized stage.Closed = false
 
 -- our SYN went out
 abbrev pub has_gone : Sendings → Bool
@@ -151,13 +151,13 @@ state_between true true false first = if first then state.Closing else state.Las
 state_between true true true first = if first then state.TimeWait else state.LastAck
 
 abbrev pub state_by : Stage → Connection → State
-state_by stage.Connects c = state.Connecting
-state_by stage.Calls c = state.SynSent
-state_by stage.Answers c = state.SynReceived
+state_by stage.Connecting c = state.Connecting
+state_by stage.SynSent c = state.SynSent
+state_by stage.SynReceived c = state.SynReceived
 state_by stage.Synchronized c = state_between c.received.ended (is_sent c.transmission.end) c.fin_acked (closes_first c)
-state_by stage.Rests c = state.TimeWait
+state_by stage.TimeWait c = state.TimeWait
 state_by (stage.Resets seq ack) c = state.Closed
-state_by stage.Gone c = state.Closed
+state_by stage.Closed c = state.Closed
 
 -- the state of RFC 9293, 3.3.2, or Connecting before them
 abbrev pub state_of : Connection → State

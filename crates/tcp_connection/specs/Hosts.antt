@@ -24,26 +24,26 @@ abbrev pub resets : ℕ → ℕ → Stage
 resets seq ack = stage.Resets (record { 0 = seq }) (record { 0 = ack })
 
 abbrev pub over_by : Stage → Connection → Stage
-over_by stage.Connects c = resets 0 (next_number c.received)
-over_by stage.Calls c = if has_gone c.sendings then resets (numbers_sent c) 0 else stage.Gone
-over_by stage.Answers c = resets (if has_gone c.sendings then numbers_sent c else 0) (next_number c.received)
+over_by stage.Connecting c = resets 0 (next_number c.received)
+over_by stage.SynSent c = if has_gone c.sendings then resets (numbers_sent c) 0 else stage.Closed
+over_by stage.SynReceived c = resets (if has_gone c.sendings then numbers_sent c else 0) (next_number c.received)
 over_by stage.Synchronized c = resets (numbers_sent c) (next_number c.received)
-over_by stage.Rests c = stage.Rests
+over_by stage.TimeWait c = stage.TimeWait
 over_by (stage.Resets seq ack) c = stage.Resets seq ack
-over_by stage.Gone c = stage.Gone
+over_by stage.Closed c = stage.Closed
 
 abbrev pub reset : Connection → Connection
 reset c = record c { stage = over_by c.stage c }
 
 -- the socket has connected: our SYN-ACK is owed
 abbrev pub connected_by : Stage → Connection → Connection
-connected_by stage.Connects c = record c { stage = stage.Answers; syn_owed = true }
-connected_by stage.Calls c = c
-connected_by stage.Answers c = c
+connected_by stage.Connecting c = record c { stage = stage.SynReceived; syn_owed = true }
+connected_by stage.SynSent c = c
+connected_by stage.SynReceived c = c
 connected_by stage.Synchronized c = c
-connected_by stage.Rests c = c
+connected_by stage.TimeWait c = c
 connected_by (stage.Resets seq ack) c = c
-connected_by stage.Gone c = c
+connected_by stage.Closed c = c
 
 -- the host ended its stream: FIN is to go after it (3.6)
 abbrev pub is_open : End → Bool

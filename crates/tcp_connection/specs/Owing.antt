@@ -31,13 +31,13 @@ piece_or_ack None owed = ack_if owed
 piece_or_ack (Some p) owed = Some (Data p)
 
 abbrev pub owed_by : Stage → Connection → Upward → Downward → Option Owed
-owed_by stage.Connects c up down = None
-owed_by stage.Calls c up down = if c.syn_owed then Some Syn else None
-owed_by stage.Answers c up down = if c.syn_owed then Some SynAck else ack_if c.ack_owed
+owed_by stage.Connecting c up down = None
+owed_by stage.SynSent c up down = if c.syn_owed then Some Syn else None
+owed_by stage.SynReceived c up down = if c.syn_owed then Some SynAck else ack_if c.ack_owed
 owed_by stage.Synchronized c up down = piece_or_ack (piece_owed c.transmission down) (c.ack_owed || is_update_owed c up)
-owed_by stage.Rests c up down = ack_if c.ack_owed
+owed_by stage.TimeWait c up down = ack_if c.ack_owed
 owed_by (stage.Resets seq ack) c up down = Some (Reset seq ack)
-owed_by stage.Gone c up down = None
+owed_by stage.Closed c up down = None
 
 abbrev pub owed_of : Connection → Upward → Downward → Option Owed
 owed_of c up down = owed_by c.stage c up down
@@ -88,7 +88,7 @@ gone Syn c up now = syn_gone c now
 gone SynAck c up now = told (syn_gone c now) up 0
 gone (Data p) c up now = data_gone (told c up (our_shift c)) p now
 gone Ack c up now = told c up (our_shift c)
-gone (Reset seq ack) c up now = record c { stage = stage.Gone }
+gone (Reset seq ack) c up now = record c { stage = stage.Closed }
 
 abbrev pub after_gone : Owed → Connection → Upward → ℕ → Connection
 after_gone what c up now = settled (gone what c up now)

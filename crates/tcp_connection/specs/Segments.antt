@@ -18,7 +18,7 @@ use Rattle.tcp_connection.specs.declared.Stage.TheVariants as stage
 use Rattle.tcp_connection.specs.declared.Verdict.{Verdict}
 use Rattle.tcp_connection.specs.declared.Verdict.TheVariants.{Ignored, Resets, Unacceptable, Repeats, Challenged, Greets, Heeded}
 use Rattle.tcp_connection.specs.Checks.{is_ack, is_fin, verdict_of}
-use Rattle.tcp_connection.specs.Connection.{Connection, closes_first, has_gone_again, is_answering, is_synchronized, shift_of}
+use Rattle.tcp_connection.specs.Connection.{Connection, closes_first, has_gone_again, is_syn_received, is_synchronized, shift_of}
 use Rattle.tcp_connection.specs.Windows.{window_in}
 
 -- ---- opening
@@ -26,7 +26,7 @@ use Rattle.tcp_connection.specs.Windows.{window_in}
 -- 3.10.7.3: the guest's SYN came. Our SYN-ACK is owed, and an acknowledgement, which that pays.
 abbrev pub greeted : Connection → Tcp → Connection
 greeted c seg = record c {
-  stage = stage.Answers;
+  stage = stage.SynReceived;
   received = received seg.seq 0 false;
   transmission = record c.transmission { mss = min c.transmission.mss (mss_of seg.mss) };
   acknowledged = number_of seg.seq 0;
@@ -51,7 +51,7 @@ established c = record c {
 }
 
 abbrev pub opened : Connection → Connection
-opened c = if is_answering c.stage then established c else c
+opened c = if is_syn_received c.stage then established c else c
 
 -- ---- acknowledgements
 
@@ -143,7 +143,7 @@ is_done c = is_synchronized c.stage && c.host_ended && c.fin_acked && c.end_ackn
 -- the connection is finished then: in TIME-WAIT where our end came first (3.6)
 abbrev pub settled : Connection → Connection
 settled c =
-    if is_done c then (if closes_first c then record c { stage = stage.Rests } else record c { stage = stage.Gone })
+    if is_done c then (if closes_first c then record c { stage = stage.TimeWait } else record c { stage = stage.Closed })
     else c
 
 abbrev pub settling : Connection → Change
@@ -169,7 +169,7 @@ welcomed c down seg now =
 
 abbrev pub conn_by : Verdict → Connection → Upward → Downward → Tcp → (now : ℕ) → Connection
 conn_by Ignored c up down seg now = c
-conn_by Resets c up down seg now = record c { stage = stage.Gone }
+conn_by Resets c up down seg now = record c { stage = stage.Closed }
 conn_by Unacceptable c up down seg now = c
 conn_by Repeats c up down seg now = record c { syn_owed = true }
 conn_by Challenged c up down seg now = record c { ack_owed = true }

@@ -11,13 +11,13 @@ use Rattle.tcp_connection.specs.Hosts.{reset}
 
 -- until our SYN is acknowledged its timer counts, and then that of pieces and probes
 abbrev pub due_by : Stage → Connection → Option ℕ
-due_by stage.Connects c = None
-due_by stage.Calls c = resend_due c.syn
-due_by stage.Answers c = resend_due c.syn
+due_by stage.Connecting c = None
+due_by stage.SynSent c = resend_due c.syn
+due_by stage.SynReceived c = resend_due c.syn
 due_by stage.Synchronized c = resend_due c.transmission.resend
-due_by stage.Rests c = None
+due_by stage.TimeWait c = None
 due_by (stage.Resets seq ack) c = None
-due_by stage.Gone c = None
+due_by stage.Closed c = None
 
 abbrev pub due_of : Connection → Option ℕ
 due_of c = due_by c.stage c

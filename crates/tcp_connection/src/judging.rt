@@ -15,11 +15,11 @@ impl Conn {
         ensures { result ≡ verdict_of self.now up.now (tcp_of seg.now) }
     {
         match self.stage {
-            Stage::Connects => self.verdict_early(seg),
-            Stage::Calls => self.verdict_calling(seg),
-            Stage::Answers => self.verdict_answering(up, seg),
-            Stage::Synchronized | Stage::Rests => self.verdict_synchronized(up, seg),
-            Stage::Resets { .. } | Stage::Gone => Verdict::Ignored,
+            Stage::Connecting => self.verdict_early(seg),
+            Stage::SynSent => self.verdict_calling(seg),
+            Stage::SynReceived => self.verdict_answering(up, seg),
+            Stage::Synchronized | Stage::TimeWait => self.verdict_synchronized(up, seg),
+            Stage::Resets { .. } | Stage::Closed => Verdict::Ignored,
         }
     }
 

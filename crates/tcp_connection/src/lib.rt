@@ -16,6 +16,14 @@
 //! it changes (Segments); news of the host (Hosts); what is owed and what goes out (Owing); windows (Windows; RFC 7323, 2); timers (Timing; RFC 6298). Our end was the
 //! first (`closes_first`) where our FIN was out before the number that is acknowledged next, or before the last one where the next is the same.
 //!
+//! | Field | RFC 9293, 3.3.1 |
+//! |---|---|
+//! | `ours` | ISS |
+//! | `received.first`, `received.taken` | IRS; RCV.NXT as a place, the number of octets taken: `expected` of `tcp_receive` is RCV.NXT itself |
+//! | `told` | RCV.NXT + RCV.WND as a place, as a segment told it last; RCV.WND is the room of `Up`, scaled by `scale` (RFC 7323, 2) |
+//! | `acknowledged` | the RCV.NXT that went out last (Last.ACK.sent of RFC 7323, 4.3) |
+//! | `transmission` | SND.UNA, SND.NXT, SND.WND, SND.WL1, SND.WL2: `tcp_transmit` |
+//!
 //! Proved: each rule of RFC 9293 is a small change of a `Connection`.
 //! - `Conn::from_guest` and `to_guest` begin it (`first`).
 //! - `on_segment` changes the connection, and the octets of both directions, exactly as the order of checks says (`connection`, `up`, `down`), and answers
@@ -39,7 +47,7 @@ ghost use Rattle.tcp_receive.specs.Coming.{Comes};
 ghost use Rattle.tcp_segment.specs.Tcp.{tcp_of};
 ghost use Rattle.tcp_transmit.specs.Timing.{watched_over};
 ghost use Rattle.tcp_transmit.specs.Transmission.{octets_read};
-ghost use Rattle.tcp_connection.specs.Connection.{Connection, HasBuffers, from_guest, has_gone, has_gone_again, is_answering, is_opening, is_synchronized, once_more, state_of, to_guest};
+ghost use Rattle.tcp_connection.specs.Connection.{Connection, HasBuffers, from_guest, has_gone, has_gone_again, is_syn_received, is_opening, is_synchronized, once_more, state_of, to_guest};
 ghost use Rattle.tcp_connection.specs.Hosts.{after_news, change_on, is_open};
 ghost use Rattle.tcp_connection.specs.Segments.{acknowledged, after_segment, change_at, down_after_segment, up_after_segment};
 ghost use Rattle.tcp_connection.specs.Timing.{after_tick, change_at_tick, due_of};
@@ -125,20 +133,20 @@ pub enum State {
 /// How far a connection is opened, and whether it is over.
 #[derive(Clone, Copy, Debug, PartialEq, Eq)]
 pub enum Stage {
-    /// The guest's SYN came, and the host's socket connects.
-    Connects,
-    /// We opened it, and the guest's SYN didn't come yet.
-    Calls,
-    /// Both SYNs are known, and ours isn't acknowledged.
-    Answers,
-    /// Both SYNs were acknowledged.
+    /// The guest's SYN came, and the host's socket connects: before SYN-RECEIVED, for as long as the SYN isn't answered.
+    Connecting,
+    /// SYN-SENT: we opened it, and the guest's SYN didn't come yet.
+    SynSent,
+    /// SYN-RECEIVED: both SYNs are known, and ours isn't acknowledged.
+    SynReceived,
+    /// Both SYNs were acknowledged: the synchronized states up to TIME-WAIT (RFC 9293, 3.5).
     Synchronized,
     /// Finished, with our end first: in TIME-WAIT, without a socket.
-    Rests,
+    TimeWait,
     /// Over, and a reset with these numbers is owed.
     Resets { seq: Seq, ack: Seq },
-    /// Over.
-    Gone,
+    /// CLOSED: over.
+    Closed,
 }
 
 /// How often our SYN went out.
@@ -224,22 +232,22 @@ impl Stage {
         ensures { result ≡ is_opening self }
     {
         match self {
-            Stage::Connects | Stage::Calls | Stage::Answers => true,
-            Stage::Synchronized | Stage::Rests | Stage::Resets { .. } | Stage::Gone => false,
+            Stage::Connecting | Stage::SynSent | Stage::SynReceived => true,
+            Stage::Synchronized | Stage::TimeWait | Stage::Resets { .. } | Stage::Closed => false,
         }
     }
 
-    fn is_answering(self) -> bool
-        ensures { result ≡ is_answering self }
+    fn is_syn_received(self) -> bool
+        ensures { result ≡ is_syn_received self }
     {
         match self {
-            Stage::Answers => true,
-            Stage::Connects
-            | Stage::Calls
+            Stage::SynReceived => true,
+            Stage::Connecting
+            | Stage::SynSent
             | Stage::Synchronized
-            | Stage::Rests
+            | Stage::TimeWait
             | Stage::Resets { .. }
-            | Stage::Gone => false,
+            | Stage::Closed => false,
         }
     }
 
@@ -248,12 +256,12 @@ impl Stage {
     {
         match self {
             Stage::Synchronized => true,
-            Stage::Connects
-            | Stage::Calls
-            | Stage::Answers
-            | Stage::Rests
+            Stage::Connecting
+            | Stage::SynSent
+            | Stage::SynReceived
+            | Stage::TimeWait
             | Stage::Resets { .. }
-            | Stage::Gone => false,
+            | Stage::Closed => false,
         }
     }
 }
@@ -307,7 +315,7 @@ impl Conn {
     {
         Conn {
             ours: first_ours,
-            stage: Stage::Connects,
+            stage: Stage::Connecting,
             receive: Receive::new(first_theirs),
             transmit: Transmit::new(first_ours, mss),
             syn: Resend::new(),
@@ -336,7 +344,7 @@ impl Conn {
     {
         Conn {
             ours: first_ours,
-            stage: Stage::Calls,
+            stage: Stage::SynSent,
             receive: Receive::new(Seq(0)),
             transmit: Transmit::new(first_ours, mss),
             syn: Resend::new(),
@@ -381,7 +389,7 @@ impl Conn {
         match self.verdict(up, seg) {
             Verdict::Ignored => Change::Nothing,
             Verdict::Resets => {
-                self.stage = Stage::Gone;
+                self.stage = Stage::Closed;
                 Change::GuestReset
             }
             Verdict::Unacceptable => Change::Unfit,
@@ -449,9 +457,9 @@ impl Conn {
         ensures { result ≡ due_of self.now }
     {
         match self.stage {
-            Stage::Calls | Stage::Answers => self.syn.due(),
+            Stage::SynSent | Stage::SynReceived => self.syn.due(),
             Stage::Synchronized => self.transmit.due(),
-            Stage::Connects | Stage::Rests | Stage::Resets { .. } | Stage::Gone => None,
+            Stage::Connecting | Stage::TimeWait | Stage::Resets { .. } | Stage::Closed => None,
         }
     }
 
@@ -470,17 +478,17 @@ impl Conn {
         }
     }
 
-    /// The state of RFC 9293, 3.3.2, as the stage and the two ends tell it; TIME-WAIT is a rest without a socket.
+    /// The state of RFC 9293, 3.3.2, as the stage and the two ends tell it; TIME-WAIT is without a socket.
     pub fn state(&self) -> State
         ensures { result ≡ state_of self.now }
     {
         match self.stage {
-            Stage::Connects => State::Connecting,
-            Stage::Calls => State::SynSent,
-            Stage::Answers => State::SynReceived,
+            Stage::Connecting => State::Connecting,
+            Stage::SynSent => State::SynSent,
+            Stage::SynReceived => State::SynReceived,
             Stage::Synchronized => self.synchronized_state(),
-            Stage::Rests => State::TimeWait,
-            Stage::Resets { .. } | Stage::Gone => State::Closed,
+            Stage::TimeWait => State::TimeWait,
+            Stage::Resets { .. } | Stage::Closed => State::Closed,
         }
     }
 

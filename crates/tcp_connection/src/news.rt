@@ -15,16 +15,16 @@ impl Conn {
         ensures { self.new ≡ connected_by self.old.stage self.old }
     {
         match self.stage {
-            Stage::Connects => {
-                self.stage = Stage::Answers;
+            Stage::Connecting => {
+                self.stage = Stage::SynReceived;
                 self.syn_owed = true;
             }
-            Stage::Calls
-            | Stage::Answers
+            Stage::SynSent
+            | Stage::SynReceived
             | Stage::Synchronized
-            | Stage::Rests
+            | Stage::TimeWait
             | Stage::Resets { .. }
-            | Stage::Gone => {}
+            | Stage::Closed => {}
         }
     }
 
@@ -53,21 +53,21 @@ impl Conn {
         let next = self.transmit.next_number();
         let syn_is_out = self.sendings.has_gone();
         match self.stage {
-            Stage::Connects => Stage::Resets {
+            Stage::Connecting => Stage::Resets {
                 seq: Seq(0),
                 ack: expected,
             },
-            Stage::Calls => {
+            Stage::SynSent => {
                 if syn_is_out {
                     Stage::Resets {
                         seq: next,
                         ack: Seq(0),
                     }
                 } else {
-                    Stage::Gone
+                    Stage::Closed
                 }
             }
-            Stage::Answers => Stage::Resets {
+            Stage::SynReceived => Stage::Resets {
                 seq: if syn_is_out { next } else { Seq(0) },
                 ack: expected,
             },
@@ -75,7 +75,7 @@ impl Conn {
                 seq: next,
                 ack: expected,
             },
-            Stage::Rests | Stage::Resets { .. } | Stage::Gone => self.stage,
+            Stage::TimeWait | Stage::Resets { .. } | Stage::Closed => self.stage,
         }
     }
 }

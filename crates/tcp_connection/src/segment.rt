@@ -8,7 +8,7 @@ ghost use Rattle.tcp_segment.specs.Tcp.{tcp_of};
 ghost use Rattle.tcp_transmit.specs.Acks.{octets_acked, without};
 ghost use Rattle.tcp_transmit.specs.Transmission.{Feeds, is_sent, octets_read};
 ghost use Rattle.tcp_connection.specs.Checks.{is_ack, acknowledges_syn as acknowledges_syn_by};
-ghost use Rattle.tcp_connection.specs.Connection.{HasBuffers, IsSound, closes_first as closes_first_by, has_gone_again, is_answering, is_opening, is_synchronized, shift_of, state_between};
+ghost use Rattle.tcp_connection.specs.Connection.{HasBuffers, IsSound, closes_first as closes_first_by, has_gone_again, is_syn_received, is_opening, is_synchronized, shift_of, state_between};
 ghost use Rattle.tcp_connection.specs.Segments.{acknowledged, arrived, change_heeding, confirmed, congested, down_heeding, down_welcoming, established, greeted, heard, heeded};
 ghost use Rattle.tcp_connection.specs.Segments.{is_bare as is_bare_by, is_done as is_done_by, is_fin_too as is_fin_too_by, is_past, is_too_far as is_too_far_by, opened, seen_of};
 ghost use Rattle.tcp_connection.specs.Segments.{settled, settling, up_heeding, welcomed};
@@ -26,7 +26,7 @@ impl Conn {
     /// The guest's SYN came.
     pub(crate) fn welcome(&mut self, down: &mut Down, now: u64, seg: &TcpView<'_>)
         requires buffers { (up : Upward) × HasBuffers self.old up down.old }
-        requires calls { self.old.stage ≡ Stage.Calls }
+        requires calls { self.old.stage ≡ Stage.SynSent }
         requires fits { is_ack (tcp_of seg.now) ≡ true → acknowledges_syn_by self.old (tcp_of seg.now) ≡ true }
         requires now { now ≤ 2 ^ 62 }
         ensures connection { self.new ≡ welcomed self.old down.old (tcp_of seg.now) now }
@@ -48,7 +48,7 @@ impl Conn {
         ensures connection { self.new ≡ greeted self.old (tcp_of seg.now) }
         ensures feeds { (down : Downward) → Feeds self.old.transmission down → Feeds self.new.transmission down }
     {
-        self.stage = Stage::Answers;
+        self.stage = Stage::SynReceived;
         self.receive = Receive::new(seg.seq);
         let most = mss_of(seg.mss).min(self.transmit.mss());
         self.transmit.limit(most);
@@ -88,7 +88,7 @@ impl Conn {
         ensures connection { self.new ≡ opened self.old }
         ensures feeds { (down : Downward) → Feeds self.old.transmission down → Feeds self.new.transmission down }
     {
-        if self.stage.is_answering() {
+        if self.stage.is_syn_received() {
             self.establish();
         }
     }
@@ -218,9 +218,9 @@ impl Conn {
             return Change::Nothing;
         }
         self.stage = if self.closes_first() {
-            Stage::Rests
+            Stage::TimeWait
         } else {
-            Stage::Gone
+            Stage::Closed
         };
         Change::Finished
     }

@@ -19,16 +19,16 @@ impl Conn {
         ensures owed { result ≡ owed_of self.now up.now down.now }
     {
         match self.stage {
-            Stage::Connects | Stage::Gone => None,
-            Stage::Calls => self.syn_owed.then_some(Owed::Syn),
-            Stage::Answers => {
+            Stage::Connecting | Stage::Closed => None,
+            Stage::SynSent => self.syn_owed.then_some(Owed::Syn),
+            Stage::SynReceived => {
                 if self.syn_owed {
                     Some(Owed::SynAck)
                 } else {
                     ack_if(self.ack_owed)
                 }
             }
-            Stage::Rests => ack_if(self.ack_owed),
+            Stage::TimeWait => ack_if(self.ack_owed),
             Stage::Synchronized => match self.transmit.next_piece(down) {
                 Some(piece) => Some(Owed::Data(piece)),
                 None => ack_if(self.ack_owed || self.is_update_owed(up)),
@@ -111,7 +111,7 @@ impl Conn {
                 let shift = self.our_shift();
                 self.tell(up, shift);
             }
-            Owed::Reset { .. } => self.stage = Stage::Gone,
+            Owed::Reset { .. } => self.stage = Stage::Closed,
         }
     }
 

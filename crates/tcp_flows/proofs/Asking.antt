@@ -18,8 +18,8 @@ use Rattle.spec_trace.specs.Sockets.{is_among}
 use Rattle.spec_flow.specs.Event.{Arrives, At, Departs, Segment, Story}
 use Rattle.spec_flow.specs.Flow.{is_accepted}
 use Rattle.spec_flows.specs.Book.{book, scene, turned}
-use Rattle.spec_flows.specs.Doings.{Doing, Nothing, Comes, Goes, Seeks, Pauses, Joins, Visits, Calls, Shuts, by_call, comes, doing, doing_by, ended_by, goes, joined, joins, read_by}
-use Rattle.spec_flows.specs.Doings.{seeks, visits, written_by}
+use Rattle.spec_flows.specs.Doings.{Doing, Nothing, Comes, Goes, Resolves, Pauses, Joins, Visits, Calls, Shuts, by_call, comes, doing, doing_by, ended_by, goes, joined, joins, read_by}
+use Rattle.spec_flows.specs.Doings.{resolves, visits, written_by}
 use Rattle.spec_flows.specs.Flows.{Book, Flow, Scene, flow_of, is_on, is_numbered, is_strange, sends, shuts, tell, with_event}
 use Rattle.spec_flows.specs.Segments.{OnTuple, asked_in, segment_came, segment_in}
 use Rattle.sim_flows.specs.Only.{AreOf, IsOf}
@@ -126,12 +126,12 @@ comes_keeps : (o : Option OnTuple) → KeepsKind (comes o)
 comes_keeps None = tt
 comes_keeps (Some on) = tt
 
-seeks_keeps : (o : Option ℕ) → KeepsKind (seeks o)
-seeks_keeps None = tt
-seeks_keeps (Some guest) = tt
+resolves_keeps : (o : Option ℕ) → KeepsKind (resolves o)
+resolves_keeps None = tt
+resolves_keeps (Some guest) = tt
 
 goes_keeps : (o : Option OnTuple) (asked : Option ℕ) → KeepsKind (goes o asked)
-goes_keeps None asked = seeks_keeps asked
+goes_keeps None asked = resolves_keeps asked
 goes_keeps (Some on) asked = tt
 
 doing_keeps : (came : Option Arrival) (went : Option (List ℕ)) (e : Entry) → KeepsKind (doing_by came went e)
@@ -177,7 +177,7 @@ module _ (guest : ℕ) where
   turned_numbers config sc b number (Comes on) of keeps = told_numbers (is_on on.tuple) (with_event sc.moment (Arrives on.segment)) (λ f. refl) (λ f. refl) b.flows
   turned_numbers config sc b number (Goes on) of keeps = told_numbers (is_on on.tuple) (sends sc.moment on.segment) (λ f. (sent_is sc.moment on.segment f).0)
       (λ f. (sent_is sc.moment on.segment f).1) b.flows
-  turned_numbers config sc b number (Seeks seeked) of keeps = absurd of
+  turned_numbers config sc b number (Resolves seeked) of keeps = absurd of
   turned_numbers config sc b number Pauses of keeps = absurd of
   turned_numbers config sc b number (Joins socket) of keeps = absurd of
   turned_numbers config sc b number (Visits listener socket peer) of keeps = absurd of

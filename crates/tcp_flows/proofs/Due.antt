@@ -1,11 +1,11 @@
 -- When a flow is to be looked at.
 use Rattle.std.proofs.Common.{refl, ◌≡◌, ℕ, ◌<◌, ◌&&◌, not, Bool, true, false, Some, None, Option, ap, sym, ◌∙◌, subst, arith, if◌then◌else◌}
-use Rattle.sim_connection.specs.Holding.{is_connects}
+use Rattle.sim_connection.specs.Holding.{is_at_connecting}
 use Rattle.tcp_connection.specs.Timing.{due_of as conn_due}
 use Rattle.tcp_connection.specs.Connection.{is_opening}
 use Rattle.tcp_connection.specs.Hosts.{is_open as host_is_open}
 use Rattle.flow_splice.specs.Splice.{Splice, is_open}
-use Rattle.flow_splice.specs.Wants.{HasTime, ask_due, connect_end, due_else, due_of, is_deserted, left_at, reads_none, seeks, sooner}
+use Rattle.flow_splice.specs.Wants.{HasTime, ask_due, connect_end, due_else, due_of, is_deserted, left_at, reads_none, resolves, sooner}
 
 some_same : {m n : ℕ} → ◌≡◌ {A = Option ℕ} (Some m) (Some n) → m ≡ n
 some_same is = cc
@@ -19,7 +19,7 @@ open_due p b open_yet deserted =
     ∙ ap (λ d. if d then Some (sooner (left_at p) (due_else p)) else due_else p) deserted
 
 -- a flow that connects has its peer
-pub connects_stays : (p : Splice) → is_connects p.conn.stage ≡ true → is_deserted p ≡ false
+pub connects_stays : (p : Splice) → is_at_connecting p.conn.stage ≡ true → is_deserted p ≡ false
 connects_stays p connects =
     ap (λ c. p.accepted && not c && is_opening p.conn.stage && not (host_is_open p.conn.transmission.end) && reads_none p.down && not p.conn.ack_owed) connects
     ∙ none p.accepted (is_opening p.conn.stage) (not (host_is_open p.conn.transmission.end)) (reads_none p.down) (not p.conn.ack_owed)
@@ -52,7 +52,7 @@ else_late p now open_yet late = by (is_deserted p) refl
 pub has_time : (p : Splice) (now : ℕ) → is_open p ≡ true → IsLate now (due_of p) → HasTime p now
 has_time p now open_yet late = record {
   connects = λ o connects. else_late p now open_yet late (connect_end p)
-      (ap (λ b. if b then Some (connect_end p) else (if seeks p then ask_due p else conn_due p.conn)) connects);
+      (ap (λ b. if b then Some (connect_end p) else (if resolves p then ask_due p else conn_due p.conn)) connects);
   deserted = λ o deserted. (both_late now (left_at p) (due_else p) (late (sooner (left_at p) (due_else p)) (open_due p true open_yet deserted))).0;
 }
 

@@ -6,7 +6,7 @@ use Rattle.spec_run.proofs.Bools.{and_both, first_of, second_of}
 use Rattle.spec_flows.specs.declared.Tuple.{Tuple}
 use Rattle.flow_splice.specs.Splice.{Splice, is_in_use}
 use Rattle.flow_splice.specs.declared.Place.{Place}
-use Rattle.flow_splice.specs.declared.Place.TheVariants.{Empty, InUse, Resting}
+use Rattle.flow_splice.specs.declared.Place.TheVariants.{Empty, InUse, InTimeWait}
 use Rattle.sim_flows.specs.Core.{ends_of, number_of}
 use Rattle.sim_flows.proofs.Options.{true_false}
 use Rattle.tcp_flows.specs.InUse.{IsInUseAt, IsNextPart, IsNextUse, counts, is_above, lesser, use_above}
@@ -30,7 +30,7 @@ part_used p used = by p.place used
     by : (x : Place) → is_in_use x ≡ true → part_at x p ≡ Some p
     by Empty used = absurd (true_false (sym used))
     by InUse used = refl
-    by (Resting since) used = absurd (true_false (sym used))
+    by (InTimeWait since) used = absurd (true_false (sym used))
 
 -- ---- one flow more
 

@@ -6,7 +6,7 @@ use Rattle.std.proofs.lemmas.List.{map-append, take_more}
 use Rattle.flow_splice.specs.Splice.{Splice, is_in_use}
 use Rattle.flow_splice.specs.Wants.{due_of, is_deserted, left_at}
 use Rattle.flow_splice.specs.declared.Place.{Place}
-use Rattle.flow_splice.specs.declared.Place.TheVariants.{Empty, InUse, Resting}
+use Rattle.flow_splice.specs.declared.Place.TheVariants.{Empty, InUse, InTimeWait}
 use Rattle.tcp_flows.specs.Kept.{part_at, part_of}
 use Rattle.rules_flow.specs.Choices.{if_after}
 use Rattle.tcp_flows.specs.Reading.{IsDueAfter, IsNextAfter, blocked_time_of, earlier, time_at}
@@ -36,7 +36,7 @@ is_part p q is = by p.place is
     by : (x : Place) → Some q ≡ part_at x p → q ≡ p
     by Empty is = absurd cc
     by InUse is = cc
-    by (Resting since) is = cc
+    by (InTimeWait since) is = cc
 
 has_part : (p : Splice) (at : ℕ) → blocked_time_of p ≡ Some at → part_of p ≡ Some p
 has_part p at is = by p.place is
@@ -44,7 +44,7 @@ has_part p at is = by p.place is
     by : (x : Place) → (if (is_in_use x && not p.shut) && is_deserted p then Some (left_at p) else time_at x (due_of p)) ≡ Some at → part_at x p ≡ Some p
     by Empty is = absurd cc
     by InUse is = refl
-    by (Resting since) is = refl
+    by (InTimeWait since) is = refl
 
 -- a moment after this one, or none
 some_after : (now at : ℕ) (o : Option ℕ) → if_after now o ≡ Some at → (o ≡ Some at) × (now < at)

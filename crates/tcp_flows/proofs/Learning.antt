@@ -15,7 +15,7 @@ use Rattle.spec_flows.specs.declared.Tuple.{Tuple}
 use Rattle.spec_flow.specs.Close.{is_in_use}
 use Rattle.spec_flows.specs.Flows.{Flow}
 use Rattle.spec_flows.specs.Laws.{flow_settings}
-use Rattle.sim_flows.specs.FlowsHold.{FlowsState, rests_at}
+use Rattle.sim_flows.specs.FlowsHold.{FlowsState, time_waits_at}
 use Rattle.sim_flows.specs.Seats.{IsSlotOf}
 use Rattle.sim_flows.proofs.Seats.{differ, same_or_not}
 use Rattle.sim_flows.proofs.Tables.{get_set_at, get_set_other}
@@ -25,7 +25,7 @@ use Rattle.flow_splice.specs.Follows.{FollowsAt}
 use Rattle.flow_splice.specs.Sends.{learnt, or_known}
 use Rattle.flow_splice.specs.Splice.{Splice, is_open}
 use Rattle.flow_splice.specs.declared.Place.{Place}
-use Rattle.flow_splice.specs.declared.Place.TheVariants.{Empty, InUse, Resting}
+use Rattle.flow_splice.specs.declared.Place.TheVariants.{Empty, InUse, InTimeWait}
 use Rattle.sim_flows.specs.Asked.{AreAsked}
 use Rattle.sim_flows.specs.Core.{CoreHolds, ends_of, number_of}
 use Rattle.sim_flows.specs.Stands.{slot_at}
@@ -33,7 +33,7 @@ use Rattle.sim_flows.proofs.Options.{none_some, some_same, true_false}
 use Rattle.sim_flows.proofs.Told.{core_told}
 use Rattle.tcp_flows.specs.Kept.{IsFor, Kept, flows_of, part_at, part_of, slot_of}
 use Rattle.tcp_flows.specs.Reading.{HaveLearnt, AreTold, IsOpenAt, NoneInSlots, learnt_from}
-use Rattle.tcp_flows.specs.Rows.{Moves, MovesAt, count, is_seeking, seeks_at, table_at, waits_of}
+use Rattle.tcp_flows.specs.Rows.{Moves, MovesAt, count, is_resolving, resolves_at, table_at, waits_of}
 use Rattle.tcp_flows.specs.Runs.{Learns}
 use Rattle.tcp_flows.specs.Settled.{IsInTime, OwesNoAck}
 use Rattle.rules_flow.specs.declared.Waits.{Waits}
@@ -73,9 +73,9 @@ learnt_same guests p is = ap (λ b. if b then p else learnt p (learnt_for p.face
 pub learnt_is : (guests : List (Ip4 × Mac)) (p : Splice) → is_some p.mac ≡ false → learnt_from guests p ≡ learnt p (learnt_for p.face.guest.addr guests)
 learnt_is guests p is = ap (λ b. if b then p else learnt p (learnt_for p.face.guest.addr guests)) is
 
--- one that seeks has a place, and doesn't know it
-pub seeking_is : (p : Splice) → is_seeking p ≡ true → (p.place ≡ Empty → ⊥) × (is_some p.mac ≡ false)
-seeking_is p is = by p.place refl is
+-- one that resolves has a place, and doesn't know it
+pub resolving_is : (p : Splice) → is_resolving p ≡ true → (p.place ≡ Empty → ⊥) × (is_some p.mac ≡ false)
+resolving_is p is = by p.place refl is
   where
     unknown : not (is_some p.mac) ≡ true → is_some p.mac ≡ false
     unknown is = by_test (is_some p.mac) is
@@ -84,23 +84,23 @@ seeking_is p is = by p.place refl is
         by_test true is = cc
         by_test false is = refl
 
-    by : (x : Place) → p.place ≡ x → seeks_at x p.mac ≡ true → (p.place ≡ Empty → ⊥) × (is_some p.mac ≡ false)
+    by : (x : Place) → p.place ≡ x → resolves_at x p.mac ≡ true → (p.place ≡ Empty → ⊥) × (is_some p.mac ≡ false)
     by Empty at is = absurd (true_false (sym is))
     by InUse at is = ((λ none. cc (sym at ∙ none)), unknown is)
-    by (Resting since) at is = ((λ none. cc (sym at ∙ none)), unknown is)
+    by (InTimeWait since) at is = ((λ none. cc (sym at ∙ none)), unknown is)
 
 -- and one that doesn't, and has a place, knows it
-pub sought_is : (p : Splice) → is_seeking p ≡ false → (p.place ≡ Empty → ⊥) → is_some p.mac ≡ true
-sought_is p none some = by p.place refl none
+pub resolved_is : (p : Splice) → is_resolving p ≡ false → (p.place ≡ Empty → ⊥) → is_some p.mac ≡ true
+resolved_is p none some = by p.place refl none
   where
     knows : (b : Bool) → not b ≡ false → b ≡ true
     knows true is = refl
     knows false is = cc
 
-    by : (x : Place) → p.place ≡ x → seeks_at x p.mac ≡ false → is_some p.mac ≡ true
+    by : (x : Place) → p.place ≡ x → resolves_at x p.mac ≡ false → is_some p.mac ≡ true
     by Empty at is = absurd (some at)
     by InUse at is = knows (is_some p.mac) is
-    by (Resting since) at is = knows (is_some p.mac) is
+    by (InTimeWait since) at is = knows (is_some p.mac) is
 
 pub none_is : (m : Option Mac) → is_some m ≡ false → m ≡ None
 none_is None is = refl
@@ -116,12 +116,12 @@ learnt_moves p m = record { face = refl; accepted = refl; shut = λ was. was; pl
     stays : (x : Place) → MovesAt false x x
     stays Empty = refl
     stays InUse = tt
-    stays (Resting since) = refl
+    stays (InTimeWait since) = refl
 
 pub table_stays : (x : Place) (k : ℕ) (t : Tuple) (table : Flows) → table_at false x x k t table ≡ table
 table_stays Empty k t table = refl
 table_stays InUse k t table = refl
-table_stays (Resting since) k t table = refl
+table_stays (InTimeWait since) k t table = refl
 
 pub has_at : {X : Type 0} (xs : List X) (k : ℕ) → k < length xs → (x : X) × (slice_get xs k ≡ Some x)
 has_at [] k fits = absurd (omega (arith, fits))
@@ -132,32 +132,32 @@ has_at (x ∷ xs) (suc k) fits = has_at xs k (omega (arith, fits))
 pub slot_part : (parts : List Splice) (seen : List (Option Splice)) → map part_of parts ≡ seen → (k : ℕ) → k < length seen → (p : Splice) × (slice_get parts k ≡ Some p)
 slot_part parts seen are k fits = has_at parts k (subst (λ n. k < n) (sym (sym (length-map parts part_of) ∙ ap (λ (l : List (Option Splice)). length l) are)) fits)
 
--- what is seen of one that doesn't seek stays as it is
-pub unsought : (guests : List (Ip4 × Mac)) (p : Splice) → is_seeking p ≡ false → option_map (learnt_from guests) (part_of p) ≡ part_of p
+-- what is seen of one that doesn't resolve stays as it is
+pub unsought : (guests : List (Ip4 × Mac)) (p : Splice) → is_resolving p ≡ false → option_map (learnt_from guests) (part_of p) ≡ part_of p
 unsought guests p none = by p.place refl
   where
     by : (x : Place) → p.place ≡ x → option_map (learnt_from guests) (part_at x p) ≡ part_at x p
     by Empty at = refl
-    by InUse at = ap Some (learnt_same guests p (sought_is p none (λ is. cc (sym at ∙ is))))
-    by (Resting since) at = ap Some (learnt_same guests p (sought_is p none (λ is. cc (sym at ∙ is))))
+    by InUse at = ap Some (learnt_same guests p (resolved_is p none (λ is. cc (sym at ∙ is))))
+    by (InTimeWait since) at = ap Some (learnt_same guests p (resolved_is p none (λ is. cc (sym at ∙ is))))
 
--- ---- how many seek
+-- ---- how many resolve
 
-pub none_seeks : (parts : List Splice) → count is_seeking parts ≡ 0 → (k : ℕ) (p : Splice) → slice_get (map part_of parts) k ≡ Some (Some p) → is_some p.mac ≡ true
-none_seeks parts none k p here = sought_is p (by (is_seeking p) refl) (raw_placed parts k p here)
+pub none_resolves : (parts : List Splice) → count is_resolving parts ≡ 0 → (k : ℕ) (p : Splice) → slice_get (map part_of parts) k ≡ Some (Some p) → is_some p.mac ≡ true
+none_resolves parts none k p here = resolved_is p (by (is_resolving p) refl) (raw_placed parts k p here)
   where
-    by : (b : Bool) → is_seeking p ≡ b → is_seeking p ≡ false
+    by : (b : Bool) → is_resolving p ≡ b → is_resolving p ≡ false
     by false is = is
-    by true is = let some = count_some is_seeking parts k p (raw_here parts k p here) is in absurd (omega (arith, some, none))
+    by true is = let some = count_some is_resolving parts k p (raw_here parts k p here) is in absurd (omega (arith, some, none))
 
 -- where no slot has a flow none does
-pub idle_seeks : (parts : List Splice) → NoneInSlots (map part_of parts) → count is_seeking parts ≡ 0
-idle_seeks parts none = count_none is_seeking parts (λ k p here. by k p here p.place refl)
+pub idle_resolves : (parts : List Splice) → NoneInSlots (map part_of parts) → count is_resolving parts ≡ 0
+idle_resolves parts none = count_none is_resolving parts (λ k p here. by k p here p.place refl)
   where
-    by : (k : ℕ) (p : Splice) → slice_get parts k ≡ Some p → (x : Place) → p.place ≡ x → seeks_at p.place p.mac ≡ false
-    by k p here Empty at = ap (λ x. seeks_at x p.mac) at
+    by : (k : ℕ) (p : Splice) → slice_get parts k ≡ Some p → (x : Place) → p.place ≡ x → resolves_at p.place p.mac ≡ false
+    by k p here Empty at = ap (λ x. resolves_at x p.mac) at
     by k p here InUse at = absurd (none k p (is_seen parts k p here (λ is. cc (sym at ∙ is))))
-    by k p here (Resting since) at = absurd (none k p (is_seen parts k p here (λ is. cc (sym at ∙ is))))
+    by k p here (InTimeWait since) at = absurd (none k p (is_seen parts k p here (λ is. cc (sym at ∙ is))))
 
 -- ---- all flows
 
@@ -216,20 +216,20 @@ told_changed guests parts seen are k p q at some addr mac told =
     each_then parts seen are k q p at (λ i r. r.mac ≡ None → learnt_for r.face.guest.addr guests ≡ None) told
     (λ none. ap (λ a. learnt_for a guests) addr ∙ told k p (seen_here parts k p seen are at some) (mac none))
 
--- ---- one slot, in the record
+-- ---- one slot, in the trace
 
 module _ (guests : List (Ip4 × Mac)) (table : Flows) (parts : List Splice) (opened : ℕ) (old new : Kept) (old_is : old.flows ≡ flows_of table parts opened)
-    (slots_are : table.slots ≡ map slot_of parts) (kept : AreKept table.slots table.rest_order)
-    (k : ℕ) (p q : Splice) (at : slice_get parts k ≡ Some p) (seeks : is_seeking p ≡ true) (q_is : q ≡ learnt p (learnt_for p.face.guest.addr guests))
+    (slots_are : table.slots ≡ map slot_of parts) (kept : AreKept table.slots table.time_wait_order)
+    (k : ℕ) (p q : Splice) (at : slice_get parts k ≡ Some p) (resolves : is_resolving p ≡ true) (q_is : q ≡ learnt p (learnt_for p.face.guest.addr guests))
     (new_is : new.flows ≡ flows_of table (set parts k q) opened)
     (settings : (config : Config) → IsFor config old → IsFor config new) where
   some : p.place ≡ Empty → ⊥
-  some = (seeking_is p seeks).0
+  some = (resolving_is p resolves).0
 
   unknown : p.mac ≡ None
-  unknown = none_is p.mac (seeking_is p seeks).1
+  unknown = none_is p.mac (resolving_is p resolves).1
 
-  -- the slots stand for the flows of the record as before
+  -- the slots stand for the flows of the trace as before
   pub learns_of : Learns guests old new
   learns_of config now aged past known_is between = record {
     holds = subst (λ s. CoreHolds config now aged None s past) (sym new_is) (by (learnt_for p.face.guest.addr guests) refl);
@@ -249,16 +249,16 @@ module _ (guests : List (Ip4 × Mac)) (table : Flows) (parts : List Splice) (ope
       f : Flow
       f = flow config now aged None table parts opened past holds slots_are kept k p at some
 
-      -- one that rests knows its guest
+      -- one that is in TIME-WAIT knows its guest
       used : is_in_use f.story ≡ true
       used = by_place p.place refl (slot_is config now aged None table parts opened past holds slots_are kept k p at some)
           (followed config now aged None table parts opened past holds slots_are kept k p at some)
         where
-          by_place : (x : Place) → p.place ≡ x → IsSlotOf (rests_at aged config past) f (slot_at x (ends_of p.face)) → FollowsAt p.place p.shut
+          by_place : (x : Place) → p.place ≡ x → IsSlotOf (time_waits_at aged config past) f (slot_at x (ends_of p.face)) → FollowsAt p.place p.shut
               (flow_settings config) p f.story now → is_in_use f.story ≡ true
           by_place Empty here of_it follows = absurd (some here)
           by_place InUse here of_it follows = of_it.1
-          by_place (Resting since) here of_it follows = absurd ((subst (λ x. FollowsAt x p.shut (flow_settings config) p f.story now) here follows).known unknown)
+          by_place (InTimeWait since) here of_it follows = absurd ((subst (λ x. FollowsAt x p.shut (flow_settings config) p f.story now) here follows).known unknown)
 
       parts_then : (m : Option Mac) → learnt_for p.face.guest.addr guests ≡ m → map part_of (set parts k q) ≡ set (map part_of parts) k (Some (learnt p m))
       parts_then m is =
@@ -275,11 +275,11 @@ module _ (guests : List (Ip4 × Mac)) (table : Flows) (parts : List Splice) (ope
           (ap (λ (t : Tuple). learnt_for t.guest.addr (known config past)) (ends config now aged None table parts opened past holds slots_are kept k p at some) ∙ ap
           (learnt_for p.face.guest.addr) known_is ∙ is))
 
--- what a slot's flow is, that seeks and was told, as the calls tell it
+-- what a slot's flow is, that resolves and was told, as the calls tell it
 pub record IsToldAt (guests : List (Ip4 × Mac)) (parts : List Splice) (k : ℕ) (q : Splice) (place : Place) (was_open : Bool) : Type 0 where
   pub part : Splice
   pub at : slice_get parts k ≡ Some part
-  pub seeks : is_seeking part ≡ true
+  pub resolves : is_resolving part ≡ true
   pub some : part.place ≡ Empty → ⊥
   pub q_is : q ≡ learnt part (learnt_for part.face.guest.addr guests)
   pub place_is : place ≡ part.place
@@ -289,19 +289,19 @@ pub record IsToldAt (guests : List (Ip4 × Mac)) (parts : List Splice) (k : ℕ)
 pub told_at : (guests : List (Ip4 × Mac)) (parts : List Splice) (seen : List (Option Splice)) → map part_of parts ≡ seen → (waits : List Waits) → waits ≡ map waits_of parts → (k : ℕ) → k < length seen
     → (w : Waits) → w ≡ get_or waits k w → w.mac ≡ true → (d q : Splice) → d ≡ get_or parts k d → (place : Place) → place ≡ d.place → (was_open : Bool) → was_open ≡ is_open d
     → (guest : Endpoint) → guest ≡ d.face.guest → (mac : Option Mac) → mac ≡ learnt_for guest.addr guests → q ≡ learnt d mac → IsToldAt guests parts k q place was_open
-told_at guests parts seen are waits waits_are k fits w read seeks d q here place place_is was_open open_is guest guest_is mac mac_is q_is =
+told_at guests parts seen are waits waits_are k fits w read resolves d q here place place_is was_open open_is guest guest_is mac mac_is q_is =
     let found = slot_part parts seen are k fits in
     let p : Splice = found.0 in
     let is : d ≡ p = read_here parts k p d found.1 here in
     let wait : w ≡ waits_of p = waits_seen waits k p w (ap (λ (l : List Waits). slice_get l k) waits_are ∙ get_map waits_of parts k p found.1) read in
-    let seeking : is_seeking p ≡ true = sym (ap (λ (x : Waits). x.mac) wait) ∙ seeks in
+    let resolving : is_resolving p ≡ true = sym (ap (λ (x : Waits). x.mac) wait) ∙ resolves in
     let then_is : q ≡ learnt p (learnt_for p.face.guest.addr guests) =
     q_is ∙ ap (learnt d) (mac_is ∙ ap (λ (e : Endpoint). learnt_for e.addr guests) guest_is) ∙ ap (λ (x : Splice). learnt x (learnt_for x.face.guest.addr guests)) is in
     record {
       part = p;
       at = found.1;
-      seeks = seeking;
-      some = (seeking_is p seeking).0;
+      resolves = resolving;
+      some = (resolving_is p resolving).0;
       q_is = then_is;
       place_is = place_is ∙ ap (λ (x : Splice). x.place) is;
       open_is = open_is ∙ ap is_open is;

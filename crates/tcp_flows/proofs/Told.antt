@@ -15,9 +15,9 @@ use Rattle.spec_flows.specs.Flows.{Flow, flow_of}
 use Rattle.spec_flows.specs.Laws.{flow_settings}
 use Rattle.spec_run.specs.Laws.{Lawful}
 use Rattle.spec_run.proofs.Bools.{among_without, first_of, same}
-use Rattle.sim_flows.specs.FlowsHold.{FlowsState, rests_at}
+use Rattle.sim_flows.specs.FlowsHold.{FlowsState, time_waits_at}
 use Rattle.sim_flows.specs.Only.{AreOf, IsOf}
-use Rattle.sim_connection.specs.Holding.{is_connects}
+use Rattle.sim_connection.specs.Holding.{is_at_connecting}
 use Rattle.flow_splice.specs.Hosts.{ServesReport, is_for_writing, reads_or_shuts, serves_write, some_is}
 use Rattle.flow_splice.specs.Splice.{Splice, is_open}
 use Rattle.flow_splice.specs.Wants.{reads, writes}
@@ -148,7 +148,7 @@ module _ (config : Config) (now : ℕ) (aged : Bool) (task : Option Call) (state
             at true closed = closed_unread _ (is_closed f.story) _ _ closed
             at false open_yet =
                 let part = placed number_of (Following config now) state.table state.slots (next_number past) (book config past).flows
-                (rests_at aged config past) holds.seats n f found (in_use (is_closed f.story) (owes_reset f.story) open_yet) in
+                (time_waits_at aged config past) holds.seats n f found (in_use (is_closed f.story) (owes_reset f.story) open_yet) in
                 (wants_are (flow_settings config) part.part f.story now (sizes part.slot part.part part.here) part.follows).0 ∙ shut_neither (is_open part.part) _
                 (unopen part.slot part.part part.here part.numbered)
 
@@ -167,7 +167,7 @@ module _ (config : Config) (now : ℕ) (aged : Bool) (task : Option Call) (state
             at true closed = closed_unwritten (is_closed f.story) _ closed
             at false open_yet =
                 let part = placed number_of (Following config now) state.table state.slots (next_number past) (book config past).flows
-                (rests_at aged config past) holds.seats n f found (in_use (is_closed f.story) (owes_reset f.story) open_yet) in
+                (time_waits_at aged config past) holds.seats n f found (in_use (is_closed f.story) (owes_reset f.story) open_yet) in
                 unless (must_wait_to_write f.story) (λ must. never_false (sym
                 ((wants_are (flow_settings config) part.part f.story now (sizes part.slot part.part part.here) part.follows).1 must) ∙ shut_neither (is_open part.part) _
                 (unopen part.slot part.part part.here part.numbered)))
@@ -187,6 +187,6 @@ module _ (config : Config) (now : ℕ) (aged : Bool) (task : Option Call) (state
       by_read false unwaited is = reading_on config made past (OnTcp (number_of p)) as_often (unread config past (OnTcp (number_of p)) (reads_as k p at ∙ unwaited))
 
       by_write : (b : Bool) → is_written config past (OnTcp (number_of p)) ≡ b → write ≡ true → is_left_to_write config (made ++ past) (OnTcp (number_of p)) ≡ false
-      by_write true waited is = write_since config made past (OnTcp (number_of p)) as_often (write_served config (number_of p) (is_connects p.conn.stage) past made of
+      by_write true waited is = write_since config made past (OnTcp (number_of p)) as_often (write_served config (number_of p) (is_at_connecting p.conn.stage) past made of
           (serves.writing is (writes_as k p at waited)))
       by_write false unwaited is = writing_on config made past (OnTcp (number_of p)) as_often (unwritten config past (OnTcp (number_of p)) unwaited)

@@ -1,4 +1,4 @@
--- A flow gives way to a guest's SYN, or none does: by the slots and in the record.
+-- A flow gives way to a guest's SYN, or none does: by the slots and in the trace.
 use Rattle.std.proofs.Common.{◌≡◌, ℕ, zero, suc, ◌≤◌, ◌==◌, ◌^◌, ◌&&◌, ◌||◌, not, nat_le, nat_lt, Bool, true, false, List, [], ◌∷◌, get_or, map, set, slice_get, Option, Some, None, option_and_then, option_map}
 use Rattle.std.proofs.Common.{if◌then◌else◌, refl, sym, ◌∙◌, ap, subst, arith}
 use Rattle.std.proofs.lemmas.Bool.Decides.{nat_tests}
@@ -13,9 +13,9 @@ use Rattle.spec_flow.specs.Event.{At, Closes, Story}
 use Rattle.spec_flow.specs.Close.{before, follows_reset, last_at, may_give_way, newest_rst, owes_reset, is_fatal}
 use Rattle.spec_flow.specs.Flow.{is_closed}
 use Rattle.spec_flows.specs.Book.{book, scene}
-use Rattle.spec_flows.specs.Flows.{Flow, comes_directly, comes_last, flow_of, guest_is_known, is_resting, is_used, used}
+use Rattle.spec_flows.specs.Flows.{Flow, comes_directly, comes_last, flow_of, guest_is_known, has_time_wait, is_used, used}
 use Rattle.spec_flows.specs.Laws.{flow_settings}
-use Rattle.spec_flows.specs.Lots.{NeedsRoom, OfFlow, asked_for, due_by, due_for_flows, giving_way, lot, needs_room, quietest}
+use Rattle.spec_flows.specs.SegmentVerdicts.{NeedsRoom, OfFlow, asked_for, due_by, due_for_flows, giving_way, segment_verdict, needs_room, quietest}
 use Rattle.spec_flows.specs.Segments.{OnTuple}
 use Rattle.spec_flows.specs.Taught.{taught}
 use Rattle.spec_trace.specs.Sockets.{next_number}
@@ -26,15 +26,15 @@ use Rattle.flow_splice.specs.Hosts.{IsAsOld}
 use Rattle.flow_splice.specs.Splice.{Face, Splice, is_in_use, is_open}
 use Rattle.flow_splice.specs.Wants.{gives_way_at}
 use Rattle.flow_splice.specs.declared.Place.{Place}
-use Rattle.flow_splice.specs.declared.Place.TheVariants.{Empty, InUse, Resting}
+use Rattle.flow_splice.specs.declared.Place.TheVariants.{Empty, InUse, InTimeWait}
 use Rattle.flow_splice.proofs.GivingWay.{last_is, way_is}
 use Rattle.sim_flows.specs.Core.{CoreHolds, Following, ends_of, number_of}
-use Rattle.sim_flows.specs.FlowsHold.{FlowsState, rests_at}
+use Rattle.sim_flows.specs.FlowsHold.{FlowsState, time_waits_at}
 use Rattle.sim_flows.proofs.Giving.{none_gives, none_owes, one_gives, one_owes}
 use Rattle.spec_run.specs.Agenda.{agenda}
 use Rattle.sim_flows.specs.Asked.{AreAsked}
 use Rattle.sim_flows.specs.Seats.{Once}
-use Rattle.sim_flows.specs.Stands.{lot_without, slot_at}
+use Rattle.sim_flows.specs.Stands.{verdict_without_flow, slot_at}
 use Rattle.sim_flows.proofs.Only.{number_of_found}
 use Rattle.sim_flows.proofs.Parting.{apart, called, core_parted, still_works}
 use Rattle.sim_flows.proofs.Pumped.{Called, state_at}
@@ -98,7 +98,7 @@ owes_is config now p story follows = by p.place p.shut follows
     by Empty b q = q.over.owes ∙ q.owes_none
     by InUse true q = q.over.owes ∙ q.owes
     by InUse false q = open_owes_none story q.holds.goes.open_yet
-    by (Resting since) b q = q.rests.over.owes ∙ ap is_resets q.rests.at
+    by (InTimeWait since) b q = q.time_waits.over.owes ∙ ap is_resets q.time_waits.at
 
 -- and may give way where it is open and its moment came
 pub gives_is : (config : Config) (at now : ℕ) → now ≤ 2 ^ 62 → (p : Splice) (story : Story) → Following config at p story → may_give_way now story ≡ gives now p
@@ -108,7 +108,7 @@ gives_is config at now few p story follows = by (is_open p) refl
     closed Empty b q shut = q.over.closed
     closed InUse true q shut = q.over.closed
     closed InUse false q shut = cc
-    closed (Resting since) b q shut = q.rests.over.closed
+    closed (InTimeWait since) b q shut = q.time_waits.over.closed
 
     none : (b both late : Bool) → b ≡ true → (not b && both && late) ≡ false
     none true both late is = refl
@@ -158,7 +158,7 @@ owes_placed p is empty = not_both (sym is ∙ ap (λ x. is_in_use x && not (is_o
 one_before : (a b m n : ℕ) → (nat_lt a b || ((a == b) && nat_lt m n)) ≡ false → (m == n) ≡ false → (nat_lt b a || ((b == a) && nat_lt n m)) ≡ true
 one_before a b m n not other = grind (arith, nat_tests, not, other)
 
--- ---- in the record
+-- ---- in the trace
 
 module _ (config : Config) (now : ℕ) (few : now ≤ 2 ^ 62) (table : Flows) (parts : List Splice) (opened : ℕ) (old : Kept) (old_is : old.flows ≡ flows_of table parts opened)
     (past : List Entry) (on : OnTuple) (crowded : IsCrowded config now on past)
@@ -175,12 +175,12 @@ module _ (config : Config) (now : ℕ) (few : now ≤ 2 ^ 62) (table : Flows) (p
   -- which call flows ask for, by the flow that gives way
   asked_is : (o : Option ℕ) → giving_way config now on (book config past) ≡ o → asked ≡ due_by o None (next_number past)
   asked_is o is =
-      (λ i. due_by ((crowded.doomed ∙ is) i) (option_and_then (λ (x : OnTuple). asked_for (lot config (book config past) x)) (crowded.came i)) (next_number past))
-      ∙ ap (λ l. due_by o (asked_for l) (next_number past)) crowded.lot
+      (λ i. due_by ((crowded.doomed ∙ is) i) (option_and_then (λ (x : OnTuple). asked_for (segment_verdict config (book config past) x)) (crowded.came i)) (next_number past))
+      ∙ ap (λ l. due_by o (asked_for l) (next_number past)) crowded.segment_verdict
 
   way_is_by : (a : Bool) (o : Option Flow) → list_any (λ (f : Flow). owes_reset f.story) flows ≡ a → quietest now flows ≡ o
       → giving_way config now on (book config past) ≡ (if not a then option_map (λ (f : Flow). f.number) o else None)
-  way_is_by a o owing quiet = (λ i. if needs_room (crowded.lot i) && not (owing i) then option_map (λ (f : Flow). f.number) (quiet i) else None)
+  way_is_by a o owing quiet = (λ i. if needs_room (crowded.segment_verdict i) && not (owing i) then option_map (λ (f : Flow). f.number) (quiet i) else None)
 
   gives_here : (p : Splice) (story : Story) → Following config now p story → may_give_way now story ≡ gives now p
   gives_here p story follows = gives_is config now now few p story follows
@@ -193,12 +193,12 @@ module _ (config : Config) (now : ℕ) (few : now ≤ 2 ^ 62) (table : Flows) (p
   any_owes is =
       let it = any_of parts is in
       one_owes number_of (Following config now) owes (owes_is config now) now (gives now) gives_here (λ p. p.last) last_here table (map part_of parts) (next_number past) flows
-      (rests_at false config past) holds.seats it.0 it.1 (get_map part_of parts it.0 it.1 it.2 ∙ ap Some (part_is it.1 (owes_placed it.1 it.3))) it.3
+      (time_waits_at false config past) holds.seats it.0 it.1 (get_map part_of parts it.0 it.1 it.2 ∙ ap Some (part_is it.1 (owes_placed it.1 it.3))) it.3
 
   unowed : list_any (λ (p : Splice). owes p) parts ≡ false → list_any (λ (f : Flow). owes_reset f.story) flows ≡ false
   unowed none =
       none_owes number_of (Following config now) owes (owes_is config now) now (gives now) gives_here (λ p. p.last) last_here table (map part_of parts) (next_number past) flows
-      (rests_at false config past) holds.seats (λ k p at. none_of parts none k p (raw_here parts k p at))
+      (time_waits_at false config past) holds.seats (λ k p at. none_of parts none k p (raw_here parts k p at))
 
   -- nothing is called then
   nothing_done : asked ≡ None → Between config now false None old past × Leaves config past [] × (agenda past ≡ agenda past)
@@ -211,10 +211,10 @@ module _ (config : Config) (now : ℕ) (few : now ≤ 2 ^ 62) (table : Flows) (p
   none_quiet unowing none =
       nothing_done (asked_is None (way_is_by false None (unowed unowing)
       (none_gives number_of (Following config now) owes (owes_is config now) now (gives now) gives_here (λ p. p.last) last_here table (map part_of parts) (next_number past) flows
-      (rests_at false config past) holds.seats (λ k p at. none k p (raw_here parts k p at)))))
+      (time_waits_at false config past) holds.seats (λ k p at. none k p (raw_here parts k p at)))))
 
   -- the flow of a slot does
-  module _ (unowing : list_any (λ (p : Splice). owes p) parts ≡ false) (slots_are : table.slots ≡ map slot_of parts) (kept : AreKept table.slots table.rest_order)
+  module _ (unowing : list_any (λ (p : Splice). owes p) parts ≡ false) (slots_are : table.slots ≡ map slot_of parts) (kept : AreKept table.slots table.time_wait_order)
       (quiet : Quiet) (is : IsFirstQuiet now parts quiet) (q : Splice) (new : Kept)
       (new_is : new.flows ≡ flows_of (table_at false is.part.place q.place quiet.slot (ends_of is.part.face) table) (set parts quiet.slot q) opened)
       (settings : IsFor config old → IsFor config new) (as_old : IsAsOld is.part q)
@@ -254,7 +254,7 @@ module _ (config : Config) (now : ℕ) (few : now ≤ 2 ^ 62) (table : Flows) (p
 
     it_is : quietest now flows ≡ Some f
     it_is = one_gives number_of (Following config now) owes (owes_is config now) now (gives now) gives_here (λ p. p.last) last_here table (map part_of parts) (next_number past) flows
-        (rests_at false config past) holds.seats k p here_is is.may before_all f was_is followed_here
+        (time_waits_at false config past) holds.seats k p here_is is.may before_all f was_is followed_here
 
     numbered : f.number ≡ number_of p
     numbered = number_of_found (number_of p) flows f was_is
@@ -272,9 +272,9 @@ module _ (config : Config) (now : ℕ) (few : now ≤ 2 ^ 62) (table : Flows) (p
     doomed_is = crowded.doomed ∙ way
 
     unused : is_used on.tuple flows ≡ false
-    unused = by (is_used on.tuple flows) crowded.lot
+    unused = by (is_used on.tuple flows) crowded.segment_verdict
       where
-        by : (b : Bool) → (if b || is_resting on.tuple (book config past) then OfFlow else lot_without config (nat_lt (used flows) config.flows) on) ≡ NeedsRoom → b ≡ false
+        by : (b : Bool) → (if b || has_time_wait on.tuple (book config past) then OfFlow else verdict_without_flow config (nat_lt (used flows) config.flows) on) ≡ NeedsRoom → b ≡ false
         by true is = cc
         by false is = refl
 
@@ -284,16 +284,16 @@ module _ (config : Config) (now : ℕ) (few : now ≤ 2 ^ 62) (table : Flows) (p
     ends_are : f.tuple ≡ ends_of p.face
     ends_are = ends config now false asked table parts opened past holds slots_are kept k p is.at some
 
-    once_is : Once table.rest_order
+    once_is : Once table.time_wait_order
     once_is = once config now false asked table parts opened past holds slots_are kept k p is.at some
 
     learnt_is : (m : Mac) → q.mac ≡ Some m → Contains (taught config past) (f.tuple.guest.addr, m)
     learnt_is = learnt_here config now false asked table parts opened past holds slots_are kept k p is.at some q as_old.mac
 
-    rests_on : (since : ℕ) → p.place ≡ Resting since → q.place ≡ Resting since
-    rests_on since rests = absurd (not_so (sym (open_used p open_yet) ∙ rests))
+    rests_on : (since : ℕ) → p.place ≡ InTimeWait since → q.place ≡ InTimeWait since
+    rests_on since time_waits = absurd (not_so (sym (open_used p open_yet) ∙ time_waits))
       where
-        not_so : InUse ≡ Resting since → ⊥
+        not_so : InUse ≡ InTimeWait since → ⊥
         not_so is = cc
 
     state_is : new.flows ≡ state_at (flows_of table parts opened) k (ends_of p.face) p q

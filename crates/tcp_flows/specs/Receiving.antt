@@ -6,10 +6,10 @@ use Rattle.world_face.specs.Journal.{Entry, Connect}
 use Rattle.world_face.specs.declared.Made.TheVariants.{Done, Failed}
 use Rattle.slirp_settings.specs.Addresses.{Config}
 use Rattle.tcp_segment.specs.Tcp.{Tcp, tcp_of}
-use Rattle.spec_flows.specs.Lots.{Lot, Dropped, AsksFor, GetsReset, NeedsRoom}
+use Rattle.spec_flows.specs.SegmentVerdicts.{SegmentVerdict, Dropped, AsksFor, GetsReset, NeedsRoom}
 use Rattle.spec_flows.specs.Segments.{OnTuple, segment_of}
 use Rattle.sim_flows.specs.Seats.{in_use_slots}
-use Rattle.sim_flows.specs.Stands.{lot_without}
+use Rattle.sim_flows.specs.Stands.{verdict_without_flow}
 use Rattle.tcp_flows.specs.Kept.{Kept}
 use Rattle.tcp_flows.specs.Reading.{StaysBut}
 use Rattle.tcp_flows.specs.Runs.{Begins, Hears}
@@ -18,8 +18,8 @@ use Rattle.tcp_flows.specs.declared.guest.Heard.TheVariants.{Taken, Strange, Alo
 use Rattle.tcp_flows.specs.declared.receiving.Received.{Received}
 use Rattle.tcp_flows.specs.declared.receiving.Received.TheVariants.{Settled, TurnedAway, Opened, Refused}
 use Rattle.tcp_flows.specs.declared.receiving.SegmentView.{SegmentView}
-use Rattle.tcp_flows.specs.declared.receiving.StrayLot.{StrayLot}
-use Rattle.tcp_flows.specs.declared.receiving.StrayLot.TheVariants.{Dropped as SeenDropped, Reset, Connects, Crowded}
+use Rattle.tcp_flows.specs.declared.receiving.StrayVerdict.{StrayVerdict}
+use Rattle.tcp_flows.specs.declared.receiving.StrayVerdict.TheVariants.{Dropped as SeenDropped, Reset, Connects, Crowded}
 
 abbrev pub on_of : SegmentView → OnTuple
 on_of s = record { mac = s.mac.0; tuple = s.ends; segment = segment_of (tcp_of s.segment) }
@@ -28,30 +28,30 @@ on_of s = record { mac = s.mac.0; tuple = s.ends; segment = segment_of (tcp_of s
 abbrev pub has_room : Kept → Bool
 has_room kept = nat_lt (in_use_slots kept.flows.table.slots) (length kept.flows.table.slots)
 
-abbrev pub lot_of : StrayLot → Lot
-lot_of SeenDropped = Dropped
-lot_of Reset = GetsReset
-lot_of (Connects to) = AsksFor to
-lot_of Crowded = NeedsRoom
+abbrev pub verdict_of_stray : StrayVerdict → SegmentVerdict
+verdict_of_stray SeenDropped = Dropped
+verdict_of_stray Reset = GetsReset
+verdict_of_stray (Connects to) = AsksFor to
+verdict_of_stray Crowded = NeedsRoom
 
 -- It is ignored, or each slot is in use and one flow gives way, or none.
-abbrev pub IsLeft : (now : ℕ) → (lot : Lot) → (old new : Kept) → List Entry → Type 0
-IsLeft now lot old new made = ((lot ≡ Dropped) × (new ≡ old) × (made ≡ [])) ⊎ ((lot ≡ NeedsRoom) × GivesWay now old new made)
+abbrev pub IsLeft : (now : ℕ) → (segment_verdict : SegmentVerdict) → (old new : Kept) → List Entry → Type 0
+IsLeft now segment_verdict old new made = ((segment_verdict ≡ Dropped) × (new ≡ old) × (made ≡ [])) ⊎ ((segment_verdict ≡ NeedsRoom) × GivesWay now old new made)
 
 -- The host connects to the endpoint for which it asks, and its flow has a slot.
-abbrev pub IsOpened : (now number : ℕ) → (lot : Lot) → (old new : Kept) → OnTuple → Mac → Tcp → List Entry → Type 0
-IsOpened now number lot old new on mac tcp made = (to : Endpoint) × ((lot ≡ AsksFor to) × (made ≡ Connect number to Done ∷ []) × Begins now number old new on.tuple mac tcp)
+abbrev pub IsOpened : (now number : ℕ) → (segment_verdict : SegmentVerdict) → (old new : Kept) → OnTuple → Mac → Tcp → List Entry → Type 0
+IsOpened now number segment_verdict old new on mac tcp made = (to : Endpoint) × ((segment_verdict ≡ AsksFor to) × (made ≡ Connect number to Done ∷ []) × Begins now number old new on.tuple mac tcp)
 
 -- The host didn't connect to it.
-abbrev pub IsRefused : (number : ℕ) → (lot : Lot) → (old new : Kept) → List Entry → Type 0
-IsRefused number lot old new made = (to : Endpoint) × ((lot ≡ AsksFor to) × (made ≡ Connect number to Failed ∷ []) × (new ≡ old))
+abbrev pub IsRefused : (number : ℕ) → (segment_verdict : SegmentVerdict) → (old new : Kept) → List Entry → Type 0
+IsRefused number segment_verdict old new made = (to : Endpoint) × ((segment_verdict ≡ AsksFor to) × (made ≡ Connect number to Failed ∷ []) × (new ≡ old))
 
 -- what is made of one without a flow, by the policy and the room
 abbrev pub Becomes : Received → Config → (now number : ℕ) → (old new : Kept) → OnTuple → Mac → Tcp → List Entry → Type 0
-Becomes Settled config now number old new on mac tcp made = IsLeft now (lot_without config (has_room old) on) old new made
-Becomes TurnedAway config now number old new on mac tcp made = (lot_without config (has_room old) on ≡ GetsReset) × (new ≡ old) × (made ≡ [])
-Becomes Opened config now number old new on mac tcp made = IsOpened now number (lot_without config (has_room old) on) old new on mac tcp made
-Becomes Refused config now number old new on mac tcp made = IsRefused number (lot_without config (has_room old) on) old new made
+Becomes Settled config now number old new on mac tcp made = IsLeft now (verdict_without_flow config (has_room old) on) old new made
+Becomes TurnedAway config now number old new on mac tcp made = (verdict_without_flow config (has_room old) on ≡ GetsReset) × (new ≡ old) × (made ≡ [])
+Becomes Opened config now number old new on mac tcp made = IsOpened now number (verdict_without_flow config (has_room old) on) old new on mac tcp made
+Becomes Refused config now number old new on mac tcp made = IsRefused number (verdict_without_flow config (has_room old) on) old new made
 
 -- No flow took it, and then this was made of it.
 pub record Strays (result : Received) (config : Config) (now number : ℕ) (old new : Kept) (on : OnTuple) (mac : Mac) (tcp : Tcp) (made : List Entry) : Type 0 where

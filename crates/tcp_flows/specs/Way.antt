@@ -5,7 +5,7 @@ use Rattle.slirp_settings.specs.Addresses.{Config}
 use Rattle.rules_flow.specs.Choices.{is_before}
 use Rattle.rules_flow.specs.declared.Quiet.{Quiet}
 use Rattle.spec_flows.specs.Book.{book}
-use Rattle.spec_flows.specs.Lots.{NeedsRoom, due_for_flows, giving_way, lot}
+use Rattle.spec_flows.specs.SegmentVerdicts.{NeedsRoom, due_for_flows, giving_way, segment_verdict}
 use Rattle.spec_flows.specs.Segments.{OnTuple}
 use Rattle.spec_trace.specs.Sockets.{next_number}
 use Rattle.spec_run.specs.Agenda.{agenda}
@@ -44,7 +44,7 @@ AreFirst now parts (Some q) = IsFirstQuiet now parts q
 -- The newest entry brought a SYN that finds all slots in use, and at this moment this flow gives way to it, or none.
 pub record IsCrowded (config : Config) (now : ℕ) (on : OnTuple) (past : List Entry) : Type 0 where
   pub came : (book config past).came ≡ Some on
-  pub lot : lot config (book config past) on ≡ NeedsRoom
+  pub segment_verdict : segment_verdict config (book config past) on ≡ NeedsRoom
   pub doomed : (book config past).doomed ≡ giving_way config now on (book config past)
 
 -- the flow that is to give way is closed, or there is none

@@ -43,7 +43,7 @@ impl TcpFlows {
         ensures stays { Stays self.old self.new }
         ensures same { self.new ≡ with_flows self.new.flows self.new.owing self.old }
     {
-        if self.rows.seeking == 0 {
+        if self.rows.resolving == 0 {
             return;
         }
         self.learn_all(guests);
@@ -70,8 +70,8 @@ impl TcpFlows {
         ensures stays { Stays self.old self.new }
         ensures same { self.new ≡ with_flows self.new.flows self.new.owing self.old }
     {
-        let seeks = self.rows.waits.at(slot).mac;
-        if !seeks {
+        let resolves = self.rows.waits.at(slot).mac;
+        if !resolves {
             return;
         }
         let part = &mut self.slots[slot];
@@ -85,7 +85,7 @@ impl TcpFlows {
     pub fn is_used(&self, ends: &Tuple) -> bool
         ensures used { result ≡ true → (k : ℕ) × (slice_get self.now.flows.table.slots k ≡ Some (SlotInUse ends.now)) }
         ensures unused { result ≡ false → NoneUses self.now.flows.table.slots ends.now }
-        // So has a flow of the record.
+        // So has a flow of the trace.
         ensures recorded { (config : Config) (now : ℕ) (aged : Bool) (task : Option Call) (past : List Entry)
             → CoreHolds config now aged task self.now.flows past
             → result ≡ is_used ends.now (book config past).flows }
@@ -97,7 +97,7 @@ impl TcpFlows {
     }
 
     /// A peer's connection between these ends, which no slot in use has, was accepted with this number: the flow begins, and calls its guest once it knows its
-    /// hardware address. The flow that rests on these ends leaves its slot first. Then a free slot is taken, or that of the flow that has rested longest. The number
+    /// hardware address. The flow that stays in TIME-WAIT these ends leaves its slot first. Then a free slot is taken, or that of the flow that has been in TIME-WAIT the longest. The number
     /// is above those of all open sockets.
     pub fn accept(&mut self, now: u64, ends: &Tuple, number: u64, mac: Option<Mac>)
         requires now { now ≤ 2 ^ 62 }
@@ -118,7 +118,7 @@ impl TcpFlows {
         self.seat(now, ends, number, mac, conn);
     }
 
-    // The flow that rests on these ends leaves its slot.
+    // The flow that stays in TIME-WAIT these ends leaves its slot.
     fn make_way(&mut self, ends: &Tuple)
         requires unused { NoneUses self.old.flows.table.slots ends.now }
         ensures way { MakesWay self.old self.new ends.now }
@@ -141,7 +141,7 @@ fn is_in_use(place: Place) -> bool
 {
     match place {
         Place::InUse => true,
-        Place::Empty | Place::Resting(_) => false,
+        Place::Empty | Place::InTimeWait(_) => false,
     }
 }
 

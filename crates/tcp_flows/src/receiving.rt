@@ -4,13 +4,13 @@ ghost use Rattle.flow_splice.specs.Splice.{Splice};
 ghost use Rattle.flow_table.specs.Slots.{NoneHas};
 ghost use Rattle.host_policy.specs.Targets.{target};
 ghost use Rattle.slirp_settings.specs.declared.Proto.TheVariants.{Tcp as OverTcp};
-ghost use Rattle.spec_flows.specs.Lots.{is_opening, lot_by};
-ghost use Rattle.sim_flows.specs.Stands.{lot_without};
+ghost use Rattle.spec_flows.specs.SegmentVerdicts.{is_opening, verdict_by_policy};
+ghost use Rattle.sim_flows.specs.Stands.{verdict_without_flow};
 ghost use Rattle.spec_flows.specs.Segments.{segment_of};
 ghost use Rattle.tcp_segment.specs.Tcp.{tcp_of};
 ghost use Rattle.world_face.specs.Tells.{Makes};
 ghost use Rattle.tcp_flows.specs.declared.receiving.Received.TheVariants.{Opened};
-ghost use Rattle.tcp_flows.specs.Receiving.{lot_of, on_of};
+ghost use Rattle.tcp_flows.specs.Receiving.{verdict_of_stray, on_of};
 
 use crate::flows::TcpFlows;
 use crate::guest::Heard;
@@ -44,7 +44,7 @@ pub enum Received {
 
 /// What becomes of a segment without a flow.
 #[derive(Clone, Copy, Debug, PartialEq, Eq)]
-pub enum StrayLot {
+pub enum StrayVerdict {
     /// Nothing.
     Dropped,
     /// It is answered by a reset.
@@ -108,14 +108,14 @@ impl TcpFlows {
         ensures turn { self.new.turn ≡ self.old.turn }
         ensures served { self.new.served ≡ self.old.served }
     {
-        match self.lot(policy, came) {
-            StrayLot::Dropped => Received::Settled,
-            StrayLot::Reset => Received::TurnedAway,
-            StrayLot::Crowded => {
+        match self.segment_verdict(policy, came) {
+            StrayVerdict::Dropped => Received::Settled,
+            StrayVerdict::Reset => Received::TurnedAway,
+            StrayVerdict::Crowded => {
                 self.give_way(world, now);
                 Received::Settled
             }
-            StrayLot::Connects(to) => match world.connect(number, to) {
+            StrayVerdict::Connects(to) => match world.connect(number, to) {
                 Made::Done => {
                     self.begin(now, &came.ends, number, came.mac, &came.segment);
                     Received::Opened
@@ -126,26 +126,26 @@ impl TcpFlows {
     }
 
     // What becomes of a segment that is no flow's: one with RST or to many is ignored; a SYN connects where the policy allows it and there is room.
-    fn lot(&self, policy: &Policy, came: &SegmentView<'_>) -> StrayLot
-        ensures { lot_of result ≡ lot_without policy.now (has_room self.now) (on_of came.now) }
+    fn segment_verdict(&self, policy: &Policy, came: &SegmentView<'_>) -> StrayVerdict
+        ensures { verdict_of_stray result ≡ verdict_without_flow policy.now (has_room self.now) (on_of came.now) }
     {
         if came.segment.is_rst() || policy.is_of_many(came.ends.other.addr) {
-            StrayLot::Dropped
+            StrayVerdict::Dropped
         } else if is_opening(&came.segment) {
-            self.lot_of_opening(policy, came.ends.other)
+            self.verdict_of_opening(policy, came.ends.other)
         } else {
-            StrayLot::Reset
+            StrayVerdict::Reset
         }
     }
 
     // What becomes of a SYN to this endpoint.
-    fn lot_of_opening(&self, policy: &Policy, to: Endpoint) -> StrayLot
-        ensures { lot_of result ≡ lot_by (target policy.now OverTcp to) (has_room self.now) }
+    fn verdict_of_opening(&self, policy: &Policy, to: Endpoint) -> StrayVerdict
+        ensures { verdict_of_stray result ≡ verdict_by_policy (target policy.now OverTcp to) (has_room self.now) }
     {
         match policy.target(Proto::Tcp, to) {
-            Verdict::Go(to) if self.has_room() => StrayLot::Connects(to),
-            Verdict::Go(_) => StrayLot::Crowded,
-            Verdict::Denied(_) => StrayLot::Reset,
+            Verdict::Go(to) if self.has_room() => StrayVerdict::Connects(to),
+            Verdict::Go(_) => StrayVerdict::Crowded,
+            Verdict::Denied(_) => StrayVerdict::Reset,
         }
     }
 }

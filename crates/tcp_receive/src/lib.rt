@@ -1,6 +1,12 @@
 //! The receiving half of a TCP connection: which octets of a segment come next, whether its FIN is the end of the stream, and whether an acknowledgement is owed (RFC
 //! 9293, 3.10.7.4).
 //!
+//! | Ours | RFC 9293, 3.3.1 |
+//! |---|---|
+//! | `first` | IRS, the number of the guest's SYN |
+//! | `taken` | RCV.NXT as a place, counted from the octet after the SYN on; `expected` is RCV.NXT, one more once `ended` |
+//! | the room of `Up` | RCV.WND |
+//!
 //! Proved:
 //! - `Receive::arrive` takes what comes next and fits, keeps what comes past a gap, then takes the kept octets that come next (`up`), by places and past every wrap,
 //!   and nothing once the end was taken. Each octet that is newly held or kept is the segment's at its number or was kept there (`held`, `kept`).

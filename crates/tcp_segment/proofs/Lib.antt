@@ -1,3 +1,3 @@
 pub mod Sizes
-pub mod Spelling
+pub mod Encoding
 pub mod Writing

@@ -9,7 +9,7 @@ use Rattle.tlv_table.specs.Reading.{Found}
 use Rattle.tlv_table.specs.Grammar.{IsListOf}
 use Rattle.tcp_segment.specs.Tcp.{Tcp, Fits, IsTcp, tcp_form, tcp_rows, mss_in, scale_in, segment_with, summed, mss_octets, scale_octets, options_octets, words_of, tcp_length, tcp_with, tcp_octets}
 use Rattle.tcp_segment.proofs.Sizes.{no_options, mss_alone, scale_alone, mss_and_scale}
-use Rattle.tcp_segment.proofs.Spelling.{length-segment}
+use Rattle.tcp_segment.proofs.Encoding.{length-segment}
 
 -- the sum of a segment counts the sum that stands in it
 word_sum-segment : (words reserved sum urgent : ℕ) (options : List ℕ) (tcp : Tcp) → sum < 2 ^ 16

@@ -135,7 +135,7 @@ abbrev pub ◌>>=◌ : {A B : Type 0} → Result A Fault → (A → Result B Fau
 (Ok x) >>= go_on = go_on x
 (Err fault) >>= go_on = Err fault
 
--- the fields that octets spell, or the first fault
+-- the fields that octets encode, or the first fault
 abbrev pub tcp_reading : (from to : ℕ) → List ℕ → Result Tcp Fault
 tcp_reading from to octets =
     head_reading from to octets >>= λ head. options_reading (part octets 20 (head - 20)) >>= λ options. Ok (fields_of octets head options)

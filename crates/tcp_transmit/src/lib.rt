@@ -7,6 +7,16 @@
 //! The octets lie in a `Down` that each call is passed. It is to be the connection's own: empty at first, changed by the calls here alone, and with under 2^62 octets
 //! of the stream in all. Each call says that it stays so (`Feeds`).
 //!
+//! | Field | RFC 9293, 3.3.1 |
+//! |---|---|
+//! | `first` | ISS |
+//! | `acked`, `sent` | SND.UNA and SND.NXT as places (`next_number` is SND.NXT) |
+//! | `window.edge` | SND.UNA + SND.WND as a place |
+//! | `window.seq`, `window.ack` | SND.WL1; SND.WL2 as a place |
+//! | `mss` | Eff.snd.MSS (3.7.1) |
+//! | `resend`, `timed` | RTO and the segment that is timed (RFC 6298) |
+//! | `cwnd`, `recover`, `duplicates` | cwnd (RFC 5681), recover as a place (RFC 6582), duplicate acknowledgements |
+//!
 //! Proved, by places of the host's stream:
 //! - `Transmit::next_piece` gives the piece that is owed by RFC 9293 and RFC 6298 (`piece`), None exactly where nothing is (`none`, `some`): octets of the stream at
 //!   their place with no gap, and FIN only after the last (`stream`), no more than the MSS, 64 to 1,460 (`mss`), inside the guest's window unless something is owed

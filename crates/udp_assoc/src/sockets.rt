@@ -140,23 +140,16 @@ impl Assocs {
         ensures bind { self.new.bind ≡ self.old.bind }
         ensures next { number.new ≡ number.old + 1 }
     {
-        let socket = *number;
-        *number += 1;
-        let at = Endpoint {
-            addr: self.bind,
-            port: 0,
+        let socket = IdleSocket {
+            number: *number,
+            guest: datagram.from,
+            ident: ONLY,
+            mac: datagram.mac,
+            used: now,
         };
-        match world.udp_open(socket, at) {
-            Made::Done => {
-                self.list.open(IdleSocket {
-                    number: socket,
-                    guest: datagram.from,
-                    ident: ONLY,
-                    mac: datagram.mac,
-                    used: now,
-                });
-                self.send_on(world, now, socket, datagram)
-            }
+        *number += 1;
+        match self.list.open_at(world, self.bind, socket) {
+            Made::Done => self.send_on(world, now, socket.number, datagram),
             Made::Failed => Reply::Unreachable(NO_NETWORK),
         }
     }

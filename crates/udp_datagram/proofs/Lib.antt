@@ -1,3 +1,3 @@
 pub mod Writing
 pub mod Passing
-pub mod Spelling
+pub mod Encoding

@@ -8,7 +8,7 @@ use Rattle.net_octets.specs.Octets.{with_carries, checksum, sum_ok}
 use Rattle.net_octets.proofs.Folds.{with_carries-add, with_carries-pos}
 use Rattle.net_octets.proofs.Sums.{sum_holds, checksum_fits}
 use Rattle.udp_datagram.specs.Udp.{Udp, IsUdp, IsPlain, udp_with, udp_octets, summed, written_sum}
-use Rattle.udp_datagram.proofs.Spelling.{length-udp}
+use Rattle.udp_datagram.proofs.Encoding.{length-udp}
 
 -- a checksum of 0 is that of a sum which holds by itself
 whole_sum : (sum : ℕ) → checksum sum ≡ 0 → (1 ≤ sum) × (with_carries sum ≡ 65535)

@@ -49,14 +49,14 @@ is_udp from to octets =
     nat_le 8 (length octets) && nat_le 8 (two_at octets 4) && nat_le (two_at octets 4) (length octets)
     && ((two_at octets 6 == 0) || sum_ok (summed from to (within octets)))
 
--- the fields that octets spell
+-- the fields that octets encode
 abbrev pub read_udp : (from to : ℕ) → List ℕ → Option Udp
 read_udp from to octets =
     if is_udp from to octets
     then Some (record { from_port = two_at octets 0; to_port = two_at octets 2; body = part octets 8 (two_at octets 4 - 8) })
     else None
 
--- the first fault of octets that spell none
+-- the first fault of octets that encode none
 abbrev pub udp_fault : (from to : ℕ) → List ℕ → Option Fault
 udp_fault from to octets =
     if nat_lt (length octets) 8 then Some (record { kind = Short; at = length octets })

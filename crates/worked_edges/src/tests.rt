@@ -9,7 +9,6 @@ use net_world::NetWorld;
 use std::alloc::Global;
 use std::fs::Files;
 use std::net::{Net, TcpListener, TcpStream};
-use std::sync::Wait;
 use std::test::Fail;
 use std::time::Clock;
 use world_face::{NoMemory, World};
@@ -77,16 +76,19 @@ fn goes<R: Net<Listener = TcpListener, Stream = TcpStream> + Files + Alloc<A = G
 
 /// Whether a case goes in a new World.
 fn goes_in_one<
-    R: Net<Listener = TcpListener, Stream = TcpStream> + Wait + Files + Clock + Alloc<A = Global>,
+    R: Net<Listener = TcpListener, Stream = TcpStream> + Files + Clock + Alloc<A = Global>,
 >(rt: &R, asker: &mut Asker, host: &mut Host, case: Case) -> Result<bool, NoMemory> {
     let mut world = NetWorld::open(rt, rt.alloc())?;
     Ok(goes(rt, asker, &mut world, host, case))
 }
 
 /// How many cases go, up to the first that doesn't.
-fn gone<
-    R: Net<Listener = TcpListener, Stream = TcpStream> + Wait + Files + Clock + Alloc<A = Global>,
->(rt: &R, asker: &mut Asker, host: &mut Host, cases: &[Case]) -> Result<usize, NoMemory> {
+fn gone<R: Net<Listener = TcpListener, Stream = TcpStream> + Files + Clock + Alloc<A = Global>>(
+    rt: &R,
+    asker: &mut Asker,
+    host: &mut Host,
+    cases: &[Case],
+) -> Result<usize, NoMemory> {
     let mut count = 0usize;
     for case in cases {
         if !goes_in_one(rt, asker, host, *case)? {
@@ -99,7 +101,7 @@ fn gone<
 
 /// The same with a host of their own.
 fn gone_from_here<
-    R: Net<Listener = TcpListener, Stream = TcpStream> + Wait + Files + Clock + Alloc<A = Global>,
+    R: Net<Listener = TcpListener, Stream = TcpStream> + Files + Clock + Alloc<A = Global>,
 >(rt: &R, cases: &[Case]) -> Result<usize, NoMemory> {
     let mut asker = Asker::open(rt.alloc())?;
     let mut host = Host::new();

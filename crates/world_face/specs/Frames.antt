@@ -10,25 +10,25 @@ use Rattle.world_face.specs.declared.Waited.{Waited}
 use Rattle.world_face.specs.declared.Waited.TheVariants.{Ready, Stop, Failed as WaitFails}
 use Rattle.poll_list.specs.declared.Who.TheVariants.{Link}
 
--- the length that the first four octets spell
-unfoldable pub spelt_length : List ℕ → ℕ
-spelt_length octets = from_be_bytes w32 (take 4 octets)
+-- the length that the first four octets encode
+unfoldable pub encoded_length : List ℕ → ℕ
+encoded_length octets = from_be_bytes w32 (take 4 octets)
 
 -- how many octets are missing of the length, or of the frame with its length
 unfoldable pub missing : List ℕ → ℕ
-missing octets = if nat_lt (length octets) 4 then 4 - length octets else 4 + spelt_length octets - length octets
+missing octets = if nat_lt (length octets) 4 then 4 - length octets else 4 + encoded_length octets - length octets
 
 -- the length is there, and no frame may be so long
 unfoldable pub is_too_long : List ℕ → Bool
-is_too_long octets = if nat_lt (length octets) 4 then false else nat_lt most_from_link (spelt_length octets)
+is_too_long octets = if nat_lt (length octets) 4 then false else nat_lt most_from_link (encoded_length octets)
 
 -- a length and its frame are whole
 abbrev pub is_whole : List ℕ → Bool
 is_whole octets = missing octets == 0
 
 -- a frame after its length
-unfoldable pub spelling : List ℕ → List ℕ
-spelling frame = to_be_bytes w32 (length frame) ++ frame
+unfoldable pub encoding : List ℕ → List ℕ
+encoding frame = to_be_bytes w32 (length frame) ++ frame
 
 -- the octets read of the length or frame that isn't whole
 abbrev pub partial_after : Entry → List ℕ → List ℕ
@@ -66,7 +66,7 @@ pub data Ending : Type 0 where
 
 -- the ending by a read, with the octets of a length or frame so far
 abbrev pub read_ending : Io → List ℕ → Option Ending
-read_ending (Done n) octets = if is_too_long octets then Some (LongFrame (spelt_length octets)) else None
+read_ending (Done n) octets = if is_too_long octets then Some (LongFrame (encoded_length octets)) else None
 read_ending End [] = Some LinkEnded
 read_ending End (x ∷ octets) = Some (LinkCut (length (x ∷ octets)))
 read_ending NotYet octets = None
@@ -126,7 +126,7 @@ goes_out e past = opens e (tail past)
 
 -- what may be offered where this is left of the frame before
 abbrev pub MayOffer : List ℕ → List ℕ → Type 0
-MayOffer [] octets = (octets ≡ spelling (drop 4 octets)) × (length octets ≤ most_to_link)
+MayOffer [] octets = (octets ≡ encoding (drop 4 octets)) × (length octets ≤ most_to_link)
 MayOffer (x ∷ rest) octets = octets ≡ x ∷ rest
 
 -- A read asks for what is missing. A write offers a frame after its length, or what is left of one, where the link isn't blocked.

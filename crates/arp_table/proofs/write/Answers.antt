@@ -3,7 +3,7 @@ use Rattle.net_octets.specs.Kinds.{ipv4_kind}
 use Rattle.net_octets.specs.Octets.{two, four}
 use Rattle.net_octets.proofs.Writing.{written, written_front}
 use Rattle.arp_table.specs.Arp.{arp_of}
-use Rattle.arp_table.proofs.Spelling.{written_is}
+use Rattle.arp_table.proofs.Encoding.{written_is}
 use Rattle.arp_table.proofs.write.Goals as goal
 
 head : (reply : Bool) (operation : ℕ) → operation ≡ (if reply then 2 else 1)

@@ -1,7 +1,7 @@
 use Rattle.std.proofs.Common.{rules, ◌≡◌, ◌+◌, ◌-◌, ◌^◌, ◌<◌, ◌++◌, length, drop, ap, refl, arith, length-append, lit≤, ◌∙◌}
 use Rattle.net_octets.specs.Octets.{two}
 use Rattle.net_octets.proofs.Writing.{written, written_front}
-use Rattle.ether_frame.proofs.Spelling.{written_is}
+use Rattle.ether_frame.proofs.Encoding.{written_is}
 use Rattle.ether_frame.proofs.write.Goals as goal
 
 pub returns-clause-written : goal.returns-clause-written

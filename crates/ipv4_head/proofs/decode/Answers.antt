@@ -2,7 +2,7 @@ use Rattle.std.proofs.Common.{◌≡◌, ◌-◌, take, drop, refl, sym, ap, ◌
 use Rattle.net_octets.specs.Octets.{two_at, four_at}
 use Rattle.ipv4_head.specs.Ip.{head_length}
 use Rattle.ipv4_head.proofs.Passing.{no_fault, read_by}
-use Rattle.ipv4_head.proofs.Spelling.{spelled}
+use Rattle.ipv4_head.proofs.Encoding.{encoding_of}
 use Rattle.ipv4_head.proofs.decode.Goals as goal
 
 pub returns-clause-fields : goal.returns-clause-fields
@@ -21,4 +21,4 @@ returns-clause-fields c =
 
 pub returns-clause-packet : goal.returns-clause-packet
 returns-clause-packet c =
-    spelled c.args.octets.now _ (λ i. omega (arith, c.type_inv.octets i)) (returns-clause-fields c)
+    encoding_of c.args.octets.now _ (λ i. omega (arith, c.type_inv.octets i)) (returns-clause-fields c)

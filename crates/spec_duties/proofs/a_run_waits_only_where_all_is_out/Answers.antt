@@ -12,8 +12,8 @@ returns-clause-octets c = λ config later past wants timeout answer ready socket
     ((at_wait config later past wants timeout answer ready dutiful).settled free socket f found).sends.octets open_yet
 
 pub returns-clause-acknowledged : goal.returns-clause-acknowledged
-returns-clause-acknowledged c = λ config later past wants timeout answer ready socket f dutiful free found open_yet honest a asks.
-    ((at_wait config later past wants timeout answer ready dutiful).settled free socket f found).acknowledges.all open_yet honest a asks
+returns-clause-acknowledged c = λ config later past wants timeout answer ready socket f dutiful free found open_yet conforming a asks.
+    ((at_wait config later past wants timeout answer ready dutiful).settled free socket f found).acknowledges.all open_yet conforming a asks
 
 pub returns-clause-reset : goal.returns-clause-reset
 returns-clause-reset c = λ config later past wants timeout answer ready socket f dutiful free found.
@@ -34,6 +34,6 @@ returns-clause-answered c = λ config later past wants timeout answer ready sock
 pub returns-clause-told : goal.returns-clause-told
 returns-clause-told c = λ config later past wants timeout answer ready socket f dutiful free found. ((at_wait config later past wants timeout answer ready dutiful).settled free socket f found).window
 
-pub returns-clause-rests : goal.returns-clause-rests
-returns-clause-rests c = λ config later past wants timeout answer ready socket f dutiful free found rests.
-    ((at_wait config later past wants timeout answer ready dutiful).settled free socket f found).acknowledges.resting rests
+pub returns-clause-time_waits : goal.returns-clause-time_waits
+returns-clause-time_waits c = λ config later past wants timeout answer ready socket f dutiful free found time_waits.
+    ((at_wait config later past wants timeout answer ready dutiful).settled free socket f found).acknowledges.in_time_wait time_waits

@@ -1,6 +1,6 @@
 use Rattle.spec_flow.proofs.Sound.{may_is, lawful}
 use Rattle.spec_flow.proofs.Duties.{must_is, dutiful, may_wait_to_write_is}
-use Rattle.spec_flow.proofs.Honesty.{honest}
+use Rattle.spec_flow.proofs.Conformance.{conforming}
 use Rattle.spec_flow.proofs.Settled.{settled, waits}
 use Rattle.spec_flow.proofs.tests_are_sound.Goals as goal
 
@@ -16,8 +16,8 @@ returns-clause-lawful c = lawful
 pub returns-clause-dutiful : goal.returns-clause-dutiful
 returns-clause-dutiful c = dutiful
 
-pub returns-clause-honest : goal.returns-clause-honest
-returns-clause-honest c = honest
+pub returns-clause-conforming : goal.returns-clause-conforming
+returns-clause-conforming c = conforming
 
 pub returns-clause-settled : goal.returns-clause-settled
 returns-clause-settled c = settled

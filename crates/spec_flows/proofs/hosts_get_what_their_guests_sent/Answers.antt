@@ -8,7 +8,7 @@ use Rattle.spec_flows.proofs.Laws.{is_lawful, is_story, taken_begins}
 use Rattle.spec_flows.proofs.hosts_get_what_their_guests_sent.Goals as goal
 
 pub returns-clause-prefix : goal.returns-clause-prefix
-returns-clause-prefix c = λ config past socket keeps honest. taken_begins config past socket keeps honest
+returns-clause-prefix c = λ config past socket keeps conforming. taken_begins config past socket keeps conforming
 
 pub returns-clause-came : goal.returns-clause-came
 returns-clause-came c = λ config past socket f keeps found i x at.

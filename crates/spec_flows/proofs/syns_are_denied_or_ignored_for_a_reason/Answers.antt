@@ -1,4 +1,4 @@
-use Rattle.spec_flows.proofs.Lots.{is_denied, is_ignored}
+use Rattle.spec_flows.proofs.SegmentVerdicts.{is_denied, is_ignored}
 use Rattle.spec_flows.proofs.syns_are_denied_or_ignored_for_a_reason.Goals as goal
 
 pub returns-clause-denied : goal.returns-clause-denied

@@ -5,4 +5,4 @@ use Rattle.spec_flows.proofs.Laws.{is_lawful}
 use Rattle.spec_flows.proofs.what_is_acknowledged_came.Goals as goal
 
 pub returns : goal.returns
-returns c = λ config past socket keeps honest. acknowledged_came (flow_settings config) (story config past socket) (is_lawful config past socket keeps) honest
+returns c = λ config past socket keeps conforming. acknowledged_came (flow_settings config) (story config past socket) (is_lawful config past socket keeps) conforming

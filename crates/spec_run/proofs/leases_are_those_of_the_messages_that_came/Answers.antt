@@ -8,7 +8,7 @@ pub returns-clause-leases : goal.returns-clause-leases
 returns-clause-leases c = of_messages
 
 pub returns-clause-answers : goal.returns-clause-answers
-returns-clause-answers c = λ config past now octets. ap (λ lent. (served config now lent (read_message octets)).answer) (of_messages config past)
+returns-clause-answers c = λ config past now octets. ap (λ leased. (served config now leased (read_message octets)).answer) (of_messages config past)
 
 pub returns-clause-in_order : goal.returns-clause-in_order
 returns-clause-in_order c = in_order

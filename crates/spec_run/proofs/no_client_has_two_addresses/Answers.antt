@@ -1,4 +1,4 @@
-use Rattle.spec_run.proofs.Lent.{one_to_one}
+use Rattle.spec_run.proofs.Leased.{one_to_one}
 use Rattle.spec_run.proofs.no_client_has_two_addresses.Goals as goal
 
 pub returns : goal.returns

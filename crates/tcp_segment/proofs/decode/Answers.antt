@@ -1,6 +1,6 @@
 -- A segment is read exactly where the grammar holds.
 use Rattle.std.proofs.Common.{arith}
-use Rattle.tcp_segment.proofs.Spelling.{packet_found}
+use Rattle.tcp_segment.proofs.Encoding.{packet_found}
 use Rattle.tcp_segment.proofs.decode.Goals as goal
 
 pub returns-clause-packet : goal.returns-clause-packet

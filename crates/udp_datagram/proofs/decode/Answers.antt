@@ -2,7 +2,7 @@
 use Rattle.std.proofs.Common.{◌≡◌, ◌-◌, ap, sym, arith, rules}
 use Rattle.net_octets.specs.Octets.{two_at, part}
 use Rattle.udp_datagram.proofs.Passing.{no_fault, read_by}
-use Rattle.udp_datagram.proofs.Spelling.{spelled, packet_found}
+use Rattle.udp_datagram.proofs.Encoding.{encoding_of, packet_found}
 use Rattle.udp_datagram.proofs.decode.Goals as goal
 
 pub returns-clause-fields : goal.returns-clause-fields
@@ -14,7 +14,7 @@ returns-clause-fields c =
 
 pub returns-clause-packet : goal.returns-clause-packet
 returns-clause-packet c =
-    spelled c.args.from.0 c.args.to.0 c.args.octets.now _ (λ i. omega (arith, c.type_inv.octets i)) (returns-clause-fields c)
+    encoding_of c.args.from.0 c.args.to.0 c.args.octets.now _ (λ i. omega (arith, c.type_inv.octets i)) (returns-clause-fields c)
 
 pub returns-in_err-check-clause-packet : goal.returns-in_err-check-clause-packet
 returns-in_err-check-clause-packet c =

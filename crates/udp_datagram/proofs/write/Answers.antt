@@ -1,7 +1,7 @@
 -- What is written is in the grammar.
 use Rattle.std.proofs.Common.{◌≡◌, ◌+◌, ◌<◌, ◌^◌, length, drop, ap, ◌∙◌, arith, length-append}
 use Rattle.udp_datagram.specs.Udp.{udp_of}
-use Rattle.udp_datagram.proofs.Spelling.{length-udp}
+use Rattle.udp_datagram.proofs.Encoding.{length-udp}
 use Rattle.udp_datagram.proofs.Writing.{encoded, front_is}
 use Rattle.udp_datagram.proofs.write.Goals as goal
 

@@ -4,7 +4,7 @@ use Rattle.slirp_settings.specs.declared.Proto.TheVariants.{Tcp}
 use Rattle.address_text.specs.Texts.{IsEndpointText}
 use Rattle.address_text.proofs.Parting.{no_part}
 use Rattle.address_text.specs.Rules.{IsType}
-use Rattle.command_words.proofs.Guested.{guest_parts, guest_sides, spelt_guest}
+use Rattle.command_words.proofs.Guested.{guest_parts, guest_sides, encoded_guest}
 use Rattle.command_words.proofs.guests.read_forward.Goals as goal
 
 pub returns-in_err-read_type-clause-refused : goal.returns-in_err-read_type-clause-refused
@@ -34,7 +34,7 @@ returns-clause-forward c = record {
   kind = c.in_ok-kind.kind.now;
   inside = c.in_ok-inside.inside.now;
   outside = c.in_ok-inside.outside.now;
-  spelt = spelt_guest _ _ _ _ _ c.in_ok-kind.ensures.parts c.in_ok-inside.ensures.parts;
+  encoded = encoded_guest _ _ _ _ _ c.in_ok-kind.ensures.parts c.in_ok-inside.ensures.parts;
   type = c.in_ok-read_type.ensures.tcp;
   guest = c.in_ok-read_endpoint.ensures.endpoint;
   host = c.in_ok-read_endpoint-2.ensures.endpoint;

@@ -2,7 +2,7 @@ use Rattle.std.proofs.Common.{ℕ, List, sym, subst}
 use Rattle.std.proofs.lemmas.Result.{err_from_is_err_and}
 use Rattle.address_text.specs.Rules.{IsType, IsPortAt}
 use Rattle.address_text.proofs.Parting.{no_part}
-use Rattle.command_words.proofs.Ruled.{forward_parts, side_parts, spelt_forward}
+use Rattle.command_words.proofs.Ruled.{forward_parts, side_parts, encoded_forward}
 use Rattle.command_words.proofs.rules.read_forward.Goals as goal
 
 pub returns-in_err-proto-clause-refused : goal.returns-in_err-proto-clause-refused
@@ -32,7 +32,7 @@ returns-clause-forward c = record {
   kind = c.in_ok-kind.kind.now;
   outside = c.in_ok-outside.outside.now;
   inside = c.in_ok-outside.inside.now;
-  spelt = spelt_forward _ _ _ _ _ c.in_ok-kind.ensures.parts c.in_ok-outside.ensures.parts;
+  encoded = encoded_forward _ _ _ _ _ c.in_ok-kind.ensures.parts c.in_ok-outside.ensures.parts;
   type = c.in_ok-proto.ensures.proto;
   host = c.in_ok-read_port_at.ensures.port;
   guest = c.in_ok-read_port_at-2.ensures.port;

@@ -1,4 +1,4 @@
-use Rattle.control.proofs.Spelling.{both, no_removal}
+use Rattle.control.proofs.Encoding.{both, no_removal}
 use Rattle.control.proofs.command.read_command.Goals as goal
 
 pub returns : goal.returns

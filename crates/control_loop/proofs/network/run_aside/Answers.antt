@@ -1,7 +1,7 @@
 use Rattle.std.proofs.Common.{sym, subst}
 use Rattle.world_face.specs.Tells.{Makes}
 use Rattle.control.specs.Stretches.{Asided}
-use Rattle.spec_control.specs.Desk.{Reads}
+use Rattle.spec_control.specs.ControlServer.{Reads}
 use Rattle.spec_control.specs.Laws.{IsReading}
 use Rattle.control_loop.specs.Runs.{RunsWith}
 use Rattle.control_loop.proofs.network.run_aside.Goals as goal

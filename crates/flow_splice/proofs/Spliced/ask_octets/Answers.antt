@@ -1,6 +1,6 @@
 use Rattle.std.proofs.Common.{ℕ, ◌-◌, ◌≤◌, ◌^◌, length, min, nat_lt, if◌then◌else◌, arith, rules, ap, subst, sym, ◌∙◌}
 use Rattle.std.proofs.lemmas.Grind.{common_steps}
-use Rattle.flow_splice.proofs.AtRest.{read_rests, rests_on}
+use Rattle.flow_splice.proofs.StaysInTimeWait.{read_rests, rests_on}
 use Rattle.world_face.specs.Journal.{TcpRead}
 use Rattle.world_face.specs.Tells.{Answers}
 use Rattle.world_face.specs.declared.Io.{Io}
@@ -20,7 +20,7 @@ invariant_of-self g c =
         last = subst (λ (n : ℕ). n ≤ 2 ^ 62) (sym c.later_if-self-inside.ensures) (either_moment _ c.args.now i.last c.requires.now moments.last);
         called = moments.called;
       },
-      rests_on i.place i.conn.stage _ c.self.invariant.2 (λ resting at. read_rests _ i.conn i.down read.0 c.args.now _ _ read.3 ∙ at),
+      rests_on i.place i.conn.stage _ c.self.invariant.2 (λ in_time_wait at. read_rests _ i.conn i.down read.0 c.args.now _ _ read.3 ∙ at),
     )
 
 pub returns-clause-read : goal.returns-clause-read

@@ -15,7 +15,7 @@ returns-then-has_asked_enough-clause-makes g c =
     makes_one _ _ (Close f.face.number) _ c.fail.ensures.closes
     (λ allowed. (
       subst (λ (x : Splice). TicksOn f x now (Close f.face.number ∷ [])) (sym c.fail.ensures.change)
-          (guest_missing f now c.requires.open_yet c.requires.seeks (sym c.has_asked_enough.ensures.enough ∙ c.if-has_asked_enough.true)),
+          (guest_missing f now c.requires.open_yet c.requires.resolves (sym c.has_asked_enough.ensures.enough ∙ c.if-has_asked_enough.true)),
       refl,
     ))
 

@@ -1,7 +1,7 @@
 use Rattle.std.proofs.Common.{ap, ◌∙◌}
 use Rattle.tcp_connection.specs.Connection.{Connection}
 use Rattle.tcp_connection.specs.declared.HostNews.TheVariants.{Failed}
-use Rattle.flow_splice.proofs.AtRest.{news_rests, rests_on}
+use Rattle.flow_splice.proofs.StaysInTimeWait.{news_rests, rests_on}
 use Rattle.flow_splice.proofs.Spliced.give_up.Goals as goal
 
 pub invariant_of-self : goal.invariant_of-self
@@ -10,5 +10,5 @@ invariant_of-self c =
     let i = c.self.inside in (
       record { buffers = c.on_host.ensures.buffers _ _ kept.0.buffers; size = kept.0.size; room = kept.0.room; few = kept.0.few; segments = kept.0.segments },
       kept.1,
-      rests_on i.place i.conn.stage _ kept.2 (λ resting at. ap (λ (x : Connection). x.stage) c.on_host.ensures.connection ∙ news_rests Failed i.conn c.args.now at),
+      rests_on i.place i.conn.stage _ kept.2 (λ in_time_wait at. ap (λ (x : Connection). x.stage) c.on_host.ensures.connection ∙ news_rests Failed i.conn c.args.now at),
     )

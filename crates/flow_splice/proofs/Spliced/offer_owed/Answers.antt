@@ -1,5 +1,5 @@
 use Rattle.std.proofs.Common.{List, ◌++◌, ap, subst, ◌∙◌}
-use Rattle.world_face.specs.Frames.{spelling}
+use Rattle.world_face.specs.Frames.{encoding}
 use Rattle.world_face.specs.Journal.{Entry}
 use Rattle.world_face.specs.Tells.{Makes}
 use Rattle.stream_netdev.specs.Keeps.{Keeps, Writes}
@@ -32,11 +32,11 @@ returns-clause-makes g c =
     let i = c.self.inside in
     let what : Owed = c.args.what.now in
     subst (λ (f : Splice). Makes (g.W.World.tells c.args.world.now) (g.W.World.tells c.offer_frame.new.world) (λ made.
-    Writes c.offer_frame.result (spelling (segment_frame f.face c.args.mac c.args.ident (segment_out f.mru f.conn f.up f.down what))) made ×
+    Writes c.offer_frame.result (encoding (segment_frame f.face c.args.mac c.args.ident (segment_out f.mru f.conn f.up f.down what))) made ×
     ((past : List Entry) → Keeps c.args.link.now past → Keeps c.offer_frame.new.link (made ++ past))))
     c.self.view_is
     (subst (λ (h : Head). Makes (g.W.World.tells c.args.world.now) (g.W.World.tells c.offer_frame.new.world) (λ made.
-    Writes c.offer_frame.result (spelling (segment_frame (record { guest = i.guest; other = i.other; number = i.number; vhost = i.vhost }) c.args.mac c.args.ident
+    Writes c.offer_frame.result (encoding (segment_frame (record { guest = i.guest; other = i.other; number = i.number; vhost = i.vhost }) c.args.mac c.args.ident
     (with_head h i.mru i.down what))) made
     × ((past : List Entry) → Keeps c.args.link.now past → Keeps c.offer_frame.new.link (made ++ past))))
     c.head-head.ensures (c.offer_frame.ensures.makes i.number))

@@ -4,7 +4,7 @@ use Rattle.stream_netdev.specs.State.{LinkState}
 use Rattle.flow_splice.specs.Asks.{AsksOnce}
 use Rattle.net_octets.specs.declared.Mac.{Mac}
 use Rattle.flow_splice.specs.Sends.{Acknowledges, IsClearBy, SendsOn}
-use Rattle.flow_splice.specs.Splice.{Splice, is_at_rest, is_open}
+use Rattle.flow_splice.specs.Splice.{Splice, is_in_time_wait, is_open}
 use Rattle.tcp_connection.specs.Connection.{Connection}
 use Rattle.flow_splice.specs.Ahead.{HasPatience, IsAhead, IsEarly}
 use Rattle.flow_splice.proofs.Ahead.{follows_waits}
@@ -46,11 +46,11 @@ returns-in-Some-clause-makes g c =
 pub returns-in-None-clause-makes : goal.returns-in-None-clause-makes
 returns-in-None-clause-makes g c =
     let f : Splice = c.args.self.now in
-    let new : Splice = c.seek.new.self in
+    let new : Splice = c.resolve.new.self in
     let link : LinkState = c.args.link.now in
-    let next : LinkState = c.seek.new.link in
+    let next : LinkState = c.resolve.new.link in
     let first : ℕ = c.args.ident.now in
-    makes_as _ _ _ _ c.seek.ensures.makes
+    makes_as _ _ _ _ c.resolve.ensures.makes
     (λ made sends. (
       learn_then f new c.args.mac link next first first c.args.now made (subst (λ (x : Splice). SendsOn x new link next first first c.args.now made) c.learn.ensures (sends.0 first (omega arith))),
       sends.1,
@@ -71,8 +71,8 @@ pub returns-in-None-clause-ahead : goal.returns-in-None-clause-ahead
 returns-in-None-clause-ahead g c s past before h ahead =
     let f : Splice = c.args.self.now in
     let same : c.learn.new.self.conn ≡ f.conn = ap (λ (x : Splice). x.conn) c.learn.ensures in (
-      subst (λ (x : Connection). IsAhead x c.args.now) (sym (c.seek.ensures.conn ∙ same)) ahead.0,
-      c.seek.ensures.waits (subst (λ (x : Splice). HasPatience x c.args.now) (sym c.learn.ensures) (learnt_patient f c.args.mac c.args.now ahead.1)),
+      subst (λ (x : Connection). IsAhead x c.args.now) (sym (c.resolve.ensures.conn ∙ same)) ahead.0,
+      c.resolve.ensures.waits (subst (λ (x : Splice). HasPatience x c.args.now) (sym c.learn.ensures) (learnt_patient f c.args.mac c.args.now ahead.1)),
     )
 
 pub returns-then-blocked-clause-ahead : goal.returns-then-blocked-clause-ahead
@@ -87,20 +87,20 @@ pub returns-in-Some-clause-closed : goal.returns-in-Some-clause-closed
 returns-in-Some-clause-closed g c shut = c.send_all.ensures.closed (ap is_open c.learn.ensures ∙ shut)
 
 pub returns-in-None-clause-closed : goal.returns-in-None-clause-closed
-returns-in-None-clause-closed g c shut = c.seek.ensures.closed (ap is_open c.learn.ensures ∙ shut)
+returns-in-None-clause-closed g c shut = c.resolve.ensures.closed (ap is_open c.learn.ensures ∙ shut)
 
 pub returns-then-blocked-clause-closed : goal.returns-then-blocked-clause-closed
 returns-then-blocked-clause-closed g c shut = ap is_open c.learn.ensures ∙ shut
 
-pub returns-in-Some-clause-rests : goal.returns-in-Some-clause-rests
-returns-in-Some-clause-rests g c resting =
-    subst (λ (x : Splice). Acknowledges x c.send_all.new.self c.args.now) c.learn.ensures (c.send_all.ensures.rests (ap (λ (x : Splice). is_at_rest x.place) c.learn.ensures ∙ resting))
+pub returns-in-Some-clause-time_waits : goal.returns-in-Some-clause-time_waits
+returns-in-Some-clause-time_waits g c in_time_wait =
+    subst (λ (x : Splice). Acknowledges x c.send_all.new.self c.args.now) c.learn.ensures (c.send_all.ensures.time_waits (ap (λ (x : Splice). is_in_time_wait x.place) c.learn.ensures ∙ in_time_wait))
 
-pub returns-in-None-clause-rests : goal.returns-in-None-clause-rests
-returns-in-None-clause-rests g c resting = inl (c.seek.ensures.rests (ap (λ (x : Splice). is_at_rest x.place) c.learn.ensures ∙ resting) ∙ c.learn.ensures)
+pub returns-in-None-clause-time_waits : goal.returns-in-None-clause-time_waits
+returns-in-None-clause-time_waits g c in_time_wait = inl (c.resolve.ensures.time_waits (ap (λ (x : Splice). is_in_time_wait x.place) c.learn.ensures ∙ in_time_wait) ∙ c.learn.ensures)
 
-pub returns-then-blocked-clause-rests : goal.returns-then-blocked-clause-rests
-returns-then-blocked-clause-rests g c resting = inl c.learn.ensures
+pub returns-then-blocked-clause-time_waits : goal.returns-then-blocked-clause-time_waits
+returns-then-blocked-clause-time_waits g c in_time_wait = inl c.learn.ensures
 
 pub returns-in-Some-clause-in_time : goal.returns-in-Some-clause-in_time
 returns-in-Some-clause-in_time g c time =
@@ -108,7 +108,7 @@ returns-in-Some-clause-in_time g c time =
 
 pub returns-in-None-clause-in_time : goal.returns-in-None-clause-in_time
 returns-in-None-clause-in_time g c time =
-    c.seek.ensures.in_time (subst (λ (x : Splice). HasTime x c.args.now) (sym c.learn.ensures) (learnt_time c.args.self.now c.args.mac c.args.now time))
+    c.resolve.ensures.in_time (subst (λ (x : Splice). HasTime x c.args.now) (sym c.learn.ensures) (learnt_time c.args.self.now c.args.mac c.args.now time))
 
 pub returns-then-blocked-clause-in_time : goal.returns-then-blocked-clause-in_time
 returns-then-blocked-clause-in_time g c time = subst (λ (x : Splice). HasTime x c.args.now) (sym c.learn.ensures) (learnt_time c.args.self.now c.args.mac c.args.now time)

@@ -1,5 +1,5 @@
 use Rattle.std.proofs.Common.{◌≡◌, ℕ, [], ◌∷◌, ◌++◌, List, Bool, Option, Some, if◌then◌else◌, refl, arith, append_assoc, ap, subst, sym, ◌∙◌}
-use Rattle.world_face.specs.Frames.{spelling}
+use Rattle.world_face.specs.Frames.{encoding}
 use Rattle.world_face.specs.Journal.{AreAllowed, Entry, LinkWrite}
 use Rattle.world_face.proofs.Telling.{makes_then}
 use Rattle.stream_netdev.specs.Keeps.{Keeps, Settles, Writes}
@@ -15,10 +15,10 @@ use Rattle.stream_netdev.specs.Offers.{pumped_of}
 use Rattle.flow_splice.specs.Shapes.{IsPumpWork}
 use Rattle.flow_splice.specs.Splice.{Splice}
 use Rattle.flow_splice.specs.declared.Place.{Place}
-use Rattle.flow_splice.specs.declared.Place.TheVariants.{Empty, InUse, Resting}
+use Rattle.flow_splice.specs.declared.Place.TheVariants.{Empty, InUse, InTimeWait}
 use Rattle.stream_netdev.specs.declared.Pumped.{Pumped}
 use Rattle.stream_netdev.specs.declared.Pumped.TheVariants.{Clear, Blocked as PumpBlocked}
-use Rattle.flow_splice.proofs.AtRest.{marks_acknowledge}
+use Rattle.flow_splice.proofs.StaysInTimeWait.{marks_acknowledge}
 use Rattle.flow_splice.proofs.Ahead.{marks_early}
 use Rattle.flow_splice.proofs.Going.{sends}
 use Rattle.flow_splice.proofs.Marking.{closes_keep, makes_allowed, marks_less, marks_stay}
@@ -29,7 +29,7 @@ use Rattle.flow_splice.proofs.Spliced.send.Goals as goal
 used_is : (p : Place) (o : Option Owed) (what : Owed) → takes_part_at p o ≡ Some what → (p ≡ Empty → ⊥) × (o ≡ Some what)
 used_is Empty o what is = absurd cc
 used_is InUse o what is = (λ at. cc, is)
-used_is (Resting since) o what is = (λ at. cc, is)
+used_is (InTimeWait since) o what is = (λ at. cc, is)
 
 pub returns-clause-makes : goal.returns-clause-makes
 returns-clause-makes g c =
@@ -42,7 +42,7 @@ returns-clause-makes g c =
     let first : ℕ = c.args.ident.now in
     let old_link : LinkState = c.args.link.now in
     let new_link : LinkState = offer.new.link in
-    let frame : List ℕ = spelling (segment_frame f.face c.args.mac first (segment_out f.mru f.conn f.up f.down what)) in
+    let frame : List ℕ = encoding (segment_frame f.face c.args.mac first (segment_out f.mru f.conn f.up f.down what)) in
     let two = used_is f.place (owed_of f.conn f.up f.down) what c.requires.owed in
     makes_then _ _ _ (λ made. (Writes result frame made × ((past : List Entry) → Keeps old_link past → Keeps new_link (made ++ past))) × AreAllowed made) (Marks result what offer.new.self new now) _
     (makes_allowed _ _ _ offer.ensures.makes) c.mark.ensures.makes
@@ -96,10 +96,10 @@ returns-clause-closed g c =
     (marks_stay offer.result c.args.what.now c.args.self.now c.mark.new.self c.args.now c.mark.ensures.makes.made
     (subst (λ (x : Splice). Marks offer.result c.args.what.now x c.mark.new.self c.args.now c.mark.ensures.makes.made) offer.ensures.change c.mark.ensures.makes.holds)).shut
 
-pub returns-clause-rests : goal.returns-clause-rests
-returns-clause-rests g c =
+pub returns-clause-time_waits : goal.returns-clause-time_waits
+returns-clause-time_waits g c =
     let offer = c.offer_owed-offered in
-    marks_acknowledge offer.result c.args.what.now c.args.self.now c.mark.new.self c.args.now c.mark.ensures.makes.made c.requires.rests c.requires.owed
+    marks_acknowledge offer.result c.args.what.now c.args.self.now c.mark.new.self c.args.now c.mark.ensures.makes.made c.requires.time_waits c.requires.owed
     (subst (λ (x : Splice). Marks offer.result c.args.what.now x c.mark.new.self c.args.now c.mark.ensures.makes.made) offer.ensures.change c.mark.ensures.makes.holds)
 
 pub returns-clause-in_time : goal.returns-clause-in_time

@@ -4,7 +4,7 @@ use Rattle.flow_splice.specs.Shapes.{IsPumpWork}
 use Rattle.flow_splice.specs.Splice.{Splice}
 use Rattle.stream_netdev.specs.declared.Pumped.{Pumped}
 use Rattle.stream_netdev.specs.declared.Pumped.TheVariants.{Clear, Blocked, Failed}
-use Rattle.flow_splice.proofs.AtRest.{acknowledges_once}
+use Rattle.flow_splice.proofs.StaysInTimeWait.{acknowledges_once}
 use Rattle.flow_splice.proofs.Coming.{stays_then}
 use Rattle.flow_splice.proofs.Marking.{sends_none, sends_then}
 use Rattle.flow_splice.proofs.Shaping.{works_then}
@@ -22,7 +22,7 @@ loop-what-init g c = record {
   };
   same = refl;
   closed = λ shut. shut;
-  rests = λ resting. inl refl;
+  time_waits = λ in_time_wait. inl refl;
   early = λ early. early;
   in_time = λ time. time;
 }
@@ -46,7 +46,7 @@ loop-what-preserved g c =
       stays = stays_then old mid new kept.stays c.send.ensures.stays;
       same = c.send.ensures.same ∙ kept.same;
       closed = λ shut. c.send.ensures.closed (kept.closed shut);
-      rests = acknowledges_once old mid new c.args.now c.in-Some.what c.owed.ensures.rests (sym c.owed.ensures.owed ∙ c.in-Some.is) kept.rests c.send.ensures.rests;
+      time_waits = acknowledges_once old mid new c.args.now c.in-Some.what c.owed.ensures.time_waits (sym c.owed.ensures.owed ∙ c.in-Some.is) kept.time_waits c.send.ensures.time_waits;
       early = λ early. c.send.ensures.early (kept.early early);
       in_time = λ time. c.send.ensures.in_time (kept.in_time time);
     }
@@ -87,15 +87,15 @@ returns-in-Blocked-clause-closed g c shut = c.send.ensures.closed (c.loop-what.i
 pub returns-in-Failed-clause-closed : goal.returns-in-Failed-clause-closed
 returns-in-Failed-clause-closed g c shut = c.send.ensures.closed (c.loop-what.invariant.closed shut)
 
-pub returns-in-Blocked-clause-rests : goal.returns-in-Blocked-clause-rests
-returns-in-Blocked-clause-rests g c =
-    acknowledges_once c.args.self.now c.loop-what.self c.send.new.self c.args.now c.in-Some.what c.owed.ensures.rests
-    (sym c.owed.ensures.owed ∙ c.in-Some.is) c.loop-what.invariant.rests c.send.ensures.rests
+pub returns-in-Blocked-clause-time_waits : goal.returns-in-Blocked-clause-time_waits
+returns-in-Blocked-clause-time_waits g c =
+    acknowledges_once c.args.self.now c.loop-what.self c.send.new.self c.args.now c.in-Some.what c.owed.ensures.time_waits
+    (sym c.owed.ensures.owed ∙ c.in-Some.is) c.loop-what.invariant.time_waits c.send.ensures.time_waits
 
-pub returns-in-Failed-clause-rests : goal.returns-in-Failed-clause-rests
-returns-in-Failed-clause-rests g c =
-    acknowledges_once c.args.self.now c.loop-what.self c.send.new.self c.args.now c.in-Some.what c.owed.ensures.rests
-    (sym c.owed.ensures.owed ∙ c.in-Some.is) c.loop-what.invariant.rests c.send.ensures.rests
+pub returns-in-Failed-clause-time_waits : goal.returns-in-Failed-clause-time_waits
+returns-in-Failed-clause-time_waits g c =
+    acknowledges_once c.args.self.now c.loop-what.self c.send.new.self c.args.now c.in-Some.what c.owed.ensures.time_waits
+    (sym c.owed.ensures.owed ∙ c.in-Some.is) c.loop-what.invariant.time_waits c.send.ensures.time_waits
 
 pub returns-in-Blocked-clause-in_time : goal.returns-in-Blocked-clause-in_time
 returns-in-Blocked-clause-in_time g c time = c.send.ensures.in_time (c.loop-what.invariant.in_time time)

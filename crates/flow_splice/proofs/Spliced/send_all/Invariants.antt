@@ -5,7 +5,7 @@ use Rattle.flow_splice.specs.Ahead.{IsEarly}
 use Rattle.flow_splice.specs.Left.{left}
 use Rattle.flow_splice.specs.Sends.{Acknowledges, SendsOn}
 use Rattle.flow_splice.specs.Shapes.{are_sending}
-use Rattle.flow_splice.specs.Splice.{is_at_rest, is_open}
+use Rattle.flow_splice.specs.Splice.{is_in_time_wait, is_open}
 use Rattle.flow_splice.specs.Stays.{Stays}
 use Rattle.flow_splice.specs.Wants.{HasTime}
 use Rattle.flow_splice.proofs.Spliced.send_all.Given as goal
@@ -18,7 +18,7 @@ invariant-loop-what g l = record {
   stays : Stays l.fn.self l.self;
   same : under_way l.link ≡ under_way l.fn.link;
   closed : is_open l.fn.self ≡ false → is_open l.self ≡ false;
-  rests : is_at_rest l.fn.self.place ≡ true → Acknowledges l.fn.self l.self l.now;
+  time_waits : is_in_time_wait l.fn.self.place ≡ true → Acknowledges l.fn.self l.self l.now;
   early : IsEarly l.now l.fn.self.conn → IsEarly l.now l.self.conn;
   in_time : HasTime l.fn.self l.now → HasTime l.self l.now;
 }

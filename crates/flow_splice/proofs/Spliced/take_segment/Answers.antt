@@ -9,14 +9,14 @@ use Rattle.sim_connection.specs.Holding.{is_live}
 use Rattle.flow_splice.specs.Guests.{heard}
 use Rattle.flow_splice.specs.Hosts.{IsAsOld, Sees, ends}
 use Rattle.flow_splice.specs.Splice.{Splice}
-use Rattle.flow_splice.proofs.AtRest.{open_awake}
+use Rattle.flow_splice.proofs.StaysInTimeWait.{open_awake}
 use Rattle.flow_splice.proofs.Coming.{as_old_then, heard_as_old, heard_dead, heard_written, sees_stays}
 use Rattle.flow_splice.proofs.Hearing.{hears}
 use Rattle.flow_splice.proofs.Shaping.{sees_at_most}
 use Rattle.flow_splice.proofs.Spliced.take_segment.Goals as goal
 
-pub take_in-change-requires-clause-rests : goal.take_in-change-requires-clause-rests
-take_in-change-requires-clause-rests g c resting = absurd (open_awake c.args.self.now c.requires.open_yet resting)
+pub take_in-change-requires-clause-time_waits : goal.take_in-change-requires-clause-time_waits
+take_in-change-requires-clause-time_waits g c in_time_wait = absurd (open_awake c.args.self.now c.requires.open_yet in_time_wait)
 
 pub see-requires : goal.see-requires
 see-requires g c =

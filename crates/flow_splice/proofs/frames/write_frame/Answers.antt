@@ -5,7 +5,7 @@ use Rattle.net_octets.specs.Kinds.{ipv4_kind, tcp_proto}
 use Rattle.ether_frame.specs.Ether.{ether_octets}
 use Rattle.ipv4_head.specs.Ip.{ip_octets, summed_head}
 use Rattle.tcp_segment.specs.Tcp.{Tcp, mss_octets, options_octets, scale_octets, summed, tcp_length, tcp_octets, tcp_of, tcp_with, words_of}
-use Rattle.tcp_segment.proofs.Spelling.{length-segment}
+use Rattle.tcp_segment.proofs.Encoding.{length-segment}
 use Rattle.sock_buffers.specs.Downward.{Downward}
 use Rattle.sim_connection.specs.Sending.{carried, with_head}
 use Rattle.flow_splice.specs.Frames.{tcp_out}

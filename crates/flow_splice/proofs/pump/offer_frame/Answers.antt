@@ -1,18 +1,18 @@
 use Rattle.std.proofs.Common.{◌≡◌, List, ◌++◌, ℕ, take, subst, arith}
-use Rattle.world_face.specs.Frames.{spelling}
+use Rattle.world_face.specs.Frames.{encoding}
 use Rattle.world_face.specs.Journal.{Entry}
 use Rattle.world_face.specs.Tells.{Makes}
 use Rattle.stream_netdev.specs.Keeps.{Keeps, Writes}
-use Rattle.stream_netdev.proofs.Writing.{spelt_is}
+use Rattle.stream_netdev.proofs.Writing.{encoded_is}
 use Rattle.sim_connection.specs.Sending.{with_head}
 use Rattle.flow_splice.specs.Frames.{segment_frame}
 use Rattle.flow_splice.proofs.pump.offer_frame.Goals as goal
 
-pub offer-requires-clause-spelt : goal.offer-requires-clause-spelt
-offer-requires-clause-spelt g c =
+pub offer-requires-clause-encoded : goal.offer-requires-clause-encoded
+offer-requires-clause-encoded g c =
     let written = c.write_frame-length in (
       _,
-      spelt_is _ c.args.buffer.now written.new.into _ _ written.result c.spell-size.ensures.spelt (omega (arith, c.requires.room))
+      encoded_is _ c.args.buffer.now written.new.into _ _ written.result c.encode-size.ensures.encoded (omega (arith, c.requires.room))
           (omega (arith, written.ensures.short, written.ensures.room, c.requires.room)) (written.ensures.frame 0),
     )
 
@@ -21,6 +21,6 @@ returns-clause-makes g c number =
     let written = c.write_frame-length in
     subst (λ (octets : List ℕ). Makes (g.W.World.tells c.args.world.now) (g.W.World.tells c.offer.new.world) (λ made. Writes c.offer.result octets made ×
     ((past : List Entry) → Keeps c.args.link.now past → Keeps c.offer.new.self (made ++ past))))
-    (spelt_is _ c.args.buffer.now written.new.into _ _ written.result c.spell-size.ensures.spelt (omega (arith, c.requires.room))
+    (encoded_is _ c.args.buffer.now written.new.into _ _ written.result c.encode-size.ensures.encoded (omega (arith, c.requires.room))
     (omega (arith, written.ensures.short, written.ensures.room, c.requires.room)) (written.ensures.frame number))
     c.offer.ensures.makes

@@ -5,7 +5,7 @@ use Rattle.replay.specs.Lines.{entry_of}
 use Rattle.replay.specs.Names.{name_text}
 use Rattle.replay.specs.Range.{AnswersInRange}
 use Rattle.replay.specs.Rows.{IsReadable}
-use Rattle.replay.specs.Spelling.{IsWritten}
+use Rattle.replay.specs.Encoding.{IsWritten}
 use Rattle.std.proofs.Common.{◌++◌, ◌∷◌}
 use Rattle.replay.proofs.Refusing.{same_fault}
 use Rattle.replay.proofs.Starring.{row_refused, row_written, row_readable}

@@ -1,6 +1,6 @@
 use Rattle.std.proofs.lemmas.Result.{err_from_is_err_and}
 use Rattle.replay.specs.Rows.{said_answer, said_call}
-use Rattle.replay.proofs.Refusing.{answer_parts, spelt_once}
+use Rattle.replay.proofs.Refusing.{answer_parts, encoded_once}
 use Rattle.replay.proofs.reading.split_answer.Goals as goal
 
 pub returns-in_err-call-clause-refused : goal.returns-in_err-call-clause-refused
@@ -12,4 +12,4 @@ returns-in_err-answer-clause-refused c = let p = err_from_is_err_and c.from_resi
     (λ row h is. c.in_err-answer.ensures.refused (said_answer row) (answer_parts _ _ _ c.in_ok-before.ensures.parts c.in_ok-before.ensures.first row h is).1)
 
 pub returns-clause-only : goal.returns-clause-only
-returns-clause-only c = λ row h is. spelt_once _ _ _ _ row c.in_ok-call.ensures.rest c.in_ok-answer.ensures.rest (answer_parts _ _ _ c.in_ok-before.ensures.parts c.in_ok-before.ensures.first row h is)
+returns-clause-only c = λ row h is. encoded_once _ _ _ _ row c.in_ok-call.ensures.rest c.in_ok-answer.ensures.rest (answer_parts _ _ _ c.in_ok-before.ensures.parts c.in_ok-before.ensures.first row h is)

@@ -10,8 +10,8 @@ neither : {A B : Type 0} (result : Result A B) (a b : B) → is_ok result ≡ tr
 neither result a b good (inl is) = cc
 neither result a b good (inr is) = cc
 
-pub returns-in-Ok-clause-misspelt : goal.returns-in-Ok-clause-misspelt
-returns-in-Ok-clause-misspelt g c line unread =
+pub returns-in-Ok-clause-misencoded : goal.returns-in-Ok-clause-misencoded
+returns-in-Ok-clause-misencoded g c line unread =
     absurd (neither c.read.result _ _ (ap is_ok c.in-Ok.is) (c.read.ensures.only line (subst (λ l. IsFirstUnread l line) (sym c.deref.ensures.value) unread)))
 
 named : {A : Type 0} (result : Result A ScriptFault) (fault : ScriptFault) (value at line : ℕ) → result ≡ Err fault → fault ≡ AtLine at → value ≡ at
@@ -19,8 +19,8 @@ named : {A : Type 0} (result : Result A ScriptFault) (fault : ScriptFault) (valu
 named result fault value at line is of same (inl only) = inl cc
 named result fault value at line is of same (inr only) = inl cc
 
-pub returns-in-Err-Line-clause-misspelt : goal.returns-in-Err-Line-clause-misspelt
-returns-in-Err-Line-clause-misspelt g c line unread =
+pub returns-in-Err-Line-clause-misencoded : goal.returns-in-Err-Line-clause-misencoded
+returns-in-Err-Line-clause-misencoded g c line unread =
     named c.read.result c.in-Err-Line.field-0 _ c.in-Err-Line.line line c.in-Err-Line.is c.in-Err-Line.field-0-is c.in-Err-Line.line-is
     (c.read.ensures.only line (subst (λ l. IsFirstUnread l line) (sym c.deref.ensures.value) unread))
 
@@ -28,7 +28,7 @@ not_large : {A : Type 0} (result : Result A ScriptFault) (fault : ScriptFault) (
 not_large result fault line is of (inl only) = cc
 not_large result fault line is of (inr only) = cc
 
-pub returns-in-Err-TooLarge-clause-misspelt : goal.returns-in-Err-TooLarge-clause-misspelt
-returns-in-Err-TooLarge-clause-misspelt g c line unread =
+pub returns-in-Err-TooLarge-clause-misencoded : goal.returns-in-Err-TooLarge-clause-misencoded
+returns-in-Err-TooLarge-clause-misencoded g c line unread =
     absurd (not_large c.read.result c.in-Err-TooLarge.field-0 line c.in-Err-TooLarge.is c.in-Err-TooLarge.field-0-is
     (c.read.ensures.only line (subst (λ l. IsFirstUnread l line) (sym c.deref.ensures.value) unread)))

@@ -23,7 +23,7 @@ returns-in-Ok-clause-calls g c =
         large = λ is. (read.1.1, subst TakesTooMuch read.1.0 (c.replay.ensures.large is));
         whole = λ is. read.1.1;
         first = λ line is. subst (λ l. IsFirstUnread l line) read.1.0 (c.replay.ensures.first line is);
-        misspelt = λ is line unread. not_memory c.replay.result line is (c.replay.ensures.misspelt line (subst (λ l. IsFirstUnread l line) (sym read.1.0) unread));
+        misencoded = λ is line unread. not_memory c.replay.result line is (c.replay.ensures.misencoded line (subst (λ l. IsFirstUnread l line) (sym read.1.0) unread));
         came = λ is. subst (λ l. Came (settings c.args.config.now) c.replay.result l (g.K.Sink.holds c.args.out.now) (g.K.Sink.holds c.replay.new.out)) read.1.0 c.replay.ensures.came;
       },
     ))
@@ -38,7 +38,7 @@ returns-in-Err-Unreadable-clause-calls g c = makes_as _ _ _ _ c.in-Err-Unreadabl
         whole = λ is. cc;
         came = λ is. cc;
         first = λ line is. cc;
-        misspelt = λ is. cc;
+        misencoded = λ is. cc;
       },
     ))
 
@@ -52,6 +52,6 @@ returns-in-Err-NoMemory-clause-calls g c = makes_as _ _ _ _ c.in-Err-NoMemory.en
         whole = λ is. cc;
         came = λ is. cc;
         first = λ line is. cc;
-        misspelt = λ is. cc;
+        misencoded = λ is. cc;
       },
     ))

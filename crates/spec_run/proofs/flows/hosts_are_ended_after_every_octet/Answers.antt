@@ -8,5 +8,5 @@ use Rattle.spec_run.proofs.KeepingFlows.{keeps_flows}
 use Rattle.spec_run.proofs.flows.hosts_are_ended_after_every_octet.Goals as goal
 
 pub returns : goal.returns
-returns c = λ config past socket lawful honest ended. let keeps = keeps_flows config past lawful in
-    sym (taken_is config socket past keeps) ∙ host_has_all (flow_settings config) (story config past socket) (is_lawful config past socket keeps) ended honest
+returns c = λ config past socket lawful conforming ended. let keeps = keeps_flows config past lawful in
+    sym (taken_is config socket past keeps) ∙ host_has_all (flow_settings config) (story config past socket) (is_lawful config past socket keeps) ended conforming

@@ -9,7 +9,7 @@ use Rattle.spec_run.proofs.KeepingFlows.{keeps_flows}
 use Rattle.spec_run.proofs.flows.hosts_get_what_their_guests_sent.Goals as goal
 
 pub returns-clause-prefix : goal.returns-clause-prefix
-returns-clause-prefix c = λ config past socket lawful honest. taken_begins config past socket (keeps_flows config past lawful) honest
+returns-clause-prefix c = λ config past socket lawful conforming. taken_begins config past socket (keeps_flows config past lawful) conforming
 
 pub returns-clause-came : goal.returns-clause-came
 returns-clause-came c = λ config past socket f lawful found i x at. let keeps = keeps_flows config past lawful in

@@ -6,5 +6,5 @@ use Rattle.spec_run.proofs.KeepingFlows.{keeps_flows}
 use Rattle.spec_run.proofs.flows.what_is_acknowledged_came.Goals as goal
 
 pub returns : goal.returns
-returns c = λ config past socket lawful honest.
-    acknowledged_came (flow_settings config) (story config past socket) (is_lawful config past socket (keeps_flows config past lawful)) honest
+returns c = λ config past socket lawful conforming.
+    acknowledged_came (flow_settings config) (story config past socket) (is_lawful config past socket (keeps_flows config past lawful)) conforming

@@ -1,4 +1,4 @@
--- The first address and the 15 behind it have 32 bits, and none is lent.
+-- The first address and the 15 behind it have 32 bits, and none is leased.
 use Rattle.std.proofs.Common.{◌≡◌, ℕ, ◌+◌, ◌^◌, ◌<◌, nat_lt, true, ap, sym, subst, arith}
 use Rattle.std.specs.List.{list_all}
 use Rattle.std.proofs.lemmas.Bool.{and_parts}

@@ -43,7 +43,7 @@ returns c =
     let whole : c.deref.result.now ≡ said ++ rest =
     c.deref.ensures.value ∙ take_at room (drop (length room) i.message.items) i.message.len size ∙ c.message-reply.ensures.octets in
     let is : reply ≡ reply_to i.policy i.moment i.leases.leases m = c.message-reply.ensures.reply ∙ ap (λ (k : Config). reply_to k i.moment i.leases.leases m) c.self.invariant.4 in
-    let lent : c.message-reply.new.self.leases ≡ leases_after i.policy i.moment d.body i.leases.leases = c.message-reply.ensures.leases ∙ ap
+    let leased : c.message-reply.new.self.leases ≡ leases_after i.policy i.moment d.body i.leases.leases = c.message-reply.ensures.leases ∙ ap
     (λ (k : Config). leases_after k i.moment d.body i.leases.leases) c.self.invariant.4 in
     let none : i.outgoing ≡ [] = ap (λ (s : SlirpState). s.pending) c.self.view_is ∙ c.requires.none in
     let owed : c.put_reply.new.outgoing ≡ frames_of i.policy i.sent (answers_of (sending_of (reply_to i.policy i.moment i.leases.leases m) octets)) =
@@ -51,5 +51,5 @@ returns c =
     ∙ ap (λ (o : List ℕ). replied_by i.policy i.sent i.outgoing reply o) (whole ∙ ap (λ (o : List ℕ). o ++ rest) same)
     ∙ lease_replied i.policy i.sent i.moment i.leases.leases m reply i.outgoing octets rest none refl is
     ∙ ap (λ (r : Reply). frames_of i.policy i.sent (answers_of (sending_of r octets))) is in
-    (λ j. record (state_of i) { pending = owed j; leases = lent j })
+    (λ j. record (state_of i) { pending = owed j; leases = leased j })
     ∙ ap (λ (s : SlirpState). after_message s d) c.self.view_is

@@ -1,6 +1,6 @@
 use Rattle.std.proofs.Common.{◌≡◌, false, sym, ◌∙◌, ap, subst}
 use Rattle.world_face.proofs.Telling.{brings_none}
-use Rattle.spec_run.specs.Datagrams.{ForFiles, ForLeases, GoesTo, Ignored, Refused, fate, is_to_names}
+use Rattle.spec_run.specs.Datagrams.{ForFiles, ForLeases, GoesTo, Ignored, Refused, datagram_verdict, is_to_names}
 use Rattle.slirp_core.specs.Datagrams.{datagram_of}
 use Rattle.slirp_core.specs.Holds.{Holds, flowing}
 use Rattle.slirp_core.specs.State.{SlirpState}
@@ -12,14 +12,14 @@ pub returns-in-Ignored-clause-makes : goal.returns-in-Ignored-clause-makes
 returns-in-Ignored-clause-makes g c config at link =
     let old = c.args.self.now in
     let d = datagram_of c.args.datagram.now in
-    let is : Ignored ≡ fate old.config d = c.in-Ignored.ensures.fate ∙ ap (λ (s : SlirpState). fate s.config d) c.self.view_is in
+    let is : Ignored ≡ datagram_verdict old.config d = c.in-Ignored.ensures.datagram_verdict ∙ ap (λ (s : SlirpState). datagram_verdict s.config d) c.self.view_is in
     brings_none (λ past came. ignored old d config at link c.requires.none past came is)
 
 pub returns-in-Refused-clause-makes : goal.returns-in-Refused-clause-makes
 returns-in-Refused-clause-makes g c config at link =
     let old = c.args.self.now in
     let d = datagram_of c.args.datagram.now in
-    let is : Refused ≡ fate old.config d = c.in-Refused.ensures.fate ∙ ap (λ (s : SlirpState). fate s.config d) c.self.view_is in
+    let is : Refused ≡ datagram_verdict old.config d = c.in-Refused.ensures.datagram_verdict ∙ ap (λ (s : SlirpState). datagram_verdict s.config d) c.self.view_is in
     brings_none (λ past came. subst (λ (s : SlirpState). Holds config at s (flowing false s.flows) link past) (sym c.tell_about.ensures)
     (refused old d config at link c.requires.none past came is))
 
@@ -27,7 +27,7 @@ pub returns-in-Leases-clause-makes : goal.returns-in-Leases-clause-makes
 returns-in-Leases-clause-makes g c config at link =
     let old = c.args.self.now in
     let d = datagram_of c.args.datagram.now in
-    let is : ForLeases ≡ fate old.config d = c.in-Leases.ensures.fate ∙ ap (λ (s : SlirpState). fate s.config d) c.self.view_is in
+    let is : ForLeases ≡ datagram_verdict old.config d = c.in-Leases.ensures.datagram_verdict ∙ ap (λ (s : SlirpState). datagram_verdict s.config d) c.self.view_is in
     brings_none (λ past came. subst (λ (s : SlirpState). Holds config at s (flowing false s.flows) link past) (sym c.take_message.ensures)
     (is_for_leases old d config at link c.requires.none past came is))
 
@@ -35,7 +35,7 @@ pub returns-in-Files-clause-makes : goal.returns-in-Files-clause-makes
 returns-in-Files-clause-makes g c config at link =
     let old = c.args.self.now in
     let d = datagram_of c.args.datagram.now in
-    let is : ForFiles ≡ fate old.config d = c.in-Files.ensures.fate ∙ ap (λ (s : SlirpState). fate s.config d) c.self.view_is in
+    let is : ForFiles ≡ datagram_verdict old.config d = c.in-Files.ensures.datagram_verdict ∙ ap (λ (s : SlirpState). datagram_verdict s.config d) c.self.view_is in
     from_more _ _ _ _ _ (λ past came. is_for_files old d config at link c.requires.none past came is) (c.take_file.ensures.makes config at link)
 
 -- a question to the name server
@@ -49,7 +49,7 @@ returns-in-Question-clause-makes g c config at link =
     let old = c.args.self.now in
     let d = datagram_of c.args.datagram.now in
     let to = c.in-Question.to in
-    let is : GoesTo to ≡ fate old.config d = c.in-Question.ensures.fate ∙ ap (λ (s : SlirpState). fate s.config d) c.self.view_is in
+    let is : GoesTo to ≡ datagram_verdict old.config d = c.in-Question.ensures.datagram_verdict ∙ ap (λ (s : SlirpState). datagram_verdict s.config d) c.self.view_is in
     from_more _ _ _ _ _ (λ past came. goes_out old d config at link c.requires.none past came to is) (c.ask.ensures.makes config at false link)
 
 -- any other
@@ -63,5 +63,5 @@ returns-in-Out-clause-makes g c config at link =
     let old = c.args.self.now in
     let d = datagram_of c.args.datagram.now in
     let to = c.in-Out.to in
-    let is : GoesTo to ≡ fate old.config d = c.in-Out.ensures.fate ∙ ap (λ (s : SlirpState). fate s.config d) c.self.view_is in
+    let is : GoesTo to ≡ datagram_verdict old.config d = c.in-Out.ensures.datagram_verdict ∙ ap (λ (s : SlirpState). datagram_verdict s.config d) c.self.view_is in
     from_more _ _ _ _ _ (λ past came. goes_out old d config at link c.requires.none past came to is) (c.send.ensures.makes config at false link)

@@ -10,7 +10,7 @@ use Rattle.slirp_core.proofs.Bounding.{suits_after, suits_due}
 use Rattle.slirp_core.proofs.network.Slirp.time_of_flows.Goals.{else-blocked-via-else-blocked, else-blocked-via-then-blocked+else-due-self}
 use Rattle.slirp_core.proofs.network.Slirp.time_of_flows.Goals as goal
 
--- a time suits the flows by each record for which they stand
+-- a time suits the flows by each trace for which they stand
 abbrev Suits : SlirpState → Bool → Option ℕ → Type 0
 Suits s blocked time = (config : Config) (before : ℕ) (past : List Entry) → CoreHolds config before true None s.flows.flows past → SuitsFlows config s.moment blocked s.flows.flows.slots past time
 
@@ -23,7 +23,7 @@ returns-in_err-due-clause-suits c =
     subst (λ (s : SlirpState). Suits s c.args.blocked c.from_residual.result) c.self.view_is
     (λ config before past holds.
     suits_due config i.moment c.args.blocked i.flows.flows.slots past None c.from_residual.result c.from_residual.ensures (c.in_err-due.ensures.for_some config before past holds)
-    (c.in_err-due.ensures.in_time config before true past holds) (c.in_err-due.ensures.rests config before past holds) (c.in_err-due.ensures.rests_later config before past holds)
+    (c.in_err-due.ensures.in_time config before true past holds) (c.in_err-due.ensures.time_waits config before past holds) (c.in_err-due.ensures.rests_later config before past holds)
     (λ at is. absurd cc))
 
 pub returns-clause-suits : goal.returns-clause-suits
@@ -33,7 +33,7 @@ returns-clause-suits c =
     (λ config before past holds.
     suits_due config i.moment c.args.blocked i.flows.flows.slots past (Some c.in_ok-due.due) (Some c.saturating_sub.result) (ap Some c.saturating_sub.ensures)
     (c.in_ok-due.ensures.for_some config before past holds)
-    (c.in_ok-due.ensures.in_time config before true past holds) (c.in_ok-due.ensures.rests config before past holds) (c.in_ok-due.ensures.rests_later config before past holds)
+    (c.in_ok-due.ensures.in_time config before true past holds) (c.in_ok-due.ensures.time_waits config before past holds) (c.in_ok-due.ensures.rests_later config before past holds)
     (λ at is. let same : c.in_ok-due.due ≡ at = cc in subst (λ (m : ℕ). IsDue i.flows.flows.slots m × ((c.args.blocked && nat_le m i.moment) ≡ false)) same (
       c.in_ok-due.ensures.due,
       elim c.else-blocked.branch [
@@ -51,7 +51,7 @@ returns-in_err-later-clause-suits c =
     (λ config before past holds.
     suits_after config i.moment c.args.blocked i.flows.flows.slots past None c.from_residual-in_err-later.result c.from_residual-in_err-later.ensures
     (c.in_err-later.ensures.for_some config before past holds) c.if-blocked.true
-    (c.in_err-later.ensures.in_time config before true past holds) (c.in_err-later.ensures.rests config before past holds) c.in_err-later.ensures.next)
+    (c.in_err-later.ensures.in_time config before true past holds) (c.in_err-later.ensures.time_waits config before past holds) c.in_err-later.ensures.next)
 
 pub returns-then-due-self-clause-suits : goal.returns-then-due-self-clause-suits
 returns-then-due-self-clause-suits c =
@@ -60,7 +60,7 @@ returns-then-due-self-clause-suits c =
     (λ config before past holds.
     suits_after config i.moment c.args.blocked i.flows.flows.slots past (Some c.in_ok-later.later) (Some (c.in_ok-later.later - i.moment)) refl
     (c.in_ok-later.ensures.for_some config before past holds) c.if-blocked.true
-    (c.in_ok-later.ensures.in_time config before true past holds) (c.in_ok-later.ensures.rests config before past holds) c.in_ok-later.ensures.next)
+    (c.in_ok-later.ensures.in_time config before true past holds) (c.in_ok-later.ensures.time_waits config before past holds) c.in_ok-later.ensures.next)
 
 abbrev Time : Bool → Option ℕ → SlirpState → Type 0
 Time blocked time s = IsFlowTime blocked s.moment s.flows.flows.slots time

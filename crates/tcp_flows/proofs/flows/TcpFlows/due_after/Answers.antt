@@ -26,8 +26,8 @@ returns-clause-for_some c config before past holds = by c.due_after.result (retu
         ∙ c.self.invariant.0.slots_are) (ap (λ (s : Kept). s.flows.slots) c.self.view_is)) at
         some.0 some.1 some.2 some.3
 
-pub returns-clause-rests : goal.returns-clause-rests
-returns-clause-rests c config before past holds once =
+pub returns-clause-time_waits : goal.returns-clause-time_waits
+returns-clause-time_waits c config before past holds once =
     rests_later config before None c.args.self.now.flows past holds (same_slots c.self.inside.slots.items c.args.self.now.flows.table.slots c.args.self.now.flows.slots
     (sym (ap (λ (s : Kept). s.flows.table.slots) c.self.view_is) ∙ c.self.invariant.0.slots_are) (ap (λ (s : Kept). s.flows.slots) c.self.view_is)) once c.args.now
     c.due_after.result (returns-clause-next c)

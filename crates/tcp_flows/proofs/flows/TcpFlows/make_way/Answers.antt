@@ -32,15 +32,15 @@ returns-clause-way c =
     let parts = c.self.inside.slots.items in
     let k : ℕ = c.in-Some.slot in
     let back = tuple_back c.self.inside.rows.table.slots parts c.self.invariant.0.slots_are k c.args.ends.now c.in-Some.ensures.found in
-    let rests = rests_only c.args.self.now.flows.table.slots c.args.ends.now k
+    let time_waits = rests_only c.args.self.now.flows.table.slots c.args.ends.now k
     (subst (λ (s : Kept). HasTuple s.flows.table.slots k c.args.ends.now) c.self.view_is c.in-Some.ensures.found) c.requires.unused in
     inr (
       k,
       back.0,
-      rests.0,
+      time_waits.0,
       seen_here parts k back.0 _ (ap (λ (s : Kept). s.flows.slots) c.self.view_is) back.1 back.2,
-      rests.1,
-      subst (λ (s : Kept). AreKept s.flows.table.slots s.flows.table.rest_order) c.self.view_is c.self.invariant.0.kept,
+      time_waits.1,
+      subst (λ (s : Kept). AreKept s.flows.table.slots s.flows.table.time_wait_order) c.self.view_is c.self.invariant.0.kept,
       λ i. record { table = c.leave_slot.ensures.table i; slots = c.leave_slot.ensures.parts i; opened = c.leave_slot.ensures.stays.opened i },
     )
 
@@ -48,16 +48,16 @@ pub returns-clause-none : goal.returns-clause-none
 returns-clause-none c =
     let k : ℕ = c.in-Some.slot in
     let old : Flows = c.args.self.now.flows.table in
-    let rests = rests_only old.slots c.args.ends.now k (subst (λ (s : Kept). HasTuple s.flows.table.slots k c.args.ends.now) c.self.view_is c.in-Some.ensures.found) c.requires.unused in
+    let time_waits = rests_only old.slots c.args.ends.now k (subst (λ (s : Kept). HasTuple s.flows.table.slots k c.args.ends.now) c.self.view_is c.in-Some.ensures.found) c.requires.unused in
     subst (λ (t : Flows). NoneHas t.slots c.args.ends.now) (sym c.leave_slot.ensures.table)
-    (none_left old.slots old.rest_order k c.args.ends.now rests.0 (subst (λ (s : Kept). AreKept s.flows.table.slots s.flows.table.rest_order) c.self.view_is c.self.invariant.0.kept) rests.1)
+    (none_left old.slots old.time_wait_order k c.args.ends.now time_waits.0 (subst (λ (s : Kept). AreKept s.flows.table.slots s.flows.table.time_wait_order) c.self.view_is c.self.invariant.0.kept) time_waits.1)
 
 pub returns-clause-room : goal.returns-clause-room
 returns-clause-room c =
     let k : ℕ = c.in-Some.slot in
     let old : Flows = c.args.self.now.flows.table in
-    let rests = rests_only old.slots c.args.ends.now k (subst (λ (s : Kept). HasTuple s.flows.table.slots k c.args.ends.now) c.self.view_is c.in-Some.ensures.found) c.requires.unused in
-    ap (λ (t : Flows). in_use_slots t.slots) c.leave_slot.ensures.table ∙ used_woken old.slots k c.args.ends.now rests.0 rests.1
+    let time_waits = rests_only old.slots c.args.ends.now k (subst (λ (s : Kept). HasTuple s.flows.table.slots k c.args.ends.now) c.self.view_is c.in-Some.ensures.found) c.requires.unused in
+    ap (λ (t : Flows). in_use_slots t.slots) c.leave_slot.ensures.table ∙ used_woken old.slots k c.args.ends.now time_waits.0 time_waits.1
 
 pub returns-clause-slots : goal.returns-clause-slots
 returns-clause-slots c = ap (λ (t : Flows). length t.slots) c.leave_slot.ensures.table ∙ length-set c.args.self.now.flows.table.slots c.in-Some.slot Free

@@ -32,12 +32,12 @@ roomy parts slots room are fit some =
 pub returns-in_default-clause-seat : goal.returns-in_default-clause-seat
 returns-in_default-clause-seat c =
     let room = subst (λ (s : Kept). in_use_slots s.flows.table.slots < length s.flows.table.slots) (sym c.self.view_is) c.requires.room in
-    absurd (none_taken c.self.inside.rows.table.slots c.in_default.ensures.free c.in_default.ensures.resting room)
+    absurd (none_taken c.self.inside.rows.table.slots c.in_default.ensures.free c.in_default.ensures.in_time_wait room)
 
 pub returns-in_default-clause-opened : goal.returns-in_default-clause-opened
 returns-in_default-clause-opened c =
     let room = subst (λ (s : Kept). in_use_slots s.flows.table.slots < length s.flows.table.slots) (sym c.self.view_is) c.requires.room in
-    absurd (none_taken c.self.inside.rows.table.slots c.in_default.ensures.free c.in_default.ensures.resting room)
+    absurd (none_taken c.self.inside.rows.table.slots c.in_default.ensures.free c.in_default.ensures.in_time_wait room)
 
 pub index_mut-part-requires : goal.index_mut-part-requires
 index_mut-part-requires c =
@@ -132,7 +132,7 @@ returns-clause-seat c =
       slot = k;
       part = q;
       taken = subst (λ (s : Kept). MayBeTaken s.flows.table k) view c.in-Some.ensures.which;
-      kept = subst (λ (s : Kept). AreKept s.flows.table.slots s.flows.table.rest_order) view c.self.invariant.0.kept;
+      kept = subst (λ (s : Kept). AreKept s.flows.table.slots s.flows.table.time_wait_order) view c.self.invariant.0.kept;
       fit = subst (λ (s : Kept). length s.flows.slots ≡ length s.flows.table.slots) view
           (length-map parts part_of ∙ sym (length-map parts slot_of) ∙ sym (ap (λ (l : List Slot). length l) c.self.invariant.0.slots_are));
       number_is = ap number_of begins;
@@ -159,7 +159,7 @@ returns-in_default-clause-slots c = ap (λ (s : Kept). length s.flows.slots) c.s
 pub returns-in_default-clause-numbers : goal.returns-in_default-clause-numbers
 returns-in_default-clause-numbers c k p here =
     let room = subst (λ (s : Kept). in_use_slots s.flows.table.slots < length s.flows.table.slots) (sym c.self.view_is) c.requires.room in
-    absurd (none_taken c.self.inside.rows.table.slots c.in_default.ensures.free c.in_default.ensures.resting room)
+    absurd (none_taken c.self.inside.rows.table.slots c.in_default.ensures.free c.in_default.ensures.in_time_wait room)
 
 pub returns-clause-slots : goal.returns-clause-slots
 returns-clause-slots c = as_long c.self.inside.slots.items c.args.self.now.flows.slots (ap (λ (s : Kept). s.flows.slots) c.self.view_is) c.in-Some.slot c.start.new.self

@@ -5,7 +5,7 @@ use Rattle.world_face.specs.Tells.{Makes}
 use Rattle.world_face.proofs.Telling.{makes_none}
 use Rattle.tcp_segment.specs.Tcp.{tcp_of}
 use Rattle.flow_table.specs.Slots.{NoneHas}
-use Rattle.flow_splice.specs.Splice.{Splice, is_at_rest, is_in_use}
+use Rattle.flow_splice.specs.Splice.{Splice, is_in_time_wait, is_in_use}
 use Rattle.tcp_flows.specs.Kept.{Kept, part_of, slot_of}
 use Rattle.tcp_flows.specs.Runs.{Hears}
 use Rattle.tcp_flows.proofs.Hearing.{strayed, tuple_back}
@@ -38,15 +38,15 @@ take_in_use-requires-clause-slot g c =
           (ap is_in_use c.in-InUse.ensures),
     )
 
-pub take_at_rest-requires-clause-slot : goal.take_at_rest-requires-clause-slot
-take_at_rest-requires-clause-slot g c =
+pub take_in_time_wait-requires-clause-slot : goal.take_in_time_wait-requires-clause-slot
+take_in_time_wait-requires-clause-slot g c =
     let parts = c.self.inside.slots.items in
     let back = tuple_back c.self.inside.rows.table.slots parts c.self.invariant.0.slots_are c.in-Some.slot c.args.ends.now c.in-Some.ensures.found in
     let is = read_here parts c.in-Some.slot back.0 c.index.result.now back.1 c.index.ensures in (
       back.0,
       seen_here parts c.in-Some.slot back.0 _ (ap (λ (s : Kept). s.flows.slots) c.self.view_is) back.1 back.2,
-      sym (ap (λ (x : Splice). is_at_rest x.place) is) ∙ sym
-          (ap is_at_rest c.in-Resting.ensures),
+      sym (ap (λ (x : Splice). is_in_time_wait x.place) is) ∙ sym
+          (ap is_in_time_wait c.in-InTimeWait.ensures),
     )
 
 pub returns-in-InUse-clause-makes : goal.returns-in-InUse-clause-makes
@@ -57,20 +57,20 @@ returns-in-InUse-clause-makes g c =
     (tcp_of c.args.segment.now) c.take_in_use.result)) back.3
     (c.take_in_use.ensures.makes back.0 (seen_here parts c.in-Some.slot back.0 _ (ap (λ (s : Kept). s.flows.slots) c.self.view_is) back.1 back.2))
 
-pub returns-in-Resting-clause-makes : goal.returns-in-Resting-clause-makes
-returns-in-Resting-clause-makes g c =
+pub returns-in-InTimeWait-clause-makes : goal.returns-in-InTimeWait-clause-makes
+returns-in-InTimeWait-clause-makes g c =
     let parts = c.self.inside.slots.items in
     let back = tuple_back c.self.inside.rows.table.slots parts c.self.invariant.0.slots_are c.in-Some.slot c.args.ends.now c.in-Some.ensures.found in
-    subst (λ t. Makes (g.W.World.tells c.args.world.now) (g.W.World.tells c.take_at_rest.new.world) (Hears c.args.now c.args.self.now c.take_at_rest.new.self t
-    (tcp_of c.args.segment.now) c.take_at_rest.result)) back.3
-    (c.take_at_rest.ensures.makes back.0 (seen_here parts c.in-Some.slot back.0 _ (ap (λ (s : Kept). s.flows.slots) c.self.view_is) back.1 back.2))
+    subst (λ t. Makes (g.W.World.tells c.args.world.now) (g.W.World.tells c.take_in_time_wait.new.world) (Hears c.args.now c.args.self.now c.take_in_time_wait.new.self t
+    (tcp_of c.args.segment.now) c.take_in_time_wait.result)) back.3
+    (c.take_in_time_wait.ensures.makes back.0 (seen_here parts c.in-Some.slot back.0 _ (ap (λ (s : Kept). s.flows.slots) c.self.view_is) back.1 back.2))
 
-pub returns-in-Resting-clause-none : goal.returns-in-Resting-clause-none
-returns-in-Resting-clause-none g c alone =
+pub returns-in-InTimeWait-clause-none : goal.returns-in-InTimeWait-clause-none
+returns-in-InTimeWait-clause-none g c alone =
     let parts = c.self.inside.slots.items in
     let back = tuple_back c.self.inside.rows.table.slots parts c.self.invariant.0.slots_are c.in-Some.slot c.args.ends.now c.in-Some.ensures.found in
-    subst (NoneHas c.take_at_rest.new.self.flows.table.slots) back.3
-    (c.take_at_rest.ensures.none back.0 (seen_here parts c.in-Some.slot back.0 _ (ap (λ (s : Kept). s.flows.slots) c.self.view_is) back.1 back.2) alone)
+    subst (NoneHas c.take_in_time_wait.new.self.flows.table.slots) back.3
+    (c.take_in_time_wait.ensures.none back.0 (seen_here parts c.in-Some.slot back.0 _ (ap (λ (s : Kept). s.flows.slots) c.self.view_is) back.1 back.2) alone)
 
 pub returns-in-Empty-clause-makes : goal.returns-in-Empty-clause-makes
 returns-in-Empty-clause-makes g c =

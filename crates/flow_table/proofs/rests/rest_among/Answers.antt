@@ -1,9 +1,0 @@
-use Rattle.flow_table.proofs.Finding.{none_behind, none_at_end}
-use Rattle.flow_table.proofs.rests.rest_among.Goals as goal
-
-pub returns-else-rests-place-clause-none : goal.returns-else-rests-place-clause-none
-returns-else-rests-place-clause-none c = none_behind c.args.rests.now c.args.rest _ _ c.loop-place.place c.requires c.first_since-place.ensures c.loop-place.invariant.from
-    c.loop-place.invariant.none c.loop-place-test.true c.if-rests-place.false
-
-pub returns-after-loop-place-clause-none : goal.returns-after-loop-place-clause-none
-returns-after-loop-place-clause-none c = none_at_end c.args.rests.now c.args.rest c.loop-place.place c.loop-place-test.false c.loop-place.invariant.none
